@@ -1,0 +1,15 @@
+//! LEB128 numbers, labels, and readers and writers of bytes: what both formats stand on.
+#![tactic(auto)]
+
+mod error;
+mod label;
+mod leb128;
+mod stream;
+
+pub use error::AtomError;
+pub use label::Label;
+pub use leb128::{read_s33, read_u32, write_s33, write_u32};
+pub use stream::{Failed, ReadUpToError, Sink, Source, Watched, read_up_to};
+
+#[cfg(test)]
+mod tests;
