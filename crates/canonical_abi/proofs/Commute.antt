@@ -42,13 +42,13 @@ same-bytes old a b xs ys in_a in_b apart =
     let one : length (overwrite (overwrite old a xs) b ys) ≡ length old = length-overwrite (overwrite old a xs) b ys fits_b ∙ la in
     let two : length (overwrite (overwrite old b ys) a xs) ≡ length old = length-overwrite (overwrite old b ys) a xs fits_a ∙ lb in
     ext_get_or 0 (overwrite (overwrite old a xs) b ys) (overwrite (overwrite old b ys) a xs) (one ∙ sym two) (λ i below.
-      sym (unwrap_or-slice_get (overwrite (overwrite old a xs) b ys) i 0)
-      ∙ ap (λ o. unwrap_or o 0) (
-        overwrite-get (overwrite old a xs) ys b i fits_b ∙ ap (byte_over b ys i) (overwrite-get old xs a i in_a)
-        ∙ both-over a b xs ys i (slice_get old i) apart
-        ∙ sym (overwrite-get (overwrite old b ys) xs a i fits_a ∙ ap (byte_over a xs i) (overwrite-get old ys b i in_b))
-      )
-      ∙ unwrap_or-slice_get (overwrite (overwrite old b ys) a xs) i 0)
+    sym (unwrap_or-slice_get (overwrite (overwrite old a xs) b ys) i 0)
+    ∙ ap (λ o. unwrap_or o 0) (
+    overwrite-get (overwrite old a xs) ys b i fits_b ∙ ap (byte_over b ys i) (overwrite-get old xs a i in_a)
+    ∙ both-over a b xs ys i (slice_get old i) apart
+    ∙ sym (overwrite-get (overwrite old b ys) xs a i fits_a ∙ ap (byte_over a xs i) (overwrite-get old ys b i in_b))
+    )
+    ∙ unwrap_or-slice_get (overwrite (overwrite old b ys) a xs) i 0)
 
 pub writes-commute : (allocates : Allocation) → WritesCommute allocates
 writes-commute allocates a b xs ys es old new apart (first, (in_a, one), (second, (in_b, two), rest)) =

@@ -50,8 +50,7 @@ mutual
   told-lowers (variant_type cs) v es fs more others flats back s r e =
       let number : r.0 ≡ s.0 = sym (case-lower-tag cs r.0 r.0 v r.1 r.2 r.4) ∙ case-lower-tag cs s.0 s.0 v s.1 s.2 s.4 in
       let e1 : grants_of (s.1 ++ more) ≡ grants_of (r.1 ++ others) = ap (λ l. grants_of (l ++ more)) (sym s.3) ∙ e ∙ ap (λ l. grants_of (l ++ others)) r.3 in
-      let h = told-case-lower cs s.0 s.0 v s.1 r.1 more others s.2 r.2 s.4 (subst (λ i. CaseLowers cs i i v r.1 r.2) number r.4) e1 in
-      (
+      let h = told-case-lower cs s.0 s.0 v s.1 r.1 more others s.2 r.2 s.4 (subst (λ i. CaseLowers cs i i v r.1 r.2) number r.4) e1 in (
         (let a = s.3 in let b = r.3 in let c = h.0.0 in cc, h.0.1),
         s.5 ∙ ap (λ i. I32 i ∷ joined_flats (payload_kinds cs) s.2) (sym number) ∙ ap (λ fs. I32 r.0 ∷ joined_flats (payload_kinds cs) fs) h.1 ∙ sym r.5,
       )
