@@ -1,15 +1,15 @@
 -- A value and the blocks that were granted tell its flat values and all the events.
-use Rattle.std.proofs.Common.{◌≡◌, ℕ, zero, suc, ◌*◌, List, [], ◌∷◌, ◌++◌, length, refl, sym, ap, ◌∙◌, subst, append_assoc, append-nil}
+use Rattle.std.proofs.Common.{◌≡◌, inl, inr, Bool, true, false, ℕ, zero, suc, ◌*◌, List, [], ◌∷◌, ◌++◌, length, refl, sym, ap, ◌∙◌, subst, append_assoc, append-nil}
 use Rattle.canonical_abi.specs.Types.{ClosedType, prim_type, string_type, list_type, record_type, variant_type, flags_type, Fields, no_field, field, Cases, no_case, plain_case, case_with}
 use Rattle.canonical_abi.specs.Values.{Value}
 use Rattle.canonical_abi.specs.Layout.{align, size, prim_kind, payload_kinds}
 use Rattle.canonical_abi.specs.Trace.{Grant, Event, node, write, grant, grants_of}
-use Rattle.canonical_abi.specs.Storing.{EachStores, Stores}
-use Rattle.canonical_abi.specs.Lowering.{core_of, joined_flats, Lowers, FieldsLower, CaseLowers}
-use Rattle.canonical_abi.specs.Laws.{SameLowering}
+use Rattle.canonical_abi.specs.Storing.{EachStores, Stores, FieldsStore}
+use Rattle.canonical_abi.specs.Lowering.{core_of, joined_flats, Lowers, FieldsLower, CaseLowers, SpilledLower, PassesParams, PassesResult}
+use Rattle.canonical_abi.specs.Laws.{SameLowering, SamePassing}
 use Rattle.canonical_abi.specs.declared.flat.Flat.{Flat}
 use Rattle.canonical_abi.specs.declared.flat.Flat.TheVariants.{I32}
-use Rattle.canonical_abi.proofs.Same.{Same, values-inj, told-one, told-each, told-grant, told-node, told-stores}
+use Rattle.canonical_abi.proofs.Same.{Same, values-inj, told-one, told-each, told-grant, told-node, told-stores, told-fields}
 use Rattle.canonical_abi.proofs.Asked.{case-lower-tag}
 
 -- the events and the flat values are the same, and so are the grants of what follows
@@ -81,3 +81,39 @@ mutual
 pub same-lowering : SameLowering
 same-lowering t v es fs flats others s r e =
     let h = told-lowers t v es fs [] [] flats others s r (ap grants_of (append-nil es) ∙ e ∙ ap grants_of (sym (append-nil fs))) in (h.0.0, h.1)
+
+-- ---- a whole list of values
+
+lone : (es fs : List Event) → grants_of es ≡ grants_of fs → grants_of (es ++ []) ≡ grants_of (fs ++ [])
+lone es fs e = ap grants_of (append-nil es) ∙ e ∙ ap grants_of (sym (append-nil fs))
+
+same-flat : (ts : Fields) (vs : List Value) (es fs : List Event) (flats others : List Flat) → FieldsLower ts vs es flats → FieldsLower ts vs fs others → grants_of es ≡ grants_of fs
+    → (es ≡ fs) × (flats ≡ others)
+same-flat ts vs es fs flats others s r e = let h = told-fields-lower ts vs es fs [] [] flats others s r (lone es fs e) in (h.0.0, h.1)
+
+not-both : {b : Bool} → b ≡ true → b ≡ false → ⊥
+not-both t f = let e : true ≡ false = sym t ∙ f in cc
+
+same-spilled : (ts : Fields) (vs : List Value) (es fs : List Event) (flats others : List Flat) → SpilledLower ts vs es flats → SpilledLower ts vs fs others → grants_of es ≡ grants_of fs
+    → (es ≡ fs) × (flats ≡ others)
+same-spilled ts vs es fs flats others s r e =
+    let same = told-grant (λ g es. FieldsStore ts g.at 0 vs es) (λ g. told-fields ts g.at 0 vs) es fs [] [] (s.0, s.1, s.3, s.4) (r.0, r.1, r.3, r.4) (lone es fs e) in
+    let block : s.0 ≡ r.0 = let a = s.3 in let b = r.3 in let c = same.0 in cc in
+    (same.0, s.5 ∙ ap (λ g. I32 g.at ∷ []) block ∙ sym r.5)
+
+pub same-passing : SamePassing
+same-passing = record { params = params; result = result }
+  where
+    params : (limit : ℕ) (ts : Fields) (vs : List Value) (es fs : List Event) (flats others : List Flat) → PassesParams limit ts vs es flats → PassesParams limit ts vs fs others
+        → grants_of es ≡ grants_of fs → (es ≡ fs) × (flats ≡ others)
+    params limit ts vs es fs flats others (inl s) (inl r) e = same-flat ts vs es fs flats others s.1 r.1 e
+    params limit ts vs es fs flats others (inl s) (inr r) e = absurd (not-both s.0 r.0)
+    params limit ts vs es fs flats others (inr s) (inl r) e = absurd (not-both r.0 s.0)
+    params limit ts vs es fs flats others (inr s) (inr r) e = same-spilled ts vs es fs flats others s.1 r.1 e
+
+    result : (limit : ℕ) (ts : Fields) (area : ℕ) (vs : List Value) (es fs : List Event) (flats others : List Flat) → PassesResult limit ts area vs es flats → PassesResult limit ts area vs fs others
+        → grants_of es ≡ grants_of fs → (es ≡ fs) × (flats ≡ others)
+    result limit ts area vs es fs flats others (inl s) (inl r) e = same-flat ts vs es fs flats others s.1 r.1 e
+    result limit ts area vs es fs flats others (inl s) (inr r) e = absurd (not-both s.0 r.0)
+    result limit ts area vs es fs flats others (inr s) (inl r) e = absurd (not-both r.0 s.0)
+    result limit ts area vs es fs flats others (inr s) (inr r) e = ((told-fields ts area 0 vs es fs [] [] s.1 r.1 (lone es fs e)).0, s.2 ∙ sym r.2)
