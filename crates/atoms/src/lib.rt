@@ -7,7 +7,7 @@ mod leb128;
 mod stream;
 
 pub use error::AtomError;
-pub use label::Label;
+pub use label::{Label, is_label};
 pub use leb128::{read_s33, read_u32, write_s33, write_u32};
 pub use stream::{Failed, ReadUpToError, Sink, Source, Watched, read_up_to};
 
