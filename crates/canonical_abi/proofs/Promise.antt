@@ -1,5 +1,5 @@
 -- A typed call over honest guests keeps the promise: its words follow from the relation.
-use Rattle.std.proofs.Common.{◌≡◌, ◌⊎◌, inl, inr, ℕ, zero, suc, ◌+◌, ◌-◌, ◌%◌, ◌^◌, ◌<◌, ◌≤◌, Bool, true, false, cond, List, [], ◌∷◌, ◌++◌, length, map, take, get_or, Option, Some, None, Result, Ok, Err, refl, sym, ap, ◌∙◌, subst, arith, append_assoc}
+use Rattle.std.proofs.Common.{◌≡◌, ◌⊎◌, inl, inr, ℕ, zero, suc, ◌%◌, ◌^◌, ◌<◌, ◌≤◌, true, false, List, [], ◌∷◌, ◌++◌, length, map, take, get_or, Option, Some, None, Result, Ok, Err, refl, sym, ap, ◌∙◌, subst, arith}
 use Rattle.std.specs.Prelude.{slice_get, slice_index}
 use Rattle.std.proofs.Math.Nat.{mod-eq_of_lt}
 use Rattle.std.proofs.lemmas.Option.{slice_get-get_or}
@@ -9,16 +9,15 @@ use Rattle.canonical_abi.specs.Layout.{align, size, max_flat_params, max_flat_re
 use Rattle.canonical_abi.specs.Reading.{low_bits, kind_of, number_of, denoting, reading_fields}
 use Rattle.canonical_abi.specs.Memory.{FieldsHold}
 use Rattle.canonical_abi.specs.Flat.{Denotes}
-use Rattle.canonical_abi.specs.Guest.{Memory, Allocation, Release, IsHonest, IsGrant, IsWithin, IsOutside, IsAlignment, overwrite}
-use Rattle.canonical_abi.specs.Trace.{Grant, Event, node, write, grant, grants_of, TraceLeads, TraceBreaks, TraceIsBegun, LeavesOutWrites, RequestFails, IsFrontOf}
-use Rattle.canonical_abi.specs.Lowering.{PassesParams, PassesResult}
+use Rattle.canonical_abi.specs.Guest.{Memory, Allocation, Release, IsHonest, IsWithin, IsAlignment}
+use Rattle.canonical_abi.specs.Trace.{Event, node, write, grant, grants_of, TraceLeads, TraceBreaks, RequestFails}
+use Rattle.canonical_abi.specs.Lowering.{PassesResult}
 use Rattle.canonical_abi.specs.Stands.{AreAligned, IsGranted, IsWritten, Carries, Keeps}
 use Rattle.canonical_abi.specs.Script.{ResultUntil, ResultScript}
 use Rattle.canonical_abi.specs.Call.{Parties, World, Order, either, exact, Enters, Runs, Returns, Finishes, Answered, Returned, Completes, Traps, GivesUp, IsGrantedPart, argument_flats}
 use Rattle.canonical_abi.specs.Call as call
 use Rattle.canonical_abi.specs.Session.{TypedRequestFails, TypedTraceBreaks, AsksArea, Prepares, HasResult, as_list, Placed, PlaceFails, CameBack, TypedTraps, TypedCall}
-use Rattle.canonical_abi.specs.Headline.{AreHonest, IsLimited, KeepsLimit, AreLimited, IsStandardFunction, IsLentLive, IsOutsideAll, IsUnchangedOutside, KeepsLive, AreLive, FindsAndRunsOnce, LiftsExactly, CallerIsUnchanged, HasEntered, KeepsPromise, CallKeepsPromise}
-use Rattle.canonical_abi.specs.Laws.{IsOneOutcome}
+use Rattle.canonical_abi.specs.Headline.{AreHonest, IsLimited, KeepsLimit, AreLimited, IsStandardFunction, IsLentLive, IsOutsideAll, IsUnchangedOutside, KeepsLive, AreLive, FindsAndRunsOnce, LiftsExactly, CallerIsUnchanged, EntersBody, KeepsPromise, CallKeepsPromise}
 use Rattle.canonical_abi.specs.declared.flat.Flat.{Flat}
 use Rattle.canonical_abi.specs.declared.flat.Flat.TheVariants.{I32}
 use Rattle.canonical_abi.specs.declared.trap.Fault.{Fault}
@@ -30,8 +29,8 @@ use Rattle.canonical_abi.specs.declared.trap.Step.TheVariants as step
 use Rattle.canonical_abi.proofs.Bytes.{length-overwrite}
 use Rattle.canonical_abi.proofs.Sizes.{is-alignment}
 use Rattle.canonical_abi.proofs.Tells.{one_outcome, denoting-tells, fields-tell}
-use Rattle.canonical_abi.proofs.Runs.{not-true, not-both, runs-keep, granted-second, carries-first, carries-second, aligned-both, aligned-first, aligned-second}
-use Rattle.canonical_abi.proofs.Own.{Confined, InFields, confined-more, confined-then, confined-front, own-confined, stores-confined, fields-confined, fields-aligned}
+use Rattle.canonical_abi.proofs.Runs.{not-both, runs-keep, granted-second, carries-first, carries-second, aligned-both, aligned-first, aligned-second}
+use Rattle.canonical_abi.proofs.Own.{Confined, InFields, confined-more, confined-then, confined-front, own-confined, stores-confined, fields-aligned}
 use Rattle.canonical_abi.proofs.Carried.{Carrying, carrying-then, carrying-none, carrying-grant}
 use Rattle.canonical_abi.proofs.Crossed.{Nowhere, passes-own, passes-confined, passes-aligned, passes-denoted, passes-carrying, fields-lower-confined, fields-lower-aligned, lowered-is-denoted}
 use Rattle.canonical_abi.proofs.Results.{result-is-held}
@@ -208,7 +207,6 @@ InArea results area x = (fits_flat max_flat_results results ≡ false) × IsWith
 
 module _ (parties : Parties) (caller_releases callee_releases : Release) (order : Order) (f : FunctionType) (arguments : List Value)
     (honest : AreHonest parties caller_releases callee_releases) (standard : IsStandardFunction f) where
-
   prepares-fine : (es : List Event) (flats : List Flat) (area : ℕ) (old new : Memory) → Prepares f arguments es flats area → TraceLeads parties.caller_allocates old es new → Fine parties.caller_allocates old es new
   prepares-fine es flats area old new p leads = record {
     aligned = asks-aligned (result_fields f.result) p.0 p.1 es flats area p.3 (is-alignment (record_type (result_fields f.result))) (passes-aligned max_flat_params f.params arguments p.0 p.1 p.2);
@@ -351,7 +349,7 @@ module _ (parties : Parties) (caller_releases callee_releases : Release) (order 
         record {
           aligned = aligned-both p.events made fine.aligned al;
           confined = confined-granted Nowhere (InArea (result_fields f.result) (call.area parties order f flats)) p.events made fine.confined c
-          (λ x i. inr (area-granted p.events flats area p.prepares x (i.0, subst (λ b. IsWithin x b (size (record_type (result_fields f.result)))) (area-is p.events flats area p.prepares placed.caller.bytes few carried l i.0) i.1)));
+              (λ x i. inr (area-granted p.events flats area p.prepares x (i.0, subst (λ b. IsWithin x b (size (record_type (result_fields f.result)))) (area-is p.events flats area p.prepares placed.caller.bytes few carried l i.0) i.1)));
           leads = leads-both parties.caller_allocates p.events made old.caller placed.caller new.caller p.leads (subst (λ m. TraceLeads parties.caller_allocates m made new.caller) (same-caller flats placed answer answered a) leads);
         }
 
@@ -387,3 +385,174 @@ module _ (parties : Parties) (caller_releases callee_releases : Release) (order 
     granted-part : (o : Order) (P : ℕ → Type 0) (done es : List Event) → IsGrantedPart o done es → AreAligned es → Confined P es → AreAligned done × Confined P done
     granted-part either P done es (rest, is) al c = (aligned-first done rest (subst AreAligned is al), confined-front P done rest (subst (Confined P) is c))
     granted-part exact P done es is al c = (subst AreAligned (sym is) al, subst (Confined P) (sym is) c)
+
+    fine-at : (es : List Event) (m m' : Memory) → m' ≡ m → Fine parties.caller_allocates old.caller es m → Fine parties.caller_allocates old.caller es m'
+    fine-at es m m' same fine = record { aligned = fine.aligned; confined = fine.confined; leads = subst (TraceLeads parties.caller_allocates old.caller es) (sym same) fine.leads }
+
+    -- the caller as it was placed, and as a result has been put into it
+    placed-unchanged : (flats : List Flat) (area : ℕ) (placed : World) → Placed parties order f arguments old flats area placed → (new : World) → new.caller ≡ placed.caller → CallerIsUnchanged parties f old new
+    placed-unchanged flats area placed p new same =
+        caller-unchanged parties f caller_releases honest.caller old new p.events (fine-at p.events placed.caller new.caller same (placed-fine flats area placed p))
+
+    returned-fine : (flats : List Flat) (area : ℕ) (placed : World) (p : Placed parties order f arguments old flats area placed) (answer back : List Flat) (returned : World) (r : Returned parties order f flats placed answer back returned)
+        → Fine parties.caller_allocates old.caller (p.events ++ r.returns.events) returned.caller
+    returned-fine flats area placed p answer back returned r =
+        behind flats area placed p answer r.answered r.answers r.returns.events returned
+        (passes-result-aligned (result_fields f.result) (call.area parties order f flats) r.values r.returns.events back r.returns.passes)
+        (passes-result-confined (result_fields f.result) (call.area parties order f flats) r.values r.returns.events back r.returns.passes) r.returns.leads
+
+    returned-unchanged : (flats : List Flat) (area : ℕ) (placed : World) (p : Placed parties order f arguments old flats area placed) (answer back : List Flat) (returned : World) → Returned parties order f flats placed answer back returned
+        → (new : World) → new.caller ≡ returned.caller → CallerIsUnchanged parties f old new
+    returned-unchanged flats area placed p answer back returned r new same =
+        caller-unchanged parties f caller_releases honest.caller old new (p.events ++ r.returns.events)
+        (fine-at (p.events ++ r.returns.events) returned.caller new.caller same (returned-fine flats area placed p answer back returned r))
+
+    -- ---- the value that is lifted
+
+    area-live : (flats : List Flat) (area : ℕ) (placed : World) → Placed parties order f arguments old flats area placed → (caller : Memory) → caller ≡ placed.caller → fits_flat max_flat_results (result_fields f.result) ≡ false
+        → IsLentLive caller (call.area parties order f flats) (size (record_type (result_fields f.result)))
+    area-live flats area placed p caller same spills x w =
+        let few = placed-small flats area placed p in
+        let d = passed-denoted p.events flats area old.caller placed.caller p.prepares p.leads few in
+        let l = passed-length p.events flats area p.prepares placed.caller.bytes d in
+        let carried = prepares-carried p.events flats area old.caller placed.caller p.prepares p.leads in
+        let there = subst (λ b. IsWithin x b (size (record_type (result_fields f.result)))) (area-is p.events flats area p.prepares placed.caller.bytes few carried l spills) w in
+        let fine = placed-fine flats area placed p in
+        ap (λ m. m.live x) same ∙ (runs-keep parties.caller_allocates caller_releases honest.caller p.events old.caller placed.caller fine.aligned fine.leads).is_live x (area-granted p.events flats area p.prepares x (spills, there))
+
+    same-result : (flats : List Flat) (area : ℕ) (placed : World) → Placed parties order f arguments old flats area placed → (answer back : List Flat) (returned : World) (r : Returned parties order f flats placed answer back returned)
+        → (vs : List Value) → HasResult (result_fields f.result) returned.caller.bytes back area vs → vs ≡ r.values
+    same-result flats area placed p answer back returned r vs has = by has held
+      where
+        fine : Fine parties.caller_allocates old.caller (p.events ++ r.returns.events) returned.caller
+        fine = returned-fine flats area placed p answer back returned r
+
+        few : length returned.caller.bytes < 2 ^ 32
+        few = small returned.caller (trace-limited parties.caller_allocates limited.caller_keeps (p.events ++ r.returns.events) old.caller returned.caller fine.leads limited.caller)
+
+        held : ((fits_flat max_flat_results (result_fields f.result) ≡ true) × Denotes max_flat_results (result_fields f.result) returned.caller.bytes back r.values)
+            ⊎ ((fits_flat max_flat_results (result_fields f.result) ≡ false) × FieldsHold (result_fields f.result) returned.caller.bytes (call.area parties order f flats) 0 r.values)
+        held = elim (result-is-held parties.caller_allocates caller_releases honest.caller max_flat_results (result_fields f.result) (call.area parties order f flats) r.values r.returns.events back r.answered.caller returned.caller
+            standard.result few (area-live flats area placed p r.answered.caller (same-caller flats placed answer r.answered r.answers)) r.returns.passes r.returns.leads) [
+              | inl h ↦ inl (h.0, h.1.denotes)
+              | inr h ↦ inr (h.0, h.2.holds)
+            ]
+
+        by : HasResult (result_fields f.result) returned.caller.bytes back area vs
+            → ((fits_flat max_flat_results (result_fields f.result) ≡ true) × Denotes max_flat_results (result_fields f.result) returned.caller.bytes back r.values)
+            ⊎ ((fits_flat max_flat_results (result_fields f.result) ≡ false) × FieldsHold (result_fields f.result) returned.caller.bytes (call.area parties order f flats) 0 r.values)
+            → vs ≡ r.values
+        by (inl h) (inl k) =
+            (one_outcome (denoting max_flat_results (result_fields f.result) returned.caller.bytes back) _ _ (denoting-tells max_flat_results (result_fields f.result) returned.caller.bytes back)).one_value vs r.values h.1 k.1
+        by (inl h) (inr k) = absurd (not-both h.0 k.0)
+        by (inr h) (inl k) = absurd (not-both k.0 h.0)
+        by (inr h) (inr k) =
+            let less = placed-small flats area placed p in
+            let d = passed-denoted p.events flats area old.caller placed.caller p.prepares p.leads less in
+            let l = passed-length p.events flats area p.prepares placed.caller.bytes d in
+            let carried = prepares-carried p.events flats area old.caller placed.caller p.prepares p.leads in
+            let same = area-is p.events flats area p.prepares placed.caller.bytes less carried l h.0 in
+            (one_outcome (reading_fields (result_fields f.result) returned.caller.bytes area 0) _ _ (fields-tell (result_fields f.result) returned.caller.bytes area 0)).one_value vs r.values h.1
+            (subst (λ a. FieldsHold (result_fields f.result) returned.caller.bytes a 0 r.values) same k.1)
+
+    lifted : (flats : List Flat) (area : ℕ) (placed : World) → Placed parties order f arguments old flats area placed → (back : List Flat) (new : World) (c : Completes parties order f flats placed back new)
+        → (result : Option Value) → HasResult (result_fields f.result) new.caller.bytes back area (as_list result) → LiftsExactly parties f result c.answer c.returns.answered
+    lifted flats area placed p back new c result has =
+        let there : HasResult (result_fields f.result) c.returned.caller.bytes back area (as_list result) =
+        subst (λ m. HasResult (result_fields f.result) m.bytes back area (as_list result)) c.finishes.same_caller has in
+        let same = same-result flats area placed p c.answer back c.returned c.returns (as_list result) there in
+        record { lifted = subst (λ vs. Denotes max_flat_results (result_fields f.result) c.returns.answered.callee.bytes c.answer vs) (sym same) c.returns.returns.denoted }
+
+    -- ---- each answer
+
+    abbrev Entered : Type 0
+    Entered = (answer : Option (List Flat)) × (ran : World) × FindsAndRunsOnce parties f arguments old answer ran
+
+    came-entered : (back : List Flat) (area : ℕ) (new : World) → CameBack parties order f arguments old back area new → Entered
+    came-entered back area new b = (Some b.completes.answer, b.completes.returns.answered, answered-found b.flats area b.placed b.places b.completes.answer b.completes.returns.answered b.completes.returns.answers)
+
+    came-unchanged : (back : List Flat) (area : ℕ) (new : World) → CameBack parties order f arguments old back area new → CallerIsUnchanged parties f old new
+    came-unchanged back area new b =
+        returned-unchanged b.flats area b.placed b.places b.completes.answer back b.completes.returned b.completes.returns new b.completes.finishes.same_caller
+
+    result-faulty : (flats : List Flat) (area : ℕ) (placed : World) → Placed parties order f arguments old flats area placed → (answer : List Flat) (answered new : World) → Answered parties order f flats placed answer answered
+        → (k : TrapKind) → call.ResultFaulty parties order f flats answered answer k new → CallerIsUnchanged parties f old new
+    result-faulty flats area placed p answer answered new a k (inl (faulty, is)) = placed-unchanged flats area placed p new (ap (λ w. w.caller) is ∙ same-caller flats placed answer answered a)
+    result-faulty flats area placed p answer answered new a k (inr (tested, es, done, until, part, begun, callee, body)) =
+        let front = granted-part order (InArea (result_fields f.result) (call.area parties order f flats)) done es part
+        (until-result-aligned (result_fields f.result) answered.callee.bytes answer (call.area parties order f flats) k es until)
+        (until-result-confined (result_fields f.result) answered.callee.bytes answer (call.area parties order f flats) k es until) in
+        caller-unchanged parties f caller_releases honest.caller old new (p.events ++ begun.0) (behind flats area placed p answer answered a begun.0 new
+        (aligned-left done begun.0 begun.1 front.0) (confined-left (InArea (result_fields f.result) (call.area parties order f flats)) done begun.0 begun.1 front.1) begun.2)
+
+    result-fails : (flats : List Flat) (area : ℕ) (placed : World) → Placed parties order f arguments old flats area placed → (answer : List Flat) (answered new : World) → Answered parties order f flats placed answer answered
+        → (k : TrapKind) → call.ResultFails parties order f flats answered answer k new → CallerIsUnchanged parties f old new
+    result-fails flats area placed p answer answered new a k (inl (stands, faulty, is)) = placed-unchanged flats area placed p new (ap (λ w. w.caller) is ∙ same-caller flats placed answer answered a)
+    result-fails flats area placed p answer answered new a k (inr (stands, es, script, breaks, callee, body)) =
+        let made = broken parties.caller_allocates caller_releases honest.caller (InArea (result_fields f.result) (call.area parties order f flats)) answered.caller es k new.caller
+        (script-aligned (result_fields f.result) answered.callee.bytes answer (call.area parties order f flats) es script)
+        (script-confined (result_fields f.result) answered.callee.bytes answer (call.area parties order f flats) es script) breaks in
+        caller-unchanged parties f caller_releases honest.caller old new (p.events ++ made.0) (behind flats area placed p answer answered a made.0 new made.1 made.2 made.3)
+
+    arguments-faulty : (flats : List Flat) (placed : World) (k : TrapKind) (new : World) → call.ArgumentsFaulty parties order f flats placed k new → new.caller ≡ placed.caller
+    arguments-faulty flats placed k new (inl (kinds, is_k, is)) = ap (λ w. w.caller) is
+    arguments-faulty flats placed k new (inr (inl (kinds, faulty, is))) = ap (λ w. w.caller) is
+    arguments-faulty flats placed k new (inr (inr (kinds, es, done, until, part, begun, caller, body))) = caller
+
+    given-up : (flats : List Flat) (area : ℕ) (placed : World) → Placed parties order f arguments old flats area placed → (o : Order) (new : World) → GivesUp parties order f flats o placed new → CallerIsUnchanged parties f old new
+    given-up flats area placed p either new (inl is) = placed-unchanged flats area placed p new (ap (λ w. w.caller) is)
+    given-up flats area placed p either new (inr a) = placed-unchanged flats area placed p new (same-caller flats placed a.0 new a.1)
+    given-up flats area placed p exact new g = absurd g
+
+    trapped-entered : (s : Step) (k : TrapKind) (new : World) → TypedTraps parties order f arguments old s k new → EntersBody s → Entered
+    trapped-entered step.Place k new t e = absurd e
+    trapped-entered step.LiftArgs k new t e = absurd e
+    trapped-entered step.LowerArgs k new t e = absurd e
+    trapped-entered step.Take k new (back, area, b, fault) e = came-entered back area new b
+    trapped-entered step.Body k new (flats, area, placed, p, (values, handed, entered, is, enters, runs)) e = (None, new, found flats area placed p values handed entered enters None new runs)
+    trapped-entered step.LiftResult k new (flats, area, placed, p, (answer, answered, a, faulty)) e = (Some answer, answered, answered-found flats area placed p answer answered a)
+    trapped-entered step.LowerResult k new (flats, area, placed, p, (answer, answered, a, fails)) e = (Some answer, answered, answered-found flats area placed p answer answered a)
+    trapped-entered step.Post k new (flats, area, placed, p, (answer, back, returned, is, r, finishes)) e = (Some answer, r.answered, answered-found flats area placed p answer r.answered r.answers)
+
+    trapped-unchanged : (s : Step) (k : TrapKind) (new : World) → TypedTraps parties order f arguments old s k new → CallerIsUnchanged parties f old new
+    trapped-unchanged step.Place k new t =
+        let fine = prepares-placed t in caller-unchanged parties f caller_releases honest.caller old new fine.0 fine.1
+      where
+        prepares-placed : PlaceFails parties order f arguments old k new → (made : List Event) × Fine parties.caller_allocates old.caller made new.caller
+        prepares-placed t =
+            let p = t.prepares in
+            typed-broken parties.caller_allocates caller_releases honest.caller old.caller t.events k new.caller
+            (asks-aligned (result_fields f.result) p.0 p.1 t.events t.flats t.area p.3 (is-alignment (record_type (result_fields f.result))) (passes-aligned max_flat_params f.params arguments p.0 p.1 p.2))
+            (asks-confined (result_fields f.result) p.0 p.1 t.events t.flats t.area p.3 (passes-confined max_flat_params f.params arguments p.0 p.1 p.2)) t.breaks
+    trapped-unchanged step.Take k new (back, area, b, fault) = came-unchanged back area new b
+    trapped-unchanged step.LiftArgs k new (flats, area, placed, p, t) = placed-unchanged flats area placed p new (arguments-faulty flats placed k new t)
+    trapped-unchanged step.LowerArgs k new (flats, area, placed, p, (kinds, es, script, breaks, caller, body)) = placed-unchanged flats area placed p new caller
+    trapped-unchanged step.Body k new (flats, area, placed, p, (values, handed, entered, is, enters, runs)) = placed-unchanged flats area placed p new (runs.same_caller ∙ enters.same_caller)
+    trapped-unchanged step.LiftResult k new (flats, area, placed, p, (answer, answered, a, faulty)) = result-faulty flats area placed p answer answered new a k faulty
+    trapped-unchanged step.LowerResult k new (flats, area, placed, p, (answer, answered, a, fails)) = result-fails flats area placed p answer answered new a k fails
+    trapped-unchanged step.Post k new (flats, area, placed, p, (answer, back, returned, is, r, finishes)) = returned-unchanged flats area placed p answer back returned r new finishes.same_caller
+
+    promise : (result : Result (Option Value) Fault) (new : World) → TypedCall parties order f arguments old result new → KeepsPromise parties order f arguments old result new
+    promise (Ok v) new (back, area, b, has) = record {
+      finds = λ e. came-entered back area new b;
+      lifts = (
+        b.completes.answer,
+        b.completes.returns.answered,
+        answered-found b.flats area b.placed b.places b.completes.answer b.completes.returns.answered b.completes.returns.answers,
+        lifted b.flats area b.placed b.places back new b.completes v has,
+      );
+      unchanged = came-unchanged back area new b;
+      trap = tt;
+    }
+    promise (Err (Trap t)) new traps = record {
+      finds = λ e. trapped-entered t.step t.kind new traps e;
+      lifts = tt;
+      unchanged = trapped-unchanged t.step t.kind new traps;
+      trap = traps;
+    }
+    promise (Err NoMemory) new (inl (flats, area, placed, p, g)) = record { finds = λ e. absurd e; lifts = tt; unchanged = given-up flats area placed p order new g; trap = tt }
+    promise (Err NoMemory) new (inr (back, area, b)) = record { finds = λ e. absurd e; lifts = tt; unchanged = came-unchanged back area new b; trap = tt }
+
+pub keeps-promise : (parties : Parties) (caller_releases callee_releases : Release) (order : Order) → CallKeepsPromise parties caller_releases callee_releases order
+keeps-promise parties caller_releases callee_releases order f arguments old result new honest limited standard called =
+    promise parties caller_releases callee_releases order f arguments honest standard old limited result new called
