@@ -6,9 +6,14 @@
 //! crates above ask by them alone. It stands on `canonical_abi`, `atoms` and `wit_text`.
 #![tactic(auto)]
 
+mod copy;
+mod error;
+mod lookup;
+mod scope;
 mod sequence;
 mod tables;
 
+pub use error::ResolveError;
 pub use sequence::Sequence;
 pub use tables::{
     Case, Definition, Direction, Field, Function, FunctionId, Interface, InterfaceId, Owner,
