@@ -1,2 +1,4 @@
 pub mod Names
 pub mod MetNames
+pub mod Distinct
+pub mod Functions
