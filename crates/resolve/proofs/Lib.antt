@@ -2,3 +2,4 @@ pub mod Names
 pub mod MetNames
 pub mod Distinct
 pub mod Functions
+pub mod Package

@@ -1,5 +1,5 @@
 -- What a syntax tree of scalar functions stands for, and when it is refused.
-use Rattle.std.specs.Prelude.{◌≡◌, ◌≢◌, ◌<◌, ◌++◌, ℕ, zero, suc, Bool, true, false, ◌&&◌, List, [], ◌∷◌, map, length, Option, None, Some, Contains, ◌⊎◌}
+use Rattle.std.specs.Prelude.{◌≡◌, ◌≢◌, ◌<◌, ◌++◌, ℕ, zero, suc, Bool, true, false, ◌&&◌, List, [], ◌∷◌, map, length, All, Option, None, Some, is_some, Contains, ◌⊎◌}
 use Rattle.std.specs.Borrow.{Bor}
 use Rattle.std.specs.Option.{option_map}
 use Rattle.std.specs.List.{filter_map, list_all}
@@ -110,3 +110,52 @@ ids_below (suc n) = ids_below n ++ record { 0 = n } ∷ []
 -- an interface of the first n definitions, which are functions
 abbrev pub interface_of : List ℕ → ℕ → Interface
 interface_of name n = record { name = name; uses = []; types = []; functions = ids_below n }
+
+abbrev pub func_row : Func → Definition
+func_row f = row.Function (function_of f)
+
+-- the tree has no version, and this interface alone
+pub record IsOneInterface (a : Ast) (i : InterfaceTree) : Type 0 where
+  pub version : is_some a.package.version ≡ false
+  pub items : a.items.items ≡ item.Interface i ∷ []
+
+abbrev pub RefusesItems : Ast → ResolveError → Type 0
+RefusesItems a error.EmptyPackage = a.items.items ≡ []
+RefusesItems a error.NotThisShape = (i : InterfaceTree) → ¬ IsOneInterface a i
+RefusesItems a _ = ⊥
+
+-- its items are these functions
+pub record IsTreeOf (a : Ast) (i : InterfaceTree) (fs : List Func) : Type 0 where
+  pub interface : IsOneInterface a i
+  pub functions : i.items.items ≡ map part.Func fs
+
+-- the package has what the tree has
+pub record Has (a : Ast) (i : InterfaceTree) (fs : List Func) (r : Resolve) : Type 0 where
+  pub tree : IsTreeOf a i fs
+  pub namespace : r.namespace ≡ a.package.namespace
+  pub name : r.name ≡ a.package.name
+  pub version : r.version ≡ None
+  pub worlds : r.worlds ≡ []
+  pub interfaces : r.interfaces ≡ interface_of i.name (length fs) ∷ []
+  pub definitions : r.definitions ≡ map func_row fs
+  pub scalar : list_all is_scalar_row r.definitions ≡ true
+  pub names : AreDistinct (map (λ f. f.name) fs)
+  pub parameters : All (λ f. AreDistinct (parameter_names f)) fs
+
+abbrev pub IsPackageOf : Ast → Resolve → Type 0
+IsPackageOf a r = (i : InterfaceTree) × (fs : List Func) × Has a i fs r
+
+-- a name is that of two functions, or of two parameters of a function
+abbrev pub RepeatsName : List Func → List ℕ → Type 0
+RepeatsName fs n = IsDuplicate (map (λ f. f.name) fs) n ⊎ ((f : Func) × Contains fs f × IsDuplicate (parameter_names f) n)
+
+abbrev pub IsScalarTree : Ast → Type 0
+IsScalarTree a = (i : InterfaceTree) × (fs : List Func) × IsTreeOf a i fs × (list_all is_scalar_row (map func_row fs) ≡ true)
+
+abbrev pub Refuses : Ast → ResolveError → Type 0
+Refuses a error.EmptyPackage = a.items.items ≡ []
+Refuses a (error.Duplicate n) = (i : InterfaceTree) × (fs : List Func) × IsTreeOf a i fs × RepeatsName fs n
+Refuses a error.NotThisShape = ¬ IsScalarTree a
+Refuses a error.Limit = (i : InterfaceTree) × (fs : List Func) × IsTreeOf a i fs × (65535 < length fs)
+Refuses a error.NoMemory = Unit {0}
+Refuses a _ = ⊥

@@ -2,7 +2,7 @@
 ghost use Rattle.std.specs.Prelude.{◌≡◌, ◌≤◌, ◌⊎◌, ◌∷◌, [], IfOk, OnOk, IfErr, Some, map, length, All, IsTrue};
 ghost use Rattle.std.specs.List.{list_all};
 ghost use Rattle.resolve.specs.Scope.{AreDistinct};
-ghost use Rattle.resolve.specs.FromAst.{parameter_name, parameter_names, parameter_of, val_of, val_of_primitive, function_of, function_name, item_of, row_of, is_scalar_row, HasOthers, interface_of, RefusesNames, RefusesFunctions};
+ghost use Rattle.resolve.specs.FromAst.{parameter_name, parameter_names, parameter_of, val_of, val_of_primitive, function_of, function_name, item_of, row_of, is_scalar_row, HasOthers, interface_of, RefusesNames, RefusesFunctions, IsOneInterface, RefusesItems, IsPackageOf, Refuses};
 
 use crate::error::ResolveError;
 use crate::scope::Scope;
@@ -13,7 +13,7 @@ use crate::tables::{
 };
 use atoms::Label;
 use std::alloc::Global;
-use wit_text::{Ast, Field, Func, InterfaceItem, Item, TypeExpression};
+use wit_text::{Ast, Field, Func, Interface as InterfaceTree, InterfaceItem, Item, TypeExpression};
 
 /// The most type entries of a package.
 const MAX_DEFINITIONS: usize = 65_535;
@@ -46,10 +46,7 @@ fn lower_primitive(primitive: wit_text::Primitive) -> ValType
     }
 }
 
-fn lower_parameters(
-    alloc: Global,
-    fields: &[Field],
-) -> Result<Sequence<Parameter>, ResolveError>
+fn lower_parameters(alloc: Global, fields: &[Field]) -> Result<Sequence<Parameter>, ResolveError>
     ensures ok { IfOk result (λ ps. ps ≡ map parameter_of fields.now) }
     ensures distinct { OnOk result (AreDistinct (map parameter_name fields.now)) }
     ensures err { IfErr result (RefusesNames (map parameter_name fields.now)) }
@@ -84,6 +81,25 @@ fn lower_function(alloc: Global, func: &Func) -> Result<Function, ResolveError>
     })
 }
 
+/// The interface of a tree that has one alone, and no version.
+fn one_interface(ast: &Ast) -> Result<&InterfaceTree, ResolveError>
+    ensures ok { IfOk result (λ i. IsOneInterface ast.now i.now) }
+    ensures err { IfErr result (RefusesItems ast.now) }
+{
+    let item = match ast.items.as_slice() {
+        [] => return Err(ResolveError::EmptyPackage),
+        [item] => item,
+        _ => return Err(ResolveError::NotThisShape),
+    };
+    if ast.package.version.is_some() {
+        return Err(ResolveError::NotThisShape);
+    }
+    match item {
+        Item::Interface(interface) => Ok(interface),
+        Item::World(_) => Err(ResolveError::NotThisShape),
+    }
+}
+
 /// The items, which are to be functions alone.
 fn functions(alloc: Global, items: &[InterfaceItem]) -> Result<Vec<&Func>, ResolveError>
     ensures ok { IfOk result (λ fs. map item_of fs.items ≡ items.now) }
@@ -100,10 +116,7 @@ fn functions(alloc: Global, items: &[InterfaceItem]) -> Result<Vec<&Func>, Resol
 }
 
 /// The rows of functions, which are to be scalar and to have different names.
-fn lower_functions(
-    alloc: Global,
-    funcs: &[&Func],
-) -> Result<Sequence<Definition>, ResolveError>
+fn lower_functions(alloc: Global, funcs: &[&Func]) -> Result<Sequence<Definition>, ResolveError>
     ensures ok { IfOk result (λ ds. ds ≡ map row_of funcs.now) }
     ensures scalar { IfOk result (λ ds. IsTrue (list_all is_scalar_row ds)) }
     ensures few { IfOk result (λ ds. length ds ≤ 65535) }
@@ -148,4 +161,26 @@ fn make_interface(
         functions: Sequence::new(functions),
     })?;
     Ok(Sequence::new(interfaces))
+}
+
+impl Resolve {
+    /// The package of a syntax tree. 43 where it has no interface and no world, 40 where two functions of its
+    /// interface or two parameters of a function have one name, 46 where memory is wanting. A tree with
+    /// anything but one interface of scalar functions, or with a version, is 44.
+    pub fn from_ast(alloc: Global, ast: &Ast) -> Result<Resolve, ResolveError>
+        ensures ok { IfOk result (IsPackageOf ast.now) }
+        ensures err { IfErr result (Refuses ast.now) }
+    {
+        let interface = one_interface(ast)?;
+        let functions = functions(alloc, &interface.items)?;
+        let definitions = lower_functions(alloc, &functions)?;
+        Ok(Resolve {
+            namespace: ast.package.namespace.copy(alloc)?,
+            name: ast.package.name.copy(alloc)?,
+            version: None,
+            interfaces: make_interface(alloc, &interface.name, definitions.len() as u32)?,
+            worlds: Sequence::new(Vec::new(alloc)),
+            definitions,
+        })
+    }
 }
