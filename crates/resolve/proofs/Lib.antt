@@ -1,0 +1,6 @@
+pub mod Names
+pub mod MetNames
+pub mod Distinct
+pub mod Functions
+pub mod Package
+pub mod Rows
