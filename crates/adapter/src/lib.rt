@@ -10,3 +10,6 @@ mod link;
 
 pub use body::{Body, BoxedBody, Export, Stopped};
 pub use link::Link;
+
+#[cfg(test)]
+mod tests;

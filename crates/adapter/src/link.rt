@@ -1,7 +1,7 @@
 //! The call itself.
 ghost use Rattle.std.specs.Prelude.{◌≡◌, ◌≢◌, ◌≤◌, length, map, take, IfOk, IfErr, Err};
 ghost use Rattle.canonical_abi.specs.Call.{Calls, either, AllowsSameRuns, AllowsSamePosts};
-ghost use Rattle.resolve.specs.Closed.{function_type, IsFunction, IsScalarFunction};
+ghost use Rattle.resolve.specs.Closed.{function_type, IsScalarFunction};
 ghost use Rattle.lift_lower.specs.Scalars.{AreScalar};
 ghost use Rattle.adapter.specs.Carrying.{CarriesOn, IsFaultAt, answer_of};
 
@@ -44,7 +44,6 @@ impl<'a> Link<'a> {
         callee: &mut E,
         body: &mut B,
     ) -> Result<Flats, Fault>
-        requires function { IsFunction self.old.resolve func }
         requires scalar { IsScalarFunction self.old.resolve func }
         ensures call { Calls
             (record { caller_allocates = C.allocates; callee_allocates = E.allocates; runs = B.runs body.old; posts = B.posts body.old })
