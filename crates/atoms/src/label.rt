@@ -33,6 +33,11 @@ impl Label {
         self.bytes.as_slice()
     }
 
+    /// The label's text.
+    pub fn as_str(&self) -> &str {
+        std::str::from_utf8(self.bytes.as_slice()).unwrap_or_default()
+    }
+
     /// The same label.
     pub fn copy(&self, alloc: Global) -> Result<Label, AllocError>
         ensures { IfOk result (λ l. l ≡ self.now) }

@@ -1,0 +1,5 @@
+pub mod Tables
+pub mod Closed
+pub mod Names
+pub mod Same
+pub mod Scope

@@ -1,0 +1,16 @@
+-- WIT.md, "Identifiers": the names of one scope differ in more than the case of their letters.
+use Rattle.std.specs.Prelude.{◌≡◌, ℕ, ◌<◌, List, [], map, length, take, slice_index_or, Contains}
+use Rattle.std.specs.Char.{to_ascii_lowercase}
+
+abbrev pub lowered : List ℕ → List ℕ
+lowered name = map to_ascii_lowercase name
+
+-- the name at place k is one before it again
+abbrev pub IsMetBefore : List (List ℕ) → ℕ → Type 0
+IsMetBefore names k = Contains (map lowered (take k names)) (lowered (slice_index_or names k []))
+
+abbrev pub IsDuplicate : List (List ℕ) → List ℕ → Type 0
+IsDuplicate names name = (k : ℕ) × (k < length names) × (slice_index_or names k [] ≡ name) × IsMetBefore names k
+
+abbrev pub AreDistinct : List (List ℕ) → Type 0
+AreDistinct names = (k : ℕ) → k < length names → ¬ IsMetBefore names k
