@@ -10,7 +10,7 @@ mod watched;
 mod writing;
 
 pub use error::AtomError;
-pub use label::Label;
+pub use label::{Label, is_label};
 pub use leb128::{read_s33, read_u32, write_s33, write_u32};
 pub use reading::{ReadUpToError, read_up_to};
 pub use stream::{Failed, Sink, Source};
