@@ -1,5 +1,5 @@
 -- What stands at the front of a text, and a text as tokens and blanks in turn.
-use Rattle.std.specs.Prelude.{◌≡◌, ℕ, zero, suc, ◌+◌, ◌-◌, ◌<◌, ◌≤◌, Bool, true, false, not, ◌&&◌, ◌||◌, ◌==◌, nat_le, nat_lt, List, [], ◌∷◌, ◌++◌, length, take, drop, take_while, Option, Some, None, if◌then◌else◌}
+use Rattle.std.specs.Prelude.{◌≡◌, ℕ, zero, suc, ◌+◌, ◌-◌, ◌<◌, ◌≤◌, Bool, false, not, ◌&&◌, ◌||◌, ◌==◌, nat_lt, List, [], ◌∷◌, ◌++◌, length, take, drop, take_while, Option, Some, None, if◌then◌else◌}
 use Rattle.atoms.specs.Label.{is_lower, is_upper, is_digit, is_label}
 use Rattle.wit_text.specs.Keywords.{keyword_of}
 use Rattle.wit_text.specs.declared.token.Keyword.{Keyword}
@@ -171,9 +171,10 @@ IsBadAt text s = (ts : List Token) × Upto text s.start ts × (front_of (drop s.
 abbrev pub IsOpenAt : List ℕ → Span → Type 0
 IsOpenAt text s = (ts : List Token) × Upto text s.start ts × (front_of (drop s.start text) ≡ front.OpenComment) × (s.end ≡ length text)
 
+-- why a text has no tokens
 abbrev pub LexFault : List ℕ → TextError → Type 0
-LexFault text (error.BadChar s) = IsBadAt text s
-LexFault text (error.OpenComment s) = IsOpenAt text s
+LexFault text (error.BadChar s) = (length text ≤ limit) × IsBadAt text s
+LexFault text (error.OpenComment s) = (length text ≤ limit) × IsOpenAt text s
 LexFault text error.NoMemory = Unit {0}
 LexFault text error.Limit = limit < length text
 LexFault text _ = ⊥

@@ -335,6 +335,7 @@ fn front_of(text: &[u8]) -> Front
 #[tactic(auto, unfolding(crate::specs::Lexing::limit))]
 pub fn lex(alloc: Global, text: &str) -> Result<Vec<Token>, TextError>
     ensures ok { IfOk result (λ ts. (length text.now ≤ limit) × Lexes text.now ts.items) }
+    ensures few { IfOk result (λ ts. length ts.items ≤ length text.now) }
     ensures err { IfErr result (λ e. LexFault text.now e) }
 {
     let bytes = text.as_bytes();
