@@ -1,2 +1,5 @@
 pub mod Names
 pub mod MetNames
+pub mod Distinct
+pub mod Functions
+pub mod Package

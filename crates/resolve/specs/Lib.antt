@@ -3,3 +3,4 @@ pub mod Closed
 pub mod Names
 pub mod Same
 pub mod Scope
+pub mod FromAst

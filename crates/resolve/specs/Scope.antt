@@ -12,5 +12,9 @@ IsMetBefore names k = Contains (map lowered (take k names)) (lowered (slice_inde
 abbrev pub IsDuplicate : List (List ℕ) → List ℕ → Type 0
 IsDuplicate names name = (k : ℕ) × (k < length names) × (slice_index_or names k [] ≡ name) × IsMetBefore names k
 
+-- none of the first n names is met before
+pub record AreDistinctBelow (n : ℕ) (names : List (List ℕ)) : Type 0 where
+  pub each : (k : ℕ) → k < n → ¬ IsMetBefore names k
+
 abbrev pub AreDistinct : List (List ℕ) → Type 0
-AreDistinct names = (k : ℕ) → k < length names → ¬ IsMetBefore names k
+AreDistinct names = AreDistinctBelow (length names) names

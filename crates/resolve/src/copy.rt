@@ -18,7 +18,10 @@ trait Copied: Sized {
         ensures { IfOk result (λ x. x ≡ self.now) };
 }
 
-fn copied_all<T: Copied + Drop>(alloc: Global, items: &Sequence<T>) -> Result<Sequence<T>, AllocError>
+fn copied_all<T: Copied + Drop>(
+    alloc: Global,
+    items: &Sequence<T>,
+) -> Result<Sequence<T>, AllocError>
     ensures { IfOk result (λ xs. xs ≡ items.now) }
 {
     let mut copy = Vec::new(alloc);

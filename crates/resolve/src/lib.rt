@@ -8,6 +8,7 @@
 
 mod copy;
 mod error;
+mod from_ast;
 mod lookup;
 mod scope;
 mod sequence;
