@@ -145,3 +145,46 @@ unfolding is_label
 label_is_utf8 text h =
     let e : is_label text ≡ true = grind (arith, nat_tests) in
     IsUtf8-from_ascii text (low place.Start text (second (nat_le (length text) 255) (label_from place.Start text) (sym (is_label_by text) ∙ e)))
+
+-- ---- which bytes a label has
+
+-- a letter, a digit or a hyphen
+abbrev pub is_label_byte : ℕ → Bool
+is_label_byte c = is_lower c || (is_upper c || (is_digit c || is_hyphen c))
+
+both : (a b : Bool) → a ≡ true → b ≡ true → (a && b) ≡ true
+both a b h k = rw (h, k) refl
+
+-- one byte of a word or a hyphen, and those behind it
+made_of : (c : ℕ) (cs : List ℕ) (l u x y : Bool) → (l ≡ true → is_label_byte c ≡ true) → (u ≡ true → is_label_byte c ≡ true) → (x ≡ true → list_all is_label_byte cs ≡ true)
+    → (y ≡ true → list_all is_label_byte cs ≡ true) → (if l then x else (if u then y else false)) ≡ true → list_all is_label_byte (c ∷ cs) ≡ true
+made_of c cs true u x y hl hu hx hy h = both (is_label_byte c) (list_all is_label_byte cs) (hl refl) (hx h)
+made_of c cs false true x y hl hu hx hy h = both (is_label_byte c) (list_all is_label_byte cs) (hu refl) (hy h)
+made_of c cs false false x y hl hu hx hy h = absurd cc
+
+byte_lower : (c : ℕ) → is_lower c ≡ true → is_label_byte c ≡ true
+byte_lower c h = rw h refl
+
+byte_upper : (c : ℕ) → is_upper c ≡ true → is_label_byte c ≡ true
+byte_upper c h = grind (arith, nat_tests)
+
+byte_hyphen : (c : ℕ) → is_hyphen c ≡ true → is_label_byte c ≡ true
+byte_hyphen c h = grind (arith, nat_tests)
+
+byte_lower_digit : (c : ℕ) → lower_or_digit c ≡ true → is_label_byte c ≡ true
+byte_lower_digit c h = grind (arith, nat_tests)
+
+byte_upper_digit : (c : ℕ) → upper_or_digit c ≡ true → is_label_byte c ≡ true
+byte_upper_digit c h = grind (arith, nat_tests)
+
+bytes_of : (p : Place) (cs : List ℕ) → label_from p cs ≡ true → list_all is_label_byte cs ≡ true
+bytes_of p [] h = refl
+bytes_of place.Start (c ∷ cs) h =
+    made_of c cs (is_lower c) (is_upper c) (label_from place.Lower cs) (label_from place.Upper cs) (byte_lower c) (byte_upper c) (bytes_of place.Lower cs) (bytes_of place.Upper cs) h
+bytes_of place.Lower (c ∷ cs) h =
+    made_of c cs (lower_or_digit c) (is_hyphen c) (label_from place.Lower cs) (label_from place.Start cs) (byte_lower_digit c) (byte_hyphen c) (bytes_of place.Lower cs) (bytes_of place.Start cs) h
+bytes_of place.Upper (c ∷ cs) h =
+    made_of c cs (upper_or_digit c) (is_hyphen c) (label_from place.Upper cs) (label_from place.Start cs) (byte_upper_digit c) (byte_hyphen c) (bytes_of place.Upper cs) (bytes_of place.Start cs) h
+
+pub label_bytes : (text : List ℕ) → is_label text ≡ true → list_all is_label_byte text ≡ true
+label_bytes text h = bytes_of place.Start text (second (nat_le (length text) 255) (label_from place.Start text) (sym (is_label_by text) ∙ h))

@@ -2,6 +2,7 @@
 #![tactic(auto)]
 
 mod error;
+mod full_name;
 mod label;
 mod leb128;
 mod reading;
@@ -10,6 +11,7 @@ mod watched;
 mod writing;
 
 pub use error::AtomError;
+pub use full_name::{FullName, is_version};
 pub use label::{Label, is_label};
 pub use leb128::{read_s33, read_u32, write_s33, write_u32};
 pub use reading::{ReadUpToError, read_up_to};

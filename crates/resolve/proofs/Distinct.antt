@@ -1,8 +1,8 @@
 -- Names that are met one after the other.
 use Rattle.std.proofs.Common.{◌≡◌, ◌⊎◌, inl, inr, ℕ, ◌+◌, ◌<◌, ◌≤◌, refl, ◌++◌, ◌∷◌, List, [], map, length, take, get_or, Contains, ap, sym, subst, ◌∙◌, below_more, arith}
-use Rattle.std.proofs.lemmas.List.{get_or-map, length-map, map-append, take_all}
+use Rattle.std.proofs.lemmas.List.{get_or-map, length-map, map-append}
 use Rattle.std.proofs.lemmas.Grind.{take_at_read}
-use Rattle.resolve.specs.Scope.{lowered, IsMetBefore, IsDuplicate, AreDistinctBelow}
+use Rattle.resolve.specs.Scope.{lowered, AreDistinctBelow}
 use Rattle.resolve.specs.FromAst.{RefusesNames}
 use Rattle.resolve.specs.declared.error.ResolveError.{ResolveError}
 use Rattle.resolve.specs.declared.error.ResolveError.TheVariants.{Duplicate, NoMemory}

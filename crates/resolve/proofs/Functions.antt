@@ -1,9 +1,8 @@
 -- The functions of an interface, one after the other.
-use Rattle.std.proofs.Common.{◌≡◌, ◌≢◌, inl, inr, ℕ, zero, suc, ◌+◌, ◌<◌, ◌++◌, ◌∷◌, Bool, true, false, ◌&&◌, IsTrue, List, [], map, length, take, get_or, All, Contains, Some, Bor, ap, sym, subst, refl, ◌∙◌, arith}
+use Rattle.std.proofs.Common.{◌≡◌, ◌≢◌, inl, inr, ℕ, zero, suc, ◌<◌, ◌++◌, ◌∷◌, Bool, true, false, IsTrue, List, [], map, length, get_or, Some, Bor, ap, sym, subst, refl, ◌∙◌, arith}
 use Rattle.std.specs.List.{list_all}
 use Rattle.std.proofs.lemmas.List.{get_or-map, length-map}
 use Rattle.std.proofs.lemmas.List.Folds.{list_all_at, list_all-append}
-use Rattle.std.proofs.lemmas.Grind.{take_at_read}
 use Rattle.wit_text.specs.declared.ast.Func.{Func}
 use Rattle.wit_text.specs.declared.ast.InterfaceItem.{InterfaceItem}
 use Rattle.wit_text.specs.declared.ast.InterfaceItem.TheVariants as part

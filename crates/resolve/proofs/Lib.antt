@@ -3,3 +3,4 @@ pub mod MetNames
 pub mod Distinct
 pub mod Functions
 pub mod Package
+pub mod Rows

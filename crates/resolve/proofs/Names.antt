@@ -1,5 +1,5 @@
 -- A text is compared with one that is made of parts, part by part.
-use Rattle.std.proofs.Common.{◌≡◌, ◌≢◌, ℕ, List, [], ◌∷◌, ◌++◌, Option, Some, None, MatchOption, Bor, ap, sym, ◌∙◌}
+use Rattle.std.proofs.Common.{◌≡◌, ◌≢◌, ℕ, List, ◌∷◌, ◌++◌, Option, Some, None, MatchOption, Bor, ap, sym, ◌∙◌}
 use Rattle.std.proofs.lemmas.List.{append_cancel_left}
 
 -- P stands exactly where the two texts are the same

@@ -1,5 +1,5 @@
 -- A table of scalar functions is a package.
-use Rattle.std.proofs.Common.{◌≡◌, inl, inr, ℕ, zero, suc, ◌+◌, ◌<◌, ◌≤◌, ◌++◌, ◌∷◌, Bool, true, false, ◌&&◌, nat_le, IsTrue, List, [], map, length, get_or, slice_get, All, Contains, Option, Some, None, is_none, Bor, ap, sym, subst, refl, ◌∙◌, true≢false, arith}
+use Rattle.std.proofs.Common.{◌≡◌, inl, inr, ℕ, zero, suc, ◌+◌, ◌<◌, ◌≤◌, ◌∷◌, Bool, true, false, ◌&&◌, nat_le, IsTrue, List, [], map, length, slice_get, All, Contains, Option, Some, None, Bor, ap, sym, subst, refl, ◌∙◌, true≢false, arith}
 use Rattle.std.specs.List.{list_all}
 use Rattle.std.proofs.lemmas.List.{length-map, get_or-map}
 use Rattle.std.proofs.lemmas.List.Elements.{All-map}
@@ -13,7 +13,7 @@ use Rattle.wit_text.specs.declared.ast.InterfaceItem.{InterfaceItem}
 use Rattle.wit_text.specs.declared.ast.InterfaceItem.TheVariants as part
 use Rattle.resolve.specs.Closed.{is_scalar, is_scalar_result, is_scalar_function}
 use Rattle.resolve.specs.Scope.{AreDistinct, IsDuplicate}
-use Rattle.resolve.specs.Tables.{is_below, option_below, function_below, are_earlier, is_standard, are_standard, is_function_id, is_there, function_of, are_placed}
+use Rattle.resolve.specs.Tables.{is_below, option_below, function_below, are_earlier, are_standard, is_function_id, is_there, function_of, are_placed}
 use Rattle.resolve.specs.FromAst.{function_name, parameter_names, item_of, row_of, func_row, is_scalar_row, ids_below, interface_of, IsOneInterface, IsTreeOf, RefusesFunctions, Refuses}
 use Rattle.resolve.specs.declared.tables.ValType.{ValType}
 use Rattle.resolve.specs.declared.tables.ValType.TheVariants as val

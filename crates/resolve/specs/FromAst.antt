@@ -1,10 +1,9 @@
 -- What a syntax tree of scalar functions stands for, and when it is refused.
-use Rattle.std.specs.Prelude.{◌≡◌, ◌≢◌, ◌<◌, ◌++◌, ℕ, zero, suc, Bool, true, false, ◌&&◌, List, [], ◌∷◌, map, length, All, Option, None, Some, is_some, Contains, ◌⊎◌}
+use Rattle.std.specs.Prelude.{◌≡◌, ◌≢◌, ◌<◌, ◌++◌, ℕ, zero, suc, Bool, true, false, List, [], ◌∷◌, map, length, All, None, Some, is_some, Contains, ◌⊎◌}
 use Rattle.std.specs.Borrow.{Bor}
 use Rattle.std.specs.Option.{option_map}
-use Rattle.std.specs.List.{filter_map, list_all}
+use Rattle.std.specs.List.{list_all}
 use Rattle.wit_text.specs.declared.ast.Ast.{Ast}
-use Rattle.wit_text.specs.declared.ast.Item.{Item}
 use Rattle.wit_text.specs.declared.ast.Item.TheVariants as item
 use Rattle.wit_text.specs.declared.ast.Interface.{Interface as InterfaceTree}
 use Rattle.wit_text.specs.declared.ast.InterfaceItem.{InterfaceItem}

@@ -1,11 +1,11 @@
-use Rattle.std.proofs.Common.{◌≡◌, ℕ, take, get_or, map, arith, subst, Bor}
+use Rattle.std.proofs.Common.{arith, subst, Bor}
 use Rattle.std.proofs.lemmas.Grind.{common_steps}
 use Rattle.std.proofs.lemmas.List.Elements.{All-more}
 use Rattle.wit_text.specs.declared.ast.Func.{Func}
 use Rattle.resolve.specs.Scope.{AreDistinct}
 use Rattle.std.proofs.lemmas.Result.{err_from_is_err_and}
-use Rattle.resolve.specs.FromAst.{function_name, parameter_names, row_of}
-use Rattle.resolve.proofs.Distinct.{met-none, met-more, met-again, all-distinct}
+use Rattle.resolve.specs.FromAst.{function_name, parameter_names}
+use Rattle.resolve.proofs.Distinct.{met-more, met-again}
 use Rattle.resolve.proofs.Functions.{refuses-names, refuses-parameters, refuses-shape, scalar-more}
 use Rattle.resolve.proofs.from_ast.lower_functions.Goals as goal
 

@@ -1,7 +1,7 @@
-use Rattle.std.proofs.Common.{◌≡◌, ℕ, take, get_or, map, arith, rules, sym, ◌∙◌}
+use Rattle.std.proofs.Common.{arith, rules}
 use Rattle.std.proofs.lemmas.Grind.{common_steps}
 use Rattle.std.proofs.lemmas.Result.{err_from_is_err_and}
-use Rattle.resolve.specs.FromAst.{parameter_name, parameter_of}
+use Rattle.resolve.specs.FromAst.{parameter_name}
 use Rattle.resolve.proofs.Distinct.{met-none, met-more, met-again, all-distinct}
 use Rattle.resolve.proofs.from_ast.lower_parameters.Goals as goal
 

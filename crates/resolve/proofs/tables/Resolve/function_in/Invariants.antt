@@ -1,7 +1,7 @@
 use Rattle.std.proofs.Common.{ℕ, ◌<◌, ◌≡◌, get_or}
-use Rattle.resolve.specs.Names.{function_name, IsNamedIn}
+use Rattle.resolve.specs.Names.{function_name}
 use Rattle.resolve.specs.declared.tables.FunctionId.{FunctionId}
-use Rattle.std.proofs.Common.{take, Some}
+use Rattle.std.proofs.Common.{Some}
 use Rattle.resolve.proofs.tables.Resolve.function_in.Given as goal
 
 abbrev pub invariant-loop-func : goal.invariant-loop-func

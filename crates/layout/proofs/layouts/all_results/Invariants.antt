@@ -1,0 +1,6 @@
+use Rattle.std.proofs.Common.{◌≡◌, map, take}
+use Rattle.layout.specs.Rows.{definition_result}
+use Rattle.layout.proofs.layouts.all_results.Given as goal
+
+abbrev pub invariant-loop-definition : goal.invariant-loop-definition
+invariant-loop-definition l = l.results.items ≡ map (definition_result l.rows) (take l.definition-index l.definition-items)

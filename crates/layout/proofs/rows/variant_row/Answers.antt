@@ -1,0 +1,26 @@
+use Rattle.std.proofs.Common.{◌≡◌, ◌+◌, ◌∷◌, [], ◌++◌, None, Some, take, get_or, arith, rules}
+use Rattle.layout.specs.Rows.{choices_at, payloads}
+use Rattle.layout.proofs.VariantLoop.{variant_more, choices_at-some, choices_at-none}
+use Rattle.layout.proofs.rows.variant_row.Goals as goal
+use Rattle.layout.proofs.rows.variant_row.Goals.{in-Some, in_default}
+
+pub loop-case-preserved : goal.loop-case-preserved
+loop-case-preserved g c =
+    let rows = c.args.rows.now in
+    let payload = g.C.Choice.payload_of in
+    let cases = c.args.cases.now in
+    let i = c.loop-case.case-index in
+    let d = c.case-item.result in
+    elim c.match-payload.branch [
+      | in-Some w ↦
+          let is : payload (get_or cases i d) ≡ Some w.in-Some.payload = cc in
+          let more : payloads (choices_at rows payload (take (i + 1) cases)) ≡ payloads (choices_at rows payload (take i cases)) ++ w.row_in-row.result ∷ [] =
+          rw w.row_in-row.ensures.value (choices_at-some rows payload cases i d w.in-Some.payload (omega arith) is) in
+          variant_more {rows = payloads (choices_at rows payload (take i cases))} {rows' = payloads (choices_at rows payload (take (i + 1) cases))} w.row_in-row.result c.loop-case.invariant w.row_in-row.ensures.sound more
+          (rw (w.depth-is) (search rules)) (rw (w.size-is) (search rules)) (rw w.align-is (search rules)) (rw w.kinds-is w.join-kinds.ensures)
+      | in_default w ↦
+          let is : payload (get_or cases i d) ≡ None = cc in
+          let so_far = c.loop-case.invariant in
+          let more = choices_at-none rows payload cases i d (omega arith) is in
+          rw (more, w.depth-is, w.size-is, w.align-is, w.kinds-is) c.loop-case.invariant
+    ]

@@ -1,0 +1,93 @@
+-- The layout table of a package: the row of each closed type, and which definition is refused.
+use Rattle.std.specs.Prelude.{◌≡◌, ℕ, ◌<◌, ◌≤◌, min, List, [], ◌∷◌, length, map, slice_index_or, Option, None, Some}
+use Rattle.std.specs.Option.{option_map}
+use Rattle.canonical_abi.specs.Types.{ClosedType, string_type, depth, result_fields}
+use Rattle.canonical_abi.specs.Layout.{size, align, flat_kinds, field_kinds, CoreSignature}
+use Rattle.canonical_abi.specs.declared.flat.CoreKind.{CoreKind}
+use Rattle.resolve.specs.Closed.{closed_val, closed_types}
+use Rattle.resolve.specs.declared.tables.Definition.{Definition}
+use Rattle.resolve.specs.declared.tables.Definition.TheVariants as row
+use Rattle.resolve.specs.declared.tables.Resolve.{Resolve}
+use Rattle.layout.specs.Kinds.{kinds_of, passed}
+use Rattle.layout.specs.Work.{total_work, saturated}
+use Rattle.layout.specs.declared.kinds.Kinds.{Kinds}
+use Rattle.layout.specs.declared.rows.Row.{Row}
+use Rattle.layout.specs.declared.signature.CoreSignature.{CoreSignature as Signature}
+use Rattle.layout.specs.declared.error.LayoutError.{LayoutError}
+use Rattle.layout.specs.declared.error.LayoutError.TheVariants.{TooDeep, TooLarge, NoMemory}
+
+abbrev pub max_depth : ℕ
+max_depth = 64
+
+abbrev pub max_size : ℕ
+max_size = 16777216
+
+-- a depth, and 65 where it is above the limit
+abbrev pub capped : ℕ → ℕ
+capped n = min n 65
+
+abbrev pub row_of : ClosedType → Row
+row_of t = record { depth = capped (depth t); size = size t; align = align t; kinds = kinds_of (flat_kinds t) }
+
+-- the kinds of a function's result, and none of a type
+abbrev pub result_of : List ClosedType → Definition → Kinds
+result_of ts (row.Type d) = kinds_of []
+result_of ts (row.Function f) = kinds_of (field_kinds (result_fields (option_map (closed_val ts) f.result)))
+
+-- what a layout table has: a row for each definition, a result for each, and the count of the steps that it takes
+pub record Table : Type 0 where
+  pub rows : List Row
+  pub results : List Kinds
+  pub work : ℕ
+
+abbrev pub layouts_of : Resolve → Table
+layouts_of r = record {
+  rows = map row_of (closed_types r);
+  results = map (result_of (closed_types r)) r.definitions;
+  work = saturated (total_work r.definitions);
+}
+
+-- a row that stands in a table
+pub record IsSound (r : Row) : Type 0 where
+  pub depth : r.depth ≤ 65
+  pub size : r.size ≤ max_size
+  pub least_align : 1 ≤ r.align
+  pub most_align : r.align ≤ 8
+  pub fits : length (passed r.kinds) ≤ 16
+
+-- a definition of this closed type is within the limits; a function's parameters have no limit of depth
+abbrev pub IsWithin : Definition → ClosedType → Type 0
+IsWithin (row.Type d) t = (depth t ≤ max_depth) × (size t ≤ max_size)
+IsWithin (row.Function f) t = size t ≤ max_size
+
+-- the refusal stands for a definition of this closed type
+abbrev pub Refuses : LayoutError → Definition → ClosedType → Type 0
+Refuses TooDeep (row.Type d) t = max_depth < depth t
+Refuses TooDeep (row.Function f) t = ⊥
+Refuses TooLarge (row.Type d) t = (depth t ≤ max_depth) × (max_size < size t)
+Refuses TooLarge (row.Function f) t = max_size < size t
+Refuses NoMemory d t = Unit {0}
+
+-- the refusal stands for definition k, and all before it are within the limits
+pub record StandsAt (e : LayoutError) (r : Resolve) (k : ℕ) : Type 0 where
+  pub definition : Definition
+  pub is : slice_index_or r.definitions k definition ≡ definition
+  pub in_range : k < length r.definitions
+  pub refused : Refuses e definition (slice_index_or (closed_types r) k string_type)
+  pub before : (i : ℕ) (d : Definition) → i < k → slice_index_or r.definitions i d ≡ d → IsWithin d (slice_index_or (closed_types r) i string_type)
+
+abbrev pub RefusesFirst : LayoutError → Resolve → Type 0
+RefusesFirst TooDeep r = (k : ℕ) × StandsAt TooDeep r k
+RefusesFirst TooLarge r = (k : ℕ) × StandsAt TooLarge r k
+RefusesFirst NoMemory r = Unit {0}
+
+pub record AreWithin (r : Resolve) : Type 0 where
+  pub each : (i : ℕ) (d : Definition) → i < length r.definitions → slice_index_or r.definitions i d ≡ d → IsWithin d (slice_index_or (closed_types r) i string_type)
+
+-- a core signature, its result as a list
+abbrev pub results_of : Option CoreKind → List CoreKind
+results_of None = []
+results_of (Some k) = k ∷ []
+
+abbrev pub signature_of : Signature → CoreSignature
+signature_of s = record { params = s.params.items; results = results_of s.result }

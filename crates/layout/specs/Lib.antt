@@ -1,0 +1,5 @@
+pub mod Kinds
+pub mod Layout
+pub mod Rows
+pub mod Work
+pub mod Signature

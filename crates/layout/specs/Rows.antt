@@ -1,0 +1,126 @@
+-- What a definition's row is, by the rows before it.
+use Rattle.std.specs.Prelude.{ℕ, ◌+◌, ◌<◌, ◌≤◌, max, Bool, true, List, [], ◌∷◌, length, map, fold, slice_index_or, Option, None, Some}
+use Rattle.std.specs.Option.{option_map}
+use Rattle.canonical_abi.specs.Types.{prim_type, string_type, flags_type}
+use Rattle.canonical_abi.specs.Layout.{Extent, record_extent, variant_extent}
+use Rattle.canonical_abi.specs.declared.flat.CoreKind.{CoreKind}
+use Rattle.canonical_abi.specs.declared.flat.CoreKind.TheVariants.{I32}
+use Rattle.resolve.specs.Closed.{prim_of}
+use Rattle.resolve.specs.Tables.{option_below}
+use Rattle.resolve.specs.declared.tables.ValType.{ValType}
+use Rattle.resolve.specs.declared.tables.ValType.TheVariants as val
+use Rattle.resolve.specs.declared.tables.TypeDefKind.{TypeDefKind}
+use Rattle.resolve.specs.declared.tables.TypeDefKind.TheVariants as kind
+use Rattle.resolve.specs.declared.tables.Definition.{Definition}
+use Rattle.resolve.specs.declared.tables.Definition.TheVariants as row
+use Rattle.layout.specs.Kinds.{kinds_of, passed, append_kinds, join_kinds}
+use Rattle.layout.specs.Layout.{row_of, capped, max_depth, max_size}
+use Rattle.layout.specs.declared.kinds.Kinds.{Kinds}
+use Rattle.layout.specs.declared.rows.Row.{Row}
+use Rattle.layout.specs.declared.error.LayoutError.{LayoutError}
+use Rattle.layout.specs.declared.error.LayoutError.TheVariants.{TooDeep, TooLarge, NoMemory}
+
+-- the row that the type has, or stands for
+abbrev pub row_in : List Row → ValType → Row
+row_in rows (val.Primitive p) = row_of (prim_type (prim_of p))
+row_in rows val.String = row_of string_type
+row_in rows (val.Id t) = slice_index_or rows t.0 (row_of string_type)
+
+-- the rows of these members' types, or of these payloads
+abbrev pub rows_at : {A : Type 0} → List Row → (A → ValType) → List A → List Row
+rows_at rows ty xs = map (λ a. row_in rows (ty a)) xs
+
+-- the rows of the payloads of these cases, None for a case without
+abbrev pub choices_at : {A : Type 0} → List Row → (A → Option ValType) → List A → List (Option Row)
+choices_at rows payload xs = map (λ x. option_map (row_in rows) (payload x)) xs
+
+-- the payloads of the cases that have one
+abbrev pub payloads : {A : Type 0} → List (Option A) → List A
+payloads [] = []
+payloads (None ∷ cs) = payloads cs
+payloads (Some p ∷ cs) = p ∷ payloads cs
+
+abbrev pub extent_in : Row → Extent
+extent_in r = record { size = r.size; align = r.align }
+
+abbrev pub extents : List Row → List Extent
+extents rows = map extent_in rows
+
+abbrev pub deepest : List Row → ℕ
+deepest rows = fold (λ n r. max n r.depth) 0 rows
+
+abbrev pub record_row : List Row → Row
+record_row rows = record {
+  depth = capped (deepest rows + 1);
+  size = (record_extent (extents rows)).size;
+  align = (record_extent (extents rows)).align;
+  kinds = fold (λ ks r. append_kinds ks r.kinds) (kinds_of []) rows;
+}
+
+abbrev pub variant_row : List (Option Row) → Row
+variant_row cs = record {
+  depth = capped (deepest (payloads cs) + 1);
+  size = (variant_extent (length cs) (extents (payloads cs))).size;
+  align = (variant_extent (length cs) (extents (payloads cs))).align;
+  kinds = append_kinds (kinds_of (I32 ∷ [])) (fold (λ ks r. join_kinds ks r.kinds) (kinds_of []) (payloads cs));
+}
+
+abbrev pub list_row : Row → Row
+list_row r = record (row_of string_type) { depth = capped (r.depth + 1) }
+
+abbrev pub kind_row : List Row → TypeDefKind → Row
+kind_row rows (kind.Use t) = row_in rows (val.Id t)
+kind_row rows (kind.Alias v) = row_in rows v
+kind_row rows (kind.List v) = list_row (row_in rows v)
+kind_row rows (kind.Option v) = variant_row (choices_at rows (λ c. c) (None ∷ Some v ∷ []))
+kind_row rows (kind.Result ok error) = variant_row (choices_at rows (λ c. c) (ok ∷ error ∷ []))
+kind_row rows (kind.Tuple vs) = record_row (rows_at rows (λ v. v) vs)
+kind_row rows (kind.Record fs) = record_row (rows_at rows (λ f. f.ty) fs)
+kind_row rows (kind.Variant cs) = variant_row (choices_at rows (λ c. c.ty) cs)
+kind_row rows (kind.Enum names) = variant_row (choices_at rows (λ n. None) names)
+kind_row rows (kind.Flags names) = row_of (flags_type (length names))
+
+abbrev pub definition_row : List Row → Definition → Row
+definition_row rows (row.Type d) = kind_row rows d.kind
+definition_row rows (row.Function f) = record_row (rows_at rows (λ p. p.ty) f.params)
+
+-- the result's type stands before place n
+abbrev pub result_below : ℕ → Definition → Bool
+result_below n (row.Type d) = true
+result_below n (row.Function f) = option_below n f.result
+
+abbrev pub result_in : List Row → Option ValType → Kinds
+result_in rows None = kinds_of []
+result_in rows (Some v) = (row_in rows v).kinds
+
+abbrev pub definition_result : List Row → Definition → Kinds
+definition_result rows (row.Type d) = kinds_of []
+definition_result rows (row.Function f) = result_in rows f.result
+
+-- a number of so many bytes
+abbrev pub number_row : ℕ → CoreKind → Row
+number_row bytes k = record { depth = 1; size = bytes; align = bytes; kinds = kinds_of (k ∷ []) }
+
+-- what is true of a row before its limits were tested
+pub record IsKept (r : Row) : Type 0 where
+  pub depth : r.depth ≤ 65
+  pub least_align : 1 ≤ r.align
+  pub most_align : r.align ≤ 8
+  pub fits : length (passed r.kinds) ≤ 16
+
+abbrev pub IsLimited : Row → Type 0
+IsLimited r = (r.depth ≤ max_depth) × (r.size ≤ max_size)
+
+abbrev pub IsLimitedDefinition : Definition → Row → Type 0
+IsLimitedDefinition (row.Type d) r = IsLimited r
+IsLimitedDefinition (row.Function f) r = r.size ≤ max_size
+
+abbrev pub RefusesRow : LayoutError → Row → Type 0
+RefusesRow TooDeep r = max_depth < r.depth
+RefusesRow TooLarge r = (r.depth ≤ max_depth) × (max_size < r.size)
+RefusesRow NoMemory r = ⊥
+
+abbrev pub RefusesDefinition : LayoutError → Definition → Row → Type 0
+RefusesDefinition e (row.Type d) r = RefusesRow e r
+RefusesDefinition TooLarge (row.Function f) r = max_size < r.size
+RefusesDefinition _ (row.Function f) r = ⊥

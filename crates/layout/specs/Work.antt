@@ -1,0 +1,34 @@
+-- The steps that a layout table takes: one for each definition, and one for each type that stands directly in one.
+use Rattle.std.specs.Prelude.{ℕ, ◌+◌, ◌^◌, ◌-◌, min, List, length, sum_by, filter, Option, None, Some, is_some}
+use Rattle.resolve.specs.declared.tables.TypeDefKind.{TypeDefKind}
+use Rattle.resolve.specs.declared.tables.TypeDefKind.TheVariants as kind
+use Rattle.resolve.specs.declared.tables.Definition.{Definition}
+use Rattle.resolve.specs.declared.tables.Definition.TheVariants as row
+
+abbrev pub count : {A : Type 0} → Option A → ℕ
+count None = 0
+count (Some x) = 1
+
+-- the types that stand directly in a type
+abbrev pub members_in : TypeDefKind → ℕ
+members_in (kind.Use t) = 1
+members_in (kind.Alias v) = 1
+members_in (kind.List v) = 1
+members_in (kind.Option v) = 1
+members_in (kind.Result ok error) = count ok + count error
+members_in (kind.Tuple vs) = length vs
+members_in (kind.Record fs) = length fs
+members_in (kind.Variant cs) = length (filter (λ c. is_some c.ty) cs)
+members_in (kind.Enum names) = 0
+members_in (kind.Flags names) = 0
+
+abbrev pub types_in : Definition → ℕ
+types_in (row.Type d) = members_in d.kind
+types_in (row.Function f) = length f.params + count f.result
+
+abbrev pub total_work : List Definition → ℕ
+total_work ds = sum_by (λ d. 1 + types_in d) ds
+
+-- a count stays at the greatest u64
+abbrev pub saturated : ℕ → ℕ
+saturated n = min n (2 ^ 64 - 1)

@@ -1,0 +1,159 @@
+//! The layout table of a package.
+ghost use Rattle.std.specs.Prelude.{◌≡◌, ◌<◌, length, map, All, IsTrue, IfOk, IfErr};
+ghost use Rattle.resolve.specs.declared.tables.Resolve.{Resolve};
+ghost use Rattle.resolve.specs.Closed.{closed_types, closed_type, function_type, IsFunction};
+ghost use Rattle.resolve.specs.Tables.{is_below};
+ghost use Rattle.canonical_abi.specs.Types.{fields_of};
+ghost use Rattle.canonical_abi.specs.Layout.{size, align, field_kinds, lifted_signature, lowered_signature};
+ghost use Rattle.layout.specs.Kinds.{kinds_of};
+ghost use Rattle.layout.specs.Layout.{row_of, result_of, layouts_of, signature_of, RefusesFirst, AreWithin, IsSound};
+ghost use Rattle.layout.specs.Rows.{definition_result, result_below};
+ghost use Rattle.layout.specs.Work.{total_work, saturated};
+
+use crate::error::LayoutError;
+use crate::kinds::Kinds;
+use crate::rows::{Row, definition_row, row_in};
+use crate::signature::{CoreSignature, lifted_of, lowered_of};
+use crate::work::total_work;
+use resolve::{Definition, FunctionId, Resolve, ValType};
+use std::alloc::Global;
+use std::marker::Model;
+
+/// The rows of a package's definitions, in table order.
+fn all_rows(alloc: Global, resolve: &Resolve) -> Result<Vec<Row>, LayoutError>
+    ensures ok { IfOk result (λ rows. rows.items ≡ map row_of (closed_types resolve.now)) }
+    ensures sound { IfOk result (λ rows. All IsSound rows.items) }
+    ensures within { IfOk result (λ _. AreWithin resolve.now) }
+    ensures err { IfErr result (λ e. RefusesFirst e resolve.now) }
+{
+    let mut rows = Vec::new(alloc);
+    for definition in resolve.definitions.as_slice() {
+        let row = definition_row(rows.as_slice(), definition)?;
+        rows.push(row)?;
+    }
+    Ok(rows)
+}
+
+/// The kinds of a function's result, and none of a type.
+fn result_kinds(rows: &[Row], definition: &Definition) -> Kinds
+    requires below { IsTrue (result_below (length rows.now) definition.now) }
+    requires sound { All IsSound rows.now }
+    ensures { result ≡ definition_result rows.now definition.now }
+{
+    match definition {
+        Definition::Type(_) => Kinds::none(),
+        Definition::Function(function) => match function.result {
+            Some(ty) => row_in(rows, ty).kinds,
+            None => Kinds::none(),
+        },
+    }
+}
+
+/// The kinds of the results of a package's functions.
+fn all_results(alloc: Global, resolve: &Resolve, rows: &[Row]) -> Result<Vec<Kinds>, LayoutError>
+    requires rows { rows.now ≡ map row_of (closed_types resolve.now) }
+    requires sound { All IsSound rows.now }
+    ensures ok { IfOk result (λ results. results.items ≡ map (result_of (closed_types resolve.now)) resolve.now.definitions) }
+    ensures err { IfErr result (λ e. e ≡ LayoutError.NoMemory) }
+{
+    let mut results = Vec::new(alloc);
+    for definition in resolve.definitions.as_slice() {
+        results.push(result_kinds(rows, definition))?;
+    }
+    Ok(results)
+}
+
+/// The layout table of a package.
+#[derive(Debug, Drop)]
+pub struct Layouts {
+    rows: Vec<Row>,
+    /// The flat kinds of each function's result; none at a type's place.
+    results: Vec<Kinds>,
+    work: u64,
+}
+
+impl Model for Layouts {
+    ghost use Rattle.std.specs.Prelude.{◌≡◌, All, length};
+    ghost use Rattle.layout.specs.Layout.{Table, IsSound};
+
+    ghost Value = { Table };
+
+    ghost view = { λ l. record { rows = l.rows.items; results = l.results.items; work = l.work } };
+
+    ghost invariant = { λ l. All IsSound l.rows.items × (length l.results.items ≡ length l.rows.items) };
+}
+
+impl Layouts {
+    /// Lays out the definitions of a package in turn, each from those before it. 51 or 50 stands for the first
+    /// definition that is too deep or too large; 51 comes first where it is both.
+    pub fn of(alloc: Global, resolve: &Resolve) -> Result<Layouts, LayoutError>
+        ensures ok { IfOk result (λ l. l ≡ layouts_of resolve.now) }
+        ensures within { IfOk result (λ _. AreWithin resolve.now) }
+        ensures err { IfErr result (λ e. RefusesFirst e resolve.now) }
+    {
+        let rows = all_rows(alloc, resolve)?;
+        let results = all_results(alloc, resolve, rows.as_slice())?;
+        let work = total_work(resolve.definitions.as_slice());
+        Ok(Layouts {
+            rows,
+            results,
+            work,
+        })
+    }
+
+    /// The size of a type of the package, in bytes.
+    pub fn size(&self, ty: ValType) -> u32
+        requires { IsTrue (is_below (length self.now.rows) ty) }
+        ensures { (r : Resolve) → self.now ≡ layouts_of r → result ≡ size (closed_type r ty) }
+    {
+        row_in(self.rows.as_slice(), ty).size
+    }
+
+    /// The alignment of a type of the package, in bytes.
+    pub fn align(&self, ty: ValType) -> u32
+        requires { IsTrue (is_below (length self.now.rows) ty) }
+        ensures { (r : Resolve) → self.now ≡ layouts_of r → result ≡ align (closed_type r ty) }
+    {
+        row_in(self.rows.as_slice(), ty).align
+    }
+
+    /// The flat kinds of these types side by side, where they are at most sixteen.
+    pub fn flat(&self, types: &[ValType]) -> Kinds
+        requires { All (λ v. IsTrue (is_below (length self.now.rows) v)) types.now }
+        ensures { (r : Resolve) → self.now ≡ layouts_of r
+            → result ≡ kinds_of (field_kinds (fields_of (map (closed_type r) types.now))) }
+    {
+        let rows = self.rows.as_slice();
+        let mut kinds = Kinds::none();
+        for ty in types {
+            kinds = kinds.append(&row_in(rows, *ty).kinds);
+        }
+        kinds
+    }
+
+    /// The core signature of the callee's function.
+    pub fn lifted(&self, func: FunctionId) -> CoreSignature
+        requires { func.0 < length self.now.rows }
+        ensures { (r : Resolve) → self.now ≡ layouts_of r → IsFunction r func → signature_of result ≡ lifted_signature (function_type r func) }
+    {
+        let place = func.0 as usize;
+        lifted_of(&self.rows[place].kinds, &self.results[place])
+    }
+
+    /// The core signature of the caller's import.
+    pub fn lowered(&self, func: FunctionId) -> CoreSignature
+        requires { func.0 < length self.now.rows }
+        ensures { (r : Resolve) → self.now ≡ layouts_of r → IsFunction r func → signature_of result ≡ lowered_signature (function_type r func) }
+    {
+        let place = func.0 as usize;
+        lowered_of(&self.rows[place].kinds, &self.results[place])
+    }
+
+    /// How many steps the table took: one for each definition, and one for each type that stands directly in
+    /// one; the greatest u64 where they are more.
+    pub fn work(&self) -> u64
+        ensures { (r : Resolve) → self.now ≡ layouts_of r → result ≡ saturated (total_work r.definitions) }
+    {
+        self.work
+    }
+}
