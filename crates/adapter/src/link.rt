@@ -2,11 +2,13 @@
 ghost use Rattle.std.specs.Prelude.{◌≡◌, ◌≢◌, ◌≤◌, length, map, take, IfOk, IfErr, Err};
 ghost use Rattle.canonical_abi.specs.Call.{Calls, either, AllowsSameRuns, AllowsSamePosts};
 ghost use Rattle.resolve.specs.Closed.{function_type, IsScalarFunction};
+ghost use Rattle.layout.specs.Layout.{layouts_of};
 ghost use Rattle.lift_lower.specs.Scalars.{AreScalar};
 ghost use Rattle.adapter.specs.Carrying.{CarriesOn, IsFaultAt, answer_of};
 
 use crate::body::Body;
 use canonical_abi::{Fault, Flat, Guest, Step, Trap, TrapKind};
+use layout::Layouts;
 use lift_lower::{Flats, lift_scalars, lower_scalars};
 use resolve::{FunctionId, Parameter, Primitive, Resolve, ValType};
 use std::marker::Model;
@@ -15,6 +17,7 @@ use std::marker::Model;
 #[derive(Drop)]
 pub struct Link<'a> {
     resolve: &'a Resolve,
+    layouts: &'a Layouts,
 }
 
 impl<'a> Model for Link<'a> {
@@ -22,15 +25,17 @@ impl<'a> Model for Link<'a> {
 
     ghost Value = { Linked };
 
-    ghost view = { λ l. record { resolve = l.resolve.now } };
+    ghost view = { λ l. record { resolve = l.resolve.now; layouts = l.layouts.now } };
 }
 
 impl<'a> Link<'a> {
-    /// A link over a package.
-    pub fn new(resolve: &'a Resolve) -> Link<'a>
-        ensures { result.resolve ≡ resolve.now }
+    /// A link over a package and its layouts.
+    pub fn new(resolve: &'a Resolve, layouts: &'a Layouts) -> Link<'a>
+        requires laid_out { layouts.now ≡ layouts_of resolve.now }
+        ensures package { result.resolve ≡ resolve.now }
+        ensures layouts { result.layouts ≡ layouts.now }
     {
-        Link { resolve }
+        Link { resolve, layouts }
     }
 
     /// Calls a function of the package: the flat values are lifted from the caller and lowered into the

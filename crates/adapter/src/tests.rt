@@ -3,6 +3,7 @@
 use crate::{BoxedBody, Export, Link, Stopped};
 use atoms::Label;
 use canonical_abi::Flat;
+use layout::Layouts;
 use lift_lower::Flats;
 use memory::{Bump, Space};
 use resolve::{
@@ -65,7 +66,8 @@ fn carries_low_bits(rt: HostRuntime) -> Result<(), Fail> {
     let mut caller = Bump::new(rt.alloc(), 16)?;
     let mut callee = Space::Bump(Bump::new(rt.alloc(), 16)?);
     let mut body = BoxedBody::new(Box::new(rt.alloc(), Constant(Flat::I32(511)))?);
-    let mut link = Link::new(&resolve);
+    let layouts = Layouts::of(rt.alloc(), &resolve)?;
+    let mut link = Link::new(&resolve, &layouts);
     let flats = [Flat::I32(255)];
     let answer = link.call(FunctionId(0), &flats, &mut caller, &mut callee, &mut body);
     let Ok(back) = answer else {

@@ -1,7 +1,8 @@
 //! Lifting: the values that flat values denote.
-ghost use Rattle.std.specs.Prelude.{map, IfOk, IfErr};
+ghost use Rattle.std.specs.Prelude.{◌≡◌, map, IfOk, IfErr};
 ghost use Rattle.canonical_abi.specs.Flat.{Denotes};
 ghost use Rattle.canonical_abi.specs.Layout.{max_flat_params};
+ghost use Rattle.layout.specs.Layout.{layouts_of};
 ghost use Rattle.lift_lower.specs.Crossing.{fields_of_types, LiftFails};
 ghost use Rattle.lift_lower.specs.Scalars.{AreScalar};
 ghost use Rattle.lift_lower.specs.Val.{value_of};
@@ -9,6 +10,7 @@ ghost use Rattle.lift_lower.specs.Val.{value_of};
 use crate::scalars::lift_scalars;
 use crate::val::Val;
 use canonical_abi::{Fault, Flat, Guest, Step, Trap};
+use layout::Layouts;
 use resolve::{Resolve, ValType};
 use std::alloc::Global;
 
@@ -17,10 +19,12 @@ use std::alloc::Global;
 pub fn lift<G: Guest>(
     alloc: Global,
     _resolve: &Resolve,
+    _layouts: &Layouts,
     types: &[ValType],
     flats: &[Flat],
     _guest: &G,
 ) -> Result<Vec<Val>, Fault>
+    requires laid_out { _layouts.now ≡ layouts_of _resolve.now }
     requires scalar { AreScalar types.now }
     ensures values { IfOk result (λ values. Denotes max_flat_params (fields_of_types _resolve.now types.now)
         (G.memory _guest.now).bytes flats.now (map value_of values.items)) }

@@ -1,3 +1,4 @@
+pub mod Alike
 pub mod Bump
 pub mod BumpLaws
 pub mod Scripted

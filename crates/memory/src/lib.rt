@@ -7,11 +7,13 @@
 
 mod bump;
 mod error;
+mod laws;
 mod scripted;
 mod space;
 
 pub use bump::Bump;
 pub use canonical_abi::{Full, Guest, Honest, NotTaken};
 pub use error::{MAX_LEN, MemoryError};
+pub use laws::{bumps_answer_alike, spaces_answer_alike};
 pub use scripted::Scripted;
 pub use space::Space;
