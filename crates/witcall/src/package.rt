@@ -65,7 +65,8 @@ impl Package {
 
     /// The layouts of all types of the tables.
     pub fn layouts(&self) -> &Layouts
-        ensures { result.now ≡ self.now.layouts }
+        ensures layouts { result.now ≡ self.now.layouts }
+        ensures laid_out { result.now ≡ layouts_of self.now.resolve }
     {
         &self.layouts
     }

@@ -1,7 +1,8 @@
 //! The program's own body: it answers one value.
 
-ghost use Rattle.std.specs.Prelude.{IsTrue, map};
+ghost use Rattle.std.specs.Prelude.{◌≡◌, IsTrue, map};
 ghost use Rattle.canonical_abi.specs.Values.{HaveTypes};
+ghost use Rattle.layout.specs.Layout.{layouts_of};
 ghost use Rattle.lift_lower.specs.Crossing.{fields_of_types};
 ghost use Rattle.lift_lower.specs.Scalars.{AreScalar};
 ghost use Rattle.lift_lower.specs.Val.{value_of};
@@ -13,6 +14,7 @@ use crate::refused::Refused;
 use crate::signature::{ScalarTypes, scalar_function};
 use adapter::{Export, Stopped};
 use canonical_abi::Flat;
+use layout::Layouts;
 use lift_lower::{Flats, Val, has_type, lift, lower};
 use memory::Space;
 use resolve::{FunctionId, Resolve, ValType};
@@ -63,10 +65,12 @@ impl Export for Reply {
 
     fn call(&mut self, memory: &mut Space, arguments: &[Flat]) -> Result<Flats, Stopped> {
         let resolve = self.package.resolve();
+        let layouts = self.package.layouts();
         let types = ScalarTypes::of(resolve, self.func);
         let Ok(_arguments) = lift(
             self.alloc,
             resolve,
+            layouts,
             types.params(),
             arguments,
             memory,
@@ -74,10 +78,10 @@ impl Export for Reply {
             return Err(Stopped);
         };
         let values = self.value.as_slice();
-        if !have_types(resolve, types.results(), values) {
+        if !have_types(resolve, layouts, types.results(), values) {
             return Err(Stopped);
         }
-        match lower(resolve, types.results(), values, memory) {
+        match lower(resolve, layouts, types.results(), values, memory) {
             Ok(flats) => Ok(flats),
             Err(_fault) => Err(Stopped),
         }
@@ -89,13 +93,19 @@ impl Export for Reply {
 }
 
 /// Whether these are the value of a result, or none where there is no result.
-fn have_types(resolve: &Resolve, results: &[ValType], values: &[Val]) -> bool
-    requires { AreScalar results.now }
+fn have_types(
+    resolve: &Resolve,
+    layouts: &Layouts,
+    results: &[ValType],
+    values: &[Val],
+) -> bool
+    requires laid_out { layouts.now ≡ layouts_of resolve.now }
+    requires scalar { AreScalar results.now }
     ensures { IsTrue result → HaveTypes (map value_of values.now) (fields_of_types resolve.now results.now) }
 {
     match (results, values) {
         ([], []) => true,
-        ([ty], [value]) => has_type(resolve, *ty, value),
+        ([ty], [value]) => has_type(resolve, layouts, *ty, value),
         _ => false,
     }
 }

@@ -4,6 +4,7 @@ ghost use Rattle.std.specs.Prelude.{◌≡◌, map, IfOk, IfErr, option_to_list}
 ghost use Rattle.std.specs.Option.{option_map};
 ghost use Rattle.canonical_abi.specs.Values.{HaveTypes};
 ghost use Rattle.canonical_abi.specs.Types.{result_fields};
+ghost use Rattle.layout.specs.Layout.{layouts_of};
 ghost use Rattle.resolve.specs.Closed.{IsScalarFunction, function_type};
 ghost use Rattle.canonical_abi.specs.Layout.{max_flat_results};
 ghost use Rattle.canonical_abi.specs.Flat.{Denotes};
@@ -18,6 +19,7 @@ use crate::package::Package;
 use crate::signature::ScalarTypes;
 use adapter::{Body, Link};
 use canonical_abi::{Fault, Flat, Guest};
+use layout::Layouts;
 use lift_lower::{Val, lift, lower};
 use resolve::{FunctionId, Resolve};
 use std::alloc::Global;
@@ -87,9 +89,16 @@ impl<'a, C: Guest, E: Guest, B: Body<E>> Session<'a, C, E, B> {
         ensures package { self.new.package.now ≡ self.old.package.now }
     {
         let resolve = self.package.resolve();
+        let layouts = self.package.layouts();
         let types = ScalarTypes::of(resolve, func);
-        let flats = lower(resolve, types.params(), arguments, &mut self.caller)?;
-        let mut link = Link::new(resolve);
+        let flats = lower(
+            resolve,
+            layouts,
+            types.params(),
+            arguments,
+            &mut self.caller,
+        )?;
+        let mut link = Link::new(resolve, layouts);
         let back = link.call(
             func,
             flats.as_slice(),
@@ -97,7 +106,14 @@ impl<'a, C: Guest, E: Guest, B: Body<E>> Session<'a, C, E, B> {
             &mut self.callee,
             &mut self.body,
         )?;
-        take_result(alloc, resolve, &types, back.as_slice(), &self.caller)
+        take_result(
+            alloc,
+            resolve,
+            layouts,
+            &types,
+            back.as_slice(),
+            &self.caller,
+        )
     }
 }
 
@@ -105,11 +121,13 @@ impl<'a, C: Guest, E: Guest, B: Body<E>> Session<'a, C, E, B> {
 fn take_result<G: Guest>(
     alloc: Global,
     resolve: &Resolve,
+    layouts: &Layouts,
     types: &ScalarTypes,
     flats: &[Flat],
     guest: &G,
 ) -> Result<Option<Val>, Fault>
-    requires { AreScalar (option_to_list types.now.result) }
+    requires laid_out { layouts.now ≡ layouts_of resolve.now }
+    requires scalar { AreScalar (option_to_list types.now.result) }
     ensures denotes { IfOk result (λ v. Denotes max_flat_results
         (fields_of_types resolve.now (option_to_list types.now.result))
         (G.memory guest.now).bytes flats.now (as_list (option_map value_of v))) }
@@ -118,6 +136,6 @@ fn take_result<G: Guest>(
     ensures fault { IfErr result (TakeFails (fields_of_types resolve.now (option_to_list types.now.result))
         (G.memory guest.now).bytes flats.now) }
 {
-    let mut values = lift(alloc, resolve, types.results(), flats, guest)?;
+    let mut values = lift(alloc, resolve, layouts, types.results(), flats, guest)?;
     Ok(values.pop())
 }

@@ -58,7 +58,7 @@ returns-in_err-back-clause-call g c =
     let places = placed parties f arguments flat caller caller' callee body flats handed in
     let new = world (g.C.Guest.memory c.call.new.caller) (g.E.Guest.memory c.call.new.callee) (g.B.Body.state c.call.new.body) in
     let calls = subst (λ q. Calls parties either (function_type q c.args.func) flats (world caller' callee body) (Err c.in_err-back.field-0.0) new)
-    (c.new-link.ensures ∙ c.resolve-resolve.ensures) c.in_err-back.ensures.call in
+    (c.new-link.ensures.package ∙ c.resolve-resolve.ensures) c.in_err-back.ensures.call in
     let p = err_from_is_err_and c.from_residual-in_err-back.result c.from_residual-in_err-back.ensures.1 in
     rw (p.1, p.2) (link_fails parties f arguments flat (world caller callee body) (world caller' callee body) new flats c.in_err-back.field-0.0 places calls)
 
@@ -84,7 +84,7 @@ returns-clause-call g c =
     let new = world (g.C.Guest.memory c.call.new.caller) (g.E.Guest.memory c.call.new.callee) (g.B.Body.state c.call.new.body) in
     let back = c.in_ok-back.back.items in
     let calls = subst (λ q. Calls parties either (function_type q c.args.func) flats (world caller' callee body) (Ok back) new)
-    (c.new-link.ensures ∙ c.resolve-resolve.ensures) c.in_ok-back.ensures.call in
+    (c.new-link.ensures.package ∙ c.resolve-resolve.ensures) c.in_ok-back.ensures.call in
     let came = came_back parties f arguments flat (world caller callee body) (world caller' callee body) new flats back places calls in
     let m = (g.C.Guest.memory c.call.new.caller).bytes in
     let P : Fields → List Flat → Type 0 = λ ts fs. IfOk c.take_result.result (λ v. Denotes 1 ts m fs (as_list (option_map value_of v))) in
