@@ -57,12 +57,7 @@ fn fresh_memory(alloc: Global) -> Result<Space, MemoryError> {
 }
 
 /// The line that is printed for a value.
-fn line_of(
-    alloc: Global,
-    package: &Package,
-    ty: ValType,
-    value: &Val,
-) -> Result<String, AllocError>
+fn line_of(alloc: Global, package: &Package, ty: ValType, value: &Val) -> Result<String, AllocError>
     requires scalar { IsTrue (is_scalar ty) }
     requires typed { HasType (value_of value.now) (closed_type «package».now.resolve ty) }
     ensures { IfOk result (λ line. IsLineOf ty (value_of value.now) (string_bytes line)) }

@@ -12,14 +12,13 @@ mod package;
 mod reading;
 mod refused;
 mod reply;
-
 mod session;
 mod signature;
 
+pub use calling::run_call;
 pub use json::{JsonError, from_json, to_json};
 pub use package::{OpenError, Package, open};
 pub use reading::read_all;
 pub use refused::{Refused, report};
 pub use reply::Reply;
-pub use calling::run_call;
 pub use session::Session;

@@ -87,10 +87,7 @@ impl Package {
 pub fn open(alloc: Global, bytes: &[u8]) -> Result<Package, OpenError> {
     if bytes.starts_with(BINARY_FRONT.as_slice()) {
         let front = Span { start: 0, end: 4 };
-        return Err(OpenError::Text(TextError::Unsupported(
-            Feature::LaterStage,
-            front,
-        )));
+        return Err(OpenError::Text(TextError::Unsupported(Feature::LaterStage, front)));
     }
     if bytes.len() > MAX_INPUT {
         return Err(OpenError::Text(TextError::Limit));

@@ -93,12 +93,7 @@ impl Export for Reply {
 }
 
 /// Whether these are the value of a result, or none where there is no result.
-fn have_types(
-    resolve: &Resolve,
-    layouts: &Layouts,
-    results: &[ValType],
-    values: &[Val],
-) -> bool
+fn have_types(resolve: &Resolve, layouts: &Layouts, results: &[ValType], values: &[Val]) -> bool
     requires laid_out { layouts.now ≡ layouts_of resolve.now }
     requires scalar { AreScalar results.now }
     ensures { IsTrue result → HaveTypes (map value_of values.now) (fields_of_types resolve.now results.now) }
