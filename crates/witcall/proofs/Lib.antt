@@ -4,3 +4,4 @@ pub mod Results
 pub mod ScalarFunctions
 pub mod Typed
 pub mod TypedCalls
+pub mod TypedLists
