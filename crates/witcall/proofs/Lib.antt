@@ -5,3 +5,4 @@ pub mod Results
 pub mod ScalarFunctions
 pub mod Typed
 pub mod TypedCalls
+pub mod TypedLists

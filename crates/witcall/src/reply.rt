@@ -1,23 +1,17 @@
 //! The program's own body: it answers one value.
 
-ghost use Rattle.std.specs.Prelude.{◌≡◌, IsTrue, map};
-ghost use Rattle.canonical_abi.specs.Values.{HaveTypes};
-ghost use Rattle.layout.specs.Layout.{layouts_of};
-ghost use Rattle.lift_lower.specs.Crossing.{fields_of_types};
-ghost use Rattle.lift_lower.specs.Scalars.{AreScalar};
-ghost use Rattle.lift_lower.specs.Val.{value_of};
 ghost use Rattle.resolve.specs.Closed.{IsScalarFunction};
 
 use crate::json::values_from_json;
 use crate::package::Package;
 use crate::refused::Refused;
 use crate::signature::{ScalarTypes, scalar_function};
+use crate::typing::have_types;
 use adapter::{Export, Stopped};
 use canonical_abi::Flat;
-use layout::Layouts;
-use lift_lower::{Flats, Val, has_type, lift, lower};
+use lift_lower::{Flats, Val, lift, lower};
 use memory::Space;
-use resolve::{FunctionId, Resolve, ValType};
+use resolve::FunctionId;
 use std::alloc::Global;
 
 /// A body that lifts its arguments and then answers one value, whatever they are. Any fault of its own is
@@ -89,18 +83,5 @@ impl Export for Reply {
 
     fn post_return(&mut self, _memory: &mut Space, _answer: &[Flat]) -> Result<(), Stopped> {
         Ok(())
-    }
-}
-
-/// Whether these are the value of a result, or none where there is no result.
-fn have_types(resolve: &Resolve, layouts: &Layouts, results: &[ValType], values: &[Val]) -> bool
-    requires laid_out { layouts.now ≡ layouts_of resolve.now }
-    requires scalar { AreScalar results.now }
-    ensures { IsTrue result → HaveTypes (map value_of values.now) (fields_of_types resolve.now results.now) }
-{
-    match (results, values) {
-        ([], []) => true,
-        ([ty], [value]) => has_type(resolve, layouts, *ty, value),
-        _ => false,
     }
 }
