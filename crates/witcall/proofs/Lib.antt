@@ -1,5 +1,6 @@
 pub mod Arrays
 pub mod OneChar
+pub mod Printing
 pub mod Results
 pub mod ScalarFunctions
 pub mod Typed

@@ -1,5 +1,5 @@
+pub mod Calling
 pub mod Json
-pub mod Line
 pub mod Session
 pub mod Signature
 pub mod Status
