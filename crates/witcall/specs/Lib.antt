@@ -1,5 +1,6 @@
 pub mod Calling
 pub mod Json
+pub mod Opening
 pub mod Session
 pub mod Signature
 pub mod Status
