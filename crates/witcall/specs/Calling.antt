@@ -6,7 +6,7 @@ use Rattle.canonical_abi.specs.Call.{Run, PostRun, Parties, World, either}
 use Rattle.canonical_abi.specs.Session.{TypedCall}
 use Rattle.memory.specs.Bump.{bump}
 use Rattle.memory.specs.Space.{of_kind, SpaceAllocates}
-use Rattle.resolve.specs.Closed.{IsScalarFunction, function_at, function_type}
+use Rattle.resolve.specs.Closed.{function_at, function_type}
 use Rattle.resolve.specs.Names.{IsNamed}
 use Rattle.resolve.specs.declared.tables.FunctionId.{FunctionId}
 use Rattle.resolve.specs.declared.tables.Resolve.{Resolve}

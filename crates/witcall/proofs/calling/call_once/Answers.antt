@@ -1,4 +1,4 @@
-use Rattle.std.proofs.Common.{◌≡◌, map, ap, ◌∙◌, subst, Ok}
+use Rattle.std.proofs.Common.{map, ap, ◌∙◌, subst, Ok}
 use Rattle.std.specs.Option.{option_map}
 use Rattle.canonical_abi.specs.Call.{World, either}
 use Rattle.canonical_abi.specs.Session.{TypedCall}
