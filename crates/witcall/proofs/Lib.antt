@@ -1,6 +1,7 @@
 pub mod Arrays
 pub mod OneChar
 pub mod Promised
+pub mod Printing
 pub mod Results
 pub mod ScalarFunctions
 pub mod Typed

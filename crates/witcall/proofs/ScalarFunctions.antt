@@ -1,13 +1,11 @@
 -- The types of a scalar function, as the fields of records.
-use Rattle.std.proofs.Common.{◌≡◌, ◌≤◌, ℕ, true, List, [], ◌∷◌, Option, Some, None, length, map, take, refl, sym, ap, ◌∙◌, subst, arith}
-use Rattle.std.specs.Option.{option_map}
-use Rattle.std.specs.Prelude.{IsTrue, slice_get, slice_index_or}
-use Rattle.std.specs.List.{list_all}
+use Rattle.std.proofs.Common.{◌≡◌, true, List, [], ◌∷◌, Option, Some, None, map, refl, sym, ap, ◌∙◌, subst, arith}
+use Rattle.std.specs.Prelude.{IsTrue, slice_get}
 use Rattle.std.proofs.lemmas.Bool.{and_parts, leb-true}
 use Rattle.std.proofs.lemmas.List.{length-map}
 use Rattle.std.proofs.lemmas.List.Folds.{list_all-map}
 use Rattle.canonical_abi.specs.Types.{ClosedType, fields_of, result_fields}
-use Rattle.resolve.specs.Closed.{closed_val, closed_types, closed_params, function_at, function_type, type_of_function, is_scalar, is_scalar_result, is_scalar_function, IsScalarFunction}
+use Rattle.resolve.specs.Closed.{closed_val, closed_types, closed_params, function_at, function_type, type_of_function, is_scalar, is_scalar_function, IsScalarFunction}
 use Rattle.resolve.specs.declared.tables.Function.{Function}
 use Rattle.resolve.specs.declared.tables.FunctionId.{FunctionId}
 use Rattle.resolve.specs.declared.tables.Parameter.{Parameter}
@@ -55,10 +53,3 @@ own_params r own f ts params same are is = ap (fields_of_types own) are ∙ is �
 pub own_results : (r own : Resolve) (f : FunctionId) (ts : List ValType) → own ≡ r
     → fields_of_types own ts ≡ result_fields (function_type own f).result → fields_of_types own ts ≡ result_fields (function_type r f).result
 own_results r own f ts same is = is ∙ ap (λ q. result_fields (function_type q f).result) same
-
-no_first : 1 ≤ 0 → ⊥
-no_first h = omega arith
-
-pub first_is_scalar : (ts : List ValType) (other : ValType) → AreScalar ts → 1 ≤ length ts → IsTrue (is_scalar (slice_index_or ts 0 other))
-first_is_scalar [] other h some = absurd (no_first some)
-first_is_scalar (t ∷ ts) other h some = (and_parts _ _ h.primitive).0

@@ -1,5 +1,5 @@
 -- Lists of values, each of its own type, told value by value.
-use Rattle.std.proofs.Common.{◌≡◌, ◌≢◌, ℕ, zero, suc, ◌+◌, ◌<◌, List, [], ◌∷◌, length, drop, map, get_or, refl, sym, ap, ◌∙◌, subst, drop-cons, arith}
+use Rattle.std.proofs.Common.{◌≡◌, ℕ, zero, suc, ◌+◌, ◌<◌, List, [], ◌∷◌, length, drop, map, get_or, sym, ap, ◌∙◌, subst, drop-cons, arith}
 use Rattle.canonical_abi.specs.Types.{ClosedType, fields_of}
 use Rattle.canonical_abi.specs.Values.{Value, HasType, HaveTypes}
 use Rattle.resolve.specs.Closed.{closed_val}

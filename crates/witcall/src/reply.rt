@@ -27,6 +27,9 @@ pub struct Reply {
 }
 
 impl Reply {
+    ghost use Rattle.std.specs.Prelude.{IfOk};
+    ghost use Rattle.witcall.specs.Replying.{IsReplyOf};
+
     /// The body of a function of the package: 63 where it has no scalar function of that name, 61 and 62
     /// where `reply` is no JSON array of the one value of its result, or of none where it has no result.
     pub fn of(
@@ -35,7 +38,9 @@ impl Reply {
         iface: &str,
         func: &str,
         reply: &str,
-    ) -> Result<Reply, Refused> {
+    ) -> Result<Reply, Refused>
+        ensures { IfOk result (IsReplyOf «package».now.resolve iface.now func.now reply.now) }
+    {
         let func = scalar_function(package, iface, func)?;
         let types = ScalarTypes::of(package.resolve(), func);
         let mut values = values_from_json(alloc, package, types.results(), reply)?;
@@ -49,13 +54,21 @@ impl Reply {
 }
 
 impl Export for Reply {
-    ghost use Rattle.std.specs.Prelude.{[]};
+    ghost use Rattle.std.specs.Prelude.{◌≡◌, [], map, option_to_list, Some};
+    ghost use Rattle.canonical_abi.specs.Types.{result_fields};
+    ghost use Rattle.resolve.specs.Closed.{function_type};
+    ghost use Rattle.lift_lower.specs.Val.{value_of};
+    ghost use Rattle.witcall.specs.Replying.{Replies};
 
     ghost state = { λ _. [] };
 
-    ghost runs = { λ _ _ _ _ _ _ _. Unit {0} };
+    // It answers its value, or stops.
+    ghost runs = { λ reply s m _ s' m' answer. (s' ≡ s)
+        × Replies (result_fields (function_type reply.«package».resolve reply.func).result)
+        (map value_of (option_to_list reply.value)) m answer m' };
 
-    ghost posts = { λ _ _ _ _ _ _ _. Unit {0} };
+    // Its post-return changes nothing.
+    ghost posts = { λ _ s m _ s' m' done. (s' ≡ s) × (m' ≡ m) × (done ≡ Some tt) };
 
     fn call(&mut self, memory: &mut Space, arguments: &[Flat]) -> Result<Flats, Stopped> {
         let resolve = self.package.resolve();

@@ -2,7 +2,7 @@ use Rattle.std.proofs.Common.{◌≡◌, ◌<◌, length, map, get_or, sym, ap, 
 use Rattle.std.specs.Prelude.{IsTrue, false}
 use Rattle.std.proofs.Math.ListN.{get_or-map}
 use Rattle.std.proofs.lemmas.List.{length-map}
-use Rattle.canonical_abi.specs.Values.{HasType, HaveTypes}
+use Rattle.canonical_abi.specs.Values.{HasType}
 use Rattle.resolve.specs.Closed.{closed_types, closed_val}
 use Rattle.resolve.specs.declared.tables.Primitive.TheVariants as primitive
 use Rattle.resolve.specs.declared.tables.ValType.TheVariants as val

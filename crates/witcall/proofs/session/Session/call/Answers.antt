@@ -1,4 +1,4 @@
-use Rattle.std.proofs.Common.{◌≡◌, ap, sym, map, subst, ◌∙◌, List, Ok, Err}
+use Rattle.std.proofs.Common.{ap, sym, map, subst, ◌∙◌, List, Ok, Err}
 use Rattle.std.proofs.lemmas.Result.{err_from_is_err_and}
 use Rattle.std.specs.Option.{option_map}
 use Rattle.std.specs.Prelude.{option_to_list, IfOk, IfErr}
@@ -11,7 +11,7 @@ use Rattle.canonical_abi.specs.Values.{HaveTypes}
 use Rattle.canonical_abi.specs.declared.flat.Flat.{Flat}
 use Rattle.resolve.specs.Closed.{closed_types, function_type}
 use Rattle.lift_lower.specs.Val.{value_of}
-use Rattle.lift_lower.specs.Crossing.{fields_of_types, IsLowered, LowerFails}
+use Rattle.lift_lower.specs.Crossing.{IsLowered, LowerFails}
 use Rattle.witcall.specs.Session.{TakeFails}
 use Rattle.witcall.proofs.Results.{result_flat}
 use Rattle.witcall.proofs.ScalarFunctions.{own_params, own_results}
