@@ -1,5 +1,9 @@
 //! Words by way of `clap`.
 
+ghost use Rattle.std.specs.Prelude.{◌≡◌, IfOk, string_bytes};
+ghost use Rattle.clap.specs.Words.{found_of};
+ghost use Rattle.words.specs.Asked.{IsAsked, IsWord};
+
 use crate::asked::{Command, Job};
 use clap::error::ErrorKind;
 use clap::{Arg, ArgAction, ArgMatches};
@@ -72,15 +76,22 @@ fn with_subcommand<'a>(
 }
 
 fn command_of(alloc: Global, matches: &ArgMatches<'_>) -> Result<Command, WordsError> {
-    let Some((name, words)) = matches.subcommand() else {
-        return Err(WordsError::Usage);
-    };
+    match matches.subcommand() {
+        Some((name, words)) => asked(alloc, name, words),
+        None => Err(WordsError::Usage),
+    }
+}
+
+/// The command of a name, with the words that were found for it.
+fn asked(alloc: Global, name: &str, words: &ArgMatches<'_>) -> Result<Command, WordsError>
+    ensures { IfOk result (IsAsked name.now (found_of words.now)) }
+{
     let job = match name {
         "show" => Job::Show,
         "bin" => Job::Bin,
         "text" => Job::Text,
         "layout" => Job::Layout,
-        _ => {
+        "call" => {
             return Ok(Command::Call {
                 file: word(alloc, words, "file")?,
                 interface: word(alloc, words, "interface")?,
@@ -89,12 +100,15 @@ fn command_of(alloc: Global, matches: &ArgMatches<'_>) -> Result<Command, WordsE
                 reply: word(alloc, words, "reply")?,
             });
         }
+        _ => return Err(WordsError::Usage),
     };
     Ok(Command::Convert(job, word(alloc, words, "file")?))
 }
 
 /// The word of a name, copied.
-fn word(alloc: Global, words: &ArgMatches<'_>, id: &str) -> Result<String, WordsError> {
+fn word(alloc: Global, words: &ArgMatches<'_>, id: &str) -> Result<String, WordsError>
+    ensures { IfOk result (λ text. IsWord (found_of words.now) id.now (string_bytes text)) }
+{
     match words.get_str(id) {
         Some(text) => Ok(String::from_str(alloc, text)?),
         None => Err(WordsError::Usage),

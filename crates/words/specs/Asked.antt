@@ -1,0 +1,26 @@
+-- What a command line asks for, by its command's name and the words that were found for it.
+use Rattle.std.specs.Prelude.{◌≡◌, ℕ, List, Some, codes, string_bytes}
+use Rattle.clap.specs.Words.{first_value}
+use Rattle.clap.specs.declared.parser.matches.Found.{Found}
+use Rattle.words.specs.declared.asked.Job.{Job}
+use Rattle.words.specs.declared.asked.Job.TheVariants.{Show, Bin, Text, Layout}
+use Rattle.words.specs.declared.asked.Command.{Command}
+use Rattle.words.specs.declared.asked.Command.TheVariants.{Convert, Call}
+
+-- the text is the word of this name
+abbrev pub IsWord : Found → List ℕ → List ℕ → Type 0
+IsWord found id text = first_value found id ≡ Some text
+
+abbrev pub job_name : Job → List ℕ
+job_name Show = codes "show"
+job_name Bin = codes "bin"
+job_name Text = codes "text"
+job_name Layout = codes "layout"
+
+-- the command of this name, each of its parts the word of its own name
+abbrev pub IsAsked : List ℕ → Found → Command → Type 0
+IsAsked name found (Convert job file) = (name ≡ job_name job) × IsWord found (codes "file") (string_bytes file)
+IsAsked name found (Call file interface function arguments reply) =
+    (name ≡ codes "call") × IsWord found (codes "file") (string_bytes file)
+    × IsWord found (codes "interface") (string_bytes interface) × IsWord found (codes "function") (string_bytes function)
+    × IsWord found (codes "arguments") (string_bytes arguments) × IsWord found (codes "reply") (string_bytes reply)
