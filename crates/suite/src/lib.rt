@@ -5,6 +5,8 @@
 #[cfg(test)]
 mod calls;
 #[cfg(test)]
+mod hosts;
+#[cfg(test)]
 mod lines;
 #[cfg(test)]
 mod sessions;
