@@ -1,1 +1,2 @@
 pub mod ScalarLists
+pub mod ShapeLemmas

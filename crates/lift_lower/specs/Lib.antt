@@ -1,4 +1,5 @@
 pub mod Crossing
 pub mod Scalar
 pub mod Scalars
+pub mod Shape
 pub mod Val

@@ -9,6 +9,7 @@ mod lifting;
 mod lowering;
 mod scalar;
 mod scalars;
+mod shape;
 mod typing;
 mod val;
 
