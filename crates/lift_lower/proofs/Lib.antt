@@ -1,2 +1,7 @@
 pub mod ScalarLists
 pub mod ShapeLemmas
+pub mod Extents
+pub mod Texts
+pub mod Views
+pub mod Steps
+pub mod Passing

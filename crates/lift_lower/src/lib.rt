@@ -5,8 +5,12 @@
 //! host. Stands on `canonical_abi` (definitions), `resolve` (types) and `memory` (guests).
 #![tactic(auto)]
 
+mod bytes;
+mod extent;
 mod lifting;
+mod loading;
 mod lowering;
+mod refusal;
 mod scalar;
 mod scalars;
 mod shape;
@@ -14,6 +18,7 @@ mod typing;
 mod val;
 
 pub use lifting::lift;
+pub use loading::load;
 pub use lowering::lower;
 pub use scalar::{Scalar, core_kind, lift_scalar, lower_scalar};
 pub use scalars::{Flats, Scalars, lift_scalars, lower_scalars};

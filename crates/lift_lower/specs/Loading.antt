@@ -1,0 +1,11 @@
+-- What stands in a block.
+use Rattle.std.specs.Prelude.{ℕ, List, Result}
+use Rattle.canonical_abi.specs.Types.{ClosedType}
+use Rattle.canonical_abi.specs.Values.{Value}
+use Rattle.canonical_abi.specs.Layout.{size, align}
+use Rattle.canonical_abi.specs.Reading.{reading, block_at, ◌>>=◌}
+use Rattle.canonical_abi.specs.declared.trap.TrapKind.{TrapKind}
+
+-- the value at an address, once its block is tested
+abbrev pub reading_block : ClosedType → List ℕ → ℕ → Result Value TrapKind
+reading_block t m at = block_at m at (align t) (size t) >>= λ a. reading t m a
