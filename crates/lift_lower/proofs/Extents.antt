@@ -92,10 +92,10 @@ fields-fit fs = omega arith
 
 -- ---- depth
 
-nth_field-depth : (fs : Fields) (i : ℕ) (t : ClosedType) → nth_field fs i ≡ Some t → depth t ≤ fields_depth fs
-nth_field-depth no_field i t e = absurd (let n : None ≡ Some t = e in cc)
-nth_field-depth (field u fs) zero t e = let h : u ≡ t = cc in let d = ap depth h in omega arith
-nth_field-depth (field u fs) (suc i) t e = let d = nth_field-depth fs i t e in omega arith
+pub member-depth : (fs : Fields) (i : ℕ) (t : ClosedType) → nth_field fs i ≡ Some t → depth t ≤ fields_depth fs
+member-depth no_field i t e = absurd (let n : None ≡ Some t = e in cc)
+member-depth (field u fs) zero t e = let h : u ≡ t = cc in let d = ap depth h in omega arith
+member-depth (field u fs) (suc i) t e = let d = member-depth fs i t e in omega arith
 
 nth_case-depth : (cs : Cases) (i : ℕ) (t : ClosedType) → nth_case cs i ≡ Some (Some t) → depth t ≤ cases_depth cs
 nth_case-depth no_case i t e = absurd (let n : None ≡ Some (Some t) = e in cc)
@@ -106,7 +106,7 @@ nth_case-depth (case_with u cs) (suc i) t e = let d = nth_case-depth cs i t e in
 
 -- a field is less deep than its record, and a payload than its variant
 pub field-depth : (r : ClosedType) (i : ℕ) (t : ClosedType) → nth_field (record_fields r) i ≡ Some t → depth t < depth r
-field-depth (record_type fs) i t e = let d = nth_field-depth fs i t e in omega arith
+field-depth (record_type fs) i t e = let d = member-depth fs i t e in omega arith
 field-depth _ i t e = absurd (let n : None ≡ Some t = e in cc)
 
 pub case-depth : (r : ClosedType) (i : ℕ) (t : ClosedType) → nth_case (variant_cases r) i ≡ Some (Some t) → depth t < depth r

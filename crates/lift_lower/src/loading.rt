@@ -13,6 +13,7 @@ ghost use Rattle.layout.specs.Layout.{layouts_of};
 ghost use Rattle.resolve.specs.Closed.{prim_of, closed_type};
 ghost use Rattle.lift_lower.specs.Gives.{Gives, AnswerStands};
 ghost use Rattle.lift_lower.specs.Loading.{reading_block};
+ghost use Rattle.lift_lower.specs.Members.{AreInside, members_fields};
 ghost use Rattle.lift_lower.specs.Shape.{IsInside, IsFollowed};
 ghost use Rattle.lift_lower.specs.Val.{value_of};
 
@@ -21,7 +22,7 @@ use crate::bytes::{
 };
 use crate::extent::{align_of, size_of};
 use crate::refusal::Refusal;
-use crate::shape::{Shape, case_payload, field_type, followed, shape_of};
+use crate::shape::{Members, Shape, case_payload, followed, member_type, shape_of};
 use crate::val::Val;
 use canonical_abi::{Fault, Guest, Step, TrapKind};
 use layout::Layouts;
@@ -118,7 +119,8 @@ pub(crate) fn load_at(
             Ok(Val::List(items))
         }
         Shape::Record(count) => {
-            let fields = load_fields(alloc, resolve, layouts, ty, count, memory, at)?;
+            let members = Members::Of(ty);
+            let fields = load_fields(alloc, resolve, layouts, &members, count, memory, at)?;
             Ok(Val::Record(fields))
         }
         Shape::Variant(count) => load_variant(alloc, resolve, layouts, ty, count, memory, at),
@@ -166,29 +168,28 @@ pub(crate) fn load_list(
     Ok(items)
 }
 
-/// The fields of a record, each at the next multiple of its alignment.
+/// The members of a record, each at the next multiple of its alignment.
 #[cycle(load)]
-fn load_fields(
+pub(crate) fn load_fields(
     alloc: Global,
     resolve: &Resolve,
     layouts: &Layouts,
-    ty: ValType,
+    members: &Members,
     count: usize,
     memory: &[u8],
     at: usize,
 ) -> Result<Vec<Val>, Refusal>
     requires laid_out { layouts.now ≡ layouts_of resolve.now }
-    requires inside { IsInside resolve.now ty }
-    requires followed { IsFollowed resolve.now ty }
-    requires counted { field_count (record_fields (closed_type resolve.now ty)) ≡ count }
-    requires fits { at + end_from 0 (field_extents (record_fields (closed_type resolve.now ty))) ≤ length memory.now }
+    requires inside { AreInside resolve.now members.now }
+    requires counted { field_count (members_fields resolve.now members.now) ≡ count }
+    requires fits { at + end_from 0 (field_extents (members_fields resolve.now members.now)) ≤ length memory.now }
     ensures { Gives (λ v. map value_of v.items) result
-        (reading_fields (record_fields (closed_type resolve.now ty)) memory.now at 0) }
+        (reading_fields (members_fields resolve.now members.now) memory.now at 0) }
 {
     let mut fields = Vec::new(alloc);
     let mut end: usize = 0;
     for index in 0..count {
-        let Some(member) = field_type(resolve, ty, index) else {
+        let Some(member) = member_type(resolve, members, index) else {
             unreachable!()
         };
         let place = end.next_multiple_of(align_of(resolve, layouts, member));

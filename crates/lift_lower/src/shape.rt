@@ -4,6 +4,7 @@ ghost use Rattle.std.specs.Prelude.{◌≡◌, ◌<◌, ℕ, List, IsTrue, IfSom
 ghost use Rattle.canonical_abi.specs.Types.{ClosedType, record_fields, variant_cases, nth_field, nth_case};
 ghost use Rattle.resolve.specs.Closed.{closed_type, closed_val, closed_kind, closed_definition};
 ghost use Rattle.resolve.specs.Tables.{is_below, option_below, kind_below, definition_below};
+ghost use Rattle.lift_lower.specs.Members.{AreInside, members_fields};
 ghost use Rattle.lift_lower.specs.Shape.{HasShape, HasShapeIn, ShapeBelow, IsFollowed, rank, IsInside, is_own, is_own_kind, target_in};
 
 use resolve::{Case, Definition, Field, Parameter, Primitive, Resolve, TypeDefKind, ValType};
@@ -17,6 +18,13 @@ pub(crate) enum Shape {
     Record(usize),
     Variant(usize),
     Flags(usize),
+}
+
+/// The members of a record: the fields of a type, or types side by side.
+#[derive(Clone, Copy, Debug)]
+pub(crate) enum Members<'a> {
+    Of(ValType),
+    Listed(&'a [ValType]),
 }
 
 // ---- one definition, whatever the table
@@ -210,5 +218,18 @@ pub(crate) fn case_payload(resolve: &Resolve, ty: ValType, index: usize) -> Opti
     match ty {
         ValType::Id(id) => definition_case(&resolve.definitions.as_slice()[id.0 as usize], index),
         _ => None,
+    }
+}
+
+/// The type of a member.
+pub(crate) fn member_type(resolve: &Resolve, members: &Members, index: usize) -> Option<ValType>
+    requires { AreInside resolve.now members.now }
+    ensures found { option_map (closed_type resolve.now) result
+        ≡ nth_field (members_fields resolve.now members.now) index }
+    ensures inside { IfSome result (IsInside resolve.now) }
+{
+    match members {
+        Members::Of(ty) => field_type(resolve, *ty, index),
+        Members::Listed(types) => type_at(types, index),
     }
 }

@@ -2,13 +2,14 @@ use Rattle.std.proofs.Common.{◌≡◌, ◌+◌, Some, None, Ok, map, option_ma
 use Rattle.std.proofs.lemmas.Result.{err_from_is_err_and}
 use Rattle.std.proofs.lemmas.List.{map-append}
 use Rattle.std.specs.Int.{next_multiple_of}
-use Rattle.canonical_abi.specs.Types.{record_fields, variant_cases, nth_case}
+use Rattle.canonical_abi.specs.Types.{prim_type, boolean, variant_cases, nth_case}
 use Rattle.canonical_abi.specs.Values.{payload_value}
 use Rattle.canonical_abi.specs.Layout.{size, align, discriminant_size, payload_place}
 use Rattle.canonical_abi.specs.Reading.{reading, number_at, byte_width, case_number, reading_fields, ◌>>=◌}
 use Rattle.resolve.specs.Closed.{closed_type}
+use Rattle.lift_lower.specs.Members.{members_fields}
 use Rattle.lift_lower.specs.Val.{value_of}
-use Rattle.lift_lower.proofs.Extents.{field-depth, case-depth, payload-place, payload-fits}
+use Rattle.lift_lower.proofs.Extents.{member-depth, case-depth, payload-place, payload-fits}
 use Rattle.lift_lower.proofs.Passing.{fails-pass, listed, list-opened, read-list}
 use Rattle.lift_lower.proofs.Steps.{each-more, each-fault, fields-more, fields-fault, fields-done, fields-end, fields-inside, nth_field-some, case-none, case-plain, case-payload}
 use Rattle.lift_lower.proofs.Views.{value_of-List, value_of-None, value_of-Some}
@@ -43,32 +44,32 @@ load_list-loop-index-preserved t c =
 
 pub load_fields-unreachable-requires : goal.load_fields-unreachable-requires
 load_fields-unreachable-requires t c =
-    nth_field-some (record_fields (closed_type c.args.resolve.now c.args.ty)) c.loop-index.index (omega (arith, c.requires.counted)) (sym c.in_default.ensures.found)
+    nth_field-some (members_fields c.args.resolve.now c.args.members.now) c.loop-index.index (omega (arith, c.requires.counted)) (sym c.in_default.ensures.found)
 
 pub load_fields-next_multiple_of-place-requires-clause-fits : goal.load_fields-next_multiple_of-place-requires-clause-fits
 load_fields-next_multiple_of-place-requires-clause-fits t c =
-    let fs = record_fields (closed_type c.args.resolve.now c.args.ty) in
+    let fs = members_fields c.args.resolve.now c.args.members.now in
     let h = fields-inside fs c.loop-index.index (closed_type c.args.resolve.now c.in-Some.member) c.loop-index.end _ (sym c.in-Some.ensures.found) c.loop-index.invariant.1 in
     rw c.align_of.ensures.value (omega arith)
 
 pub load_fields-overflow_add-at : goal.load_fields-overflow_add-at
 load_fields-overflow_add-at t c =
-    let fs = record_fields (closed_type c.args.resolve.now c.args.ty) in
+    let fs = members_fields c.args.resolve.now c.args.members.now in
     let h = fields-inside fs c.loop-index.index (closed_type c.args.resolve.now c.in-Some.member) c.loop-index.end _ (sym c.in-Some.ensures.found) c.loop-index.invariant.1 in
     let g = rw (← c.align_of.ensures.value, ← c.next_multiple_of-place.ensures.value) at h in
     omega arith
 
 pub load_fields-load_at-requires : goal.load_fields-load_at-requires
 load_fields-load_at-requires t c =
-    let fs = record_fields (closed_type c.args.resolve.now c.args.ty) in
+    let fs = members_fields c.args.resolve.now c.args.members.now in
     let u = closed_type c.args.resolve.now c.in-Some.member in
     let h = fields-inside fs c.loop-index.index u c.loop-index.end _ (sym c.in-Some.ensures.found) c.loop-index.invariant.1 in
     let g = rw (← c.align_of.ensures.value, ← c.next_multiple_of-place.ensures.value) at h in
-    (omega (arith, field-depth (closed_type c.args.resolve.now c.args.ty) c.loop-index.index u (sym c.in-Some.ensures.found), c.decreases), (c.requires.laid_out, (c.in-Some.ensures.inside, omega arith)))
+    (omega (arith, member-depth fs c.loop-index.index u (sym c.in-Some.ensures.found), c.decreases), (c.requires.laid_out, (c.in-Some.ensures.inside, omega arith)))
 
 pub load_fields-returns-in_err-field : goal.load_fields-returns-in_err-field
 load_fields-returns-in_err-field t c =
-    let fs = record_fields (closed_type c.args.resolve.now c.args.ty) in
+    let fs = members_fields c.args.resolve.now c.args.members.now in
     let u = closed_type c.args.resolve.now c.in-Some.member in
     let place : c.next_multiple_of-place.result ≡ next_multiple_of c.loop-index.end (align u) = c.next_multiple_of-place.ensures.value ∙ ap (next_multiple_of c.loop-index.end) c.align_of.ensures.value in
     let p = err_from_is_err_and c.from_residual.result c.from_residual.ensures.1 in
@@ -77,14 +78,14 @@ load_fields-returns-in_err-field t c =
 
 pub load_fields-overflow_add-end : goal.load_fields-overflow_add-end
 load_fields-overflow_add-end t c =
-    let fs = record_fields (closed_type c.args.resolve.now c.args.ty) in
+    let fs = members_fields c.args.resolve.now c.args.members.now in
     let h = fields-inside fs c.loop-index.index (closed_type c.args.resolve.now c.in-Some.member) c.loop-index.end _ (sym c.in-Some.ensures.found) c.loop-index.invariant.1 in
     let g = rw (← c.align_of.ensures.value, ← c.next_multiple_of-place.ensures.value) at h in
     omega (arith, c.size_of.ensures.value)
 
 pub load_fields-loop-index-preserved : goal.load_fields-loop-index-preserved
 load_fields-loop-index-preserved t c =
-    let fs = record_fields (closed_type c.args.resolve.now c.args.ty) in
+    let fs = members_fields c.args.resolve.now c.args.members.now in
     let u = closed_type c.args.resolve.now c.in-Some.member in
     let place : c.next_multiple_of-place.result ≡ next_multiple_of c.loop-index.end (align u) = c.next_multiple_of-place.ensures.value ∙ ap (next_multiple_of c.loop-index.end) c.align_of.ensures.value in
     rw (place, c.size_of.ensures.value, c.in_ok-push.ensures.items, map-append) (
@@ -96,8 +97,8 @@ pub load_fields-returns : goal.load_fields-returns
 load_fields-returns t c =
     let w = c.loop-index.invariant.0 in
     let i : c.args.count ≡ c.loop-index.index = omega arith in
-    let fs = record_fields (closed_type c.args.resolve.now c.args.ty) in
-    fields-done fs c.args.memory.now c.args.at c.loop-index.end c.loop-index.index (closed_type c.args.resolve.now c.args.ty) _ _ (c.requires.counted ∙ i) w
+    let fs = members_fields c.args.resolve.now c.args.members.now in
+    fields-done fs c.args.memory.now c.args.at c.loop-index.end c.loop-index.index (prim_type boolean) _ _ (c.requires.counted ∙ i) w
 
 pub load_variant-returns-in_default : goal.load_variant-returns-in_default
 load_variant-returns-in_default t c =
