@@ -1,5 +1,5 @@
 -- Sizes, alignments and places of closed types, and the rows of a layout table.
-use Rattle.std.proofs.Common.{◌≡◌, inl, inr, ℕ, zero, suc, ◌+◌, ◌<◌, ◌≤◌, max, Bool, true, false, IsTrue, nat_le, if◌then◌else◌, [], length, fold, Some, None, refl, ap, ◌∙◌, subst, arith}
+use Rattle.std.proofs.Common.{◌≡◌, inl, inr, ℕ, zero, suc, ◌+◌, ◌<◌, ◌≤◌, max, Bool, true, false, IsTrue, nat_le, if◌then◌else◌, slice_index_or, [], ◌∷◌, length, fold, Some, None, refl, ap, ◌∙◌, subst, arith}
 use Rattle.std.proofs.lemmas.Bool.{cases_lt}
 use Rattle.std.proofs.lemmas.List.{length-map}
 use Rattle.std.specs.Int.{next_multiple_of}
@@ -112,3 +112,9 @@ field-depth _ i t e = absurd (let n : None ≡ Some t = e in cc)
 pub case-depth : (r : ClosedType) (i : ℕ) (t : ClosedType) → nth_case (variant_cases r) i ≡ Some (Some t) → depth t < depth r
 case-depth (variant_type cs) i t e = let d = nth_case-depth cs i t e in omega arith
 case-depth _ i t e = absurd (let n : None ≡ Some (Some t) = e in cc)
+
+-- ---- one type as a list
+
+pub one-inside : (n : ℕ) (v : ValType) → IsTrue (is_below n v) → (k : ℕ) (d : ValType) → k < 1 → IsTrue (is_below n (slice_index_or (v ∷ []) k d))
+one-inside n v h zero d below = h
+one-inside n v h (suc k) d below = absurd (omega arith)

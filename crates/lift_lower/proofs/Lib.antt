@@ -5,3 +5,4 @@ pub mod Texts
 pub mod Views
 pub mod Steps
 pub mod Passing
+pub mod FlatSteps

@@ -4,7 +4,7 @@ use Rattle.std.specs.List.{list_all}
 use Rattle.std.proofs.lemmas.Bool.{and_parts, ltb-true}
 use Rattle.canonical_abi.specs.Types.{ClosedType, list_type, record_type, variant_type, fields_of, cases_of, record_fields, variant_cases, nth_field, nth_case, field_count, case_count}
 use Rattle.resolve.specs.Closed.{closed_val, closed_kind, closed_params, closed_definition, closed_rows, closed_types, closed_type}
-use Rattle.resolve.specs.Tables.{is_below, option_below, kind_below, definition_below}
+use Rattle.resolve.specs.Tables.{is_below, option_below, kind_below, definition_below, is_standard}
 use Rattle.resolve.specs.declared.tables.Case.{Case}
 use Rattle.resolve.specs.declared.tables.Definition.{Definition}
 use Rattle.resolve.specs.declared.tables.Definition.TheVariants as row
@@ -276,3 +276,14 @@ pub shape-of : (r : Resolve) (ty : ValType) (id : TypeId) (d : Definition) (s : 
 shape-of r ty id d s is h shaped below =
     let P : ClosedType → Type 0 = λ t. HasShapeIn (closed_types r) t s in
     (subst P (sym (closed-of r ty id d is h)) shaped, shape-later id.0 (length r.definitions) s (omega (arith, h.in_range)) (below h.below))
+
+-- ---- limits
+
+standard-in : (ds : List Definition) (i : ℕ) (d : Definition) → list_all is_standard ds ≡ true → i < length ds → d ≡ get_or ds i d → is_standard d ≡ true
+standard-in [] i d h l e = absurd (omega arith)
+standard-in (x ∷ ds) zero d h l e = ap is_standard e ∙ (and_parts _ _ h).0
+standard-in (x ∷ ds) (suc i) d h l e = standard-in ds i d (and_parts _ _ h).1 (omega arith) e
+
+-- a row is within the limits of a package
+pub standard-at : (r : Resolve) (t : TypeId) (d : Definition) → t.0 < length r.definitions → d ≡ get_or r.definitions t.0 d → is_standard d ≡ true
+standard-at r t d h e = standard-in r.definitions t.0 d r.standard h e

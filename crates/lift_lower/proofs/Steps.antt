@@ -13,7 +13,7 @@ use Rattle.canonical_abi.specs.declared.trap.TrapKind.TheVariants as trap
 abbrev pub with_front : List Value → Result (List Value) TrapKind → Result (List Value) TrapKind
 with_front front read = read >>= λ vs. Ok (front ++ vs)
 
-front-push : (front : List Value) (v : Value) (read : Result (List Value) TrapKind) → with_front (front ++ v ∷ []) read ≡ with_front front (read >>= λ vs. Ok (v ∷ vs))
+pub front-push : (front : List Value) (v : Value) (read : Result (List Value) TrapKind) → with_front (front ++ v ∷ []) read ≡ with_front front (read >>= λ vs. Ok (v ∷ vs))
 front-push front v (Ok vs) = ap Ok (append_assoc front (v ∷ []) vs)
 front-push front v (Err k) = refl
 
@@ -34,7 +34,7 @@ module _ (f : ℕ → Result Value TrapKind) (step a n i : ℕ) (front : List Va
   pub each-done : with_front front (each_at f step (a + n * step) (n - n)) ≡ whole → whole ≡ Ok front
   each-done w = let e : n - n ≡ 0 = omega arith in sym w ∙ rw e (ap Ok (append-nil front))
 
-some-inj : {A : Type 0} {x y : A} → Some x ≡ Some y → x ≡ y
+pub some-inj : {A : Type 0} {x y : A} → Some x ≡ Some y → x ≡ y
 some-inj e = cc
 
 -- ---- fields
@@ -49,12 +49,12 @@ fields_from (suc i) (field t fs) = fields_from i fs
 abbrev pub fields_end : ℕ → Fields → ℕ
 fields_end from fs = end_from from (field_extents fs)
 
-fields-next : (fs : Fields) (i : ℕ) (t : ClosedType) → nth_field fs i ≡ Some t → fields_from i fs ≡ field t (fields_from (i + 1) fs)
+pub fields-next : (fs : Fields) (i : ℕ) (t : ClosedType) → nth_field fs i ≡ Some t → fields_from i fs ≡ field t (fields_from (i + 1) fs)
 fields-next no_field i t e = absurd (let n : None ≡ Some t = e in cc)
 fields-next (field u fs) zero t e = ap (λ x. field x fs) (some-inj e)
 fields-next (field u fs) (suc i) t e = rw (fields-next fs i t e, add-one, add-one) refl
 
-fields-last : (fs : Fields) (n : ℕ) → field_count fs ≡ n → fields_from n fs ≡ no_field
+pub fields-last : (fs : Fields) (n : ℕ) → field_count fs ≡ n → fields_from n fs ≡ no_field
 fields-last no_field zero e = refl
 fields-last no_field (suc n) e = refl
 fields-last (field t fs) zero e = absurd (omega arith)

@@ -1,5 +1,5 @@
 -- The shape of a type: what it is once names are followed.
-use Rattle.std.specs.Prelude.{◌≡◌, ℕ, suc, Bool, true, false, IsTrue, List, length, slice_get, Option, None, Some}
+use Rattle.std.specs.Prelude.{◌≡◌, ◌≤◌, ℕ, suc, Bool, true, false, IsTrue, List, length, slice_get, Option, None, Some}
 use Rattle.canonical_abi.specs.Types.{ClosedType, Fields, Cases, prim_type, string_type, list_type, record_type, variant_type, flags_type, field_count, case_count}
 use Rattle.resolve.specs.Tables.{is_below}
 use Rattle.resolve.specs.Closed.{prim_of, closed_val, closed_types}
@@ -72,3 +72,8 @@ ShapeBelow n _ = Unit {0}
 -- a type of the package has this shape
 abbrev pub HasShape : Resolve → ClosedType → Shape → Type 0
 HasShape r t s = HasShapeIn (closed_types r) t s × ShapeBelow (length r.definitions) s
+
+-- flags have at most 32 labels
+abbrev pub HasFewFlags : Shape → Type 0
+HasFewFlags (shape.Flags n) = n ≤ 32
+HasFewFlags _ = Unit {0}

@@ -7,6 +7,7 @@
 
 mod bytes;
 mod extent;
+mod flat;
 mod lifting;
 mod loading;
 mod lowering;

@@ -3,9 +3,9 @@
 ghost use Rattle.std.specs.Prelude.{◌≡◌, ◌<◌, ℕ, List, IsTrue, IfSome, IfNone, Some, option_map, slice_get};
 ghost use Rattle.canonical_abi.specs.Types.{ClosedType, record_fields, variant_cases, nth_field, nth_case};
 ghost use Rattle.resolve.specs.Closed.{closed_type, closed_val, closed_kind, closed_definition};
-ghost use Rattle.resolve.specs.Tables.{is_below, option_below, kind_below, definition_below};
+ghost use Rattle.resolve.specs.Tables.{is_below, option_below, kind_below, definition_below, is_standard_kind, is_standard};
 ghost use Rattle.lift_lower.specs.Members.{AreInside, members_fields};
-ghost use Rattle.lift_lower.specs.Shape.{HasShape, HasShapeIn, ShapeBelow, IsFollowed, rank, IsInside, is_own, is_own_kind, target_in};
+ghost use Rattle.lift_lower.specs.Shape.{HasShape, HasShapeIn, ShapeBelow, HasFewFlags, IsFollowed, rank, IsInside, is_own, is_own_kind, target_in};
 
 use resolve::{Case, Definition, Field, Parameter, Primitive, Resolve, TypeDefKind, ValType};
 
@@ -47,6 +47,7 @@ fn kind_shape(kind: &TypeDefKind) -> Shape
     requires { IsTrue (is_own_kind kind.now) }
     ensures shape { (rows : List ClosedType) → HasShapeIn rows (closed_kind rows kind.now) result }
     ensures below { (n : ℕ) → IsTrue (kind_below n kind.now) → ShapeBelow n result }
+    ensures few { IsTrue (is_standard_kind kind.now) → HasFewFlags result }
 {
     match kind {
         TypeDefKind::Use(_) | TypeDefKind::Alias(_) => unreachable!(),
@@ -65,6 +66,7 @@ fn definition_shape(definition: &Definition) -> Shape
     requires { IsTrue (is_own (Some definition.now)) }
     ensures shape { (rows : List ClosedType) → HasShapeIn rows (closed_definition rows definition.now) result }
     ensures below { (n : ℕ) → IsTrue (definition_below n definition.now) → ShapeBelow n result }
+    ensures few { IsTrue (is_standard definition.now) → HasFewFlags result }
 {
     match definition {
         Definition::Type(definition) => kind_shape(&definition.kind),
@@ -184,7 +186,8 @@ fn name_of(resolve: &Resolve, ty: ValType) -> Option<ValType>
 pub(crate) fn shape_of(resolve: &Resolve, ty: ValType) -> Shape
     requires inside { IsInside resolve.now ty }
     requires followed { IsFollowed resolve.now ty }
-    ensures { HasShape resolve.now (closed_type resolve.now ty) result }
+    ensures shape { HasShape resolve.now (closed_type resolve.now ty) result }
+    ensures few { HasFewFlags result }
 {
     match ty {
         ValType::Primitive(primitive) => Shape::Primitive(primitive),
