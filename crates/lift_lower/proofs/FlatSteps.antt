@@ -1,9 +1,9 @@
 -- How a lifting goes on by one field or one case.
-use Rattle.std.proofs.Common.{◌≡◌, ℕ, zero, suc, ◌+◌, ◌-◌, ◌<◌, ◌≤◌, List, [], ◌∷◌, ◌++◌, length, map, take, drop, zero-add, length-drop, Option, Some, None, Result, Ok, Err, refl, sym, ap, ◌∙◌, append-nil, length-append, arith}
+use Rattle.std.proofs.Common.{◌≡◌, ℕ, zero, suc, ◌+◌, ◌-◌, ◌≤◌, List, [], ◌∷◌, ◌++◌, length, map, take, drop, zero-add, length-drop, Some, None, Result, Ok, Err, refl, sym, ap, ◌∙◌, append-nil, length-append, arith}
 use Rattle.std.proofs.lemmas.List.{take_all, drop-map}
-use Rattle.canonical_abi.specs.Types.{ClosedType, Fields, no_field, field, Cases, no_case, plain_case, case_with, nth_field, nth_case, field_count}
+use Rattle.canonical_abi.specs.Types.{ClosedType, Fields, Cases, no_case, plain_case, case_with, nth_field, nth_case, field_count}
 use Rattle.canonical_abi.specs.Values.{Value, plain_value, payload_value}
-use Rattle.canonical_abi.specs.Layout.{flat_kinds, field_kinds, payload_kinds, join}
+use Rattle.canonical_abi.specs.Layout.{flat_kinds, field_kinds, payload_kinds}
 use Rattle.canonical_abi.specs.Reading.{◌>>=◌, number_of, lifting, lifting_fields, lifting_case}
 use Rattle.canonical_abi.specs.declared.flat.Flat.{Flat}
 use Rattle.canonical_abi.specs.declared.trap.TrapKind.{TrapKind}

@@ -6,3 +6,4 @@ pub mod Views
 pub mod Steps
 pub mod Passing
 pub mod FlatSteps
+pub mod Denoting

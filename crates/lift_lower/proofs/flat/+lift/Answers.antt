@@ -1,10 +1,9 @@
-use Rattle.std.proofs.Common.{◌≡◌, ◌*◌, ◌+◌, ◌<◌, ◌≤◌, Some, None, Ok, map, drop, option_map, length, ap, sym, subst, ◌∙◌, refl, arith}
+use Rattle.std.proofs.Common.{◌≡◌, Some, None, Ok, map, drop, option_map, ap, sym, ◌∙◌, arith}
 use Rattle.std.proofs.lemmas.Result.{err_from_is_err_and}
-use Rattle.std.proofs.lemmas.List.{map-append, drop-map}
-use Rattle.canonical_abi.specs.Types.{prim_type, boolean, variant_cases, nth_field, nth_case}
+use Rattle.std.proofs.lemmas.List.{map-append}
+use Rattle.canonical_abi.specs.Types.{prim_type, boolean, variant_cases, nth_case}
 use Rattle.canonical_abi.specs.Values.{payload_value}
-use Rattle.canonical_abi.specs.Layout.{flat_kinds, field_kinds}
-use Rattle.canonical_abi.specs.Reading.{number_of, lifting, lifting_fields, lifting_case, low_bits, ◌>>=◌}
+use Rattle.canonical_abi.specs.Reading.{number_of, lifting, lifting_fields, ◌>>=◌}
 use Rattle.resolve.specs.Closed.{closed_type}
 use Rattle.lift_lower.specs.Members.{members_fields}
 use Rattle.lift_lower.specs.Val.{value_of}
