@@ -7,3 +7,4 @@ pub mod Steps
 pub mod Passing
 pub mod FlatSteps
 pub mod Denoting
+pub mod Typings
