@@ -9,7 +9,7 @@ use Rattle.canonical_abi.specs.Layout.{align, size, max_flat_params, max_flat_re
 use Rattle.canonical_abi.specs.Reading.{low_bits, kind_of, number_of, denoting, reading_fields}
 use Rattle.canonical_abi.specs.Memory.{FieldsHold}
 use Rattle.canonical_abi.specs.Flat.{Denotes}
-use Rattle.canonical_abi.specs.Guest.{Memory, Allocation, Release, IsHonest, IsWithin, IsAlignment}
+use Rattle.canonical_abi.specs.Guest.{Memory, Allocation, Release, IsHonest, IsLimited, KeepsLimit, IsWithin, IsAlignment}
 use Rattle.canonical_abi.specs.Trace.{Event, node, write, grant, grants_of, TraceLeads, TraceBreaks, RequestFails}
 use Rattle.canonical_abi.specs.Lowering.{PassesResult}
 use Rattle.canonical_abi.specs.Stands.{AreAligned, IsGranted, IsWritten, Carries, Keeps}
@@ -17,7 +17,7 @@ use Rattle.canonical_abi.specs.Script.{ResultUntil, ResultScript}
 use Rattle.canonical_abi.specs.Call.{Parties, World, Order, either, exact, Enters, Runs, Returns, Finishes, Answered, Returned, Completes, Traps, GivesUp, IsGrantedPart, argument_flats}
 use Rattle.canonical_abi.specs.Call as call
 use Rattle.canonical_abi.specs.Session.{TypedRequestFails, TypedTraceBreaks, AsksArea, Prepares, HasResult, as_list, Placed, PlaceFails, CameBack, TypedTraps, TypedCall}
-use Rattle.canonical_abi.specs.Headline.{AreHonest, IsLimited, KeepsLimit, AreLimited, IsStandardFunction, IsLentLive, IsOutsideAll, IsUnchangedOutside, KeepsLive, AreLive, FindsAndRunsOnce, LiftsExactly, CallerIsUnchanged, EntersBody, KeepsPromise, CallKeepsPromise}
+use Rattle.canonical_abi.specs.Headline.{AreHonest, AreLimited, IsStandardFunction, IsLentLive, IsOutsideAll, IsUnchangedOutside, KeepsLive, AreLive, FindsAndRunsOnce, LiftsExactly, CallerIsUnchanged, EntersBody, KeepsPromise, CallKeepsPromise}
 use Rattle.canonical_abi.specs.declared.flat.Flat.{Flat}
 use Rattle.canonical_abi.specs.declared.flat.Flat.TheVariants.{I32}
 use Rattle.canonical_abi.specs.declared.trap.Fault.{Fault}

@@ -1,8 +1,8 @@
 -- What is honest stays so under the number of a kind.
-use Rattle.std.specs.Prelude.{◌≡◌, ℕ, true, Some, slice_get}
-use Rattle.std.proofs.Common.{sym, ap, ◌∙◌}
-use Rattle.canonical_abi.specs.Guest.{Memory, Allocation, Release, IsAlignment, IsGrant, IsRelease, IsHonest}
-use Rattle.memory.specs.BumpLaws.{BumpIsHonest}
+use Rattle.std.specs.Prelude.{◌≡◌, ◌≤◌, ℕ, true, Some, length, slice_get}
+use Rattle.std.proofs.Common.{sym, ap, ◌∙◌, arith}
+use Rattle.canonical_abi.specs.Guest.{Memory, Allocation, Release, IsAlignment, IsGrant, IsRelease, IsHonest, IsLimited, KeepsLimit}
+use Rattle.memory.specs.BumpLaws.{BumpIsHonest, BumpKeepsLimit}
 use Rattle.memory.specs.Space.{of_kind, AllocatesAs, ReleasesAs, SpaceAllocates, SpaceReleases}
 
 -- a grant of the kind's allocator is a grant
@@ -46,3 +46,13 @@ kind_is_honest kind allocates releases honest = record {
 -- a `Space` is honest, whichever kind it has
 pub SpaceIsHonest : IsHonest SpaceAllocates SpaceReleases
 SpaceIsHonest = kind_is_honest 0 _ _ BumpIsHonest
+
+-- a memory of any kind whose allocator keeps the limit keeps it
+pub kind_keeps_limit : (kind : ℕ) (allocates : Allocation) → KeepsLimit allocates → KeepsLimit (AllocatesAs kind allocates)
+kind_keeps_limit kind allocates keeps old new align size at (before, after, old_is, step, new_is) few =
+    let was : length old.bytes ≡ length before.bytes = ap (λ m. length m.bytes) old_is in
+    let now : length new.bytes ≡ length after.bytes = ap (λ m. length m.bytes) new_is in
+    let kept : length after.bytes ≤ 16777216 = keeps before after align size at step (omega arith) in omega arith
+
+pub SpaceKeepsLimit : KeepsLimit SpaceAllocates
+SpaceKeepsLimit = kind_keeps_limit 0 _ BumpKeepsLimit

@@ -14,6 +14,8 @@ mod space;
 pub use bump::Bump;
 pub use canonical_abi::{Full, Guest, Honest, NotTaken};
 pub use error::{MAX_LEN, MemoryError};
-pub use laws::{bumps_answer_alike, spaces_answer_alike};
+pub use laws::{
+    bumps_answer_alike, bumps_keep_the_limit, spaces_answer_alike, spaces_keep_the_limit,
+};
 pub use scripted::Scripted;
 pub use space::Space;

@@ -119,6 +119,9 @@ trees-same a i j fs gs p q =
     let same : i ≡ j = cc in
     functions-same fs gs (sym p.functions ∙ ap (λ (k : InterfaceTree). k.items.items) same ∙ q.functions)
 
+some-item : (a : Ast) (i : InterfaceTree) (fs : List Func) → IsTreeOf a i fs → a.items.items ≡ [] → ⊥
+some-item a i fs tree none = let both : item.Interface i ∷ [] ≡ [] = sym tree.interface.items ∙ none in cc
+
 contains-lent : (bs : List (Bor Func)) (b : Bor Func) → Contains bs b → Contains (lent bs) b.now
 contains-lent bs b (k, h, e) = (k, omega (arith, length-map bs (λ b. b.now)), get_or-map (λ b. b.now) bs k b b.now h ∙ ap (λ (x : Bor Func). x.now) e)
 
@@ -135,12 +138,14 @@ refuses-of a i bs cs (error.Duplicate n) tree same (inl h) =
     (i, lent bs, tree, inl (subst (λ (ns : List (List ℕ)). IsDuplicate ns n) (ap (map function_name) same ∙ names-of bs) h))
 refuses-of a i bs cs (error.Duplicate n) tree same (inr h) =
     (i, lent bs, tree, inr (h.0.now, subst (λ (ds : List (Bor Func)). Contains (lent ds) h.0.now) same (contains-lent cs h.0 h.1), h.2))
-refuses-of a i bs cs error.NotThisShape tree same h =
-    λ scalar.
-    let fs : scalar.1 ≡ lent bs = trees-same a scalar.0 i scalar.1 (lent bs) scalar.2 tree in
-    let yes' : list_all is_scalar_row (map func_row (lent bs)) ≡ true = subst (λ (gs : List Func). list_all is_scalar_row (map func_row gs) ≡ true) fs scalar.3 in
-    let no' : list_all is_scalar_row (map row_of bs) ≡ false = subst (λ (ds : List (Bor Func)). list_all is_scalar_row (map row_of ds) ≡ false) same h in
-    true≢false (sym yes' ∙ ap (list_all is_scalar_row) (sym (rows-of bs)) ∙ no')
+refuses-of a i bs cs error.NotThisShape tree same h = (
+  λ none. absurd (some-item a i (lent bs) tree none),
+  λ scalar.
+      let fs : scalar.1 ≡ lent bs = trees-same a scalar.0 i scalar.1 (lent bs) scalar.2 tree in
+      let fit : list_all is_scalar_row (map func_row (lent bs)) ≡ true = subst (λ (gs : List Func). list_all is_scalar_row (map func_row gs) ≡ true) fs scalar.3 in
+      let unfit : list_all is_scalar_row (map row_of bs) ≡ false = subst (λ (ds : List (Bor Func)). list_all is_scalar_row (map row_of ds) ≡ false) same h in
+      true≢false (sym fit ∙ ap (list_all is_scalar_row) (sym (rows-of bs)) ∙ unfit),
+)
 refuses-of a i bs cs error.Limit tree same h =
     (i, lent bs, tree, subst (λ (n : ℕ). 65535 < n) (ap length same ∙ sym (length-map bs (λ b. b.now))) h)
 refuses-of a i bs cs error.NoMemory tree same h = tt

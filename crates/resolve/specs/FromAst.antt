@@ -120,7 +120,7 @@ pub record IsOneInterface (a : Ast) (i : InterfaceTree) : Type 0 where
 
 abbrev pub RefusesItems : Ast → ResolveError → Type 0
 RefusesItems a error.EmptyPackage = a.items.items ≡ []
-RefusesItems a error.NotThisShape = (i : InterfaceTree) → ¬ IsOneInterface a i
+RefusesItems a error.NotThisShape = (a.items.items ≢ []) × ((i : InterfaceTree) → ¬ IsOneInterface a i)
 RefusesItems a _ = ⊥
 
 -- its items are these functions
@@ -154,7 +154,7 @@ IsScalarTree a = (i : InterfaceTree) × (fs : List Func) × IsTreeOf a i fs × (
 abbrev pub Refuses : Ast → ResolveError → Type 0
 Refuses a error.EmptyPackage = a.items.items ≡ []
 Refuses a (error.Duplicate n) = (i : InterfaceTree) × (fs : List Func) × IsTreeOf a i fs × RepeatsName fs n
-Refuses a error.NotThisShape = ¬ IsScalarTree a
+Refuses a error.NotThisShape = (a.items.items ≢ []) × (¬ IsScalarTree a)
 Refuses a error.Limit = (i : InterfaceTree) × (fs : List Func) × IsTreeOf a i fs × (65535 < length fs)
 Refuses a error.NoMemory = Unit {0}
 Refuses a _ = ⊥
