@@ -8,3 +8,4 @@ pub mod Passing
 pub mod FlatSteps
 pub mod Denoting
 pub mod Typings
+pub mod ScalarTypes
