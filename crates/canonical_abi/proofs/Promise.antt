@@ -554,5 +554,5 @@ module _ (parties : Parties) (caller_releases callee_releases : Release) (order 
     promise (Err NoMemory) new (inr (back, area, b)) = record { finds = λ e. absurd e; lifts = tt; unchanged = came-unchanged back area new b; trap = tt }
 
 pub keeps-promise : (parties : Parties) (caller_releases callee_releases : Release) (order : Order) → CallKeepsPromise parties caller_releases callee_releases order
-keeps-promise parties caller_releases callee_releases order f arguments old result new honest limited standard called =
+keeps-promise parties caller_releases callee_releases order f arguments old result new standard called honest limited =
     promise parties caller_releases callee_releases order f arguments honest standard old limited result new called

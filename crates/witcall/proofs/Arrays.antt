@@ -1,5 +1,5 @@
 -- Arrays read item by item.
-use Rattle.std.proofs.Common.{◌≡◌, ◌≢◌, ℕ, zero, suc, ◌+◌, ◌<◌, List, [], ◌∷◌, ◌++◌, length, drop, map, get_or, refl, sym, ap, ◌∙◌, subst, Option, Some, None, append_assoc, append-nil, drop-cons, arith}
+use Rattle.std.proofs.Common.{◌≡◌, ℕ, zero, suc, ◌+◌, ◌<◌, List, [], ◌∷◌, ◌++◌, length, drop, get_or, refl, sym, ap, ◌∙◌, subst, Option, Some, None, append_assoc, append-nil, drop-cons, arith}
 use Rattle.canonical_abi.specs.Values.{Value}
 use Rattle.resolve.specs.declared.tables.ValType.{ValType}
 use Rattle.serde_json.specs.Data.{Data, Items, no_items, item, array}

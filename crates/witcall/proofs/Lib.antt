@@ -1,6 +1,9 @@
 pub mod Arrays
 pub mod OneChar
+pub mod Promised
+pub mod Printing
 pub mod Results
 pub mod ScalarFunctions
 pub mod Typed
 pub mod TypedCalls
+pub mod TypedLists

@@ -1,9 +1,9 @@
 -- The one value of a scalar function's result.
-use Rattle.std.proofs.Common.{◌≡◌, ◌≤◌, ◌<◌, ◌%◌, ◌^◌, ◌+◌, ℕ, suc, true, false, List, [], ◌∷◌, ◌++◌, Option, Some, None, MatchOption, length, map, inl, inr, refl, sym, ap, ◌∙◌, subst, arith}
+use Rattle.std.proofs.Common.{◌≡◌, ◌≤◌, ◌<◌, ◌+◌, ℕ, suc, true, false, List, [], ◌∷◌, ◌++◌, Option, Some, None, length, map, inl, inr, refl, sym, ap, ◌∙◌, arith}
 use Rattle.std.specs.Prelude.{option_to_list, IsSome, ◌↔◌}
 use Rattle.std.specs.Option.{option_map}
 use Rattle.std.proofs.lemmas.List.{length_push}
-use Rattle.canonical_abi.specs.Types.{Prim, boolean, unsigned, signed, scalar_value, width_of, bits, int8, int16, int32, int64, ClosedType, fields_of}
+use Rattle.canonical_abi.specs.Types.{Prim, ClosedType, fields_of}
 use Rattle.canonical_abi.specs.Values.{Value, HasPrimType, HaveTypes}
 use Rattle.canonical_abi.specs.Reading.{low_bits, flat_bits, number_of}
 use Rattle.canonical_abi.specs.Memory.{PrimIs}

@@ -1,13 +1,11 @@
 -- The types of a scalar function, as the fields of records.
-use Rattle.std.proofs.Common.{◌≡◌, ◌≤◌, ℕ, true, List, [], ◌∷◌, Option, Some, None, length, map, take, refl, sym, ap, ◌∙◌, subst, arith}
-use Rattle.std.specs.Option.{option_map}
+use Rattle.std.proofs.Common.{◌≡◌, true, List, [], ◌∷◌, Option, Some, None, map, refl, sym, ap, ◌∙◌, subst, arith}
 use Rattle.std.specs.Prelude.{IsTrue, slice_get}
-use Rattle.std.specs.List.{list_all}
 use Rattle.std.proofs.lemmas.Bool.{and_parts, leb-true}
 use Rattle.std.proofs.lemmas.List.{length-map}
 use Rattle.std.proofs.lemmas.List.Folds.{list_all-map}
 use Rattle.canonical_abi.specs.Types.{ClosedType, fields_of, result_fields}
-use Rattle.resolve.specs.Closed.{closed_val, closed_types, closed_params, function_at, function_type, type_of_function, is_scalar, is_scalar_result, is_scalar_function, IsScalarFunction}
+use Rattle.resolve.specs.Closed.{closed_val, closed_types, closed_params, function_at, function_type, type_of_function, is_scalar, is_scalar_function, IsScalarFunction}
 use Rattle.resolve.specs.declared.tables.Function.{Function}
 use Rattle.resolve.specs.declared.tables.FunctionId.{FunctionId}
 use Rattle.resolve.specs.declared.tables.Parameter.{Parameter}

@@ -1,7 +1,7 @@
 -- The links of a typed call whose result goes flat: no return area is asked for.
-use Rattle.std.proofs.Common.{◌≡◌, ℕ, true, List, [], ◌∷◌, Option, Some, None, Result, Ok, Err, IfOk, IfErr, inl, inr, refl, sym, subst}
+use Rattle.std.proofs.Common.{◌≡◌, ℕ, true, List, Option, Result, Ok, Err, IfOk, IfErr, inl, inr, refl, sym, subst}
 use Rattle.std.specs.Option.{option_map}
-use Rattle.canonical_abi.specs.Types.{Fields, FunctionType, result_fields}
+use Rattle.canonical_abi.specs.Types.{FunctionType, result_fields}
 use Rattle.canonical_abi.specs.Values.{Value}
 use Rattle.canonical_abi.specs.Layout.{max_flat_results, fits_flat}
 use Rattle.canonical_abi.specs.Flat.{Denotes, DenotesFault}

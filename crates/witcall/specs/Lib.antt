@@ -1,5 +1,7 @@
+pub mod Calling
 pub mod Json
-pub mod Line
+pub mod Opening
+pub mod Replying
 pub mod Session
 pub mod Signature
 pub mod Status

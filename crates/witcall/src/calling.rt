@@ -1,11 +1,16 @@
 //! One call whose arguments and result are JSON.
 
-ghost use Rattle.std.specs.Prelude.{◌≡◌, false, IfOk, OnOk, OnErr, IsTrue, string_bytes};
-ghost use Rattle.std.specs.Io.KnownBytes.{Appends};
-ghost use Rattle.canonical_abi.specs.Values.{HasType};
-ghost use Rattle.resolve.specs.Closed.{closed_type, is_scalar};
+ghost use Rattle.std.specs.Prelude.{◌≡◌, ◌≢◌, ◌≤◌, ℕ, List, false, length, take, map, IfOk, IfErr, OnOk, OnErr, IsErrOf, string_bytes, replicate, Ok};
+ghost use Rattle.std.specs.Option.{option_map};
+ghost use Rattle.std.specs.Io.KnownBytes.{Appends, Keeps};
+ghost use Rattle.canonical_abi.specs.Values.{HasType, HaveTypes};
+ghost use Rattle.canonical_abi.specs.Types.{result_fields};
+ghost use Rattle.canonical_abi.specs.Call.{World, either};
+ghost use Rattle.canonical_abi.specs.Session.{TypedCall, as_list};
+ghost use Rattle.resolve.specs.Closed.{IsScalarFunction, function_at, function_type};
 ghost use Rattle.lift_lower.specs.Val.{value_of};
-ghost use Rattle.witcall.specs.Line.{IsLineOf};
+ghost use Rattle.witcall.specs.Signature.{signature_of};
+ghost use Rattle.witcall.specs.Calling.{IsOutputOf, Prints, fresh, program_parties, program_world};
 
 use crate::json::{to_json, values_from_json};
 use crate::package::Package;
@@ -15,8 +20,8 @@ use crate::signature::{ScalarTypes, scalar_function};
 use adapter::{BoxedBody, Export};
 use atoms::{Sink, write_all};
 use lift_lower::Val;
-use memory::{Bump, MemoryError, Space};
-use resolve::ValType;
+use memory::{Bump, Guest, MemoryError, Space};
+use resolve::FunctionId;
 use std::alloc::{AllocError, Global};
 
 /// The bytes of each of the two memories.
@@ -36,40 +41,84 @@ pub fn run_call<W: Sink>(
     writer: &mut W,
 ) -> Result<(), Refused>
     requires { W.has_failed writer.old ≡ false }
+    ensures ok { OnOk result ((output : List ℕ)
+        × Prints «package».now.resolve iface.now func.now args.now (runs body) (posts body) (state body) output
+        × Appends (W.contents writer.old) (W.contents writer.new) output) }
+    ensures begun { IsErrOf result Refused.Write → (output : List ℕ) × (count : ℕ)
+        × Prints «package».now.resolve iface.now func.now args.now (runs body) (posts body) (state body) output
+        × (count ≤ length output) × Appends (W.contents writer.old) (W.contents writer.new) (take count output) }
+    ensures unwritten { IfErr result (λ e. e ≢ Refused.Write → Keeps (W.contents writer.old) (W.contents writer.new)) }
 {
     let func = scalar_function(package, iface, func)?;
     let types = ScalarTypes::of(package.resolve(), func);
     let arguments = values_from_json(alloc, package, types.params(), args)?;
-    let caller = fresh_memory(alloc)?;
-    let callee = fresh_memory(alloc)?;
-    let mut session = Session::new(package, caller, callee, BoxedBody::new(body));
-    let answer = session.call(alloc, func, arguments.as_slice())?;
-    let (Some(value), [ty]) = (answer, types.results()) else {
-        return Ok(());
-    };
-    let line = line_of(alloc, package, *ty, &value)?;
-    write_text(writer, &line)?;
+    let answer = call_once(alloc, package, func, arguments.as_slice(), body)?;
+    let output = output_of(alloc, package, func, answer)?;
+    write_text(writer, &output)?;
     Ok(())
 }
 
-fn fresh_memory(alloc: Global) -> Result<Space, MemoryError> {
-    Ok(Space::Bump(Bump::new(alloc, MEMORY)?))
+/// The call itself, and its result.
+fn call_once(
+    alloc: Global,
+    package: &Package,
+    func: FunctionId,
+    arguments: &[Val],
+    body: Box<dyn Export>,
+) -> Result<Option<Val>, Refused>
+    requires scalar { IsScalarFunction «package».now.resolve func }
+    requires typed { HaveTypes (map value_of arguments.now) (function_type «package».now.resolve func).params }
+    ensures call { IfOk result (λ v. (new : World) × TypedCall (program_parties (runs body) (posts body)) either
+        (function_type «package».now.resolve func) (map value_of arguments.now) (program_world (state body))
+        (Ok (option_map value_of v)) new) }
+    ensures typed { IfOk result (λ v. HaveTypes (as_list (option_map value_of v))
+        (result_fields (function_type «package».now.resolve func).result)) }
+    ensures other { IfErr result (λ e. e ≢ Refused.Write) }
+{
+    let caller = fresh_memory(alloc, MEMORY)?;
+    let callee = fresh_memory(alloc, MEMORY)?;
+    let mut session = Session::new(package, caller, callee, BoxedBody::new(body));
+    let answer = session.call(alloc, func, arguments)?;
+    Ok(answer)
 }
 
-/// The line that is printed for a value.
-fn line_of(alloc: Global, package: &Package, ty: ValType, value: &Val) -> Result<String, AllocError>
-    requires scalar { IsTrue (is_scalar ty) }
-    requires typed { HasType (value_of value.now) (closed_type «package».now.resolve ty) }
-    ensures { IfOk result (λ line. IsLineOf ty (value_of value.now) (string_bytes line)) }
+/// A memory of so many zeros.
+#[tactic(auto, unfolding(crate::specs::Calling::fresh))]
+fn fresh_memory(alloc: Global, len: u32) -> Result<Space, MemoryError>
+    ensures { IfOk result (λ space. ⟦<Space as Guest>⟧.memory space ≡ fresh len) }
 {
-    let mut line = to_json(alloc, package, ty, value)?;
+    let bump = Bump::new(alloc, len)?;
+    Ok(Space::Bump(bump))
+}
+
+/// What is printed for the result of a function.
+fn output_of(
+    alloc: Global,
+    package: &Package,
+    func: FunctionId,
+    answer: Option<Val>,
+) -> Result<String, AllocError>
+    requires scalar { IsScalarFunction «package».now.resolve func }
+    requires typed { HaveTypes (as_list (option_map value_of answer))
+        (result_fields (function_type «package».now.resolve func).result) }
+    ensures { IfOk result (λ output. IsOutputOf (signature_of (function_at «package».now.resolve func)).result
+        (option_map value_of answer) (string_bytes output)) }
+{
+    let types = ScalarTypes::of(package.resolve(), func);
+    let (Some(value), Some(ty)) = (answer, types.result()) else {
+        return Ok(String::new(alloc));
+    };
+    let mut line = to_json(alloc, package, ty, &value)?;
     line.push('\n')?;
     Ok(line)
 }
 
 fn write_text<W: Sink>(writer: &mut W, text: &String) -> Result<(), Refused>
     requires { W.has_failed writer.old ≡ false }
-    ensures { OnOk result (Appends (W.contents writer.old) (W.contents writer.new) (string_bytes text.now)) }
+    ensures ok { OnOk result (Appends (W.contents writer.old) (W.contents writer.new) (string_bytes text.now)) }
+    ensures begun { OnErr result ((count : ℕ) × (count ≤ length (string_bytes text.now))
+        × Appends (W.contents writer.old) (W.contents writer.new) (take count (string_bytes text.now))) }
+    ensures err { IfErr result (λ e. e ≡ Refused.Write) }
 {
     match write_all(writer, text.as_bytes()) {
         Ok(()) => Ok(()),

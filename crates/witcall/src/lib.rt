@@ -14,6 +14,7 @@ mod refused;
 mod reply;
 mod session;
 mod signature;
+mod typing;
 
 pub use calling::run_call;
 pub use json::{JsonError, from_json, to_json};

@@ -1,7 +1,8 @@
 //! Packages, and how they are opened.
 
-ghost use Rattle.std.specs.Prelude.{◌≡◌, IfOk};
+ghost use Rattle.std.specs.Prelude.{◌≡◌, IfOk, IfErr};
 ghost use Rattle.layout.specs.Layout.{layouts_of};
+ghost use Rattle.witcall.specs.Opening.{IsOpened, OpenRefuses};
 ghost use Rattle.resolve.specs.Same.{IsSamePackage};
 
 use layout::{LayoutError, Layouts};
@@ -24,11 +25,11 @@ pub enum OpenError {
     #[error("error 20 read at {0}")]
     Read(usize),
     #[error(transparent)]
-    Text(#[from] TextError),
+    Text(TextError),
     #[error(transparent)]
-    Resolve(#[from] ResolveError),
+    Resolve(ResolveError),
     #[error(transparent)]
-    Layout(#[from] LayoutError),
+    Layout(LayoutError),
     /// The length of the longest front that is UTF-8.
     #[error("error 60 not UTF-8 at {0}")]
     NotUtf8(usize),
@@ -44,6 +45,39 @@ impl From<AllocError> for OpenError {
 
     fn from(_error: AllocError) -> OpenError {
         OpenError::NoMemory
+    }
+}
+
+impl From<TextError> for OpenError {
+    ghost use Rattle.std.specs.Prelude.{◌≡◌};
+    ghost use Rattle.witcall.specs.declared.package.OpenError.TheVariants.{Text};
+
+    ghost from_gives = { λ error e. e ≡ Text error };
+
+    fn from(error: TextError) -> OpenError {
+        OpenError::Text(error)
+    }
+}
+
+impl From<ResolveError> for OpenError {
+    ghost use Rattle.std.specs.Prelude.{◌≡◌};
+    ghost use Rattle.witcall.specs.declared.package.OpenError.TheVariants.{Resolve};
+
+    ghost from_gives = { λ error e. e ≡ Resolve error };
+
+    fn from(error: ResolveError) -> OpenError {
+        OpenError::Resolve(error)
+    }
+}
+
+impl From<LayoutError> for OpenError {
+    ghost use Rattle.std.specs.Prelude.{◌≡◌};
+    ghost use Rattle.witcall.specs.declared.package.OpenError.TheVariants.{Layout};
+
+    ghost from_gives = { λ error e. e ≡ Layout error };
+
+    fn from(error: LayoutError) -> OpenError {
+        OpenError::Layout(error)
     }
 }
 
@@ -84,7 +118,22 @@ impl Package {
 /// Opens a package. Bytes that begin `00 61 73 6d` are a binary, and refused for now (33); others are a
 /// text: its length comes first (36), then whether it is UTF-8 (60), then the text's own refusals,
 /// those of its names, and those of its layouts.
-pub fn open(alloc: Global, bytes: &[u8]) -> Result<Package, OpenError> {
+pub fn open(alloc: Global, bytes: &[u8]) -> Result<Package, OpenError>
+    ensures ok { IfOk result (λ p. IsOpened bytes.now p.resolve) }
+    ensures err { IfErr result (OpenRefuses bytes.now) }
+{
+    let text = text_of(bytes)?;
+    let ast = parse(alloc, text)?;
+    let resolve = Resolve::from_ast(alloc, &ast)?;
+    let layouts = Layouts::of(alloc, &resolve)?;
+    Ok(Package { resolve, layouts })
+}
+
+/// The bytes as a text.
+fn text_of(bytes: &[u8]) -> Result<&str, OpenError>
+    ensures ok { IfOk result (λ text. text.now ≡ bytes.now) }
+    ensures err { IfErr result (OpenRefuses bytes.now) }
+{
     if bytes.starts_with(BINARY_FRONT.as_slice()) {
         let front = Span { start: 0, end: 4 };
         return Err(OpenError::Text(TextError::Unsupported(Feature::LaterStage, front)));
@@ -92,12 +141,8 @@ pub fn open(alloc: Global, bytes: &[u8]) -> Result<Package, OpenError> {
     if bytes.len() > MAX_INPUT {
         return Err(OpenError::Text(TextError::Limit));
     }
-    let text = match simdutf8::compat::from_utf8(bytes) {
-        Ok(text) => text,
-        Err(error) => return Err(OpenError::NotUtf8(error.valid_up_to())),
-    };
-    let ast = parse(alloc, text)?;
-    let resolve = Resolve::from_ast(alloc, &ast)?;
-    let layouts = Layouts::of(alloc, &resolve)?;
-    Ok(Package { resolve, layouts })
+    match simdutf8::compat::from_utf8(bytes) {
+        Ok(text) => Ok(text),
+        Err(error) => Err(OpenError::NotUtf8(error.valid_up_to())),
+    }
 }

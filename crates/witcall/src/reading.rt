@@ -1,6 +1,7 @@
 //! Reading a whole input.
 
-ghost use Rattle.std.specs.Prelude.{◌≡◌, false};
+ghost use Rattle.std.specs.Prelude.{◌≡◌, ℕ, true, false, Err, IfOk};
+ghost use Rattle.atoms.specs.Streams.{ReadsUpTo, ConsumesMany};
 
 use crate::package::{MAX_INPUT, OpenError};
 use atoms::{ReadUpToError, Source, read_up_to};
@@ -10,6 +11,9 @@ use std::alloc::Global;
 /// read fails this is 20, with the number of bytes that came before.
 pub fn read_all<R: Source>(alloc: Global, reader: &mut R) -> Result<Vec<u8>, OpenError>
     requires { R.has_failed reader.old ≡ false }
+    ensures bytes { IfOk result (λ v. ReadsUpTo 1048576 (R.remaining reader.old) v.items) }
+    ensures failed { (n : ℕ) → result ≡ Err (OpenError.Read n) →
+        ((R.has_failed reader.new ≡ true) × ConsumesMany (R.remaining reader.old) (R.remaining reader.new) n) }
 {
     match read_up_to(alloc, reader, MAX_INPUT) {
         Ok(bytes) => Ok(bytes),

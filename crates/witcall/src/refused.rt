@@ -27,9 +27,9 @@ pub enum Refused {
     #[error("error 63 no function")]
     NoFunction,
     #[error(transparent)]
-    Json(#[from] JsonError),
+    Json(JsonError),
     #[error(transparent)]
-    Memory(#[from] MemoryError),
+    Memory(MemoryError),
     #[error("trap {} in {}", kind_name(.0.kind), step_name(.0.step))]
     Trap(Trap),
     #[error("error 65 write")]
@@ -39,12 +39,44 @@ pub enum Refused {
 }
 
 impl From<AllocError> for Refused {
+    ghost use Rattle.std.specs.Prelude.{◌≡◌};
+    ghost use Rattle.witcall.specs.declared.refused.Refused.TheVariants.{NoMemory};
+
+    ghost from_gives = { λ _ e. e ≡ NoMemory };
+
     fn from(_error: AllocError) -> Refused {
         Refused::NoMemory
     }
 }
 
+impl From<JsonError> for Refused {
+    ghost use Rattle.std.specs.Prelude.{◌≡◌};
+    ghost use Rattle.witcall.specs.declared.refused.Refused.TheVariants.{Json};
+
+    ghost from_gives = { λ error e. e ≡ Json error };
+
+    fn from(error: JsonError) -> Refused {
+        Refused::Json(error)
+    }
+}
+
+impl From<MemoryError> for Refused {
+    ghost use Rattle.std.specs.Prelude.{◌≡◌};
+    ghost use Rattle.witcall.specs.declared.refused.Refused.TheVariants.{Memory};
+
+    ghost from_gives = { λ error e. e ≡ Memory error };
+
+    fn from(error: MemoryError) -> Refused {
+        Refused::Memory(error)
+    }
+}
+
 impl From<Fault> for Refused {
+    ghost use Rattle.std.specs.Prelude.{◌≢◌};
+    ghost use Rattle.witcall.specs.declared.refused.Refused.TheVariants.{Write};
+
+    ghost from_gives = { λ _ e. e ≢ Write };
+
     fn from(fault: Fault) -> Refused {
         match fault {
             Fault::Trap(trap) => Refused::Trap(trap),

@@ -1,23 +1,17 @@
 //! The program's own body: it answers one value.
 
-ghost use Rattle.std.specs.Prelude.{◌≡◌, IsTrue, map};
-ghost use Rattle.canonical_abi.specs.Values.{HaveTypes};
-ghost use Rattle.layout.specs.Layout.{layouts_of};
-ghost use Rattle.lift_lower.specs.Crossing.{fields_of_types};
-ghost use Rattle.lift_lower.specs.Scalars.{AreScalar};
-ghost use Rattle.lift_lower.specs.Val.{value_of};
 ghost use Rattle.resolve.specs.Closed.{IsScalarFunction};
 
 use crate::json::values_from_json;
 use crate::package::Package;
 use crate::refused::Refused;
 use crate::signature::{ScalarTypes, scalar_function};
+use crate::typing::have_types;
 use adapter::{Export, Stopped};
 use canonical_abi::Flat;
-use layout::Layouts;
-use lift_lower::{Flats, Val, has_type, lift, lower};
+use lift_lower::{Flats, Val, lift, lower};
 use memory::Space;
-use resolve::{FunctionId, Resolve, ValType};
+use resolve::FunctionId;
 use std::alloc::Global;
 
 /// A body that lifts its arguments and then answers one value, whatever they are. Any fault of its own is
@@ -33,6 +27,9 @@ pub struct Reply {
 }
 
 impl Reply {
+    ghost use Rattle.std.specs.Prelude.{IfOk};
+    ghost use Rattle.witcall.specs.Replying.{IsReplyOf};
+
     /// The body of a function of the package: 63 where it has no scalar function of that name, 61 and 62
     /// where `reply` is no JSON array of the one value of its result, or of none where it has no result.
     pub fn of(
@@ -41,7 +38,9 @@ impl Reply {
         iface: &str,
         func: &str,
         reply: &str,
-    ) -> Result<Reply, Refused> {
+    ) -> Result<Reply, Refused>
+        ensures { IfOk result (IsReplyOf «package».now.resolve iface.now func.now reply.now) }
+    {
         let func = scalar_function(package, iface, func)?;
         let types = ScalarTypes::of(package.resolve(), func);
         let mut values = values_from_json(alloc, package, types.results(), reply)?;
@@ -55,13 +54,21 @@ impl Reply {
 }
 
 impl Export for Reply {
-    ghost use Rattle.std.specs.Prelude.{[]};
+    ghost use Rattle.std.specs.Prelude.{◌≡◌, [], map, option_to_list, Some};
+    ghost use Rattle.canonical_abi.specs.Types.{result_fields};
+    ghost use Rattle.resolve.specs.Closed.{function_type};
+    ghost use Rattle.lift_lower.specs.Val.{value_of};
+    ghost use Rattle.witcall.specs.Replying.{Replies};
 
     ghost state = { λ _. [] };
 
-    ghost runs = { λ _ _ _ _ _ _ _. Unit {0} };
+    // It answers its value, or stops.
+    ghost runs = { λ reply s m _ s' m' answer. (s' ≡ s)
+        × Replies (result_fields (function_type reply.«package».resolve reply.func).result)
+        (map value_of (option_to_list reply.value)) m answer m' };
 
-    ghost posts = { λ _ _ _ _ _ _ _. Unit {0} };
+    // Its post-return changes nothing.
+    ghost posts = { λ _ s m _ s' m' done. (s' ≡ s) × (m' ≡ m) × (done ≡ Some tt) };
 
     fn call(&mut self, memory: &mut Space, arguments: &[Flat]) -> Result<Flats, Stopped> {
         let resolve = self.package.resolve();
@@ -89,18 +96,5 @@ impl Export for Reply {
 
     fn post_return(&mut self, _memory: &mut Space, _answer: &[Flat]) -> Result<(), Stopped> {
         Ok(())
-    }
-}
-
-/// Whether these are the value of a result, or none where there is no result.
-fn have_types(resolve: &Resolve, layouts: &Layouts, results: &[ValType], values: &[Val]) -> bool
-    requires laid_out { layouts.now ≡ layouts_of resolve.now }
-    requires scalar { AreScalar results.now }
-    ensures { IsTrue result → HaveTypes (map value_of values.now) (fields_of_types resolve.now results.now) }
-{
-    match (results, values) {
-        ([], []) => true,
-        ([ty], [value]) => has_type(resolve, layouts, *ty, value),
-        _ => false,
     }
 }

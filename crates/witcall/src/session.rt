@@ -10,6 +10,7 @@ ghost use Rattle.canonical_abi.specs.Layout.{max_flat_results};
 ghost use Rattle.canonical_abi.specs.Flat.{Denotes};
 ghost use Rattle.canonical_abi.specs.Call.{either, AllowsSameRuns, AllowsSamePosts};
 ghost use Rattle.canonical_abi.specs.Session.{TypedCall, as_list};
+ghost use Rattle.canonical_abi.specs.Headline.{IsPromised};
 ghost use Rattle.lift_lower.specs.Val.{value_of};
 ghost use Rattle.lift_lower.specs.Crossing.{fields_of_types};
 ghost use Rattle.lift_lower.specs.Scalars.{AreScalar};
@@ -64,7 +65,9 @@ impl<'a, C: Guest, E: Guest, B: Body<E>> Session<'a, C, E, B> {
     }
 
     /// Calls a function of the package: lowers the arguments into the caller (step `place`), calls the
-    /// link, and lifts the result (step `take`). The blocks that it asked for stay live.
+    /// link, and lifts the result (step `take`). The blocks that it asked for stay live. Over honest guests
+    /// within the limit the callee finds exactly the arguments and is run once, the caller lifts exactly its
+    /// answer, no byte outside the blocks is changed, and a trap stands.
     pub fn call(
         &mut self,
         alloc: Global,
@@ -76,6 +79,16 @@ impl<'a, C: Guest, E: Guest, B: Body<E>> Session<'a, C, E, B> {
             (function_type self.old.package.now.resolve func).params }
         ensures call { TypedCall
             (record { caller_allocates = C.allocates; callee_allocates = E.allocates; runs = B.runs self.old.body; posts = B.posts self.old.body })
+            either
+            (function_type self.old.package.now.resolve func)
+            (map value_of arguments.now)
+            (record { caller = C.memory self.old.caller; callee = E.memory self.old.callee; body = B.state self.old.body })
+            (typed_answer result)
+            (record { caller = C.memory self.new.caller; callee = E.memory self.new.callee; body = B.state self.new.body }) }
+        ensures promise { IsPromised
+            (record { caller_allocates = C.allocates; callee_allocates = E.allocates; runs = B.runs self.old.body; posts = B.posts self.old.body })
+            C.releases
+            E.releases
             either
             (function_type self.old.package.now.resolve func)
             (map value_of arguments.now)

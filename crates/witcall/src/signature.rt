@@ -1,8 +1,9 @@
 //! The functions that a session calls, and the types of their parameters and results.
 
-ghost use Rattle.std.specs.Prelude.{◌≡◌, ◌≤◌, length, map, take, IfOk, option_to_list};
+ghost use Rattle.std.specs.Prelude.{◌≡◌, ◌≤◌, length, map, take, IfOk, IfErr, option_to_list};
 ghost use Rattle.canonical_abi.specs.Types.{result_fields};
 ghost use Rattle.resolve.specs.Closed.{IsScalarFunction, function_at, function_type};
+ghost use Rattle.resolve.specs.Names.{IsNamed};
 ghost use Rattle.lift_lower.specs.Scalars.{AreScalar};
 ghost use Rattle.lift_lower.specs.Crossing.{fields_of_types};
 ghost use Rattle.witcall.specs.Signature.{signature_of};
@@ -17,7 +18,9 @@ const MAX_PARAMS: usize = 16;
 
 /// The scalar function of a name: 63 where there is none.
 pub fn scalar_function(package: &Package, iface: &str, func: &str) -> Result<FunctionId, Refused>
-    ensures { IfOk result (IsScalarFunction «package».now.resolve) }
+    ensures scalar { IfOk result (IsScalarFunction «package».now.resolve) }
+    ensures named { IfOk result (IsNamed «package».now.resolve iface.now func.now) }
+    ensures none { IfErr result (λ e. e ≡ Refused.NoFunction) }
 {
     let resolve = package.resolve();
     match resolve.function(iface, func) {
@@ -69,6 +72,12 @@ impl ScalarTypes {
         ensures { result.now ≡ self.now.params }
     {
         &self.params[..self.count]
+    }
+
+    pub fn result(&self) -> Option<ValType>
+        ensures { result ≡ self.now.result }
+    {
+        self.result
     }
 
     /// The type of the result, or none.

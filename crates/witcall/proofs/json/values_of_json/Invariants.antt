@@ -1,4 +1,4 @@
-use Rattle.std.proofs.Common.{map, length}
+use Rattle.std.proofs.Common.{map}
 use Rattle.lift_lower.specs.Val.{value_of}
 use Rattle.serde_json.specs.View.{view}
 use Rattle.witcall.proofs.Arrays.{Continues}

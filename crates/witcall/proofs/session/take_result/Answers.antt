@@ -5,12 +5,9 @@ use Rattle.std.specs.Option.{option_map}
 use Rattle.std.specs.Prelude.{option_to_list, IsSome, ◌↔◌}
 use Rattle.canonical_abi.specs.Flat.{Denotes}
 use Rattle.canonical_abi.specs.Session.{as_list}
-use Rattle.canonical_abi.specs.Types.{fields_of}
-use Rattle.canonical_abi.specs.Values.{HaveTypes}
 use Rattle.resolve.specs.Closed.{closed_types}
 use Rattle.lift_lower.specs.Val.{value_of}
 use Rattle.lift_lower.specs.Crossing.{fields_of_types, LiftFails}
-use Rattle.witcall.specs.Session.{TakeFails}
 use Rattle.witcall.proofs.Results.{result_typed, result_denoted, result_denoted_wide, result_fails, popped, at_most_one, as_value}
 use Rattle.witcall.proofs.session.take_result.Goals as goal
 

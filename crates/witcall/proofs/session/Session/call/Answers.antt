@@ -1,4 +1,4 @@
-use Rattle.std.proofs.Common.{◌≡◌, ap, sym, map, subst, ◌∙◌, List, Ok, Err}
+use Rattle.std.proofs.Common.{ap, sym, map, subst, ◌∙◌, List, Ok, Err}
 use Rattle.std.proofs.lemmas.Result.{err_from_is_err_and}
 use Rattle.std.specs.Option.{option_map}
 use Rattle.std.specs.Prelude.{option_to_list, IfOk, IfErr}
@@ -11,10 +11,11 @@ use Rattle.canonical_abi.specs.Values.{HaveTypes}
 use Rattle.canonical_abi.specs.declared.flat.Flat.{Flat}
 use Rattle.resolve.specs.Closed.{closed_types, function_type}
 use Rattle.lift_lower.specs.Val.{value_of}
-use Rattle.lift_lower.specs.Crossing.{fields_of_types, IsLowered, LowerFails}
+use Rattle.lift_lower.specs.Crossing.{IsLowered, LowerFails}
 use Rattle.witcall.specs.Session.{TakeFails}
 use Rattle.witcall.proofs.Results.{result_flat}
 use Rattle.witcall.proofs.ScalarFunctions.{own_params, own_results}
+use Rattle.witcall.proofs.Promised.{promised}
 use Rattle.witcall.proofs.TypedCalls.{world, placed, place_fails, link_fails, came_back, takes}
 use Rattle.witcall.proofs.session.Session.call.Goals as goal
 
@@ -98,3 +99,12 @@ returns-clause-typed g c =
     let own = c.resolve-resolve.result.now in
     let results = own_results c.args.self.now.package.now.resolve own c.args.func (option_to_list c.of-types.result.result) c.resolve-resolve.ensures c.of-types.ensures.results in
     subst (λ ts. IfOk c.take_result.result (λ v. HaveTypes (as_list (option_map value_of v)) ts)) results c.take_result.ensures.typed
+
+pub returns-in_err-flats-clause-promise : goal.returns-in_err-flats-clause-promise
+returns-in_err-flats-clause-promise g c = promised _ _ _ c.args.self.now.package.now.resolve c.args.func _ _ _ _ c.requires.scalar (returns-in_err-flats-clause-call g c)
+
+pub returns-in_err-back-clause-promise : goal.returns-in_err-back-clause-promise
+returns-in_err-back-clause-promise g c = promised _ _ _ c.args.self.now.package.now.resolve c.args.func _ _ _ _ c.requires.scalar (returns-in_err-back-clause-call g c)
+
+pub returns-clause-promise : goal.returns-clause-promise
+returns-clause-promise g c = promised _ _ _ c.args.self.now.package.now.resolve c.args.func _ _ _ _ c.requires.scalar (returns-clause-call g c)

@@ -1,0 +1,16 @@
+//! Tests that cross crates, as tables of inputs and answers from outside: texts, calls, sessions, JSON, the
+//! program's words and lines, and streams that are cut or fail. It has no code of its own.
+#![tactic(auto)]
+
+#[cfg(test)]
+mod calls;
+#[cfg(test)]
+mod lines;
+#[cfg(test)]
+mod sessions;
+#[cfg(test)]
+mod streaming;
+#[cfg(test)]
+mod texts;
+#[cfg(test)]
+mod wording;

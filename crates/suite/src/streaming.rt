@@ -1,0 +1,179 @@
+//! Inputs that are cut or fail, outputs that fail, and inputs that are no text.
+
+ghost use Rattle.std.specs.Prelude.{◌≡◌, false};
+
+use atoms::{Failed, Sink, Source, Watched, read_up_to};
+use std::alloc::Global;
+use std::test::Fail;
+use witcall::{Refused, Reply, open, read_all, run_call};
+
+const P1: &str = "package a:b; interface c { f: func(x: u32) -> u32; }";
+
+/// A reader that gives a byte at a time, and fails after so many where it is told to.
+#[derive(Drop)]
+struct Drip {
+    bytes: &'static [u8],
+    given: usize,
+    fails_at: Option<usize>,
+    failed: bool,
+}
+
+impl Source for Drip {
+    ghost use Rattle.std.specs.Prelude.{None};
+
+    ghost remaining = { λ _. None };
+
+    ghost has_failed = { λ reader. reader.failed };
+
+    fn read(&mut self, buffer: &mut [u8]) -> Result<usize, Failed> {
+        if self.fails_at == Some(self.given) {
+            self.failed = true;
+            return Err(Failed);
+        }
+        if buffer.is_empty() {
+            return Ok(0);
+        }
+        match self.bytes.get(self.given) {
+            Some(byte) => {
+                buffer[0] = *byte;
+                self.given += 1;
+                Ok(1)
+            }
+            None => Ok(0),
+        }
+    }
+
+    fn failed(&self) -> bool {
+        self.failed
+    }
+}
+
+fn dripping(fails_at: Option<usize>) -> Drip
+    ensures { result.failed ≡ false }
+{
+    Drip {
+        bytes: P1.as_bytes(),
+        given: 0,
+        fails_at,
+        failed: false,
+    }
+}
+
+/// A sink that takes so many bytes and then fails.
+#[derive(Drop)]
+struct Short {
+    room: usize,
+    failed: bool,
+}
+
+impl Sink for Short {
+    ghost use Rattle.std.specs.Prelude.{None};
+
+    ghost contents = { λ _. None };
+
+    ghost has_failed = { λ short. short.failed };
+
+    fn write(&mut self, bytes: &[u8]) -> Result<usize, Failed> {
+        if self.room == 0 && !bytes.is_empty() {
+            self.failed = true;
+            return Err(Failed);
+        }
+        let count = self.room.min(bytes.len());
+        self.room -= count;
+        Ok(count)
+    }
+
+    fn failed(&self) -> bool {
+        self.failed
+    }
+}
+
+#[test]
+fn inputs(rt: HostRuntime) -> Result<(), Fail> {
+    let alloc = rt.alloc();
+    let bytes = read_all(alloc, &mut dripping(None))?;
+    assert!(rt; bytes.as_slice() == P1.as_bytes());
+    let few = read_up_to(alloc, &mut dripping(None), 6);
+    assert!(rt; few.is_ok_and(|few| few.as_slice() == b"package".as_slice()));
+    for place in [0, 1, 20] {
+        let error = read_all(alloc, &mut dripping(Some(place)));
+        let wanted = format!(in alloc; "error 20 read at {place}")?;
+        let line = match error {
+            Ok(_bytes) => String::new(alloc),
+            Err(error) => format!(in alloc; "{error}")?,
+        };
+        assert!(rt; line.as_str() == wanted.as_str(), "{place}: {line}");
+    }
+    Ok(())
+}
+
+/// What opening bytes answers.
+fn opened(alloc: Global, bytes: &[u8]) -> Result<String, Fail> {
+    Ok(match open(alloc, bytes) {
+        Ok(_package) => format!(in alloc; "ok")?,
+        Err(error) => format!(in alloc; "{error}")?,
+    })
+}
+
+#[test]
+fn bytes(rt: HostRuntime) -> Result<(), Fail> {
+    let alloc = rt.alloc();
+    for (bytes, wanted) in [
+        (
+            b"\x00asm".as_slice(),
+            "error 33 unsupported later-stage at 0..4",
+        ),
+        (
+            b"\x00asm\x0d\x00\x01\x00".as_slice(),
+            "error 33 unsupported later-stage at 0..4",
+        ),
+        (b"\x00as".as_slice(), "error 30 bad character at 0..1"),
+        (
+            b"package a:b; // \xff".as_slice(),
+            "error 60 not UTF-8 at 16",
+        ),
+        (b"\xc3".as_slice(), "error 60 not UTF-8 at 0"),
+        (b"a\xe2\x82".as_slice(), "error 60 not UTF-8 at 1"),
+    ] {
+        let line = opened(alloc, bytes)?;
+        assert!(rt; line.as_str() == wanted, "{line}, not {wanted}");
+    }
+    let blanks = vec![in alloc; b' '; 1_048_576]?;
+    let line = opened(alloc, blanks.as_slice())?;
+    assert!(rt;
+        line.as_str() == "error 32 expected package at 1048576..1048576",
+        "{line}"
+    );
+    let mut long = vec![in alloc; 0xff; 1_048_577]?;
+    let line = opened(alloc, long.as_slice())?;
+    assert!(rt;
+        line.as_str() == "error 36 limit at 1048576..1048576",
+        "{line}"
+    );
+    long.push(0)?;
+    let read = read_all(alloc, &mut Watched::new(long.as_slice()))?;
+    assert_eq!(rt; read.len(), 1_048_577);
+    Ok(())
+}
+
+#[test]
+fn failed_writes(rt: HostRuntime) -> Result<(), Fail> {
+    let alloc = rt.alloc();
+    let package = open(alloc, P1.as_bytes())?;
+    for (room, left, is_written) in [(0, 0, false), (1, 0, false), (2, 0, true), (5, 3, true)] {
+        let body = Reply::of(alloc, &package, "a:b/c", "f", "[8]")?;
+        let mut output = Short {
+            room,
+            failed: false,
+        };
+        let body = Box::new(alloc, body)?;
+        let answer = run_call(alloc, &package, "a:b/c", "f", "[7]", body, &mut output);
+        assert_eq!(rt; output.room, left);
+        let is_told = match answer {
+            Ok(()) => is_written,
+            Err(refused) => !is_written && matches!(refused, Refused::Write),
+        };
+        assert!(rt; is_told, "{room}");
+    }
+    Ok(())
+}

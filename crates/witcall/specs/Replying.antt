@@ -1,0 +1,27 @@
+-- What the program's own body answers.
+use Rattle.std.specs.Prelude.{ℕ, List, Option, Some, None, map, option_to_list}
+use Rattle.canonical_abi.specs.Types.{Fields}
+use Rattle.canonical_abi.specs.Values.{Value}
+use Rattle.canonical_abi.specs.Guest.{Memory}
+use Rattle.canonical_abi.specs.declared.flat.Flat.{Flat}
+use Rattle.memory.specs.Space.{SpaceAllocates}
+use Rattle.lift_lower.specs.Crossing.{IsLowered}
+use Rattle.lift_lower.specs.Val.{value_of}
+use Rattle.resolve.specs.Closed.{function_at}
+use Rattle.resolve.specs.Names.{IsNamed}
+use Rattle.resolve.specs.Same.{IsSamePackage}
+use Rattle.resolve.specs.declared.tables.Resolve.{Resolve}
+use Rattle.witcall.specs.Json.{IsArrayTextOf}
+use Rattle.witcall.specs.Signature.{signature_of}
+use Rattle.witcall.specs.declared.reply.Reply.{Reply}
+
+-- it answers the flat values that carry these values, lowered into its memory; or it stops
+abbrev pub Replies : Fields → List Value → Memory → Option (List Flat) → Memory → Type 0
+Replies results vs old (Some flats) new = IsLowered SpaceAllocates results vs old flats new
+Replies results vs old None new = Unit {0}
+
+-- it is a body of the function of these names, and its value is what the text says
+pub record IsReplyOf (r : Resolve) (iface func text : List ℕ) (reply : Reply) : Type 0 where
+  pub own : IsSamePackage reply.«package».resolve r
+  pub named : IsNamed r iface func reply.func
+  pub are_read : IsArrayTextOf (option_to_list (signature_of (function_at r reply.func)).result) text (map value_of (option_to_list reply.value))

@@ -1,0 +1,46 @@
+//! Which values are the arguments of a function.
+
+ghost use Rattle.std.specs.Prelude.{◌≡◌, ◌↔◌, IsTrue, map};
+ghost use Rattle.canonical_abi.specs.Values.{HaveTypes};
+ghost use Rattle.layout.specs.Layout.{layouts_of};
+ghost use Rattle.lift_lower.specs.Crossing.{fields_of_types};
+ghost use Rattle.lift_lower.specs.Scalars.{AreScalar};
+ghost use Rattle.lift_lower.specs.Val.{value_of};
+ghost use Rattle.resolve.specs.Closed.{IsScalarFunction, function_type};
+
+use crate::package::Package;
+use crate::signature::ScalarTypes;
+use layout::Layouts;
+use lift_lower::{Val, has_type};
+use resolve::{FunctionId, Resolve, ValType};
+
+impl Package {
+    /// Whether these are arguments of the function, as many as its parameters and each of its type: what
+    /// `Session::call` asks for.
+    pub fn takes(&self, func: FunctionId, arguments: &[Val]) -> bool
+        requires { IsScalarFunction self.now.resolve func }
+        ensures { IsTrue result ↔ HaveTypes (map value_of arguments.now)
+            (function_type self.now.resolve func).params }
+    {
+        let types = ScalarTypes::of(self.resolve(), func);
+        have_types(self.resolve(), self.layouts(), types.params(), arguments)
+    }
+}
+
+/// Whether these are values of these types, each of its own.
+pub fn have_types(resolve: &Resolve, layouts: &Layouts, types: &[ValType], values: &[Val]) -> bool
+    requires laid_out { layouts.now ≡ layouts_of resolve.now }
+    requires scalar { AreScalar types.now }
+    ensures { IsTrue result ↔ HaveTypes (map value_of values.now) (fields_of_types resolve.now types.now) }
+{
+    if values.len() != types.len() {
+        return false;
+    }
+    for (i, value) in values.iter().enumerate() {
+        let ty = types[i];
+        if !has_type(resolve, layouts, ty, value) {
+            return false;
+        }
+    }
+    true
+}
