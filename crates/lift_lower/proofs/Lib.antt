@@ -1,1 +1,11 @@
 pub mod ScalarLists
+pub mod ShapeLemmas
+pub mod Extents
+pub mod Texts
+pub mod Views
+pub mod Steps
+pub mod Passing
+pub mod FlatSteps
+pub mod Denoting
+pub mod Typings
+pub mod ScalarTypes

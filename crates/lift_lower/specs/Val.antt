@@ -1,8 +1,9 @@
 -- The value that a `Val` stands for.
-use Rattle.std.specs.Prelude.{Some, None, string_bytes}
+use Rattle.std.specs.Prelude.{Option, ◌≡◌, ◌⊎◌, ℕ, Vec, Box, String, Some, None, string_bytes}
+use Rattle.std.specs.Global.{Global}
 use Rattle.canonical_abi.specs.Types.{int8, int16, int32, int64}
 use Rattle.canonical_abi.specs.Values.{Value, values_of, bool_value, unsigned_value, signed_value, char_value, string_value, list_value, record_value, plain_value, payload_value, flags_value}
-use Rattle.lift_lower.specs.declared.val.Val.{Val, fold-Val}
+use Rattle.lift_lower.specs.declared.val.Val.{Val, fold-Val, String as Text, List as Listed, Record, Variant, Flags}
 use Rattle.lift_lower.specs.declared.val.Val.TheOpen.{Val-F}
 
 -- one level, with the value of each child in its place
@@ -26,3 +27,14 @@ value_step (Val-F.Flags n) = flags_value n
 
 abbrev pub value_of : Val → Value
 value_of = fold-Val Value value_step
+
+-- a variant of a case, with its payload if there is one
+abbrev pub variant_value : ℕ → Option (Box Val Global) → Value
+variant_value i None = plain_value i
+variant_value i (Some b) = payload_value i (value_of b.value)
+
+-- a value that is not of a primitive type, or is a text
+abbrev pub IsCompound : Val → Type 0
+IsCompound v =
+    ((s : String Global) × (v ≡ Text s)) ⊎ (((l : Vec Val Global) × (v ≡ Listed l)) ⊎ (((r : Vec Val Global) × (v ≡ Record r))
+    ⊎ (((i : ℕ) × (o : Option (Box Val Global)) × (v ≡ Variant i o)) ⊎ ((n : ℕ) × (v ≡ Flags n)))))

@@ -2,17 +2,24 @@
 //!
 //! `has_type`, `lift` and `lower` carry the promise: a value exactly where the flat values denote one, else
 //! the fault. `Scalar` is the value of one primitive node, which is lifted and lowered with no memory of the
-//! host. Stands on `canonical_abi` (definitions), `resolve` (types) and `memory` (guests).
+//! host. Stands on `canonical_abi` (definitions), `resolve` and `layout` (types) and `memory` (guests).
 #![tactic(auto)]
 
+mod bytes;
+mod extent;
+mod flat;
 mod lifting;
+mod loading;
 mod lowering;
+mod refusal;
 mod scalar;
 mod scalars;
+mod shape;
 mod typing;
 mod val;
 
 pub use lifting::lift;
+pub use loading::load;
 pub use lowering::lower;
 pub use scalar::{Scalar, core_kind, lift_scalar, lower_scalar};
 pub use scalars::{Flats, Scalars, lift_scalars, lower_scalars};

@@ -1,5 +1,5 @@
 //! The values of primitive types other than string: each is carried by one core value.
-ghost use Rattle.std.specs.Prelude.{◌≡◌, ◌%◌, ◌^◌, IfOk, IfErr, IfSome, IsSome};
+ghost use Rattle.std.specs.Prelude.{◌≡◌, ◌%◌, ◌^◌, IfOk, IfErr, IfSome, IfNone, IsSome};
 ghost use Rattle.canonical_abi.specs.Types.{Prim};
 ghost use Rattle.canonical_abi.specs.Values.{HasPrimType};
 ghost use Rattle.canonical_abi.specs.Layout.{prim_kind};
@@ -7,7 +7,7 @@ ghost use Rattle.canonical_abi.specs.Memory.{PrimFaulty};
 ghost use Rattle.canonical_abi.specs.Reading.{number_of, flat_bits};
 ghost use Rattle.resolve.specs.Closed.{prim_of};
 ghost use Rattle.lift_lower.specs.Scalar.{prim_in, value_in, core_in, ScalarIs};
-ghost use Rattle.lift_lower.specs.Val.{value_of};
+ghost use Rattle.lift_lower.specs.Val.{value_of, IsCompound};
 
 use crate::val::Val;
 use canonical_abi::{CoreKind, Flat, TrapKind};
@@ -75,6 +75,7 @@ impl Scalar {
     pub fn of(value: &Val) -> Option<Scalar>
         ensures value { IfSome result (λ s. value_in s ≡ value_of value.now) }
         ensures typed { IfSome result (λ s. HasPrimType (value_in s) (prim_in s)) }
+        ensures none { IfNone result (IsCompound value.now) }
         ensures found { (p : Prim) → HasPrimType (value_of value.now) p → IsSome result }
     {
         match value {

@@ -1,24 +1,140 @@
 //! Which values are of a type.
-ghost use Rattle.std.specs.Prelude.{◌≡◌, ◌↔◌, IsTrue};
-ghost use Rattle.canonical_abi.specs.Values.{HasType};
-ghost use Rattle.resolve.specs.Closed.{closed_type, is_scalar};
+ghost use Rattle.std.specs.Prelude.{◌≡◌, ◌↔◌, ◌<◌, ◌^◌, ℕ, List, IsTrue, length, map};
+ghost use Rattle.std.specs.List.{AllByRecursion};
+ghost use Rattle.canonical_abi.specs.Types.{ClosedType, variant_cases, variant_type, field_count};
+ghost use Rattle.canonical_abi.specs.Values.{HasType, HaveTypes, HasPrimType};
 ghost use Rattle.layout.specs.Layout.{layouts_of};
-ghost use Rattle.lift_lower.specs.Val.{value_of};
+ghost use Rattle.resolve.specs.Closed.{closed_type};
+ghost use Rattle.lift_lower.specs.Members.{AreInside, members_fields};
+ghost use Rattle.lift_lower.specs.Scalar.{prim_in, value_in};
+ghost use Rattle.lift_lower.specs.Shape.{HasShapeIn, IsInside, IsFollowed};
+ghost use Rattle.lift_lower.specs.Val.{value_of, variant_value};
 
 use crate::scalar::Scalar;
-use crate::scalars::primitive_of;
+use crate::shape::{Members, Shape, case_payload, followed, member_type, shape_of};
 use crate::val::Val;
 use layout::Layouts;
 use resolve::{Resolve, ValType};
 
-/// Whether a value is of a type of this package.
-pub fn has_type(_resolve: &Resolve, _layouts: &Layouts, ty: ValType, value: &Val) -> bool
-    requires laid_out { _layouts.now ≡ layouts_of _resolve.now }
-    requires scalar { IsTrue (is_scalar ty) }
-    ensures { IsTrue result ↔ HasType (value_of value.now) (closed_type _resolve.now ty) }
+/// Whether a value is of a type of this package. Takes no memory of the host.
+pub fn has_type(resolve: &Resolve, _layouts: &Layouts, ty: ValType, value: &Val) -> bool
+    requires laid_out { _layouts.now ≡ layouts_of resolve.now }
+    requires inside { IsInside resolve.now ty }
+    ensures { IsTrue result ↔ HasType (value_of value.now) (closed_type resolve.now ty) }
 {
-    match Scalar::of(value) {
-        Some(scalar) => scalar.primitive() == primitive_of(ty),
-        None => false,
+    is_of(resolve, ty, value)
+}
+
+/// Whether a scalar is of a type of this shape.
+fn scalar_is_of(shape: Shape, scalar: Scalar) -> bool
+    requires { HasPrimType (value_in scalar) (prim_in scalar) }
+    ensures { (rows : List ClosedType) (t : ClosedType) → HasShapeIn rows t shape → (IsTrue result ↔ HasType (value_in scalar) t) }
+{
+    match shape {
+        Shape::Primitive(primitive) => scalar.primitive() == primitive,
+        _ => false,
+    }
+}
+
+/// Whether flags have no bit past so many labels.
+fn has_labels(bits: u32, labels: usize) -> bool
+    ensures { IsTrue result ↔ (bits < 2 ^ labels) }
+{
+    if labels >= 32 {
+        return true;
+    }
+    bits < 1 << labels
+}
+
+#[cycle(typing)]
+fn is_of(resolve: &Resolve, ty: ValType, value: &Val) -> bool
+    requires { IsInside resolve.now ty }
+    ensures { IsTrue result ↔ HasType (value_of value.now) (closed_type resolve.now ty) }
+{
+    let ty = followed(resolve, ty);
+    let shape = shape_of(resolve, ty);
+    match value {
+        Val::String(_) => matches!(shape, Shape::String),
+        Val::List(items) => match shape {
+            Shape::List(element) => are_of(resolve, element, items.as_slice()),
+            _ => false,
+        },
+        Val::Record(fields) => match shape {
+            Shape::Record(count) => {
+                let members = Members::Of(ty);
+                have_types(resolve, &members, count, fields.as_slice())
+            }
+            _ => false,
+        },
+        Val::Variant(case, payload) => match shape {
+            Shape::Variant(_) => is_of_case(resolve, ty, *case, payload),
+            _ => false,
+        },
+        Val::Flags(bits) => match shape {
+            Shape::Flags(labels) => has_labels(*bits, labels),
+            _ => false,
+        },
+        _ => match Scalar::of(value) {
+            Some(scalar) => scalar_is_of(shape, scalar),
+            None => unreachable!(),
+        },
+    }
+}
+
+/// Whether all these are of one type.
+#[cycle(typing)]
+fn are_of(resolve: &Resolve, element: ValType, items: &[Val]) -> bool
+    requires { IsInside resolve.now element }
+    ensures { IsTrue result ↔ AllByRecursion (λ w. HasType w (closed_type resolve.now element)) (map value_of items.now) }
+{
+    for item in items {
+        if !is_of(resolve, element, item) {
+            return false;
+        }
+    }
+    true
+}
+
+/// Whether there are as many values as members, each of its member's type.
+#[cycle(typing)]
+pub(crate) fn have_types(resolve: &Resolve, members: &Members, count: usize, values: &[Val]) -> bool
+    requires inside { AreInside resolve.now members.now }
+    requires counted { field_count (members_fields resolve.now members.now) ≡ count }
+    ensures { IsTrue result ↔ HaveTypes (map value_of values.now) (members_fields resolve.now members.now) }
+{
+    if values.len() != count {
+        return false;
+    }
+    for index in 0..count {
+        let Some(member) = member_type(resolve, members, index) else {
+            unreachable!()
+        };
+        if !is_of(resolve, member, &values[index]) {
+            return false;
+        }
+    }
+    true
+}
+
+/// Whether this is a case of the variant, with a payload of its type where the case has one.
+#[cycle(typing)]
+fn is_of_case(resolve: &Resolve, ty: ValType, case: u32, payload: &Option<Box<Val>>) -> bool
+    requires inside { IsInside resolve.now ty }
+    requires followed { IsFollowed resolve.now ty }
+    requires variant { variant_type (variant_cases (closed_type resolve.now ty)) ≡ closed_type resolve.now ty }
+    ensures { IsTrue result ↔ HasType (variant_value case payload.now) (closed_type resolve.now ty) }
+{
+    let Some(known) = case_payload(resolve, ty, case as usize) else {
+        return false;
+    };
+    match payload {
+        None => match known {
+            None => true,
+            Some(_) => false,
+        },
+        Some(value) => match known {
+            Some(member) => is_of(resolve, member, value),
+            None => false,
+        },
     }
 }

@@ -1,0 +1,115 @@
+-- How a reading goes on by one member, one field or one case.
+use Rattle.std.proofs.Common.{◌≡◌, ◌≢◌, ℕ, zero, suc, ◌+◌, ◌-◌, ◌*◌, ◌<◌, ◌≤◌, List, [], ◌∷◌, ◌++◌, Some, None, Result, Ok, Err, refl, sym, ap, ◌∙◌, subst, append_assoc, append-nil, add-one, arith}
+use Rattle.std.specs.Int.{next_multiple_of}
+use Rattle.canonical_abi.specs.Types.{ClosedType, Fields, no_field, field, Cases, no_case, plain_case, case_with, nth_field, nth_case, field_count}
+use Rattle.canonical_abi.specs.Layout.{size, align, end_from, field_extents}
+use Rattle.canonical_abi.proofs.Sizes.{end-le}
+use Rattle.canonical_abi.specs.Values.{Value, plain_value, payload_value}
+use Rattle.canonical_abi.specs.Reading.{◌>>=◌, each_at, reading, reading_fields, reading_case}
+use Rattle.canonical_abi.specs.declared.trap.TrapKind.{TrapKind}
+use Rattle.canonical_abi.specs.declared.trap.TrapKind.TheVariants as trap
+
+-- what is read, with values in front
+abbrev pub with_front : List Value → Result (List Value) TrapKind → Result (List Value) TrapKind
+with_front front read = read >>= λ vs. Ok (front ++ vs)
+
+pub front-push : (front : List Value) (v : Value) (read : Result (List Value) TrapKind) → with_front (front ++ v ∷ []) read ≡ with_front front (read >>= λ vs. Ok (v ∷ vs))
+front-push front v (Ok vs) = ap Ok (append_assoc front (v ∷ []) vs)
+front-push front v (Err k) = refl
+
+module _ (f : ℕ → Result Value TrapKind) (step a n i : ℕ) (front : List Value) (whole : Result (List Value) TrapKind) where
+  each-next : i < n → each_at f step (a + i * step) (n - i) ≡ (f (a + i * step) >>= λ v. each_at f step (a + (i + 1) * step) (n - (i + 1)) >>= λ vs. Ok (v ∷ vs))
+  each-next h =
+      let e : n - i ≡ suc (n - (i + 1)) = omega arith in
+      let g : a + i * step + step ≡ a + (i + 1) * step = omega arith in
+      rw e (rw g refl)
+
+  pub each-more : i < n → with_front front (each_at f step (a + i * step) (n - i)) ≡ whole → (v : Value) → f (a + i * step) ≡ Ok v
+      → with_front (front ++ v ∷ []) (each_at f step (a + (i + 1) * step) (n - (i + 1))) ≡ whole
+  each-more h w v e = front-push front v _ ∙ ap (with_front front) (sym (each-next h ∙ ap (λ r. r >>= λ v. each_at f step (a + (i + 1) * step) (n - (i + 1)) >>= λ vs. Ok (v ∷ vs)) e)) ∙ w
+
+  pub each-fault : i < n → with_front front (each_at f step (a + i * step) (n - i)) ≡ whole → (k : TrapKind) → f (a + i * step) ≡ Err k → whole ≡ Err k
+  each-fault h w k e = sym w ∙ ap (with_front front) (each-next h ∙ ap (λ r. r >>= λ v. each_at f step (a + (i + 1) * step) (n - (i + 1)) >>= λ vs. Ok (v ∷ vs)) e)
+
+  pub each-done : with_front front (each_at f step (a + n * step) (n - n)) ≡ whole → whole ≡ Ok front
+  each-done w = let e : n - n ≡ 0 = omega arith in sym w ∙ rw e (ap Ok (append-nil front))
+
+pub some-inj : {A : Type 0} {x y : A} → Some x ≡ Some y → x ≡ y
+some-inj e = cc
+
+-- ---- fields
+
+-- the fields from place i on
+abbrev pub fields_from : ℕ → Fields → Fields
+fields_from zero fs = fs
+fields_from (suc i) no_field = no_field
+fields_from (suc i) (field t fs) = fields_from i fs
+
+-- the end of the last field
+abbrev pub fields_end : ℕ → Fields → ℕ
+fields_end from fs = end_from from (field_extents fs)
+
+pub fields-next : (fs : Fields) (i : ℕ) (t : ClosedType) → nth_field fs i ≡ Some t → fields_from i fs ≡ field t (fields_from (i + 1) fs)
+fields-next no_field i t e = absurd (let n : None ≡ Some t = e in cc)
+fields-next (field u fs) zero t e = ap (λ x. field x fs) (some-inj e)
+fields-next (field u fs) (suc i) t e = rw (fields-next fs i t e, add-one, add-one) refl
+
+pub fields-last : (fs : Fields) (n : ℕ) → field_count fs ≡ n → fields_from n fs ≡ no_field
+fields-last no_field zero e = refl
+fields-last no_field (suc n) e = refl
+fields-last (field t fs) zero e = absurd (omega arith)
+fields-last (field t fs) (suc n) e = fields-last fs n (omega arith)
+
+fields_end-le : (from : ℕ) (fs : Fields) → from ≤ fields_end from fs
+fields_end-le from fs = end-le from (field_extents fs)
+
+pub nth_field-some : (fs : Fields) (i : ℕ) → i < field_count fs → nth_field fs i ≢ None
+nth_field-some no_field i h e = omega (arith, h)
+nth_field-some (field t fs) zero h e = cc
+nth_field-some (field t fs) (suc i) h e = nth_field-some fs i (omega arith) e
+
+module _ (fs : Fields) (m : List ℕ) (a from i : ℕ) (t : ClosedType) (front : List Value) (whole : Result (List Value) TrapKind) where
+  pub fields-more : nth_field fs i ≡ Some t → with_front front (reading_fields (fields_from i fs) m a from) ≡ whole → (v : Value) → reading t m (a + next_multiple_of from (align t)) ≡ Ok v
+      → with_front (front ++ v ∷ []) (reading_fields (fields_from (i + 1) fs) m a (next_multiple_of from (align t) + size t)) ≡ whole
+  fields-more h w v e =
+      front-push front v _ ∙ ap (with_front front) (sym (ap (λ fs. reading_fields fs m a from) (fields-next fs i t h)
+      ∙ ap (λ r. r >>= λ v. reading_fields (fields_from (i + 1) fs) m a (next_multiple_of from (align t) + size t) >>= λ vs. Ok (v ∷ vs)) e)) ∙ w
+
+  pub fields-fault : nth_field fs i ≡ Some t → with_front front (reading_fields (fields_from i fs) m a from) ≡ whole → (k : TrapKind) → reading t m (a + next_multiple_of from (align t)) ≡ Err k → whole ≡ Err k
+  fields-fault h w k e =
+      sym w ∙ ap (with_front front) (ap (λ fs. reading_fields fs m a from) (fields-next fs i t h)
+      ∙ ap (λ r. r >>= λ v. reading_fields (fields_from (i + 1) fs) m a (next_multiple_of from (align t) + size t) >>= λ vs. Ok (v ∷ vs)) e)
+
+  pub fields-done : field_count fs ≡ i → with_front front (reading_fields (fields_from i fs) m a from) ≡ whole → whole ≡ Ok front
+  fields-done h w = sym w ∙ ap (λ fs. with_front front (reading_fields fs m a from)) (fields-last fs i h) ∙ ap Ok (append-nil front)
+
+  pub fields-end : nth_field fs i ≡ Some t → fields_end from (fields_from i fs) ≡ fields_end (next_multiple_of from (align t) + size t) (fields_from (i + 1) fs)
+  fields-end h = ap (fields_end from) (fields-next fs i t h)
+
+-- ---- cases
+
+module _ (m : List ℕ) (a i : ℕ) where
+  pub case-none : (cs : Cases) (n : ℕ) → nth_case cs n ≡ None → reading_case cs m a i n ≡ Err trap.Case
+  case-none no_case n e = refl
+  case-none (plain_case cs) zero e = cc
+  case-none (plain_case cs) (suc n) e = case-none cs n e
+  case-none (case_with t cs) zero e = cc
+  case-none (case_with t cs) (suc n) e = case-none cs n e
+
+  pub case-plain : (cs : Cases) (n : ℕ) → nth_case cs n ≡ Some None → reading_case cs m a i n ≡ Ok (plain_value i)
+  case-plain no_case n e = cc
+  case-plain (plain_case cs) zero e = refl
+  case-plain (plain_case cs) (suc n) e = case-plain cs n e
+  case-plain (case_with t cs) zero e = cc
+  case-plain (case_with t cs) (suc n) e = case-plain cs n e
+
+  pub case-payload : (cs : Cases) (n : ℕ) (t : ClosedType) → nth_case cs n ≡ Some (Some t) → reading_case cs m a i n ≡ (reading t m a >>= λ v. Ok (payload_value i v))
+  case-payload no_case n t e = cc
+  case-payload (plain_case cs) zero t e = cc
+  case-payload (plain_case cs) (suc n) t e = case-payload cs n t e
+  case-payload (case_with u cs) zero t e = ap (λ u. reading u m a >>= λ v. Ok (payload_value i v)) (some-inj (some-inj e))
+  case-payload (case_with u cs) (suc n) t e = case-payload cs n t e
+
+pub fields-inside : (fs : Fields) (i : ℕ) (t : ClosedType) (from whole : ℕ) → nth_field fs i ≡ Some t → fields_end from (fields_from i fs) ≡ whole → next_multiple_of from (align t) + size t ≤ whole
+fields-inside fs i t from whole h w =
+    subst (λ n. next_multiple_of from (align t) + size t ≤ n) (sym (ap (fields_end from) (fields-next fs i t h)) ∙ w) (fields_end-le (next_multiple_of from (align t) + size t) (fields_from (i + 1) fs))

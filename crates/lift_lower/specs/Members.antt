@@ -1,0 +1,25 @@
+-- The members of a record: the fields of a type, or types side by side.
+use Rattle.std.specs.Prelude.{◌≡◌, true, List, map, length}
+use Rattle.std.specs.List.{list_all}
+use Rattle.canonical_abi.specs.Types.{Fields, fields_of, record_fields}
+use Rattle.resolve.specs.Closed.{closed_type}
+use Rattle.resolve.specs.Tables.{is_below}
+use Rattle.resolve.specs.declared.tables.Resolve.{Resolve}
+use Rattle.resolve.specs.declared.tables.ValType.{ValType}
+use Rattle.lift_lower.specs.Shape.{IsInside, IsFollowed}
+use Rattle.lift_lower.specs.declared.shape.Members.{Members}
+use Rattle.lift_lower.specs.declared.shape.Members.TheVariants.{Of, Listed}
+
+-- the members' closed types
+abbrev pub members_fields : Resolve → Members → Fields
+members_fields r (Of ty) = record_fields (closed_type r ty)
+members_fields r (Listed types) = fields_of (map (closed_type r) types.now)
+
+-- types that stand in the package's table
+abbrev pub AreAllInside : Resolve → List ValType → Type 0
+AreAllInside r types = list_all (is_below (length r.definitions)) types ≡ true
+
+-- members that stand in the package's table
+abbrev pub AreInside : Resolve → Members → Type 0
+AreInside r (Of ty) = IsInside r ty × IsFollowed r ty
+AreInside r (Listed types) = AreAllInside r types.now

@@ -1,0 +1,159 @@
+//! Values in flat values, as numbers: what a joined core value has above a kind's own bits is cut off.
+//!
+//! The walk goes down the type and takes from the front of the flat values; texts and lists are loaded.
+ghost use Rattle.std.specs.Prelude.{◌≡◌, ◌+◌, ◌%◌, ◌<◌, ◌≤◌, ◌^◌, ℕ, List, suc, length, map, drop};
+ghost use Rattle.canonical_abi.specs.Types.{variant_cases, field_count, prim_type, variant_type};
+ghost use Rattle.canonical_abi.specs.Layout.{flat_kinds, field_kinds, payload_kinds};
+ghost use Rattle.canonical_abi.specs.Reading.{number_of, low_bits, lifting, lifting_fields, lifting_case};
+ghost use Rattle.layout.specs.Layout.{layouts_of};
+ghost use Rattle.resolve.specs.Closed.{prim_of, closed_type};
+ghost use Rattle.lift_lower.specs.Gives.{Gives};
+ghost use Rattle.lift_lower.specs.Members.{AreInside, members_fields};
+ghost use Rattle.lift_lower.specs.Shape.{IsInside, IsFollowed};
+ghost use Rattle.lift_lower.specs.Val.{value_of};
+
+use crate::bytes::low_flags;
+use crate::extent::kind_count;
+use crate::loading::{load_list, load_text};
+use crate::refusal::Refusal;
+use crate::scalar::lift_scalar;
+use crate::shape::{Members, Shape, case_payload, followed, member_type, shape_of};
+use crate::val::Val;
+use canonical_abi::{Flat, TrapKind};
+use layout::Layouts;
+use resolve::{Primitive, Resolve, ValType};
+use std::alloc::Global;
+
+/// The low 32 bits of a flat value.
+#[tactic(auto, unfolding(canonical_abi::specs::Reading::low_bits))]
+pub(crate) fn low_word(flats: &[Flat], index: usize) -> u32
+    requires { index < length flats.now }
+    ensures { result ≡ low_bits (map number_of flats.now) index 32 }
+{
+    (flats[index].number() % 0x1_0000_0000) as u32
+}
+
+#[tactic(auto, unfolding(canonical_abi::specs::Reading::low_bits))]
+fn lift_primitive(primitive: Primitive, flats: &[Flat]) -> Result<Val, Refusal>
+    requires { 0 < length flats.now }
+    ensures { (m : List ℕ) → Gives value_of result (lifting (prim_type (prim_of primitive)) m (map number_of flats.now)) }
+{
+    match lift_scalar(primitive, flats[0]) {
+        Ok(scalar) => Ok(scalar.to_val()),
+        Err(kind) => Err(Refusal::Trap(kind)),
+    }
+}
+
+/// The value in the first of these flat values.
+#[cycle(lift)]
+fn lift_at(
+    alloc: Global,
+    resolve: &Resolve,
+    layouts: &Layouts,
+    ty: ValType,
+    memory: &[u8],
+    flats: &[Flat],
+) -> Result<Val, Refusal>
+    requires laid_out { layouts.now ≡ layouts_of resolve.now }
+    requires inside { IsInside resolve.now ty }
+    requires carried { length (flat_kinds (closed_type resolve.now ty)) ≤ length flats.now }
+    requires few { length flats.now ≤ 16 }
+    ensures { Gives value_of result (lifting (closed_type resolve.now ty) memory.now (map number_of flats.now)) }
+{
+    let ty = followed(resolve, ty);
+    match shape_of(resolve, ty) {
+        Shape::Primitive(primitive) => lift_primitive(primitive, flats),
+        Shape::String => {
+            let start = low_word(flats, 0) as usize;
+            let size = low_word(flats, 1) as usize;
+            load_text(alloc, memory, start, size)
+        }
+        Shape::List(element) => {
+            let start = low_word(flats, 0) as usize;
+            let count = low_word(flats, 1) as usize;
+            let items = load_list(alloc, resolve, layouts, element, memory, start, count)?;
+            Ok(Val::List(items))
+        }
+        Shape::Record(count) => {
+            let members = Members::Of(ty);
+            let fields = lift_fields(alloc, resolve, layouts, &members, count, memory, flats)?;
+            Ok(Val::Record(fields))
+        }
+        Shape::Variant(_) => lift_variant(alloc, resolve, layouts, ty, memory, flats),
+        Shape::Flags(labels) => Ok(Val::Flags(flags_in(flats, labels))),
+    }
+}
+
+/// The values of members, each in the flat values behind those of the member before it.
+#[cycle(lift)]
+pub(crate) fn lift_fields(
+    alloc: Global,
+    resolve: &Resolve,
+    layouts: &Layouts,
+    members: &Members,
+    count: usize,
+    memory: &[u8],
+    flats: &[Flat],
+) -> Result<Vec<Val>, Refusal>
+    requires laid_out { layouts.now ≡ layouts_of resolve.now }
+    requires inside { AreInside resolve.now members.now }
+    requires counted { field_count (members_fields resolve.now members.now) ≡ count }
+    requires carried { length (field_kinds (members_fields resolve.now members.now)) ≤ length flats.now }
+    requires few { length flats.now ≤ 16 }
+    ensures { Gives (λ v. map value_of v.items) result
+        (lifting_fields (members_fields resolve.now members.now) memory.now (map number_of flats.now)) }
+{
+    let mut fields = Vec::new(alloc);
+    let mut used: usize = 0;
+    for index in 0..count {
+        let Some(member) = member_type(resolve, members, index) else {
+            unreachable!()
+        };
+        let rest = &flats[used..];
+        let field = lift_at(alloc, resolve, layouts, member, memory, rest)?;
+        fields.push(field)?;
+        used += kind_count(resolve, layouts, member);
+    }
+    Ok(fields)
+}
+
+/// The case that the first flat value names, with its payload; what the payload leaves is skipped.
+#[cycle(lift)]
+fn lift_variant(
+    alloc: Global,
+    resolve: &Resolve,
+    layouts: &Layouts,
+    ty: ValType,
+    memory: &[u8],
+    flats: &[Flat],
+) -> Result<Val, Refusal>
+    requires laid_out { layouts.now ≡ layouts_of resolve.now }
+    requires inside { IsInside resolve.now ty }
+    requires followed { IsFollowed resolve.now ty }
+    requires variant { variant_type (variant_cases (closed_type resolve.now ty)) ≡ closed_type resolve.now ty }
+    requires carried { length (payload_kinds (variant_cases (closed_type resolve.now ty))) < length flats.now }
+    requires few { length flats.now ≤ 16 }
+    ensures { let ns = map number_of flats.now in
+        Gives value_of result (lifting_case (variant_cases (closed_type resolve.now ty)) memory.now (drop 1 ns) (low_bits ns 0 32) (low_bits ns 0 32)) }
+{
+    let case = low_word(flats, 0);
+    let Some(payload) = case_payload(resolve, ty, case as usize) else {
+        return Err(Refusal::Trap(TrapKind::Case));
+    };
+    let Some(member) = payload else {
+        return Ok(Val::Variant(case, None));
+    };
+    let rest = &flats[1..];
+    let value = lift_at(alloc, resolve, layouts, member, memory, rest)?;
+    Ok(Val::Variant(case, Some(Box::new(alloc, value)?)))
+}
+
+/// The flags in the first flat value: as many low bits as there are labels.
+#[tactic(auto, unfolding(canonical_abi::specs::Reading::low_bits))]
+fn flags_in(flats: &[Flat], labels: usize) -> u32
+    requires some { 0 < length flats.now }
+    requires labels { labels ≤ 32 }
+    ensures { result ≡ low_bits (map number_of flats.now) 0 labels }
+{
+    (flats[0].number() % (1 << labels)) as u32
+}

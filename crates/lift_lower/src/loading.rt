@@ -1,0 +1,277 @@
+//! Loading: the values that stand in a memory.
+//!
+//! The walk goes down the type, whose depth is bounded; long lists are loops.
+ghost use Rattle.std.specs.Prelude.{◌≡◌, ◌+◌, ◌*◌, ◌<◌, ◌≤◌, ◌^◌, length, map};
+ghost use Rattle.std.specs.Int.{w32};
+ghost use Rattle.canonical_abi.specs.Types.{record_fields, variant_cases, field_count, case_count, prim_type, variant_type};
+ghost use Rattle.canonical_abi.specs.Values.{values_of, list_value};
+ghost use Rattle.canonical_abi.specs.Layout.{size, align, payload_place, end_from, field_extents};
+ghost use Rattle.canonical_abi.specs.Memory.{HoldsInBlock, FaultyInBlock};
+ghost use Rattle.canonical_abi.specs.Reading.{reading, number_at, text_at, block_at, list_at, reading_fields, reading_case, case_number};
+ghost use Rattle.canonical_abi.specs.declared.trap.Step.TheVariants.{Take};
+ghost use Rattle.layout.specs.Layout.{layouts_of};
+ghost use Rattle.resolve.specs.Closed.{prim_of, closed_type};
+ghost use Rattle.lift_lower.specs.Gives.{Gives, AnswerStands};
+ghost use Rattle.lift_lower.specs.Loading.{reading_block};
+ghost use Rattle.lift_lower.specs.Members.{AreInside, members_fields};
+ghost use Rattle.lift_lower.specs.Shape.{IsInside, IsFollowed};
+ghost use Rattle.lift_lower.specs.Val.{value_of};
+
+use crate::bytes::{
+    discriminant_bytes, flags_bytes, low_flags, number_of_size, u8_at, u16_at, u32_at, u64_at,
+};
+use crate::extent::{align_of, size_of};
+use crate::refusal::Refusal;
+use crate::shape::{Members, Shape, case_payload, followed, member_type, shape_of};
+use crate::val::Val;
+use canonical_abi::{Fault, Guest, Step, TrapKind};
+use layout::Layouts;
+use resolve::{Primitive, Resolve, ValType};
+use std::alloc::Global;
+
+/// Tests a block's alignment, then its end.
+pub(crate) fn check_block(
+    memory: &[u8],
+    at: usize,
+    align: usize,
+    size: usize,
+) -> Result<(), Refusal>
+    requires aligned { 0 < align }
+    requires fits { at + size < 2 ^ 64 }
+    ensures { Gives (λ _. at) result (block_at memory.now at align size) }
+{
+    if at % align != 0 {
+        return Err(Refusal::Trap(TrapKind::Align));
+    }
+    if at + size > memory.len() {
+        return Err(Refusal::Trap(TrapKind::Bounds));
+    }
+    Ok(())
+}
+
+fn load_primitive(primitive: Primitive, memory: &[u8], at: usize) -> Result<Val, Refusal>
+    requires { at + size (prim_type (prim_of primitive)) ≤ length memory.now }
+    ensures { Gives value_of result (reading (prim_type (prim_of primitive)) memory.now at) }
+{
+    match primitive {
+        Primitive::Bool => Ok(Val::Bool(u8_at(memory, at) != 0)),
+        Primitive::S8 => Ok(Val::S8(u8_at(memory, at).cast_signed())),
+        Primitive::U8 => Ok(Val::U8(u8_at(memory, at))),
+        Primitive::S16 => Ok(Val::S16(u16_at(memory, at).cast_signed())),
+        Primitive::U16 => Ok(Val::U16(u16_at(memory, at))),
+        Primitive::S32 => Ok(Val::S32(u32_at(memory, at).cast_signed())),
+        Primitive::U32 => Ok(Val::U32(u32_at(memory, at))),
+        Primitive::S64 => Ok(Val::S64(u64_at(memory, at).cast_signed())),
+        Primitive::U64 => Ok(Val::U64(u64_at(memory, at))),
+        Primitive::Char => match char::from_u32(u32_at(memory, at)) {
+            Some(c) => Ok(Val::Char(c)),
+            None => Err(Refusal::Trap(TrapKind::Char)),
+        },
+    }
+}
+
+/// The text of so many bytes.
+pub(crate) fn load_text(
+    alloc: Global,
+    memory: &[u8],
+    start: usize,
+    size: usize,
+) -> Result<Val, Refusal>
+    requires { start + size < 2 ^ 64 }
+    ensures { Gives value_of result (text_at memory.now start size) }
+{
+    let end = start + size;
+    if end > memory.len() {
+        return Err(Refusal::Trap(TrapKind::Bounds));
+    }
+    match simdutf8::compat::from_utf8(&memory[start..end]) {
+        Ok(text) => Ok(Val::String(String::from_str(alloc, text)?)),
+        Err(_) => Err(Refusal::Trap(TrapKind::Utf8)),
+    }
+}
+
+#[cycle(load)]
+pub(crate) fn load_at(
+    alloc: Global,
+    resolve: &Resolve,
+    layouts: &Layouts,
+    ty: ValType,
+    memory: &[u8],
+    at: usize,
+) -> Result<Val, Refusal>
+    requires laid_out { layouts.now ≡ layouts_of resolve.now }
+    requires inside { IsInside resolve.now ty }
+    requires fits { at + size (closed_type resolve.now ty) ≤ length memory.now }
+    ensures { Gives value_of result (reading (closed_type resolve.now ty) memory.now at) }
+{
+    let ty = followed(resolve, ty);
+    match shape_of(resolve, ty) {
+        Shape::Primitive(primitive) => load_primitive(primitive, memory, at),
+        Shape::String => {
+            let start = u32_at(memory, at) as usize;
+            let size = u32_at(memory, at + 4) as usize;
+            load_text(alloc, memory, start, size)
+        }
+        Shape::List(element) => {
+            let start = u32_at(memory, at) as usize;
+            let count = u32_at(memory, at + 4) as usize;
+            let items = load_list(alloc, resolve, layouts, element, memory, start, count)?;
+            Ok(Val::List(items))
+        }
+        Shape::Record(count) => {
+            let members = Members::Of(ty);
+            let fields = load_fields(alloc, resolve, layouts, &members, count, memory, at)?;
+            Ok(Val::Record(fields))
+        }
+        Shape::Variant(count) => load_variant(alloc, resolve, layouts, ty, count, memory, at),
+        Shape::Flags(labels) => {
+            let bits = number_of_size(memory, at, flags_bytes(labels));
+            Ok(Val::Flags(low_flags(bits, labels)))
+        }
+    }
+}
+
+/// The values of a list, which stand one after another.
+#[cycle(load)]
+pub(crate) fn load_list(
+    alloc: Global,
+    resolve: &Resolve,
+    layouts: &Layouts,
+    element: ValType,
+    memory: &[u8],
+    start: usize,
+    count: usize,
+) -> Result<Vec<Val>, Refusal>
+    requires laid_out { layouts.now ≡ layouts_of resolve.now }
+    requires inside { IsInside resolve.now element }
+    requires start { start < 2 ^ 32 }
+    requires count { count < 2 ^ 32 }
+    ensures { let t = closed_type resolve.now element in
+        Gives (λ v. list_value (values_of (map value_of v.items))) result
+        (list_at (reading t memory.now) memory.now (align t) (size t) start count) }
+{
+    let step = size_of(resolve, layouts, element);
+    let align = align_of(resolve, layouts, element);
+    check_block(memory, start, align, count * step)?;
+    let mut items = Vec::new(alloc);
+    for index in 0..count {
+        let item = load_at(
+            alloc,
+            resolve,
+            layouts,
+            element,
+            memory,
+            start + index * step,
+        )?;
+        items.push(item)?;
+    }
+    Ok(items)
+}
+
+/// The members of a record, each at the next multiple of its alignment.
+#[cycle(load)]
+pub(crate) fn load_fields(
+    alloc: Global,
+    resolve: &Resolve,
+    layouts: &Layouts,
+    members: &Members,
+    count: usize,
+    memory: &[u8],
+    at: usize,
+) -> Result<Vec<Val>, Refusal>
+    requires laid_out { layouts.now ≡ layouts_of resolve.now }
+    requires inside { AreInside resolve.now members.now }
+    requires counted { field_count (members_fields resolve.now members.now) ≡ count }
+    requires fits { at + end_from 0 (field_extents (members_fields resolve.now members.now)) ≤ length memory.now }
+    ensures { Gives (λ v. map value_of v.items) result
+        (reading_fields (members_fields resolve.now members.now) memory.now at 0) }
+{
+    let mut fields = Vec::new(alloc);
+    let mut end: usize = 0;
+    for index in 0..count {
+        let Some(member) = member_type(resolve, members, index) else {
+            unreachable!()
+        };
+        let place = end.next_multiple_of(align_of(resolve, layouts, member));
+        let field = load_at(alloc, resolve, layouts, member, memory, at + place)?;
+        fields.push(field)?;
+        end = place + size_of(resolve, layouts, member);
+    }
+    Ok(fields)
+}
+
+/// The case that the discriminant names, with its payload.
+#[cycle(load)]
+fn load_variant(
+    alloc: Global,
+    resolve: &Resolve,
+    layouts: &Layouts,
+    ty: ValType,
+    count: usize,
+    memory: &[u8],
+    at: usize,
+) -> Result<Val, Refusal>
+    requires laid_out { layouts.now ≡ layouts_of resolve.now }
+    requires inside { IsInside resolve.now ty }
+    requires followed { IsFollowed resolve.now ty }
+    requires variant { variant_type (variant_cases (closed_type resolve.now ty)) ≡ closed_type resolve.now ty }
+    requires counted { case_count (variant_cases (closed_type resolve.now ty)) ≡ count }
+    requires fits { at + size (closed_type resolve.now ty) ≤ length memory.now }
+    ensures { let cs = variant_cases (closed_type resolve.now ty) in
+        let i = case_number cs memory.now at in
+        Gives value_of result (reading_case cs memory.now (at + payload_place cs) i i) }
+{
+    let case = number_of_size(memory, at, discriminant_bytes(count));
+    let Some(payload) = case_payload(resolve, ty, case as usize) else {
+        return Err(Refusal::Trap(TrapKind::Case));
+    };
+    let Some(member) = payload else {
+        return Ok(Val::Variant(case, None));
+    };
+    // A payload stands at the variant's alignment.
+    let place = align_of(resolve, layouts, ty);
+    let value = load_at(alloc, resolve, layouts, member, memory, at + place)?;
+    Ok(Val::Variant(case, Some(Box::new(alloc, value)?)))
+}
+
+/// The value at an address of a guest's memory, or the first fault: the address's own, then those of the
+/// nodes in order, in step `take`. `NoMemory` where the host has none for the value.
+pub fn load<G: Guest>(
+    alloc: Global,
+    resolve: &Resolve,
+    layouts: &Layouts,
+    ty: ValType,
+    guest: &G,
+    at: u32,
+) -> Result<Val, Fault>
+    requires laid_out { layouts.now ≡ layouts_of resolve.now }
+    requires inside { IsInside resolve.now ty }
+    ensures { let t = closed_type resolve.now ty in
+        AnswerStands Take (λ v. HoldsInBlock t (G.memory guest.now).bytes at (value_of v))
+        (FaultyInBlock t (G.memory guest.now).bytes at) result }
+{
+    match load_block(alloc, resolve, layouts, ty, guest.bytes(), at) {
+        Ok(value) => Ok(value),
+        Err(refusal) => Err(refusal.at(Step::Take)),
+    }
+}
+
+/// The value in the block at an address.
+fn load_block(
+    alloc: Global,
+    resolve: &Resolve,
+    layouts: &Layouts,
+    ty: ValType,
+    memory: &[u8],
+    at: u32,
+) -> Result<Val, Refusal>
+    requires laid_out { layouts.now ≡ layouts_of resolve.now }
+    requires inside { IsInside resolve.now ty }
+    ensures { let t = closed_type resolve.now ty in
+        Gives value_of result (reading_block t memory.now at) }
+{
+    let at = at as usize;
+    let align = align_of(resolve, layouts, ty);
+    check_block(memory, at, align, size_of(resolve, layouts, ty))?;
+    load_at(alloc, resolve, layouts, ty, memory, at)
+}
