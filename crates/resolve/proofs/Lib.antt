@@ -4,3 +4,5 @@ pub mod Distinct
 pub mod Functions
 pub mod Package
 pub mod Rows
+pub mod OrderSteps
+pub mod Unfolded

@@ -141,10 +141,10 @@ refuses-of a i bs cs (error.Duplicate n) tree same (inr h) =
 refuses-of a i bs cs error.NotThisShape tree same h = (
   λ none. absurd (some-item a i (lent bs) tree none),
   λ scalar.
-  let fs : scalar.1 ≡ lent bs = trees-same a scalar.0 i scalar.1 (lent bs) scalar.2 tree in
-  let fit : list_all is_scalar_row (map func_row (lent bs)) ≡ true = subst (λ (gs : List Func). list_all is_scalar_row (map func_row gs) ≡ true) fs scalar.3 in
-  let unfit : list_all is_scalar_row (map row_of bs) ≡ false = subst (λ (ds : List (Bor Func)). list_all is_scalar_row (map row_of ds) ≡ false) same h in
-  true≢false (sym fit ∙ ap (list_all is_scalar_row) (sym (rows-of bs)) ∙ unfit),
+      let fs : scalar.1 ≡ lent bs = trees-same a scalar.0 i scalar.1 (lent bs) scalar.2 tree in
+      let fit : list_all is_scalar_row (map func_row (lent bs)) ≡ true = subst (λ (gs : List Func). list_all is_scalar_row (map func_row gs) ≡ true) fs scalar.3 in
+      let unfit : list_all is_scalar_row (map row_of bs) ≡ false = subst (λ (ds : List (Bor Func)). list_all is_scalar_row (map row_of ds) ≡ false) same h in
+      true≢false (sym fit ∙ ap (list_all is_scalar_row) (sym (rows-of bs)) ∙ unfit),
 )
 refuses-of a i bs cs error.Limit tree same h =
     (i, lent bs, tree, subst (λ (n : ℕ). 65535 < n) (ap length same ∙ sym (length-map bs (λ b. b.now))) h)

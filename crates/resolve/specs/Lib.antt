@@ -4,3 +4,5 @@ pub mod Names
 pub mod Same
 pub mod Scope
 pub mod FromAst
+pub mod Order
+pub mod Package

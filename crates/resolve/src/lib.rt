@@ -9,7 +9,9 @@
 mod copy;
 mod error;
 mod from_ast;
+pub mod laws;
 mod lookup;
+mod order;
 mod scope;
 mod sequence;
 mod tables;
