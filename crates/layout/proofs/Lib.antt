@@ -6,3 +6,5 @@ pub mod Bridge
 pub mod Table
 pub mod Queries
 pub mod Callers
+pub mod Agreement
+pub mod Laid

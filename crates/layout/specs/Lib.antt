@@ -3,3 +3,4 @@ pub mod Layout
 pub mod Rows
 pub mod Work
 pub mod Signature
+pub mod Parts

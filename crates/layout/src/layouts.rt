@@ -1,37 +1,49 @@
 //! The layout table of a package.
-ghost use Rattle.std.specs.Prelude.{◌≡◌, ◌<◌, length, map, All, IsTrue, IfOk, IfErr};
+ghost use Rattle.std.specs.Prelude.{◌≡◌, ◌<◌, [], length, map, All, IsTrue, IfOk, IfErr};
 ghost use Rattle.resolve.specs.declared.tables.Resolve.{Resolve};
 ghost use Rattle.resolve.specs.Closed.{closed_types, closed_type, function_type, IsFunction};
 ghost use Rattle.resolve.specs.Tables.{is_below};
 ghost use Rattle.canonical_abi.specs.Types.{fields_of};
-ghost use Rattle.canonical_abi.specs.Layout.{size, align, field_kinds, lifted_signature, lowered_signature};
+ghost use Rattle.canonical_abi.specs.Layout.{extent_of, size, align, field_kinds, lifted_signature, lowered_signature};
 ghost use Rattle.layout.specs.Kinds.{kinds_of};
 ghost use Rattle.layout.specs.Layout.{row_of, result_of, layouts_of, signature_of, RefusesFirst, AreWithin, IsSound};
+ghost use Rattle.layout.specs.Parts.{parts_from, AreEnded};
 ghost use Rattle.layout.specs.Rows.{definition_result, result_below};
 ghost use Rattle.layout.specs.Work.{total_work, saturated};
 
 use crate::error::LayoutError;
 use crate::kinds::Kinds;
-use crate::rows::{Row, definition_row, row_in};
+use crate::parts::Parts;
+use crate::rows::{Row, lay_definition, row_in};
 use crate::signature::{CoreSignature, lifted_of, lowered_of};
 use crate::work::total_work;
 use resolve::{Definition, FunctionId, Resolve, ValType};
 use std::alloc::Global;
 use std::marker::Model;
 
-/// The rows of a package's definitions, in table order.
-fn all_rows(alloc: Global, resolve: &Resolve) -> Result<Vec<Row>, LayoutError>
-    ensures ok { IfOk result (λ rows. rows.items ≡ map row_of (closed_types resolve.now)) }
-    ensures sound { IfOk result (λ rows. All IsSound rows.items) }
+/// The rows of a package's definitions, in table order, and what stands directly in each.
+#[derive(Drop)]
+struct Tables {
+    rows: Vec<Row>,
+    parts: Vec<Parts>,
+}
+
+fn lay_all(alloc: Global, resolve: &Resolve) -> Result<Tables, LayoutError>
+    ensures rows { IfOk result (λ t. t.rows.items ≡ map row_of (closed_types resolve.now)) }
+    ensures parts { IfOk result (λ t. t.parts.items ≡ parts_from (λ v. extent_of (closed_type resolve.now v)) [] resolve.now.definitions) }
+    ensures sound { IfOk result (λ t. All IsSound t.rows.items) }
+    ensures ended { IfOk result (λ t. AreEnded t.parts.items) }
     ensures within { IfOk result (λ _. AreWithin resolve.now) }
     ensures err { IfErr result (λ e. RefusesFirst e resolve.now) }
 {
     let mut rows = Vec::new(alloc);
+    let mut parts = Vec::new(alloc);
     for definition in resolve.definitions.as_slice() {
-        let row = definition_row(rows.as_slice(), definition)?;
-        rows.push(row)?;
+        let laid = lay_definition(alloc, rows.as_slice(), parts.as_slice(), definition)?;
+        rows.push(laid.row)?;
+        parts.push(laid.parts)?;
     }
-    Ok(rows)
+    Ok(Tables { rows, parts })
 }
 
 /// The kinds of a function's result, and none of a type.
@@ -69,18 +81,20 @@ pub struct Layouts {
     rows: Vec<Row>,
     /// The flat kinds of each function's result; none at a type's place.
     results: Vec<Kinds>,
+    parts: Vec<Parts>,
     work: u64,
 }
 
 impl Model for Layouts {
     ghost use Rattle.std.specs.Prelude.{◌≡◌, All, length};
     ghost use Rattle.layout.specs.Layout.{Table, IsSound};
+    ghost use Rattle.layout.specs.Parts.{AreEnded};
 
     ghost Value = { Table };
 
-    ghost view = { λ l. record { rows = l.rows.items; results = l.results.items; work = l.work } };
+    ghost view = { λ l. record { rows = l.rows.items; results = l.results.items; parts = l.parts.items; work = l.work } };
 
-    ghost invariant = { λ l. All IsSound l.rows.items × (length l.results.items ≡ length l.rows.items) };
+    ghost invariant = { λ l. All IsSound l.rows.items × (length l.results.items ≡ length l.rows.items) × (length l.parts.items ≡ length l.rows.items) × AreEnded l.parts.items };
 }
 
 impl Layouts {
@@ -91,12 +105,13 @@ impl Layouts {
         ensures within { IfOk result (λ _. AreWithin resolve.now) }
         ensures err { IfErr result (λ e. RefusesFirst e resolve.now) }
     {
-        let rows = all_rows(alloc, resolve)?;
-        let results = all_results(alloc, resolve, rows.as_slice())?;
+        let tables = lay_all(alloc, resolve)?;
+        let results = all_results(alloc, resolve, tables.rows.as_slice())?;
         let work = total_work(resolve.definitions.as_slice());
         Ok(Layouts {
-            rows,
+            rows: tables.rows,
             results,
+            parts: tables.parts,
             work,
         })
     }
