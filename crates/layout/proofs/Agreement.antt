@@ -24,42 +24,43 @@ use Rattle.layout.specs.declared.rows.Row.{Row}
 use Rattle.layout.proofs.Bridge.{row_in-of}
 
 -- below place n
-abbrev pub Agree : ℕ → (ValType → Extent) → (ValType → Extent) → Type 0
+abbrev pub Agree : {X : Type 0} → ℕ → (ValType → X) → (ValType → X) → Type 0
 Agree n e f = (v : ValType) → IsTrue (is_below n v) → e v ≡ f v
 
-module _ (n : ℕ) (e f : ValType → Extent) (agree : Agree n e f) where
-  types-agree : (vs : List ValType) → IsTrue (list_all (is_below n) vs) → map e vs ≡ map f vs
+module _ {X : Type 0} (n : ℕ) (e f : ValType → X) (agree : Agree n e f) where
+  pub types-agree : (vs : List ValType) → IsTrue (list_all (is_below n) vs) → map e vs ≡ map f vs
   types-agree [] h = refl
   types-agree (v ∷ vs) h =
       let hs = split (is_below n v) (list_all (is_below n) vs) h in
       rw (agree v hs.0, types-agree vs hs.1) refl
 
-  payload-agrees : (o : Option ValType) → IsTrue (option_below n o) → option_map e o ≡ option_map f o
+  pub payload-agrees : (o : Option ValType) → IsTrue (option_below n o) → option_map e o ≡ option_map f o
   payload-agrees None h = refl
-  payload-agrees (Some v) h = ap (λ (x : Extent). Some x) (agree v h)
+  payload-agrees (Some v) h = ap (λ (x : X). Some x) (agree v h)
 
-  payloads-agree : (os : List (Option ValType)) → IsTrue (list_all (option_below n) os) → map (option_map e) os ≡ map (option_map f) os
+  pub payloads-agree : (os : List (Option ValType)) → IsTrue (list_all (option_below n) os) → map (option_map e) os ≡ map (option_map f) os
   payloads-agree [] h = refl
   payloads-agree (o ∷ os) h =
       let hs = split (option_below n o) (list_all (option_below n) os) h in
       rw (payload-agrees o hs.0, payloads-agree os hs.1) refl
 
+-- the types of members, one by one
+pub mapped : (n : ℕ) {A : Type 0} (ty : A → ValType) (xs : List A) → IsTrue (list_all (λ x. is_below n (ty x)) xs) → IsTrue (list_all (is_below n) (map ty xs))
+mapped n ty xs h = list_all-map (is_below n) ty xs ∙ h
+
+pub mapped-options : (n : ℕ) {A : Type 0} (pay : A → Option ValType) (xs : List A) → IsTrue (list_all (λ x. option_below n (pay x)) xs) → IsTrue (list_all (option_below n) (map pay xs))
+mapped-options n pay xs h = list_all-map (option_below n) pay xs ∙ h
+
+pub no-payloads : (n : ℕ) {A : Type 0} (xs : List A) → IsTrue (list_all (option_below n) (map (λ x. None) xs))
+no-payloads n [] = refl
+no-payloads n (x ∷ xs) = no-payloads n xs
+
+module _ (n : ℕ) (e f : ValType → Extent) (agree : Agree n e f) where
   record-agrees : (vs : List ValType) → IsTrue (list_all (is_below n) vs) → record_parts e vs ≡ record_parts f vs
-  record-agrees vs h = ap (λ (xs : List Extent). parts.Record vs (places_from 0 xs)) (types-agree vs h)
+  record-agrees vs h = ap (λ (xs : List Extent). parts.Record vs (places_from 0 xs)) (types-agree n e f agree vs h)
 
   variant-agrees : (os : List (Option ValType)) → IsTrue (list_all (option_below n) os) → variant_parts e os ≡ variant_parts f os
-  variant-agrees os h = ap (λ (xs : List (Option Extent)). parts.Variant (payload_at (length os) (payloads xs)) os) (payloads-agree os h)
-
-  -- the types of members, one by one
-  mapped : {A : Type 0} (ty : A → ValType) (xs : List A) → IsTrue (list_all (λ x. is_below n (ty x)) xs) → IsTrue (list_all (is_below n) (map ty xs))
-  mapped ty xs h = list_all-map (is_below n) ty xs ∙ h
-
-  mapped-options : {A : Type 0} (pay : A → Option ValType) (xs : List A) → IsTrue (list_all (λ x. option_below n (pay x)) xs) → IsTrue (list_all (option_below n) (map pay xs))
-  mapped-options pay xs h = list_all-map (option_below n) pay xs ∙ h
-
-  no-payloads : {A : Type 0} (xs : List A) → IsTrue (list_all (option_below n) (map (λ x. None) xs))
-  no-payloads [] = refl
-  no-payloads (x ∷ xs) = no-payloads xs
+  variant-agrees os h = ap (λ (xs : List (Option Extent)). parts.Variant (payload_at (length os) (payloads xs)) os) (payloads-agree n e f agree os h)
 
   kind-agrees : (ps : List Parts) (k : TypeDefKind) → IsTrue (kind_below n k) → kind_parts e ps k ≡ kind_parts f ps k
   kind-agrees ps (kind.Use t) h = refl
@@ -70,15 +71,15 @@ module _ (n : ℕ) (e f : ValType → Extent) (agree : Agree n e f) where
       let hs = split (option_below n ok) (option_below n error) h in
       variant-agrees (ok ∷ error ∷ []) (rw (hs.0, hs.1) refl)
   kind-agrees ps (kind.Tuple vs) h = record-agrees vs h
-  kind-agrees ps (kind.Record fs) h = record-agrees (map (λ f. f.ty) fs) (mapped (λ f. f.ty) fs h)
-  kind-agrees ps (kind.Variant cs) h = variant-agrees (map (λ c. c.ty) cs) (mapped-options (λ c. c.ty) cs h)
-  kind-agrees ps (kind.Enum names) h = variant-agrees (map (λ n. None) names) (no-payloads names)
+  kind-agrees ps (kind.Record fs) h = record-agrees (map (λ f. f.ty) fs) (mapped n (λ f. f.ty) fs h)
+  kind-agrees ps (kind.Variant cs) h = variant-agrees (map (λ c. c.ty) cs) (mapped-options n (λ c. c.ty) cs h)
+  kind-agrees ps (kind.Enum names) h = variant-agrees (map (λ n. None) names) (no-payloads n names)
   kind-agrees ps (kind.Flags names) h = refl
 
   pub definition-agrees : (ps : List Parts) (d : Definition) → IsTrue (definition_below n d) → definition_parts e ps d ≡ definition_parts f ps d
   definition-agrees ps (row.Type d) h = kind-agrees ps d.kind h
   definition-agrees ps (row.Function g) h =
-      record-agrees (map (λ p. p.ty) g.params) (mapped (λ p. p.ty) g.params (split (list_all (λ p. is_below n p.ty) g.params) (option_below n g.result) h).0)
+      record-agrees (map (λ p. p.ty) g.params) (mapped n (λ p. p.ty) g.params (split (list_all (λ p. is_below n p.ty) g.params) (option_below n g.result) h).0)
 
 -- the first rows and the whole table agree on the types before them
 pub rows-agree : (r : Resolve) (i : ℕ) (rows : List Row) → i ≤ length r.definitions → rows ≡ map row_of (closed_rows [] (take i r.definitions))

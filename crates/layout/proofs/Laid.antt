@@ -78,7 +78,7 @@ ended-more ps p ended ends = record {
   ];
 }
 
-end-ends : (ps : List Parts) (v : ValType) → AreEnded ps → IsTrue (is_below (length ps) v) → IsTrue (is_below (length ps) (end_of ps v)) × IsTrue (is_end ps (end_of ps v))
+pub end-ends : (ps : List Parts) (v : ValType) → AreEnded ps → IsTrue (is_below (length ps) v) → IsTrue (is_below (length ps) (end_of ps v)) × IsTrue (is_end ps (end_of ps v))
 end-ends ps (val.Primitive p) ended b = (refl, refl)
 end-ends ps val.String ended b = (refl, refl)
 end-ends ps (val.Id t) ended b = by (get_or ps t.0 none_such) refl

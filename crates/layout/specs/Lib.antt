@@ -4,3 +4,4 @@ pub mod Rows
 pub mod Work
 pub mod Signature
 pub mod Parts
+pub mod Queries

@@ -1,20 +1,22 @@
 //! The layout table of a package.
-ghost use Rattle.std.specs.Prelude.{◌≡◌, ◌<◌, [], length, map, All, IsTrue, IfOk, IfErr};
+ghost use Rattle.std.specs.Prelude.{◌≡◌, ◌<◌, [], length, map, slice_get, All, IsTrue, IfOk, IfErr};
 ghost use Rattle.resolve.specs.declared.tables.Resolve.{Resolve};
 ghost use Rattle.resolve.specs.Closed.{closed_types, closed_type, function_type, IsFunction};
 ghost use Rattle.resolve.specs.Tables.{is_below};
-ghost use Rattle.canonical_abi.specs.Types.{fields_of};
-ghost use Rattle.canonical_abi.specs.Layout.{extent_of, size, align, field_kinds, lifted_signature, lowered_signature};
+ghost use Rattle.canonical_abi.specs.Types.{fields_of, record_fields};
+ghost use Rattle.canonical_abi.specs.Layout.{extent_of, size, align, field_kinds, field_places, lifted_signature, lowered_signature};
 ghost use Rattle.layout.specs.Kinds.{kinds_of};
 ghost use Rattle.layout.specs.Layout.{row_of, result_of, layouts_of, signature_of, RefusesFirst, AreWithin, IsSound};
-ghost use Rattle.layout.specs.Parts.{parts_from, AreEnded};
+ghost use Rattle.layout.specs.Parts.{parts_from, AreEnded, end_of, is_end};
+ghost use Rattle.layout.specs.Queries.{shape_of, field_of, case_of, HasShape, TellsField, TellsCase};
 ghost use Rattle.layout.specs.Rows.{definition_result, result_below};
 ghost use Rattle.layout.specs.Work.{total_work, saturated};
 
 use crate::error::LayoutError;
 use crate::kinds::Kinds;
 use crate::parts::Parts;
-use crate::rows::{Row, lay_definition, row_in};
+use crate::queries::{CaseInfo, FieldInfo, Shape};
+use crate::rows::{Row, end_of, lay_definition, row_in};
 use crate::signature::{CoreSignature, lifted_of, lowered_of};
 use crate::work::total_work;
 use resolve::{Definition, FunctionId, Resolve, ValType};
@@ -170,5 +172,82 @@ impl Layouts {
         ensures { (r : Resolve) → self.now ≡ layouts_of r → result ≡ saturated (total_work r.definitions) }
     {
         self.work
+    }
+
+    /// What a type stands for in the end.
+    fn end(&self, ty: ValType) -> ValType
+        requires { IsTrue (is_below (length self.now.rows) ty) }
+        ensures value { result ≡ end_of self.now.parts ty }
+        ensures below { IsTrue (is_below (length self.now.rows) result) }
+        ensures end { IsTrue (is_end self.now.parts result) }
+    {
+        end_of(self.parts.as_slice(), ty)
+    }
+
+    fn shape_of(&self, end: ValType) -> Shape
+        requires below { IsTrue (is_below (length self.now.rows) end) }
+        requires end { IsTrue (is_end self.now.parts end) }
+        ensures { result ≡ shape_of self.now.parts end }
+    {
+        match end {
+            ValType::Primitive(primitive) => Shape::Primitive(primitive),
+            ValType::String => Shape::String,
+            ValType::Id(id) => self.parts[id.0 as usize].shape(),
+        }
+    }
+
+    fn field_of(&self, end: ValType, index: usize) -> Option<FieldInfo>
+        requires { IsTrue (is_below (length self.now.rows) end) }
+        ensures { result ≡ field_of self.now.parts end index }
+    {
+        match end {
+            ValType::Id(id) => self.parts[id.0 as usize].field(index),
+            _ => None,
+        }
+    }
+
+    fn case_of(&self, end: ValType, index: usize) -> Option<CaseInfo>
+        requires { IsTrue (is_below (length self.now.rows) end) }
+        ensures { result ≡ case_of self.now.parts end index }
+    {
+        match end {
+            ValType::Id(id) => self.parts[id.0 as usize].case(index),
+            _ => None,
+        }
+    }
+
+    /// The shape of a type of the package.
+    pub fn shape(&self, ty: ValType) -> Shape
+        requires { IsTrue (is_below (length self.now.rows) ty) }
+        ensures { (r : Resolve) → self.now ≡ layouts_of r → HasShape (closed_type r) (length self.now.rows) (closed_type r ty) result }
+    {
+        self.shape_of(self.end(ty))
+    }
+
+    /// A field of a record or a tuple, with its place; None where the type has no such field.
+    pub fn field(&self, ty: ValType, index: usize) -> Option<FieldInfo>
+        requires { IsTrue (is_below (length self.now.rows) ty) }
+        ensures { (r : Resolve) → self.now ≡ layouts_of r → TellsField (closed_type r) (length self.now.rows) (closed_type r ty) index result }
+    {
+        self.field_of(self.end(ty), index)
+    }
+
+    /// The place of a field in bytes; None where the type has no such field.
+    pub fn field_offset(&self, ty: ValType, index: usize) -> Option<u32>
+        requires { IsTrue (is_below (length self.now.rows) ty) }
+        ensures { (r : Resolve) → self.now ≡ layouts_of r → result ≡ slice_get (field_places (record_fields (closed_type r ty))) index }
+    {
+        match self.field(ty, index) {
+            Some(field) => Some(field.offset),
+            None => None,
+        }
+    }
+
+    /// A case of a variant, an enum, an option or a result; None where the type has no such case.
+    pub fn case_info(&self, ty: ValType, index: usize) -> Option<CaseInfo>
+        requires { IsTrue (is_below (length self.now.rows) ty) }
+        ensures { (r : Resolve) → self.now ≡ layouts_of r → TellsCase (closed_type r) (length self.now.rows) (closed_type r ty) index result }
+    {
+        self.case_of(self.end(ty), index)
     }
 }

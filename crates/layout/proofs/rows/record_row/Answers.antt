@@ -26,5 +26,5 @@ loop-member-preserved g c =
     let i = c.loop-member.member-index in
     let ty = g.M.Member.type_of in
     let more = rows_at-more rows ty members i c.member-item.result (omega arith) in
-    record_more c.row_in-row.result c.align_up-offset.result c.loop-member.invariant c.row_in-row.ensures.sound
+    record_more {rows = rows_at rows ty (take i members)} {rows' = rows_at rows ty (take (i + 1) members)} c.row_in-row.result c.align_up-offset.result c.loop-member.invariant c.row_in-row.ensures.sound
     (grind arith) c.align_up-offset.ensures.value refl (omega arith) (search rules) c.append-kinds.ensures (search rules)
