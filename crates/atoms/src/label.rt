@@ -1,10 +1,51 @@
 //! Labels: the names of packages, interfaces, types, functions and their parts.
-ghost use Rattle.std.specs.Prelude.{◌≡◌, List, ℕ, IfOk};
+ghost use Rattle.std.specs.Prelude.{◌≡◌, ◌⊎◌, List, ℕ, IfOk, IfErr, false};
+ghost use Rattle.atoms.specs.Label.{IsLabel, is_label, label_from};
+ghost use Rattle.atoms.specs.declared.label.Place.TheVariants as place;
+ghost use Rattle.atoms.specs.declared.error.AtomError.TheVariants as error;
 
+use crate::error::AtomError;
 use std::alloc::{AllocError, Global};
 use std::marker::Model;
 
-/// A name: one to 255 bytes, words joined by single hyphens.
+/// Where a test of a label stands: before a word, or in one.
+#[derive(Clone, Copy, Debug)]
+pub enum Place {
+    Start,
+    Lower,
+    Upper,
+}
+
+/// Whether the bytes are words joined by single hyphens, by one way over them.
+fn is_words(text: &[u8]) -> bool
+    ensures { result ≡ label_from place.Start text.now }
+{
+    let mut rest = text;
+    let mut place = Place::Start;
+    while let [byte, after @ ..] = rest {
+        let next = match place {
+            Place::Start if byte.is_ascii_lowercase() => Place::Lower,
+            Place::Start if byte.is_ascii_uppercase() => Place::Upper,
+            Place::Lower if byte.is_ascii_lowercase() || byte.is_ascii_digit() => Place::Lower,
+            Place::Upper if byte.is_ascii_uppercase() || byte.is_ascii_digit() => Place::Upper,
+            Place::Lower | Place::Upper if *byte == b'-' => Place::Start,
+            _ => return false,
+        };
+        place = next;
+        rest = after;
+    }
+    !matches!(place, Place::Start)
+}
+
+/// Whether the bytes are a label.
+pub fn is_label(text: &[u8]) -> bool
+    ensures { result ≡ is_label text.now }
+{
+    text.len() <= 255 && is_words(text)
+}
+
+/// A name: 1 to 255 bytes, words joined by single hyphens, each a letter followed by letters of the same case
+/// and digits.
 #[derive(Debug, Drop)]
 pub struct Label {
     bytes: Vec<u8>,
@@ -14,11 +55,26 @@ impl Model for Label {
     ghost Value = { List ℕ };
 
     ghost view = { λ l. l.bytes.items };
+
+    ghost invariant = { λ l. IsLabel l.bytes.items };
 }
 
 impl Label {
+    /// The label of this text. 3 `BadLabel` exactly where it is no label.
+    pub fn new(alloc: Global, text: &str) -> Result<Label, AtomError>
+        ensures ok { IfOk result (λ l. (l ≡ text.now) × IsLabel text.now) }
+        ensures err { IfErr result (λ e. (e ≡ error.NoMemory) ⊎ ((e ≡ error.BadLabel) × (is_label text.now ≡ false))) }
+    {
+        let bytes = text.as_bytes();
+        if !is_label(bytes) {
+            return Err(AtomError::BadLabel);
+        }
+        Ok(Label::from_bytes(alloc, bytes)?)
+    }
+
     /// The label of these bytes.
     pub fn from_bytes(alloc: Global, bytes: &[u8]) -> Result<Label, AllocError>
+        requires { IsLabel bytes.now }
         ensures { IfOk result (λ l. l ≡ bytes.now) }
     {
         Ok(Label {
@@ -28,20 +84,24 @@ impl Label {
 
     /// The label's bytes, which are ASCII.
     pub fn as_bytes(&self) -> &[u8]
-        ensures { result.now ≡ self.now }
+        ensures is { result.now ≡ self.now }
+        ensures label { IsLabel self.now }
     {
         self.bytes.as_slice()
     }
 
     /// The label's text.
-    pub fn as_str(&self) -> &str {
-        std::str::from_utf8(self.bytes.as_slice()).unwrap_or_default()
+    pub fn as_str(&self) -> &str
+        ensures is { result.now ≡ self.now }
+        ensures label { IsLabel self.now }
+    {
+        unsafe { std::str::from_utf8_unchecked(self.as_bytes()) }
     }
 
     /// The same label.
     pub fn copy(&self, alloc: Global) -> Result<Label, AllocError>
         ensures { IfOk result (λ l. l ≡ self.now) }
     {
-        Label::from_bytes(alloc, self.bytes.as_slice())
+        Label::from_bytes(alloc, self.as_bytes())
     }
 }

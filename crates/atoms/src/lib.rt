@@ -2,14 +2,22 @@
 #![tactic(auto)]
 
 mod error;
+mod full_name;
 mod label;
 mod leb128;
+mod reading;
 mod stream;
+mod watched;
+mod writing;
 
 pub use error::AtomError;
-pub use label::Label;
+pub use full_name::{FullName, is_version};
+pub use label::{Label, is_label};
 pub use leb128::{read_s33, read_u32, write_s33, write_u32};
-pub use stream::{Failed, ReadUpToError, Sink, Source, Watched, read_up_to};
+pub use reading::{ReadUpToError, read_up_to};
+pub use stream::{Failed, Sink, Source};
+pub use watched::Watched;
+pub use writing::write_all;
 
 #[cfg(test)]
 mod tests;

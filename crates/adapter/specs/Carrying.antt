@@ -1,0 +1,26 @@
+-- Flat values of one component that carry what flat values of another denote.
+use Rattle.std.specs.Prelude.{◌≡◌, List, Result, Ok, Err}
+use Rattle.arrayvec.specs.ArrayVec.{ArrayVec}
+use Rattle.canonical_abi.specs.Types.{ClosedType}
+use Rattle.canonical_abi.specs.Values.{Value}
+use Rattle.canonical_abi.specs.declared.flat.Flat.{Flat}
+use Rattle.canonical_abi.specs.declared.trap.Fault.{Fault}
+use Rattle.canonical_abi.specs.declared.trap.Fault.TheVariants.{Trap, NoMemory}
+use Rattle.canonical_abi.specs.declared.trap.Step.{Step}
+use Rattle.resolve.specs.declared.tables.ValType.{ValType}
+use Rattle.lift_lower.specs.Scalars.{fields_in, StandFor, FailAs, AreCarried}
+
+-- the values that the first denote are carried by the second
+abbrev pub CarriesOn : List ValType → List Flat → List Flat → Type 0
+CarriesOn types flats handed =
+    (vs : List Value) × StandFor types flats vs × ((rows : List ClosedType) → AreCarried (fields_in rows types) vs handed)
+
+-- a trap in this step, whose kind is the flat values' first fault
+abbrev pub IsFaultAt : Step → List ValType → List Flat → Fault → Type 0
+IsFaultAt step types flats (Trap t) = (t.step ≡ step) × FailAs types flats t.kind
+IsFaultAt step types flats NoMemory = ⊥
+
+-- a call's answer, with the flat values as a list
+abbrev pub answer_of : Result (ArrayVec Flat) Fault → Result (List Flat) Fault
+answer_of (Ok flats) = Ok flats.items
+answer_of (Err fault) = Err fault

@@ -1,0 +1,15 @@
+//! Carries a call from one component to another.
+//!
+//! `Link::call` carries the promise: for any caller, callee and body, honest or not, it is the call relation
+//! of `canonical_abi`. A `Body` is what stands behind a component's functions, and a `BoxedBody` one that is
+//! chosen when the program runs. Stands on `lift_lower` (values), `memory` (guests) and `resolve` (types).
+#![tactic(auto)]
+
+mod body;
+mod link;
+
+pub use body::{Body, BoxedBody, Export, Stopped};
+pub use link::Link;
+
+#[cfg(test)]
+mod tests;

@@ -1,0 +1,8 @@
+-- The parts of a `FullName`.
+use Rattle.std.specs.Option.{option_map}
+use Rattle.std.specs.String.{string_bytes}
+use Rattle.atoms.specs.FullName.{NameParts}
+use Rattle.atoms.specs.declared.full_name.FullName.{FullName}
+
+abbrev pub parts_of : FullName → NameParts
+parts_of n = record { namespace = n.namespace; package_name = n.«package»; name = n.name; version = option_map string_bytes n.version }

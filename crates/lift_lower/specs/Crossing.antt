@@ -1,0 +1,37 @@
+-- What lifting and lowering answer, in the definitions' words.
+use Rattle.std.specs.Prelude.{◌≡◌, ℕ, List, map}
+use Rattle.canonical_abi.specs.Types.{Fields, fields_of}
+use Rattle.canonical_abi.specs.Values.{Value}
+use Rattle.canonical_abi.specs.Layout.{max_flat_params}
+use Rattle.canonical_abi.specs.Flat.{DenotesFault}
+use Rattle.canonical_abi.specs.Guest.{Memory, Allocation}
+use Rattle.canonical_abi.specs.Trace.{Event, TraceLeads}
+use Rattle.canonical_abi.specs.Lowering.{PassesParams}
+use Rattle.canonical_abi.specs.Session.{AreWithinLimit, TypedTraceBreaks}
+use Rattle.canonical_abi.specs.declared.flat.Flat.{Flat}
+use Rattle.canonical_abi.specs.declared.trap.Fault.{Fault}
+use Rattle.canonical_abi.specs.declared.trap.Fault.TheVariants.{Trap, NoMemory}
+use Rattle.canonical_abi.specs.declared.trap.Step.TheVariants as step
+use Rattle.resolve.specs.Closed.{closed_type}
+use Rattle.resolve.specs.declared.tables.Resolve.{Resolve}
+use Rattle.resolve.specs.declared.tables.ValType.{ValType}
+
+-- types of a package as the fields of a record
+abbrev pub fields_of_types : Resolve → List ValType → Fields
+fields_of_types r types = fields_of (map (closed_type r) types)
+
+-- a fault of lifting: the flat values' first one, found in `take`, or want of the host's memory
+abbrev pub LiftFails : Fields → List ℕ → List Flat → Fault → Type 0
+LiftFails ts m flats (Trap t) = (t.step ≡ step.Take) × DenotesFault max_flat_params ts m flats t.kind
+LiftFails ts m flats NoMemory = Unit {0}
+
+-- the values stand in the memory, and these core values carry them
+abbrev pub IsLowered : Allocation → Fields → List Value → Memory → List Flat → Memory → Type 0
+IsLowered allocates ts vs old flats new =
+    (es : List Event) × PassesParams max_flat_params ts vs es flats × AreWithinLimit es × TraceLeads allocates old es new
+
+-- a fault of lowering: a request that failed, found in `place`; it takes no memory of the host
+abbrev pub LowerFails : Allocation → Fields → List Value → Memory → Fault → Memory → Type 0
+LowerFails allocates ts vs old (Trap t) new =
+    (t.step ≡ step.Place) × (es : List Event) × (flats : List Flat) × PassesParams max_flat_params ts vs es flats × TypedTraceBreaks allocates old es t.kind new
+LowerFails allocates ts vs old NoMemory new = ⊥

@@ -1,0 +1,4 @@
+pub mod Crossing
+pub mod Scalar
+pub mod Scalars
+pub mod Val

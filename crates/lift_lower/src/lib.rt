@@ -1,0 +1,20 @@
+//! Values between memories, flat values and trees: lifting and lowering.
+//!
+//! `has_type`, `lift` and `lower` carry the promise: a value exactly where the flat values denote one, else
+//! the fault. `Scalar` is the value of one primitive node, which is lifted and lowered with no memory of the
+//! host. Stands on `canonical_abi` (definitions), `resolve` (types) and `memory` (guests).
+#![tactic(auto)]
+
+mod lifting;
+mod lowering;
+mod scalar;
+mod scalars;
+mod typing;
+mod val;
+
+pub use lifting::lift;
+pub use lowering::lower;
+pub use scalar::{Scalar, core_kind, lift_scalar, lower_scalar};
+pub use scalars::{Flats, Scalars, lift_scalars, lower_scalars};
+pub use typing::has_type;
+pub use val::Val;

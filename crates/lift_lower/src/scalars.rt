@@ -1,0 +1,91 @@
+//! Lists of values of primitive types: parameters and results that need no memory.
+ghost use Rattle.std.specs.Prelude.{◌≡◌, ◌≤◌, ◌↔◌, ℕ, List, IsTrue, IfOk, IfErr, length, map};
+ghost use Rattle.canonical_abi.specs.Types.{ClosedType};
+ghost use Rattle.canonical_abi.specs.Values.{HaveTypes};
+ghost use Rattle.canonical_abi.specs.Layout.{prim_kind};
+ghost use Rattle.canonical_abi.specs.Reading.{kind_of};
+ghost use Rattle.resolve.specs.Closed.{prim_of, is_scalar};
+ghost use Rattle.resolve.specs.declared.tables.ValType.{ValType};
+ghost use Rattle.lift_lower.specs.Scalar.{value_in, core_in};
+ghost use Rattle.lift_lower.specs.Scalars.{AreScalar, fields_in, prim_of_type, KindsFit, Stands, FirstFault, StandFor, FailAs, AreOfTypes, AreCarried};
+
+use crate::scalar::{Scalar, core_kind, lift_scalar, lower_scalar};
+use arrayvec::ArrayVec;
+use canonical_abi::{Flat, TrapKind};
+use resolve::{Primitive, ValType};
+
+/// The core values of one call: sixteen parameters and a return area at most.
+pub type Flats = ArrayVec<Flat, 17>;
+
+/// The values of one way of a call.
+pub type Scalars = ArrayVec<Scalar, 16>;
+
+/// The values that core values carry: `CoreSignature` where their number or kinds are others than the
+/// types', else `Char` at the first that carries none.
+pub fn lift_scalars(types: &[ValType], flats: &[Flat]) -> Result<Scalars, TrapKind>
+    requires { AreScalar types.now }
+    ensures values { IfOk result (λ ss. StandFor types.now flats.now (map value_in ss.items)) }
+    ensures typed { IfOk result (λ ss. AreOfTypes types.now ss.items) }
+    ensures fault { IfErr result (FailAs types.now flats.now) }
+{
+    if !kinds_fit(types, flats) {
+        return Err(TrapKind::CoreSignature);
+    }
+    lift_each(types, flats)
+}
+
+/// The core values that carry these.
+pub fn lower_scalars(values: &[Scalar]) -> Flats
+    requires { length values.now ≤ 16 }
+    ensures items { result.items ≡ map core_in values.now }
+    ensures carried { (rows : List ClosedType) (types : List ValType) → AreScalar types
+        → HaveTypes (map value_in values.now) (fields_in rows types)
+        → AreCarried (fields_in rows types) (map value_in values.now) result.items }
+{
+    let mut flats = Flats::new();
+    for value in values {
+        flats.push(lower_scalar(*value));
+    }
+    flats
+}
+
+/// Whether the core values have the number and the kinds that the types ask for.
+fn kinds_fit(types: &[ValType], flats: &[Flat]) -> bool
+    requires { AreScalar types.now }
+    ensures { IsTrue result ↔ KindsFit types.now flats.now }
+{
+    if flats.len() != types.len() {
+        return false;
+    }
+    for (i, ty) in types.iter().enumerate() {
+        if flats[i].kind() != core_kind(primitive_of(*ty)) {
+            return false;
+        }
+    }
+    true
+}
+
+/// The values that core values of the right kinds carry.
+fn lift_each(types: &[ValType], flats: &[Flat]) -> Result<Scalars, TrapKind>
+    requires scalar { AreScalar types.now }
+    requires kinds { KindsFit types.now flats.now }
+    ensures values { IfOk result (λ ss. Stands types.now flats.now ss.items) }
+    ensures fault { IfErr result (FirstFault types.now flats.now) }
+{
+    let mut values = Scalars::new();
+    for (i, ty) in types.iter().enumerate() {
+        values.push(lift_scalar(primitive_of(*ty), flats[i])?);
+    }
+    Ok(values)
+}
+
+/// The primitive that a scalar type is.
+pub(crate) fn primitive_of(ty: ValType) -> Primitive
+    requires { IsTrue (is_scalar ty) }
+    ensures { prim_of result ≡ prim_of_type ty }
+{
+    match ty {
+        ValType::Primitive(primitive) => primitive,
+        _ => unreachable!(),
+    }
+}

@@ -1,0 +1,24 @@
+-- A memory of one of several kinds: its state begins with the number of its kind.
+use Rattle.std.specs.Prelude.{◌≡◌, ℕ, ◌∷◌}
+use Rattle.canonical_abi.specs.Guest.{Memory, Allocation, Release}
+use Rattle.memory.specs.Bump.{BumpAllocates, BumpReleases}
+
+-- a memory of a kind, as a memory of one of several kinds
+abbrev pub of_kind : ℕ → Memory → Memory
+of_kind kind memory = record { bytes = memory.bytes; live = memory.live; state = kind ∷ memory.state }
+
+-- the steps of that kind
+abbrev pub AllocatesAs : ℕ → Allocation → Allocation
+AllocatesAs kind allocates old align size answer new =
+    (before after : Memory) × (old ≡ of_kind kind before) × allocates before align size answer after × (new ≡ of_kind kind after)
+
+abbrev pub ReleasesAs : ℕ → Release → Release
+ReleasesAs kind releases old at size answer new =
+    (before after : Memory) × (old ≡ of_kind kind before) × releases before at size answer after × (new ≡ of_kind kind after)
+
+-- the steps of each kind; a further kind is one more alternative
+abbrev pub SpaceAllocates : Allocation
+SpaceAllocates = AllocatesAs 0 BumpAllocates
+
+abbrev pub SpaceReleases : Release
+SpaceReleases = ReleasesAs 0 BumpReleases

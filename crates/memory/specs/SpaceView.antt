@@ -1,0 +1,10 @@
+-- A `Space` as a memory.
+use Rattle.canonical_abi.specs.Guest.{Memory}
+use Rattle.memory.specs.Bump.{bump}
+use Rattle.memory.specs.Space.{of_kind}
+use Rattle.memory.specs.declared.space.Space as declared
+use Rattle.memory.specs.declared.space.Space.TheVariants.{Bump}
+
+-- its state begins with its kind's number
+abbrev pub space_memory : declared.Space → Memory
+space_memory (Bump b) = of_kind 0 (bump b.bytes.items b.top)

@@ -1,0 +1,21 @@
+//! Linear memories, each with its allocator: what stands behind a component.
+//!
+//! A memory is a `Guest`: it tells its bytes, its live addresses and the steps that its allocator may
+//! make. `Bump` and `Space` are `Honest` as well: they never grant what is live. `Scripted` answers from
+//! a list and is not. Stands on `canonical_abi`, whose `Guest` is the promise that the layers above use.
+#![tactic(auto)]
+
+mod bump;
+mod error;
+mod laws;
+mod scripted;
+mod space;
+
+pub use bump::Bump;
+pub use canonical_abi::{Full, Guest, Honest, NotTaken};
+pub use error::{MAX_LEN, MemoryError};
+pub use laws::{
+    bumps_answer_alike, bumps_keep_the_limit, spaces_answer_alike, spaces_keep_the_limit,
+};
+pub use scripted::Scripted;
+pub use space::Space;

@@ -1,0 +1,87 @@
+//! The program: its words, its files and its streams. All else stands in the library.
+#![tactic(auto)]
+
+use atoms::Watched;
+use std::process::ExitCode;
+use std::{env, fs, io};
+use witcall::{Refused, Reply, open, read_all, report, run_call};
+use words::asked::Command;
+use words::{WordsError, command};
+
+fn main(rt: HostRuntime) -> ExitCode {
+    match run(&rt) {
+        Ok(()) => ExitCode::SUCCESS,
+        Err(refused) => {
+            let mut errors = Watched::new(rt.stderr());
+            ExitCode::from(report(&refused, &mut errors))
+        }
+    }
+}
+
+/// Does what the words ask for. Only calls are made for now: any other command is a usage fault.
+fn run(rt: &HostRuntime) -> Result<(), Refused> {
+    let words = words(rt)?;
+    match command(rt.alloc(), words.as_slice())? {
+        Command::Convert(_job, _file) => Err(Refused::Words(WordsError::Usage)),
+        Command::Call {
+            file,
+            interface,
+            function,
+            arguments,
+            reply,
+        } => call(
+            rt,
+            file.as_str(),
+            interface.as_str(),
+            function.as_str(),
+            arguments.as_str(),
+            reply.as_str(),
+        ),
+    }
+}
+
+/// Calls a function of the package in a file, whose body answers the reply.
+fn call(
+    rt: &HostRuntime,
+    file: &str,
+    interface: &str,
+    function: &str,
+    arguments: &str,
+    reply: &str,
+) -> Result<(), Refused> {
+    let alloc = rt.alloc();
+    let bytes = read(rt, file)?;
+    let package = open(alloc, bytes.as_slice())?;
+    let body = Reply::of(alloc, &package, interface, function, reply)?;
+    let body = Box::new(alloc, body).map_err(|_| Refused::NoMemory)?;
+    let mut output = Watched::new(rt.stdout());
+    run_call(
+        alloc,
+        &package,
+        interface,
+        function,
+        arguments,
+        body,
+        &mut output,
+    )
+}
+
+/// The program's words. One that is no UTF-8 is a usage fault.
+fn words(rt: &HostRuntime) -> Result<Vec<String>, Refused> {
+    match env::args(rt) {
+        Ok(words) => Ok(words.collect(rt.alloc())?),
+        Err(error) => Err(Refused::Words(if error.kind() == io::ErrorKind::OutOfMemory {
+            WordsError::NoMemory
+        } else {
+            WordsError::Usage
+        })),
+    }
+}
+
+/// The bytes of a file, or more than the limit of them.
+fn read(rt: &HostRuntime, path: &str) -> Result<Vec<u8>, Refused> {
+    match fs::open(rt, path) {
+        Ok(file) => Ok(read_all(rt.alloc(), &mut Watched::new(file))?),
+        Err(_error) => Err(Refused::File),
+    }
+}

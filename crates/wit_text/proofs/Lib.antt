@@ -1,0 +1,8 @@
+pub mod Comments
+pub mod Unique
+pub mod Versions
+pub mod Handed
+pub mod KindLemmas
+pub mod FaultLemmas
+pub mod Exactness
+pub mod Parsed

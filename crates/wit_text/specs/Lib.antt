@@ -1,0 +1,10 @@
+pub mod Keywords
+pub mod Lexing
+pub mod Tokens
+pub mod Syntax
+pub mod View
+pub mod Faults
+pub mod Lookahead
+pub mod Grammar
+pub mod Reading
+pub mod Laws

@@ -1,0 +1,57 @@
+-- The types of a scalar function, as the fields of records.
+use Rattle.std.proofs.Common.{◌≡◌, ◌≤◌, ℕ, true, List, [], ◌∷◌, Option, Some, None, length, map, take, refl, sym, ap, ◌∙◌, subst, arith}
+use Rattle.std.specs.Option.{option_map}
+use Rattle.std.specs.Prelude.{IsTrue, slice_get}
+use Rattle.std.specs.List.{list_all}
+use Rattle.std.proofs.lemmas.Bool.{and_parts, leb-true}
+use Rattle.std.proofs.lemmas.List.{length-map}
+use Rattle.std.proofs.lemmas.List.Folds.{list_all-map}
+use Rattle.canonical_abi.specs.Types.{ClosedType, fields_of, result_fields}
+use Rattle.resolve.specs.Closed.{closed_val, closed_types, closed_params, function_at, function_type, type_of_function, is_scalar, is_scalar_result, is_scalar_function, IsScalarFunction}
+use Rattle.resolve.specs.declared.tables.Function.{Function}
+use Rattle.resolve.specs.declared.tables.FunctionId.{FunctionId}
+use Rattle.resolve.specs.declared.tables.Parameter.{Parameter}
+use Rattle.resolve.specs.declared.tables.Resolve.{Resolve}
+use Rattle.resolve.specs.declared.tables.ValType.{ValType}
+use Rattle.lift_lower.specs.Scalars.{AreScalar}
+use Rattle.lift_lower.specs.Crossing.{fields_of_types}
+use Rattle.resolve.specs.Same.{IsSamePackage}
+use Rattle.resolve.specs.Tables.{function_of}
+use Rattle.witcall.specs.Signature.{signature_of}
+
+params_closed : (rows : List ClosedType) (ps : List Parameter) → map (closed_val rows) (map (λ p. p.ty) ps) ≡ closed_params rows ps
+params_closed rows [] = refl
+params_closed rows (p ∷ ps) = ap (λ ts. closed_val rows p.ty ∷ ts) (params_closed rows ps)
+
+fields_are : (rows : List ClosedType) (o : Option Function)
+    → fields_of (map (closed_val rows) (signature_of o).params) ≡ (type_of_function rows o).params
+fields_are rows None = refl
+fields_are rows (Some s) = ap fields_of (params_closed rows s.params)
+
+pub params_are_fields : (r : Resolve) (f : FunctionId) → fields_of_types r (signature_of (function_at r f)).params ≡ (function_type r f).params
+params_are_fields r f = fields_are (closed_types r) (function_at r f)
+
+scalar_params : (o : Option Function) → is_scalar_function o ≡ true → AreScalar (signature_of o).params
+scalar_params None h = record { few = omega arith; primitive = refl }
+scalar_params (Some s) h =
+    let few = and_parts _ _ h in
+    record {
+      few = rw length-map (leb-true _ _ few.0);
+      primitive = list_all-map is_scalar (λ p. p.ty) s.params ∙ (and_parts _ _ few.1).0;
+    }
+
+pub params_are_scalar : (r : Resolve) (f : FunctionId) → IsScalarFunction r f → AreScalar (signature_of (function_at r f)).params
+params_are_scalar r f h = scalar_params (function_at r f) h
+
+-- the same package has the same scalar functions
+pub same_scalar : (a b : Resolve) (f : FunctionId) → IsSamePackage a b → IsScalarFunction b f → IsScalarFunction a f
+same_scalar a b f same h = subst (λ ds. IsTrue (is_scalar_function (function_of (slice_get ds f.0)))) (sym same.definitions) h
+
+-- the same, told of a package that is this one
+pub own_params : (r own : Resolve) (f : FunctionId) (ts params : List ValType) → own ≡ r → params ≡ ts
+    → fields_of_types own ts ≡ (function_type own f).params → fields_of_types own params ≡ (function_type r f).params
+own_params r own f ts params same are is = ap (fields_of_types own) are ∙ is ∙ ap (λ q. (function_type q f).params) same
+
+pub own_results : (r own : Resolve) (f : FunctionId) (ts : List ValType) → own ≡ r
+    → fields_of_types own ts ≡ result_fields (function_type own f).result → fields_of_types own ts ≡ result_fields (function_type r f).result
+own_results r own f ts same is = is ∙ ap (λ q. result_fields (function_type q f).result) same

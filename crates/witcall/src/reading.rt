@@ -1,0 +1,19 @@
+//! Reading a whole input.
+
+ghost use Rattle.std.specs.Prelude.{◌≡◌, false};
+
+use crate::package::{MAX_INPUT, OpenError};
+use atoms::{ReadUpToError, Source, read_up_to};
+use std::alloc::Global;
+
+/// All the bytes of a reader, or the first 1,048,577 where there are more, however they are cut. Where a
+/// read fails this is 20, with the number of bytes that came before.
+pub fn read_all<R: Source>(alloc: Global, reader: &mut R) -> Result<Vec<u8>, OpenError>
+    requires { R.has_failed reader.old ≡ false }
+{
+    match read_up_to(alloc, reader, MAX_INPUT) {
+        Ok(bytes) => Ok(bytes),
+        Err(ReadUpToError::Failed(place)) => Err(OpenError::Read(place)),
+        Err(ReadUpToError::NoMemory) => Err(OpenError::NoMemory),
+    }
+}

@@ -1,0 +1,105 @@
+//! Why the program did not do what it was asked for, and how it says so.
+
+ghost use Rattle.std.specs.Prelude.{◌≡◌, false};
+ghost use Rattle.witcall.specs.Status.{status_of};
+
+use crate::json::JsonError;
+use crate::line::Line;
+use crate::package::OpenError;
+use atoms::Sink;
+use canonical_abi::{Fault, Step, Trap, TrapKind};
+use memory::MemoryError;
+use std::alloc::AllocError;
+use std::fmt::Write;
+use thiserror::Error;
+use words::WordsError;
+
+/// A usage fault, a refusal or a fault of the call. It is displayed as the program's line on standard
+/// error.
+#[derive(Debug, Drop, Error)]
+pub enum Refused {
+    #[error(transparent)]
+    Words(#[from] WordsError),
+    #[error("error 64 file")]
+    File,
+    #[error(transparent)]
+    Open(#[from] OpenError),
+    #[error("error 63 no function")]
+    NoFunction,
+    #[error(transparent)]
+    Json(#[from] JsonError),
+    #[error(transparent)]
+    Memory(#[from] MemoryError),
+    #[error("trap {} in {}", kind_name(.0.kind), step_name(.0.step))]
+    Trap(Trap),
+    #[error("error 65 write")]
+    Write,
+    #[error("error 66 no memory")]
+    NoMemory,
+}
+
+impl From<AllocError> for Refused {
+    fn from(_error: AllocError) -> Refused {
+        Refused::NoMemory
+    }
+}
+
+impl From<Fault> for Refused {
+    fn from(fault: Fault) -> Refused {
+        match fault {
+            Fault::Trap(trap) => Refused::Trap(trap),
+            Fault::NoMemory => Refused::NoMemory,
+        }
+    }
+}
+
+/// A trap's kind as it is printed.
+fn kind_name(kind: TrapKind) -> &'static str {
+    match kind {
+        TrapKind::Char => "K1 char",
+        TrapKind::Case => "K2 case",
+        TrapKind::Align => "K3 align",
+        TrapKind::Bounds => "K4 bounds",
+        TrapKind::Utf8 => "K5 utf8",
+        TrapKind::Full => "K6 full",
+        TrapKind::Body => "K7 body",
+        TrapKind::CoreSignature => "K8 coresignature",
+    }
+}
+
+/// A trap's step as it is printed.
+fn step_name(step: Step) -> &'static str {
+    match step {
+        Step::Place => "place",
+        Step::Take => "take",
+        Step::LiftArgs => "lift-args",
+        Step::LowerArgs => "lower-args",
+        Step::Body => "body",
+        Step::LiftResult => "lift-result",
+        Step::LowerResult => "lower-result",
+        Step::Post => "post",
+    }
+}
+
+impl Refused {
+    /// The exit status: 2 for wrong words, 3 for a trap, 1 for any other refusal.
+    pub fn status(&self) -> u8
+        ensures { result ≡ status_of self.now }
+    {
+        match self {
+            Refused::Words(WordsError::Usage) => 2,
+            Refused::Trap(_) => 3,
+            _ => 1,
+        }
+    }
+}
+
+/// Writes the line of a refusal, and answers its exit status. It takes no memory of the host.
+pub fn report<W: Sink>(refused: &Refused, writer: &mut W) -> u8
+    requires { W.has_failed writer.old ≡ false }
+    ensures { result ≡ status_of refused.now }
+{
+    let mut line = Line::new(writer);
+    let _written = writeln!(line, "{refused}");
+    refused.status()
+}

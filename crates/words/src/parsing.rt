@@ -1,0 +1,102 @@
+//! Words by way of `clap`.
+
+use crate::asked::{Command, Job};
+use clap::error::ErrorKind;
+use clap::{Arg, ArgAction, ArgMatches};
+use std::alloc::{AllocError, Global};
+use thiserror::Error;
+
+static FILE: [&str; 1] = ["file"];
+
+static CALL: [&str; 5] = ["file", "interface", "function", "arguments", "reply"];
+
+/// Why words ask for nothing that the program does.
+#[derive(Clone, Copy, Debug, PartialEq, Eq, Error)]
+pub enum WordsError {
+    #[error("usage: witcall show|bin|text|layout FILE, or call FILE IFACE FUNC ARGS REPLY")]
+    Usage,
+    #[error("error 66 no memory")]
+    NoMemory,
+}
+
+impl From<AllocError> for WordsError {
+    ghost use Rattle.std.specs.Prelude.{◌≡◌};
+    ghost use Rattle.words.specs.declared.parsing.WordsError.TheVariants.{NoMemory};
+
+    ghost from_gives = { λ _ e. e ≡ NoMemory };
+
+    fn from(_error: AllocError) -> WordsError {
+        WordsError::NoMemory
+    }
+}
+
+/// Reads the program's words, the first of which is its own name. Words that `clap` refuses are
+/// `Usage`: a missing or an extra word, an unknown command, an option, `--help`.
+pub fn command(alloc: Global, words: &[String]) -> Result<Command, WordsError> {
+    let parser = parser(alloc)?;
+    match parser.try_get_matches_from(words) {
+        Ok(matches) => command_of(alloc, &matches),
+        Err(error) => {
+            if error.kind() == ErrorKind::OutOfMemory {
+                Err(WordsError::NoMemory)
+            } else {
+                Err(WordsError::Usage)
+            }
+        }
+    }
+}
+
+fn parser<'a>(alloc: Global) -> Result<clap::Command<'a>, AllocError> {
+    let mut parser = clap::Command::new(alloc, "witcall")
+        .disable_help_flag(true)
+        .disable_help_subcommand(true)
+        .subcommand_required(true);
+    for name in ["show", "bin", "text", "layout"] {
+        parser = with_subcommand(alloc, parser, name, FILE.as_slice())?;
+    }
+    with_subcommand(alloc, parser, "call", CALL.as_slice())
+}
+
+/// The parser with one more command, whose words are all required.
+fn with_subcommand<'a>(
+    alloc: Global,
+    parser: clap::Command<'a>,
+    name: &'a str,
+    words: &[&'a str],
+) -> Result<clap::Command<'a>, AllocError> {
+    let mut command = clap::Command::new(alloc, name).disable_help_flag(true);
+    for word in words {
+        command = command.arg(Arg::new(alloc, *word).required(true).action(ArgAction::Set))?;
+    }
+    parser.subcommand(command)
+}
+
+fn command_of(alloc: Global, matches: &ArgMatches<'_>) -> Result<Command, WordsError> {
+    let Some((name, words)) = matches.subcommand() else {
+        return Err(WordsError::Usage);
+    };
+    let job = match name {
+        "show" => Job::Show,
+        "bin" => Job::Bin,
+        "text" => Job::Text,
+        "layout" => Job::Layout,
+        _ => {
+            return Ok(Command::Call {
+                file: word(alloc, words, "file")?,
+                interface: word(alloc, words, "interface")?,
+                function: word(alloc, words, "function")?,
+                arguments: word(alloc, words, "arguments")?,
+                reply: word(alloc, words, "reply")?,
+            });
+        }
+    };
+    Ok(Command::Convert(job, word(alloc, words, "file")?))
+}
+
+/// The word of a name, copied.
+fn word(alloc: Global, words: &ArgMatches<'_>, id: &str) -> Result<String, WordsError> {
+    match words.get_str(id) {
+        Some(text) => Ok(String::from_str(alloc, text)?),
+        None => Err(WordsError::Usage),
+    }
+}
