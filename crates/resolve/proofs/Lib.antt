@@ -6,3 +6,4 @@ pub mod Package
 pub mod Rows
 pub mod OrderSteps
 pub mod Unfolded
+pub mod Earlier

@@ -6,3 +6,4 @@ pub mod Scope
 pub mod FromAst
 pub mod Order
 pub mod Package
+pub mod Parts

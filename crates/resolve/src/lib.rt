@@ -12,6 +12,7 @@ mod from_ast;
 pub mod laws;
 mod lookup;
 mod order;
+mod parts;
 mod scope;
 mod sequence;
 mod tables;
