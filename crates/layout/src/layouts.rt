@@ -1,5 +1,5 @@
 //! The layout table of a package.
-ghost use Rattle.std.specs.Prelude.{◌≡◌, ◌<◌, [], length, map, slice_get, All, IsTrue, IfOk, IfErr};
+ghost use Rattle.std.specs.Prelude.{◌≡◌, ◌↔◌, ◌<◌, [], length, map, slice_get, All, IsTrue, IfOk, IfErr};
 ghost use Rattle.resolve.specs.declared.tables.Resolve.{Resolve};
 ghost use Rattle.resolve.specs.Closed.{closed_types, closed_type, function_type, IsFunction};
 ghost use Rattle.resolve.specs.Tables.{is_below};
@@ -116,6 +116,23 @@ impl Layouts {
             parts: tables.parts,
             work,
         })
+    }
+
+    /// Whether the type stands in the table.
+    pub fn has(&self, ty: ValType) -> bool
+        ensures { result ≡ is_below (length self.now.rows) ty }
+    {
+        match ty {
+            ValType::Primitive(_) | ValType::String => true,
+            ValType::Id(id) => (id.0 as usize) < self.rows.len(),
+        }
+    }
+
+    /// Whether the place of the function is in the table.
+    pub fn has_function(&self, func: FunctionId) -> bool
+        ensures { IsTrue result ↔ (func.0 < length self.now.rows) }
+    {
+        (func.0 as usize) < self.rows.len()
     }
 
     /// The size of a type of the package, in bytes.
