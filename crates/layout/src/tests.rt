@@ -20,6 +20,8 @@ const U64: ValType = ValType::Primitive(Primitive::U64);
 
 const CHAR: ValType = ValType::Primitive(Primitive::Char);
 
+const FIRST: ValType = ValType::Id(TypeId(0));
+
 fn label(alloc: Global) -> Result<Label, ResolveError> {
     match Label::new(alloc, "a") {
         Ok(label) => Ok(label),
@@ -40,13 +42,6 @@ fn package(alloc: Global, definitions: Vec<Definition>) -> Result<Resolve, Resol
 
 fn unnamed(kind: TypeDefKind) -> Definition {
     Definition::Type(TypeDef { name: None, kind })
-}
-
-/// The package of one type.
-fn one_type(alloc: Global, kind: TypeDefKind) -> Result<Resolve, ResolveError> {
-    let mut definitions = Vec::new(alloc);
-    definitions.push(unnamed(kind))?;
-    package(alloc, definitions)
 }
 
 fn tuple(alloc: Global, types: &[ValType]) -> Result<TypeDefKind, ResolveError> {
@@ -75,25 +70,12 @@ fn variant(alloc: Global, types: &[Option<ValType>]) -> Result<TypeDefKind, Reso
     Ok(TypeDefKind::Variant(Sequence::new(cases)))
 }
 
-fn function(
-    alloc: Global,
-    count: usize,
-    ty: ValType,
-    answer: Option<ValType>,
-) -> Result<Definition, ResolveError> {
-    let mut params = Vec::new(alloc);
+fn enumeration(alloc: Global, count: usize) -> Result<TypeDefKind, ResolveError> {
+    let mut names = Vec::new(alloc);
     for _ in 0..count {
-        params.push(Parameter {
-            name: label(alloc)?,
-            ty,
-        })?;
+        names.push(label(alloc)?)?;
     }
-    Ok(Definition::Function(Function {
-        owner: Owner::Interface(InterfaceId(0)),
-        name: label(alloc)?,
-        params: Sequence::new(params),
-        result: answer,
-    }))
+    Ok(TypeDefKind::Enum(Sequence::new(names)))
 }
 
 fn spelt(alloc: Global, kinds: &[CoreKind]) -> Result<String, ResolveError> {
@@ -107,17 +89,32 @@ fn spelt(alloc: Global, kinds: &[CoreKind]) -> Result<String, ResolveError> {
     Ok(text)
 }
 
+/// Flat kinds, one digit each by their bytes.
 fn flat(alloc: Global, layouts: &Layouts, ty: ValType) -> Result<String, ResolveError> {
     if !layouts.has(ty) {
         return Err(ResolveError::NotThisShape);
     }
     match layouts.flat(&[ty]) {
         Kinds::Flat(kinds) => spelt(alloc, kinds.as_slice()),
-        Kinds::Spilled => Err(ResolveError::Limit),
+        Kinds::Spilled => Ok(String::new(alloc)),
     }
 }
 
-/// Size, alignment and flat kinds of the last type.
+/// The place of the last field, or of the payload.
+fn place(layouts: &Layouts, ty: ValType) -> Option<u32> {
+    if !layouts.has(ty) {
+        return None;
+    }
+    match layouts.shape(ty) {
+        Shape::Record(fields) if fields > 0 => layouts.field_offset(ty, fields - 1),
+        Shape::Variant(_) => match layouts.case_info(ty, 0) {
+            Some(case) => Some(case.place),
+            None => None,
+        },
+        _ => None,
+    }
+}
+
 fn room(layouts: &Layouts, ty: ValType) -> (u32, u32) {
     if layouts.has(ty) {
         (layouts.size(ty), layouts.align(ty))
@@ -126,70 +123,64 @@ fn room(layouts: &Layouts, ty: ValType) -> (u32, u32) {
     }
 }
 
-fn offset(layouts: &Layouts, ty: ValType, index: usize) -> Option<u32> {
-    if layouts.has(ty) {
-        layouts.field_offset(ty, index)
-    } else {
-        None
-    }
+/// Size, alignment, flat kinds and the last place of a package's last type.
+fn described(alloc: Global, definitions: Vec<Definition>) -> Result<String, Fail> {
+    let Ok(last) = u32::try_from(definitions.len().saturating_sub(1)) else {
+        return Err(Fail::from(ResolveError::Limit));
+    };
+    let ty = ValType::Id(TypeId(last));
+    let layouts = Layouts::of(alloc, &package(alloc, definitions)?)?;
+    let (size, align) = room(&layouts, ty);
+    let flat = flat(alloc, &layouts, ty)?;
+    let place = place(&layouts, ty).unwrap_or(0);
+    Ok(format!(in alloc; "{size} {align} {flat} {place}")?)
 }
 
-fn payload_place(layouts: &Layouts, ty: ValType, index: usize) -> Option<u32> {
-    if !layouts.has(ty) {
-        return None;
-    }
-    match layouts.case_info(ty, index) {
-        Some(case) => Some(case.place),
-        None => None,
-    }
+/// The same of a package of one type.
+fn one(alloc: Global, kind: TypeDefKind) -> Result<String, Fail> {
+    let mut definitions = Vec::new(alloc);
+    definitions.push(unnamed(kind))?;
+    described(alloc, definitions)
 }
-
-const FIRST: ValType = ValType::Id(TypeId(0));
 
 #[test]
 fn records(rt: HostRuntime) -> Result<(), Fail> {
-    let kind = record(rt.alloc(), &[U8, U32, U16])?;
-    let layouts = Layouts::of(rt.alloc(), &one_type(rt.alloc(), kind)?)?;
-    assert_eq!(rt; room(&layouts, FIRST), (12, 4));
-    assert_eq!(rt; offset(&layouts, FIRST, 0), Some(0));
-    assert_eq!(rt; offset(&layouts, FIRST, 1), Some(4));
-    assert_eq!(rt; offset(&layouts, FIRST, 2), Some(8));
-    assert_eq!(rt; offset(&layouts, FIRST, 3), None);
-    assert_eq!(rt; flat(rt.alloc(), &layouts, FIRST)?.as_str(), "444");
+    let text = one(rt.alloc(), record(rt.alloc(), &[U8, U32, U16])?)?;
+    assert_eq!(rt; text.as_str(), "12 4 444 8");
+    let text = one(rt.alloc(), record(rt.alloc(), &[U8, U32])?)?;
+    assert_eq!(rt; text.as_str(), "8 4 44 4");
     Ok(())
 }
 
 #[test]
 fn variants(rt: HostRuntime) -> Result<(), Fail> {
-    let kind = variant(rt.alloc(), &[None, Some(U64), Some(ValType::String)])?;
-    let layouts = Layouts::of(rt.alloc(), &one_type(rt.alloc(), kind)?)?;
-    assert_eq!(rt; room(&layouts, FIRST), (16, 8));
-    assert_eq!(rt; payload_place(&layouts, FIRST, 1), Some(8));
-    assert_eq!(rt; payload_place(&layouts, FIRST, 3), None);
-    assert_eq!(rt; flat(rt.alloc(), &layouts, FIRST)?.as_str(), "484");
-    let kind = TypeDefKind::Result(Some(U8), Some(U64));
-    let layouts = Layouts::of(rt.alloc(), &one_type(rt.alloc(), kind)?)?;
-    assert_eq!(rt; room(&layouts, FIRST), (16, 8));
-    assert_eq!(rt; payload_place(&layouts, FIRST, 0), Some(8));
-    assert_eq!(rt; flat(rt.alloc(), &layouts, FIRST)?.as_str(), "48");
-    let kind = TypeDefKind::Option(CHAR);
-    let layouts = Layouts::of(rt.alloc(), &one_type(rt.alloc(), kind)?)?;
-    assert_eq!(rt; room(&layouts, FIRST), (8, 4));
-    assert_eq!(rt; payload_place(&layouts, FIRST, 1), Some(4));
-    assert_eq!(rt; flat(rt.alloc(), &layouts, FIRST)?.as_str(), "44");
+    let text = one(
+        rt.alloc(),
+        variant(rt.alloc(), &[None, Some(U64), Some(ValType::String)])?,
+    )?;
+    assert_eq!(rt; text.as_str(), "16 8 484 8");
+    Ok(())
+}
+
+#[test]
+fn results(rt: HostRuntime) -> Result<(), Fail> {
+    let text = one(rt.alloc(), TypeDefKind::Result(Some(U8), Some(U64)))?;
+    assert_eq!(rt; text.as_str(), "16 8 48 8");
+    let text = one(rt.alloc(), TypeDefKind::Option(CHAR))?;
+    assert_eq!(rt; text.as_str(), "8 4 44 4");
     Ok(())
 }
 
 #[test]
 fn enums(rt: HostRuntime) -> Result<(), Fail> {
-    for (count, size) in [(256, 1), (257, 2), (65536, 2), (65537, 4)] {
-        let mut names = Vec::new(rt.alloc());
-        for _ in 0..count {
-            names.push(label(rt.alloc())?)?;
-        }
-        let kind = TypeDefKind::Enum(Sequence::new(names));
-        let layouts = Layouts::of(rt.alloc(), &one_type(rt.alloc(), kind)?)?;
-        assert_eq!(rt; room(&layouts, FIRST), (size, size), "{count}");
+    for (count, want) in [
+        (256, "1 1 4 1"),
+        (257, "2 2 4 2"),
+        (65536, "2 2 4 2"),
+        (65537, "4 4 4 4"),
+    ] {
+        let text = one(rt.alloc(), enumeration(rt.alloc(), count)?)?;
+        assert_eq!(rt; text.as_str(), want);
     }
     Ok(())
 }
@@ -199,49 +190,64 @@ fn unnamed_types(rt: HostRuntime) -> Result<(), Fail> {
     let mut definitions = Vec::new(rt.alloc());
     definitions.push(unnamed(TypeDefKind::Option(U16)))?;
     definitions.push(unnamed(tuple(rt.alloc(), &[U8, FIRST])?))?;
-    let layouts = Layouts::of(rt.alloc(), &package(rt.alloc(), definitions)?)?;
-    let pair = ValType::Id(TypeId(1));
-    assert_eq!(rt; room(&layouts, pair), (6, 2));
-    assert_eq!(rt; offset(&layouts, pair, 0), Some(0));
-    assert_eq!(rt; offset(&layouts, pair, 1), Some(2));
-    assert_eq!(rt; flat(rt.alloc(), &layouts, pair)?.as_str(), "444");
+    assert_eq!(rt; described(rt.alloc(), definitions)?.as_str(), "6 2 444 2");
     Ok(())
 }
 
-/// The core signatures of a function, as texts.
-fn signatures(alloc: Global, layouts: &Layouts) -> Result<String, ResolveError> {
+/// A package of one function with so many parameters.
+fn function(alloc: Global, count: usize, answer: ValType) -> Result<Resolve, ResolveError> {
+    let mut params = Vec::new(alloc);
+    for _ in 0..count {
+        params.push(Parameter {
+            name: label(alloc)?,
+            ty: U32,
+        })?;
+    }
+    let mut definitions = Vec::new(alloc);
+    definitions.push(Definition::Function(Function {
+        owner: Owner::Interface(InterfaceId(0)),
+        name: label(alloc)?,
+        params: Sequence::new(params),
+        result: Some(answer),
+    }))?;
+    package(alloc, definitions)
+}
+
+fn signature(alloc: Global, signature: &CoreSignature) -> Result<String, ResolveError> {
+    let mut text = spelt(alloc, signature.params.as_slice())?;
+    text.push_str(if signature.result.is_some() {
+        ">4"
+    } else {
+        ">"
+    })?;
+    Ok(text)
+}
+
+/// The core signatures of such a function, and the steps of its table.
+fn signatures(alloc: Global, count: usize, answer: ValType) -> Result<String, Fail> {
+    let layouts = Layouts::of(alloc, &function(alloc, count, answer)?)?;
     let func = FunctionId(0);
     if !layouts.has_function(func) {
-        return Err(ResolveError::NotThisShape);
+        return Err(Fail::from(ResolveError::NotThisShape));
     }
-    let lifted = layouts.lifted(func);
-    let lowered = layouts.lowered(func);
-    let mut text = spelt(alloc, lifted.params.as_slice())?;
-    text.push_str(if lifted.result.is_some() { ">4 " } else { "> " })?;
-    text.push_str(spelt(alloc, lowered.params.as_slice())?.as_str())?;
-    text.push_str(if lowered.result.is_some() { ">4" } else { ">" })?;
-    Ok(text)
+    let lifted = signature(alloc, &layouts.lifted(func))?;
+    let lowered = signature(alloc, &layouts.lowered(func))?;
+    let (size, align) = room(&layouts, FIRST);
+    let work = layouts.work();
+    Ok(format!(in alloc; "{lifted} {lowered} {size} {align} {work}")?)
 }
 
 #[test]
 fn functions(rt: HostRuntime) -> Result<(), Fail> {
-    let mut definitions = Vec::new(rt.alloc());
-    definitions.push(function(rt.alloc(), 16, U32, Some(ValType::String))?)?;
-    let layouts = Layouts::of(rt.alloc(), &package(rt.alloc(), definitions)?)?;
-    let text = signatures(rt.alloc(), &layouts)?;
-    assert_eq!(rt; text.as_str(), "4444444444444444>4 44444444444444444>");
-    let mut definitions = Vec::new(rt.alloc());
-    definitions.push(function(rt.alloc(), 17, U32, Some(ValType::String))?)?;
-    let layouts = Layouts::of(rt.alloc(), &package(rt.alloc(), definitions)?)?;
-    assert_eq!(rt; room(&layouts, FIRST), (68, 4));
-    let text = signatures(rt.alloc(), &layouts)?;
-    assert_eq!(rt; text.as_str(), "4>4 44>");
-    let mut definitions = Vec::new(rt.alloc());
-    definitions.push(function(rt.alloc(), 1, U32, Some(U32))?)?;
-    let layouts = Layouts::of(rt.alloc(), &package(rt.alloc(), definitions)?)?;
-    let text = signatures(rt.alloc(), &layouts)?;
-    assert_eq!(rt; text.as_str(), "4>4 4>4");
-    assert_eq!(rt; layouts.work(), 3);
+    let text = signatures(rt.alloc(), 1, U32)?;
+    assert_eq!(rt; text.as_str(), "4>4 4>4 4 4 3");
+    let text = signatures(rt.alloc(), 16, ValType::String)?;
+    assert_eq!(rt;
+        text.as_str(),
+        "4444444444444444>4 44444444444444444> 64 4 18"
+    );
+    let text = signatures(rt.alloc(), 17, ValType::String)?;
+    assert_eq!(rt; text.as_str(), "4>4 44> 68 4 19");
     Ok(())
 }
 
@@ -275,10 +281,10 @@ fn nested(alloc: Global, count: u32) -> Result<Resolve, ResolveError>
     definitions.push(unnamed(TypeDefKind::Alias(U8)))?;
     for turn in 0..count {
         let before = ValType::Id(TypeId(turn * 3));
-        definitions.push(unnamed(TypeDefKind::List(before)))?;
-        definitions.push(unnamed(TypeDefKind::List(before)))?;
         let first = ValType::Id(TypeId(turn * 3 + 1));
         let second = ValType::Id(TypeId(turn * 3 + 2));
+        definitions.push(unnamed(TypeDefKind::List(before)))?;
+        definitions.push(unnamed(TypeDefKind::List(before)))?;
         definitions.push(unnamed(tuple(alloc, &[first, second])?))?;
     }
     package(alloc, definitions)
