@@ -15,7 +15,8 @@ use Rattle.resolve.specs.declared.tables.Definition.{Definition}
 use Rattle.resolve.specs.declared.tables.Definition.TheVariants as row
 use Rattle.layout.specs.Kinds.{kinds_of, append_kinds, join_kinds}
 use Rattle.layout.specs.Layout.{row_of, capped, result_of}
-use Rattle.layout.specs.Rows.{row_in, rows_at, choices_at, payloads, extents, deepest, record_row, variant_row, list_row, kind_row, definition_row, result_in, definition_result}
+use Rattle.layout.specs.Parts.{payloads}
+use Rattle.layout.specs.Rows.{row_in, rows_at, choices_at, extents, deepest, record_row, variant_row, list_row, kind_row, definition_row, result_in, definition_result}
 use Rattle.layout.specs.declared.rows.Row.{Row}
 use Rattle.layout.specs.declared.kinds.Kinds.{Kinds}
 use Rattle.layout.proofs.Joins.{join-nil, join-assoc}

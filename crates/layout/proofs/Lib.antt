@@ -4,5 +4,9 @@ pub mod RecordLoop
 pub mod VariantLoop
 pub mod Bridge
 pub mod Table
-pub mod Queries
+pub mod Signatures
 pub mod Callers
+pub mod Agreement
+pub mod Laid
+pub mod Standing
+pub mod Told

@@ -1,10 +1,10 @@
 -- What a loop over the members of a record keeps.
-use Rattle.std.proofs.Common.{◌≡◌, ℕ, zero, suc, ◌+◌, ◌<◌, ◌≤◌, max, List, [], ◌∷◌, ◌++◌, length, map, fold, take, get_or, refl, arith}
+use Rattle.std.proofs.Common.{◌≡◌, ℕ, zero, suc, ◌+◌, ◌<◌, ◌≤◌, max, List, [], ◌∷◌, ◌++◌, length, map, fold, take, get_or, refl, ap, arith}
 use Rattle.std.specs.Int.{next_multiple_of}
 use Rattle.std.proofs.lemmas.List.{map-append}
 use Rattle.std.proofs.lemmas.List.Sums.{fold-append}
 use Rattle.std.proofs.lemmas.Grind.{take_at_read}
-use Rattle.canonical_abi.specs.Layout.{Extent, end_from, greatest_align}
+use Rattle.canonical_abi.specs.Layout.{Extent, places_from, end_from, greatest_align}
 use Rattle.canonical_abi.proofs.Places.{le-next_multiple_of}
 use Rattle.resolve.specs.declared.tables.ValType.{ValType}
 use Rattle.layout.specs.Kinds.{kinds_of, passed, append_kinds}
@@ -14,7 +14,7 @@ use Rattle.layout.specs.declared.rows.Row.{Row}
 use Rattle.layout.specs.declared.kinds.Kinds.{Kinds}
 use Rattle.layout.proofs.Cuts.{fits-append}
 
-pub record RecordSoFar (rows : List Row) (end align : ℕ) (kinds : Kinds) : Type 0 where
+pub record RecordSoFar (rows : List Row) (end align : ℕ) (kinds : Kinds) (offsets : List ℕ) : Type 0 where
   pub end_is : end ≡ end_from 0 (extents rows)
   pub end_fits : end ≤ 16777216
   pub align_is : align ≡ greatest_align (extents rows)
@@ -22,17 +22,22 @@ pub record RecordSoFar (rows : List Row) (end align : ℕ) (kinds : Kinds) : Typ
   pub most : align ≤ 8
   pub kinds_is : kinds ≡ fold (λ ks r. append_kinds ks r.kinds) (kinds_of []) rows
   pub fits : length (passed kinds) ≤ 16
+  pub offsets_is : offsets ≡ places_from 0 (extents rows)
+
+places_from-push : (n : ℕ) (xs : List Extent) (x : Extent) → places_from n (xs ++ x ∷ []) ≡ places_from n xs ++ next_multiple_of (end_from n xs) x.align ∷ []
+places_from-push n [] x = refl
+places_from-push n (y ∷ ys) x = ap (λ (ps : List ℕ). next_multiple_of n y.align ∷ ps) (places_from-push (next_multiple_of n y.align + y.size) ys x)
 
 pub rows_at-more : {A : Type 0} (rows : List Row) (ty : A → ValType) (xs : List A) (i : ℕ) (d : A) → i < length xs
     → rows_at rows ty (take (i + 1) xs) ≡ rows_at rows ty (take i xs) ++ row_in rows (ty (get_or xs i d)) ∷ []
 rows_at-more rows ty xs i d h = rw (take_at_read xs i d h).1 (map-append (λ a. row_in rows (ty a)) (take i xs) (get_or xs i d ∷ []))
 
-pub record_more : {rows rows' : List Row} (r : Row) {end end' align align' : ℕ} (place : ℕ) {kinds kinds' : Kinds}
-    → RecordSoFar rows end align kinds → IsSound r
+pub record_more : {rows rows' : List Row} (r : Row) {end end' align align' : ℕ} (place : ℕ) {kinds kinds' : Kinds} {offsets offsets' : List ℕ}
+    → RecordSoFar rows end align kinds offsets → IsSound r
     → rows' ≡ rows ++ r ∷ [] → place ≡ next_multiple_of end r.align → end' ≡ place + r.size → end' ≤ 16777216
-    → align' ≡ max align r.align → kinds' ≡ append_kinds kinds r.kinds
-    → RecordSoFar rows' end' align' kinds'
-record_more {rows} {rows'} r {end} {end'} {align} {align'} place {kinds} {kinds'} so_far sound rows_are place_is end_is fits align_is kinds_are =
+    → align' ≡ max align r.align → kinds' ≡ append_kinds kinds r.kinds → offsets' ≡ offsets ++ place ∷ []
+    → RecordSoFar rows' end' align' kinds' offsets'
+record_more {rows} {rows'} r {end} {end'} {align} {align'} place {kinds} {kinds'} {offsets} {offsets'} so_far sound rows_are place_is end_is fits align_is kinds_are offsets_are =
     let split : extents rows' ≡ extents rows ++ extent_in r ∷ [] = rw rows_are (map-append extent_in rows (r ∷ [])) in
     record {
       end_is = rw (split, fold-append (λ (end : ℕ) (f : Extent). next_multiple_of end f.align + f.size) 0 (extents rows) (extent_in r ∷ []), ← so_far.end_is, ← place_is) end_is;
@@ -42,6 +47,7 @@ record_more {rows} {rows'} r {end} {end'} {align} {align'} place {kinds} {kinds'
       most = omega (arith, so_far.most, sound.most_align);
       kinds_is = rw (rows_are, fold-append (λ (ks : Kinds) (r : Row). append_kinds ks r.kinds) (kinds_of []) rows (r ∷ []), ← so_far.kinds_is) kinds_are;
       fits = rw kinds_are (fits-append kinds r.kinds);
+      offsets_is = rw (split, places_from-push 0 (extents rows) (extent_in r), ← so_far.end_is, ← so_far.offsets_is, ← place_is) offsets_are;
     }
 
 pub end_from-more : (rows rows' : List Row) (r : Row) → rows' ≡ rows ++ r ∷ []

@@ -8,7 +8,8 @@ use Rattle.canonical_abi.specs.Layout.{Extent, greatest_size, greatest_align}
 use Rattle.resolve.specs.declared.tables.ValType.{ValType}
 use Rattle.layout.specs.Kinds.{kinds_of, join_kinds}
 use Rattle.layout.specs.Layout.{IsSound}
-use Rattle.layout.specs.Rows.{row_in, choices_at, payloads, deepest, extent_in, extents}
+use Rattle.layout.specs.Parts.{payloads}
+use Rattle.layout.specs.Rows.{row_in, choices_at, deepest, extent_in, extents}
 use Rattle.layout.specs.declared.rows.Row.{Row}
 use Rattle.layout.specs.declared.kinds.Kinds.{Kinds}
 

@@ -2,13 +2,15 @@
 use Rattle.std.specs.Prelude.{◌≡◌, ℕ, ◌<◌, ◌≤◌, min, List, [], ◌∷◌, length, map, slice_index_or, Option, None, Some}
 use Rattle.std.specs.Option.{option_map}
 use Rattle.canonical_abi.specs.Types.{ClosedType, string_type, depth, result_fields}
-use Rattle.canonical_abi.specs.Layout.{size, align, flat_kinds, field_kinds, CoreSignature}
+use Rattle.canonical_abi.specs.Layout.{extent_of, size, align, flat_kinds, field_kinds, CoreSignature}
 use Rattle.canonical_abi.specs.declared.flat.CoreKind.{CoreKind}
-use Rattle.resolve.specs.Closed.{closed_val, closed_types}
+use Rattle.resolve.specs.Closed.{closed_val, closed_types, closed_type}
 use Rattle.resolve.specs.declared.tables.Definition.{Definition}
 use Rattle.resolve.specs.declared.tables.Definition.TheVariants as row
 use Rattle.resolve.specs.declared.tables.Resolve.{Resolve}
 use Rattle.layout.specs.Kinds.{kinds_of, passed}
+use Rattle.layout.specs.Parts.{parts_from}
+use Rattle.layout.specs.declared.parts.Parts.{Parts}
 use Rattle.layout.specs.Work.{total_work, saturated}
 use Rattle.layout.specs.declared.kinds.Kinds.{Kinds}
 use Rattle.layout.specs.declared.rows.Row.{Row}
@@ -34,16 +36,18 @@ abbrev pub result_of : List ClosedType → Definition → Kinds
 result_of ts (row.Type d) = kinds_of []
 result_of ts (row.Function f) = kinds_of (field_kinds (result_fields (option_map (closed_val ts) f.result)))
 
--- what a layout table has: a row for each definition, a result for each, and the count of the steps that it takes
+-- what a layout table has: a row for each definition, a result for each, what stands directly in each, and the count of the steps that it takes
 pub record Table : Type 0 where
   pub rows : List Row
   pub results : List Kinds
+  pub parts : List Parts
   pub work : ℕ
 
 abbrev pub layouts_of : Resolve → Table
 layouts_of r = record {
   rows = map row_of (closed_types r);
   results = map (result_of (closed_types r)) r.definitions;
+  parts = parts_from (λ v. extent_of (closed_type r v)) [] r.definitions;
   work = saturated (total_work r.definitions);
 }
 

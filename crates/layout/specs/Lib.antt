@@ -3,3 +3,5 @@ pub mod Layout
 pub mod Rows
 pub mod Work
 pub mod Signature
+pub mod Parts
+pub mod Queries

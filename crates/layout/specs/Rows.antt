@@ -14,6 +14,7 @@ use Rattle.resolve.specs.declared.tables.TypeDefKind.TheVariants as kind
 use Rattle.resolve.specs.declared.tables.Definition.{Definition}
 use Rattle.resolve.specs.declared.tables.Definition.TheVariants as row
 use Rattle.layout.specs.Kinds.{kinds_of, passed, append_kinds, join_kinds}
+use Rattle.layout.specs.Parts.{payloads}
 use Rattle.layout.specs.Layout.{row_of, capped, max_depth, max_size}
 use Rattle.layout.specs.declared.kinds.Kinds.{Kinds}
 use Rattle.layout.specs.declared.rows.Row.{Row}
@@ -34,14 +35,12 @@ rows_at rows ty xs = map (λ a. row_in rows (ty a)) xs
 abbrev pub choices_at : {A : Type 0} → List Row → (A → Option ValType) → List A → List (Option Row)
 choices_at rows payload xs = map (λ x. option_map (row_in rows) (payload x)) xs
 
--- the payloads of the cases that have one
-abbrev pub payloads : {A : Type 0} → List (Option A) → List A
-payloads [] = []
-payloads (None ∷ cs) = payloads cs
-payloads (Some p ∷ cs) = p ∷ payloads cs
-
 abbrev pub extent_in : Row → Extent
 extent_in r = record { size = r.size; align = r.align }
+
+-- the room that a type takes
+abbrev pub extent_at : List Row → ValType → Extent
+extent_at rows v = extent_in (row_in rows v)
 
 abbrev pub extents : List Row → List Extent
 extents rows = map extent_in rows
@@ -118,9 +117,10 @@ IsLimitedDefinition (row.Function f) r = r.size ≤ max_size
 abbrev pub RefusesRow : LayoutError → Row → Type 0
 RefusesRow TooDeep r = max_depth < r.depth
 RefusesRow TooLarge r = (r.depth ≤ max_depth) × (max_size < r.size)
-RefusesRow NoMemory r = ⊥
+RefusesRow NoMemory r = Unit {0}
 
 abbrev pub RefusesDefinition : LayoutError → Definition → Row → Type 0
 RefusesDefinition e (row.Type d) r = RefusesRow e r
 RefusesDefinition TooLarge (row.Function f) r = max_size < r.size
-RefusesDefinition _ (row.Function f) r = ⊥
+RefusesDefinition NoMemory (row.Function f) r = Unit {0}
+RefusesDefinition TooDeep (row.Function f) r = ⊥

@@ -1,37 +1,51 @@
 //! The layout table of a package.
-ghost use Rattle.std.specs.Prelude.{◌≡◌, ◌<◌, length, map, All, IsTrue, IfOk, IfErr};
+ghost use Rattle.std.specs.Prelude.{◌≡◌, ◌↔◌, ◌<◌, [], length, map, slice_get, All, IsTrue, IfOk, IfErr};
 ghost use Rattle.resolve.specs.declared.tables.Resolve.{Resolve};
 ghost use Rattle.resolve.specs.Closed.{closed_types, closed_type, function_type, IsFunction};
 ghost use Rattle.resolve.specs.Tables.{is_below};
-ghost use Rattle.canonical_abi.specs.Types.{fields_of};
-ghost use Rattle.canonical_abi.specs.Layout.{size, align, field_kinds, lifted_signature, lowered_signature};
+ghost use Rattle.canonical_abi.specs.Types.{fields_of, record_fields};
+ghost use Rattle.canonical_abi.specs.Layout.{extent_of, size, align, field_kinds, field_places, lifted_signature, lowered_signature};
 ghost use Rattle.layout.specs.Kinds.{kinds_of};
 ghost use Rattle.layout.specs.Layout.{row_of, result_of, layouts_of, signature_of, RefusesFirst, AreWithin, IsSound};
+ghost use Rattle.layout.specs.Parts.{parts_from, AreEnded, end_of, is_end};
+ghost use Rattle.layout.specs.Queries.{shape_of, field_of, case_of, HasShape, TellsField, TellsCase};
 ghost use Rattle.layout.specs.Rows.{definition_result, result_below};
 ghost use Rattle.layout.specs.Work.{total_work, saturated};
 
 use crate::error::LayoutError;
 use crate::kinds::Kinds;
-use crate::rows::{Row, definition_row, row_in};
+use crate::parts::Parts;
+use crate::queries::{CaseInfo, FieldInfo, Shape};
+use crate::rows::{Row, end_of, lay_definition, row_in};
 use crate::signature::{CoreSignature, lifted_of, lowered_of};
 use crate::work::total_work;
 use resolve::{Definition, FunctionId, Resolve, ValType};
 use std::alloc::Global;
 use std::marker::Model;
 
-/// The rows of a package's definitions, in table order.
-fn all_rows(alloc: Global, resolve: &Resolve) -> Result<Vec<Row>, LayoutError>
-    ensures ok { IfOk result (λ rows. rows.items ≡ map row_of (closed_types resolve.now)) }
-    ensures sound { IfOk result (λ rows. All IsSound rows.items) }
+/// The rows of a package's definitions, in table order, and what stands directly in each.
+#[derive(Drop)]
+struct Tables {
+    rows: Vec<Row>,
+    parts: Vec<Parts>,
+}
+
+fn lay_all(alloc: Global, resolve: &Resolve) -> Result<Tables, LayoutError>
+    ensures rows { IfOk result (λ t. t.rows.items ≡ map row_of (closed_types resolve.now)) }
+    ensures parts { IfOk result (λ t. t.parts.items ≡ parts_from (λ v. extent_of (closed_type resolve.now v)) [] resolve.now.definitions) }
+    ensures sound { IfOk result (λ t. All IsSound t.rows.items) }
+    ensures ended { IfOk result (λ t. AreEnded t.parts.items) }
     ensures within { IfOk result (λ _. AreWithin resolve.now) }
     ensures err { IfErr result (λ e. RefusesFirst e resolve.now) }
 {
     let mut rows = Vec::new(alloc);
+    let mut parts = Vec::new(alloc);
     for definition in resolve.definitions.as_slice() {
-        let row = definition_row(rows.as_slice(), definition)?;
-        rows.push(row)?;
+        let laid = lay_definition(alloc, rows.as_slice(), parts.as_slice(), definition)?;
+        rows.push(laid.row)?;
+        parts.push(laid.parts)?;
     }
-    Ok(rows)
+    Ok(Tables { rows, parts })
 }
 
 /// The kinds of a function's result, and none of a type.
@@ -69,18 +83,20 @@ pub struct Layouts {
     rows: Vec<Row>,
     /// The flat kinds of each function's result; none at a type's place.
     results: Vec<Kinds>,
+    parts: Vec<Parts>,
     work: u64,
 }
 
 impl Model for Layouts {
     ghost use Rattle.std.specs.Prelude.{◌≡◌, All, length};
     ghost use Rattle.layout.specs.Layout.{Table, IsSound};
+    ghost use Rattle.layout.specs.Parts.{AreEnded};
 
     ghost Value = { Table };
 
-    ghost view = { λ l. record { rows = l.rows.items; results = l.results.items; work = l.work } };
+    ghost view = { λ l. record { rows = l.rows.items; results = l.results.items; parts = l.parts.items; work = l.work } };
 
-    ghost invariant = { λ l. All IsSound l.rows.items × (length l.results.items ≡ length l.rows.items) };
+    ghost invariant = { λ l. All IsSound l.rows.items × (length l.results.items ≡ length l.rows.items) × (length l.parts.items ≡ length l.rows.items) × AreEnded l.parts.items };
 }
 
 impl Layouts {
@@ -91,14 +107,32 @@ impl Layouts {
         ensures within { IfOk result (λ _. AreWithin resolve.now) }
         ensures err { IfErr result (λ e. RefusesFirst e resolve.now) }
     {
-        let rows = all_rows(alloc, resolve)?;
-        let results = all_results(alloc, resolve, rows.as_slice())?;
+        let tables = lay_all(alloc, resolve)?;
+        let results = all_results(alloc, resolve, tables.rows.as_slice())?;
         let work = total_work(resolve.definitions.as_slice());
         Ok(Layouts {
-            rows,
+            rows: tables.rows,
             results,
+            parts: tables.parts,
             work,
         })
+    }
+
+    /// Whether the type stands in the table.
+    pub fn has(&self, ty: ValType) -> bool
+        ensures { result ≡ is_below (length self.now.rows) ty }
+    {
+        match ty {
+            ValType::Primitive(_) | ValType::String => true,
+            ValType::Id(id) => (id.0 as usize) < self.rows.len(),
+        }
+    }
+
+    /// Whether the place of the function is in the table.
+    pub fn has_function(&self, func: FunctionId) -> bool
+        ensures { IsTrue result ↔ (func.0 < length self.now.rows) }
+    {
+        (func.0 as usize) < self.rows.len()
     }
 
     /// The size of a type of the package, in bytes.
@@ -155,5 +189,82 @@ impl Layouts {
         ensures { (r : Resolve) → self.now ≡ layouts_of r → result ≡ saturated (total_work r.definitions) }
     {
         self.work
+    }
+
+    /// What a type stands for in the end.
+    fn end(&self, ty: ValType) -> ValType
+        requires { IsTrue (is_below (length self.now.rows) ty) }
+        ensures value { result ≡ end_of self.now.parts ty }
+        ensures below { IsTrue (is_below (length self.now.rows) result) }
+        ensures end { IsTrue (is_end self.now.parts result) }
+    {
+        end_of(self.parts.as_slice(), ty)
+    }
+
+    fn shape_of(&self, end: ValType) -> Shape
+        requires below { IsTrue (is_below (length self.now.rows) end) }
+        requires end { IsTrue (is_end self.now.parts end) }
+        ensures { result ≡ shape_of self.now.parts end }
+    {
+        match end {
+            ValType::Primitive(primitive) => Shape::Primitive(primitive),
+            ValType::String => Shape::String,
+            ValType::Id(id) => self.parts[id.0 as usize].shape(),
+        }
+    }
+
+    fn field_of(&self, end: ValType, index: usize) -> Option<FieldInfo>
+        requires { IsTrue (is_below (length self.now.rows) end) }
+        ensures { result ≡ field_of self.now.parts end index }
+    {
+        match end {
+            ValType::Id(id) => self.parts[id.0 as usize].field(index),
+            _ => None,
+        }
+    }
+
+    fn case_of(&self, end: ValType, index: usize) -> Option<CaseInfo>
+        requires { IsTrue (is_below (length self.now.rows) end) }
+        ensures { result ≡ case_of self.now.parts end index }
+    {
+        match end {
+            ValType::Id(id) => self.parts[id.0 as usize].case(index),
+            _ => None,
+        }
+    }
+
+    /// The shape of a type of the package.
+    pub fn shape(&self, ty: ValType) -> Shape
+        requires { IsTrue (is_below (length self.now.rows) ty) }
+        ensures { (r : Resolve) → self.now ≡ layouts_of r → HasShape (closed_type r) (length self.now.rows) (closed_type r ty) result }
+    {
+        self.shape_of(self.end(ty))
+    }
+
+    /// A field of a record or a tuple, with its place; None where the type has no such field.
+    pub fn field(&self, ty: ValType, index: usize) -> Option<FieldInfo>
+        requires { IsTrue (is_below (length self.now.rows) ty) }
+        ensures { (r : Resolve) → self.now ≡ layouts_of r → TellsField (closed_type r) (length self.now.rows) (closed_type r ty) index result }
+    {
+        self.field_of(self.end(ty), index)
+    }
+
+    /// The place of a field in bytes; None where the type has no such field.
+    pub fn field_offset(&self, ty: ValType, index: usize) -> Option<u32>
+        requires { IsTrue (is_below (length self.now.rows) ty) }
+        ensures { (r : Resolve) → self.now ≡ layouts_of r → result ≡ slice_get (field_places (record_fields (closed_type r ty))) index }
+    {
+        match self.field(ty, index) {
+            Some(field) => Some(field.offset),
+            None => None,
+        }
+    }
+
+    /// A case of a variant, an enum, an option or a result; None where the type has no such case.
+    pub fn case_info(&self, ty: ValType, index: usize) -> Option<CaseInfo>
+        requires { IsTrue (is_below (length self.now.rows) ty) }
+        ensures { (r : Resolve) → self.now ≡ layouts_of r → TellsCase (closed_type r) (length self.now.rows) (closed_type r ty) index result }
+    {
+        self.case_of(self.end(ty), index)
     }
 }

@@ -10,6 +10,8 @@ mod error;
 mod kinds;
 mod layouts;
 mod members;
+mod parts;
+mod queries;
 mod rows;
 mod signature;
 mod work;
@@ -17,5 +19,10 @@ mod work;
 pub use error::LayoutError;
 pub use kinds::{Kinds, MAX_FLAT};
 pub use layouts::Layouts;
+pub use parts::Parts;
+pub use queries::{CaseInfo, FieldInfo, Shape};
 pub use rows::{MAX_DEPTH, MAX_SIZE, Row};
 pub use signature::CoreSignature;
+
+#[cfg(test)]
+mod tests;

@@ -1,18 +1,21 @@
 //! The row of a definition, by the rows of the definitions before it.
-ghost use Rattle.std.specs.Prelude.{◌≡◌, ◌+◌, ◌≤◌, ◌<◌, ℕ, length, All, IsTrue, IfOk, IfErr};
+ghost use Rattle.std.specs.Prelude.{◌≡◌, ◌+◌, ◌≤◌, ◌<◌, ◌⊎◌, ℕ, map, length, All, IsTrue, IfOk, IfErr};
 ghost use Rattle.std.specs.Int.{next_multiple_of};
 ghost use Rattle.canonical_abi.specs.Types.{prim_type, string_type, flags_type};
-ghost use Rattle.canonical_abi.specs.Layout.{discriminant_size};
+ghost use Rattle.canonical_abi.specs.Layout.{discriminant_size, places_from, payload_at};
 ghost use Rattle.resolve.specs.Closed.{prim_of};
 ghost use Rattle.resolve.specs.Tables.{is_below, option_below, kind_below, definition_below};
 ghost use Rattle.layout.specs.Layout.{row_of, capped, IsSound, max_size};
-ghost use Rattle.layout.specs.Rows.{row_in, rows_at, deepest, record_row, choices_at, variant_row, list_row, kind_row, definition_row, number_row, IsKept, IsLimited, IsLimitedDefinition, RefusesRow, RefusesDefinition};
+ghost use Rattle.layout.specs.Parts.{payloads, end_of, record_parts, variant_parts, kind_parts, definition_parts};
+ghost use Rattle.layout.specs.Rows.{row_in, rows_at, extent_at, extents, deepest, record_row, choices_at, variant_row, list_row, kind_row, definition_row, number_row, IsKept, IsLimited, IsLimitedDefinition, RefusesRow, RefusesDefinition};
 
 use crate::error::LayoutError;
 use crate::kinds::Kinds;
 use crate::members::{Choice, Member};
+use crate::parts::Parts;
 use canonical_abi::CoreKind;
-use resolve::{Definition, Primitive, TypeDefKind, ValType};
+use resolve::{Definition, Primitive, Sequence, TypeDefKind, ValType};
+use std::alloc::Global;
 
 /// The greatest depth of a type.
 pub const MAX_DEPTH: u32 = 64;
@@ -134,24 +137,39 @@ fn depth_of<M: Member>(rows: &[Row], members: &[M]) -> u32
     deeper(depth)
 }
 
+/// A record's row, and the places of its fields.
+#[derive(Drop)]
+struct RecordRow {
+    row: Row,
+    offsets: Sequence<u32>,
+}
+
 /// The row of a record. Its depth has no limit here.
-fn record_row<M: Member>(rows: &[Row], members: &[M]) -> Result<Row, LayoutError>
+fn record_row<M: Member>(
+    alloc: Global,
+    rows: &[Row],
+    members: &[M],
+) -> Result<RecordRow, LayoutError>
     requires below { All (λ m. IsTrue (is_below (length rows.now) (M.type_of m))) members.now }
     requires sound { All IsSound rows.now }
-    ensures row { IfOk result (λ x. x ≡ record_row (rows_at rows.now M.type_of members.now)) }
-    ensures sound { IfOk result IsSound }
-    ensures err { IfErr result (λ e. (e ≡ LayoutError.TooLarge) × (max_size < (record_row (rows_at rows.now M.type_of members.now)).size)) }
+    ensures row { IfOk result (λ x. x.row ≡ record_row (rows_at rows.now M.type_of members.now)) }
+    ensures offsets { IfOk result (λ x. x.offsets ≡ places_from 0 (extents (rows_at rows.now M.type_of members.now))) }
+    ensures sound { IfOk result (λ x. IsSound x.row) }
+    ensures err { IfErr result (λ e. (e ≡ LayoutError.NoMemory) ⊎ ((e ≡ LayoutError.TooLarge) × (max_size < (record_row (rows_at rows.now M.type_of members.now)).size))) }
 {
     let depth = depth_of(rows, members);
+    let mut offsets = Vec::new(alloc);
     let mut end = 0;
     let mut align = 1;
     let mut kinds = Kinds::none();
     for member in members {
         let row = row_in(rows, member.ty());
-        end = align_up(end, row.align) + row.size;
+        let offset = align_up(end, row.align);
+        end = offset + row.size;
         if end > MAX_SIZE {
             return Err(LayoutError::TooLarge);
         }
+        offsets.push(offset)?;
         align = align.max(row.align);
         kinds = kinds.append(&row.kinds);
     }
@@ -159,27 +177,80 @@ fn record_row<M: Member>(rows: &[Row], members: &[M]) -> Result<Row, LayoutError
     if size > MAX_SIZE {
         return Err(LayoutError::TooLarge);
     }
-    Ok(Row {
-        depth,
-        size,
-        align,
-        kinds,
+    Ok(RecordRow {
+        row: Row {
+            depth,
+            size,
+            align,
+            kinds,
+        },
+        offsets: Sequence::new(offsets),
     })
 }
 
-/// The row of a record or a tuple that is a type.
-fn limited_record_row<M: Member>(rows: &[Row], members: &[M]) -> Result<Row, LayoutError>
+/// A definition's row, and what stands directly in it.
+#[derive(Drop)]
+pub(crate) struct Laid {
+    pub(crate) row: Row,
+    pub(crate) parts: Parts,
+}
+
+fn member_types<M: Member>(alloc: Global, members: &[M]) -> Result<Sequence<ValType>, LayoutError>
+    ensures ok { IfOk result (λ vs. vs ≡ map M.type_of members.now) }
+    ensures err { IfErr result (λ e. e ≡ LayoutError.NoMemory) }
+{
+    let mut types = Vec::new(alloc);
+    for member in members {
+        types.push(member.ty())?;
+    }
+    Ok(Sequence::new(types))
+}
+
+fn payload_types<C: Choice>(
+    alloc: Global,
+    cases: &[C],
+) -> Result<Sequence<Option<ValType>>, LayoutError>
+    ensures ok { IfOk result (λ os. os ≡ map C.payload_of cases.now) }
+    ensures err { IfErr result (λ e. e ≡ LayoutError.NoMemory) }
+{
+    let mut payloads = Vec::new(alloc);
+    for case in cases {
+        payloads.push(case.payload())?;
+    }
+    Ok(Sequence::new(payloads))
+}
+
+/// A record of these members, without a limit of depth.
+fn lay_members<M: Member>(alloc: Global, rows: &[Row], members: &[M]) -> Result<Laid, LayoutError>
     requires below { All (λ m. IsTrue (is_below (length rows.now) (M.type_of m))) members.now }
     requires sound { All IsSound rows.now }
-    ensures row { IfOk result (λ x. x ≡ record_row (rows_at rows.now M.type_of members.now)) }
-    ensures sound { IfOk result IsSound }
-    ensures within { IfOk result IsLimited }
+    ensures row { IfOk result (λ x. x.row ≡ record_row (rows_at rows.now M.type_of members.now)) }
+    ensures parts { IfOk result (λ x. x.parts ≡ record_parts (extent_at rows.now) (map M.type_of members.now)) }
+    ensures sound { IfOk result (λ x. IsSound x.row) }
+    ensures err { IfErr result (λ e. (e ≡ LayoutError.NoMemory) ⊎ ((e ≡ LayoutError.TooLarge) × (max_size < (record_row (rows_at rows.now M.type_of members.now)).size))) }
+{
+    let record = record_row(alloc, rows, members)?;
+    let types = member_types(alloc, members)?;
+    Ok(Laid {
+        row: record.row,
+        parts: Parts::Record(types, record.offsets),
+    })
+}
+
+/// A record or a tuple that is a type.
+fn lay_record<M: Member>(alloc: Global, rows: &[Row], members: &[M]) -> Result<Laid, LayoutError>
+    requires below { All (λ m. IsTrue (is_below (length rows.now) (M.type_of m))) members.now }
+    requires sound { All IsSound rows.now }
+    ensures row { IfOk result (λ x. x.row ≡ record_row (rows_at rows.now M.type_of members.now)) }
+    ensures parts { IfOk result (λ x. x.parts ≡ record_parts (extent_at rows.now) (map M.type_of members.now)) }
+    ensures sound { IfOk result (λ x. IsSound x.row) }
+    ensures within { IfOk result (λ x. IsLimited x.row) }
     ensures err { IfErr result (λ e. RefusesRow e (record_row (rows_at rows.now M.type_of members.now))) }
 {
     if depth_of(rows, members) > MAX_DEPTH {
         return Err(LayoutError::TooDeep);
     }
-    record_row(rows, members)
+    lay_members(alloc, rows, members)
 }
 
 /// The bytes of a discriminant of so many cases.
@@ -197,12 +268,19 @@ fn discriminant_size(cases: usize) -> u32
     }
 }
 
-/// The row of a variant, which may be above the limits.
-fn variant_row<C: Choice>(rows: &[Row], cases: &[C]) -> Row
+/// A variant's row, which may be above the limits, and the place of its payload.
+#[derive(Drop)]
+struct VariantRow {
+    row: Row,
+    payload: u32,
+}
+
+fn variant_row<C: Choice>(rows: &[Row], cases: &[C]) -> VariantRow
     requires below { All (λ c. IsTrue (option_below (length rows.now) (C.payload_of c))) cases.now }
     requires sound { All IsSound rows.now }
-    ensures value { result ≡ variant_row (choices_at rows.now C.payload_of cases.now) }
-    ensures kept { IsKept result }
+    ensures value { result.row ≡ variant_row (choices_at rows.now C.payload_of cases.now) }
+    ensures payload { result.payload ≡ payload_at (length cases.now) (extents (payloads (choices_at rows.now C.payload_of cases.now))) }
+    ensures kept { IsKept result.row }
 {
     let discriminant = discriminant_size(cases.len());
     let mut depth = 0;
@@ -220,11 +298,14 @@ fn variant_row<C: Choice>(rows: &[Row], cases: &[C]) -> Row
     }
     let payload = align_up(discriminant, align);
     let align = discriminant.max(align);
-    Row {
-        depth: deeper(depth),
-        size: align_up(payload + size, align),
-        align,
-        kinds: Kinds::one(CoreKind::I32).append(&kinds),
+    VariantRow {
+        row: Row {
+            depth: deeper(depth),
+            size: align_up(payload + size, align),
+            align,
+            kinds: Kinds::one(CoreKind::I32).append(&kinds),
+        },
+        payload,
     }
 }
 
@@ -245,40 +326,125 @@ fn limited(row: Row) -> Result<Row, LayoutError>
     Ok(row)
 }
 
-/// The row of a type.
-fn kind_row(rows: &[Row], kind: &TypeDefKind) -> Result<Row, LayoutError>
-    requires below { IsTrue (kind_below (length rows.now) kind.now) }
+/// A variant, an enum, an option or a result.
+fn lay_variant<C: Choice>(alloc: Global, rows: &[Row], cases: &[C]) -> Result<Laid, LayoutError>
+    requires below { All (λ c. IsTrue (option_below (length rows.now) (C.payload_of c))) cases.now }
     requires sound { All IsSound rows.now }
-    ensures row { IfOk result (λ r. r ≡ kind_row rows.now kind.now) }
-    ensures sound { IfOk result IsSound }
-    ensures within { IfOk result IsLimited }
-    ensures err { IfErr result (λ e. RefusesRow e (kind_row rows.now kind.now)) }
+    ensures row { IfOk result (λ x. x.row ≡ variant_row (choices_at rows.now C.payload_of cases.now)) }
+    ensures parts { IfOk result (λ x. x.parts ≡ variant_parts (extent_at rows.now) (map C.payload_of cases.now)) }
+    ensures sound { IfOk result (λ x. IsSound x.row) }
+    ensures within { IfOk result (λ x. IsLimited x.row) }
+    ensures err { IfErr result (λ e. RefusesRow e (variant_row (choices_at rows.now C.payload_of cases.now))) }
 {
-    match kind {
-        TypeDefKind::Use(target) => limited(row_in(rows, ValType::Id(*target))),
-        TypeDefKind::Alias(target) => limited(row_in(rows, *target)),
-        TypeDefKind::List(element) => limited(block_row(deeper(row_in(rows, *element).depth))),
-        TypeDefKind::Option(payload) => limited(variant_row(rows, &[None, Some(*payload)])),
-        TypeDefKind::Result(ok, error) => limited(variant_row(rows, &[*ok, *error])),
-        TypeDefKind::Tuple(types) => limited_record_row(rows, types.as_slice()),
-        TypeDefKind::Record(fields) => limited_record_row(rows, fields.as_slice()),
-        TypeDefKind::Variant(cases) => limited(variant_row(rows, cases.as_slice())),
-        TypeDefKind::Enum(names) => limited(variant_row(rows, names.as_slice())),
-        TypeDefKind::Flags(labels) => limited(flags_row(labels.len())),
+    let variant = variant_row(rows, cases);
+    let row = limited(variant.row)?;
+    let payloads = payload_types(alloc, cases)?;
+    Ok(Laid {
+        row,
+        parts: Parts::Variant(variant.payload, payloads),
+    })
+}
+
+/// What a type stands for in the end.
+pub(crate) fn end_of(parts: &[Parts], ty: ValType) -> ValType
+    requires { IsTrue (is_below (length parts.now) ty) }
+    ensures { result ≡ end_of parts.now ty }
+{
+    match ty {
+        ValType::Id(id) => match &parts[id.0 as usize] {
+            Parts::Same(end) => *end,
+            _ => ty,
+        },
+        _ => ty,
     }
 }
 
-/// The row of a definition; that of a function is the record of its parameters.
-pub(crate) fn definition_row(rows: &[Row], definition: &Definition) -> Result<Row, LayoutError>
-    requires below { IsTrue (definition_below (length rows.now) definition.now) }
+/// A used name or a new name.
+fn lay_name(rows: &[Row], parts: &[Parts], target: ValType) -> Result<Laid, LayoutError>
+    requires below { IsTrue (is_below (length rows.now) target) }
+    requires same { length parts.now ≡ length rows.now }
     requires sound { All IsSound rows.now }
-    ensures row { IfOk result (λ r. r ≡ definition_row rows.now definition.now) }
-    ensures sound { IfOk result IsSound }
-    ensures within { IfOk result (IsLimitedDefinition definition.now) }
+    ensures row { IfOk result (λ x. x.row ≡ row_in rows.now target) }
+    ensures parts { IfOk result (λ x. x.parts ≡ Parts.Same (end_of parts.now target)) }
+    ensures sound { IfOk result (λ x. IsSound x.row) }
+    ensures within { IfOk result (λ x. IsLimited x.row) }
+    ensures err { IfErr result (λ e. RefusesRow e (row_in rows.now target)) }
+{
+    let row = limited(row_in(rows, target))?;
+    Ok(Laid {
+        row,
+        parts: Parts::Same(end_of(parts, target)),
+    })
+}
+
+/// A list of these elements.
+fn lay_list(rows: &[Row], element: ValType) -> Result<Laid, LayoutError>
+    requires below { IsTrue (is_below (length rows.now) element) }
+    requires sound { All IsSound rows.now }
+    ensures row { IfOk result (λ x. x.row ≡ list_row (row_in rows.now element)) }
+    ensures parts { IfOk result (λ x. x.parts ≡ Parts.List element) }
+    ensures sound { IfOk result (λ x. IsSound x.row) }
+    ensures within { IfOk result (λ x. IsLimited x.row) }
+    ensures err { IfErr result (λ e. RefusesRow e (list_row (row_in rows.now element))) }
+{
+    let row = limited(block_row(deeper(row_in(rows, element).depth)))?;
+    Ok(Laid {
+        row,
+        parts: Parts::List(element),
+    })
+}
+
+/// A type.
+fn lay_kind(
+    alloc: Global,
+    rows: &[Row],
+    parts: &[Parts],
+    kind: &TypeDefKind,
+) -> Result<Laid, LayoutError>
+    requires below { IsTrue (kind_below (length rows.now) kind.now) }
+    requires same { length parts.now ≡ length rows.now }
+    requires sound { All IsSound rows.now }
+    ensures row { IfOk result (λ x. x.row ≡ kind_row rows.now kind.now) }
+    ensures parts { IfOk result (λ x. x.parts ≡ kind_parts (extent_at rows.now) parts.now kind.now) }
+    ensures sound { IfOk result (λ x. IsSound x.row) }
+    ensures within { IfOk result (λ x. IsLimited x.row) }
+    ensures err { IfErr result (λ e. RefusesRow e (kind_row rows.now kind.now)) }
+{
+    match kind {
+        TypeDefKind::Use(target) => lay_name(rows, parts, ValType::Id(*target)),
+        TypeDefKind::Alias(target) => lay_name(rows, parts, *target),
+        TypeDefKind::List(element) => lay_list(rows, *element),
+        TypeDefKind::Option(payload) => lay_variant(alloc, rows, &[None, Some(*payload)]),
+        TypeDefKind::Result(ok, error) => lay_variant(alloc, rows, &[*ok, *error]),
+        TypeDefKind::Tuple(types) => lay_record(alloc, rows, types.as_slice()),
+        TypeDefKind::Record(fields) => lay_record(alloc, rows, fields.as_slice()),
+        TypeDefKind::Variant(cases) => lay_variant(alloc, rows, cases.as_slice()),
+        TypeDefKind::Enum(names) => lay_variant(alloc, rows, names.as_slice()),
+        TypeDefKind::Flags(labels) => Ok(Laid {
+            row: flags_row(labels.len()),
+            parts: Parts::Flags(labels.len()),
+        }),
+    }
+}
+
+/// A definition; a function is laid out as the record of its parameters.
+pub(crate) fn lay_definition(
+    alloc: Global,
+    rows: &[Row],
+    parts: &[Parts],
+    definition: &Definition,
+) -> Result<Laid, LayoutError>
+    requires below { IsTrue (definition_below (length rows.now) definition.now) }
+    requires same { length parts.now ≡ length rows.now }
+    requires sound { All IsSound rows.now }
+    ensures row { IfOk result (λ x. x.row ≡ definition_row rows.now definition.now) }
+    ensures parts { IfOk result (λ x. x.parts ≡ definition_parts (extent_at rows.now) parts.now definition.now) }
+    ensures sound { IfOk result (λ x. IsSound x.row) }
+    ensures within { IfOk result (λ x. IsLimitedDefinition definition.now x.row) }
     ensures err { IfErr result (λ e. RefusesDefinition e definition.now (definition_row rows.now definition.now)) }
 {
     match definition {
-        Definition::Type(definition) => kind_row(rows, &definition.kind),
-        Definition::Function(function) => record_row(rows, function.params.as_slice()),
+        Definition::Type(definition) => lay_kind(alloc, rows, parts, &definition.kind),
+        Definition::Function(function) => lay_members(alloc, rows, function.params.as_slice()),
     }
 }

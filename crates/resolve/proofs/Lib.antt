@@ -4,3 +4,6 @@ pub mod Distinct
 pub mod Functions
 pub mod Package
 pub mod Rows
+pub mod OrderSteps
+pub mod Unfolded
+pub mod Earlier

@@ -4,3 +4,6 @@ pub mod Names
 pub mod Same
 pub mod Scope
 pub mod FromAst
+pub mod Order
+pub mod Package
+pub mod Parts

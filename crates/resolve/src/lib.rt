@@ -9,7 +9,10 @@
 mod copy;
 mod error;
 mod from_ast;
+pub mod laws;
 mod lookup;
+mod order;
+mod parts;
 mod scope;
 mod sequence;
 mod tables;

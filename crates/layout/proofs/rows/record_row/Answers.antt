@@ -1,4 +1,4 @@
-use Rattle.std.proofs.Common.{◌≡◌, ◌+◌, ◌∷◌, [], ◌++◌, take, arith, rules, refl}
+use Rattle.std.proofs.Common.{◌≡◌, ◌+◌, ◌∷◌, [], ◌++◌, take, arith, rules, refl, inr}
 use Rattle.std.specs.Int.{next_multiple_of}
 use Rattle.canonical_abi.specs.Layout.{end_from}
 use Rattle.layout.specs.Rows.{row_in, rows_at, extents}
@@ -15,9 +15,9 @@ returns-then-end-gt-MAX_SIZE-clause-err g c =
     let r : rows_at rows ty (take (i + 1) members) ≡ rows_at rows ty (take i members) ++ c.row_in-row.result ∷ [] = grind arith in
     let whole = record_size-take (λ m. row_in rows (ty m)) members (i + 1) in
     let end = end_from-more _ _ c.row_in-row.result r in
-    let place : c.align_up.result ≡ next_multiple_of (end_from 0 (extents (rows_at rows ty (take i members)))) c.row_in-row.result.align =
-    rw (← c.loop-member.invariant.end_is) c.align_up.ensures.value in
-    (refl, omega arith)
+    let place : c.align_up-offset.result ≡ next_multiple_of (end_from 0 (extents (rows_at rows ty (take i members)))) c.row_in-row.result.align =
+    rw (← c.loop-member.invariant.end_is) c.align_up-offset.ensures.value in
+    inr (refl, omega arith)
 
 pub loop-member-preserved : goal.loop-member-preserved
 loop-member-preserved g c =
@@ -26,5 +26,5 @@ loop-member-preserved g c =
     let i = c.loop-member.member-index in
     let ty = g.M.Member.type_of in
     let more = rows_at-more rows ty members i c.member-item.result (omega arith) in
-    record_more c.row_in-row.result c.align_up.result c.loop-member.invariant c.row_in-row.ensures.sound
-    (grind arith) c.align_up.ensures.value refl (omega arith) (search rules) c.append-kinds.ensures
+    record_more {rows = rows_at rows ty (take i members)} {rows' = rows_at rows ty (take (i + 1) members)} c.row_in-row.result c.align_up-offset.result c.loop-member.invariant c.row_in-row.ensures.sound
+    (grind arith) c.align_up-offset.ensures.value refl (omega arith) (search rules) c.append-kinds.ensures (search rules)

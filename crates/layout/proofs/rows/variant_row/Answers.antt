@@ -1,5 +1,6 @@
 use Rattle.std.proofs.Common.{◌≡◌, ◌+◌, ◌∷◌, [], ◌++◌, None, Some, take, get_or, arith, rules}
-use Rattle.layout.specs.Rows.{choices_at, payloads}
+use Rattle.layout.specs.Parts.{payloads}
+use Rattle.layout.specs.Rows.{choices_at}
 use Rattle.layout.proofs.VariantLoop.{variant_more, choices_at-some, choices_at-none}
 use Rattle.layout.proofs.rows.variant_row.Goals as goal
 use Rattle.layout.proofs.rows.variant_row.Goals.{in-Some, in_default}

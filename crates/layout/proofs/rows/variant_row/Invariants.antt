@@ -1,5 +1,6 @@
 use Rattle.std.proofs.Common.{take}
-use Rattle.layout.specs.Rows.{choices_at, payloads}
+use Rattle.layout.specs.Parts.{payloads}
+use Rattle.layout.specs.Rows.{choices_at}
 use Rattle.layout.proofs.VariantLoop.{VariantSoFar}
 use Rattle.layout.proofs.rows.variant_row.Given as goal
 

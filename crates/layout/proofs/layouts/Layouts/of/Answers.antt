@@ -1,13 +1,19 @@
-use Rattle.std.proofs.Common.{length, ap, ◌∙◌, sym}
+use Rattle.std.proofs.Common.{[], arith, length, ap, ◌∙◌, sym}
 use Rattle.std.proofs.lemmas.List.{length-map}
-use Rattle.resolve.specs.Closed.{closed_types}
+use Rattle.canonical_abi.specs.Layout.{extent_of}
+use Rattle.resolve.specs.Closed.{closed_types, closed_type}
 use Rattle.layout.specs.Layout.{result_of}
+use Rattle.layout.proofs.Agreement.{length-parts}
 use Rattle.layout.proofs.Table.{length-table}
 use Rattle.layout.proofs.layouts.Layouts.of.Goals as goal
 
 pub invariant_of-result : goal.invariant_of-result
 invariant_of-result c =
-    let r = c.args.resolve.now in (
-      c.in_ok-rows.ensures.sound,
-      ap length c.in_ok-results.ensures.ok ∙ length-map r.definitions (result_of (closed_types r)) ∙ sym (length-table r c.in_ok-rows.rows.items c.in_ok-rows.ensures.ok),
+    let r = c.args.resolve.now in
+    let tables = c.in_ok-tables.tables in
+    let rows = length-table r tables.rows.items c.in_ok-tables.ensures.rows in (
+      c.in_ok-tables.ensures.sound,
+      ap length c.in_ok-results.ensures.ok ∙ length-map r.definitions (result_of (closed_types r)) ∙ sym rows,
+      ap length c.in_ok-tables.ensures.parts ∙ length-parts (λ v. extent_of (closed_type r v)) [] r.definitions ∙ omega (arith, rows),
+      c.in_ok-tables.ensures.ended,
     )

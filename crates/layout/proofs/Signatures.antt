@@ -1,4 +1,4 @@
--- What a made layout table answers.
+-- The flat kinds of types and the core signatures of functions, of a made layout table.
 use Rattle.std.proofs.Common.{◌≡◌, inl, inr, ◌<◌, nat_le, Bool, true, false, List, [], ◌∷◌, ◌++◌, length, map, fold, get_or, if◌then◌else◌, refl, ap, sym, ◌∙◌, arith}
 use Rattle.std.proofs.lemmas.List.{get_or-map}
 use Rattle.canonical_abi.specs.Types.{string_type, record_type, fields_of, result_fields, FunctionType}
