@@ -1,5 +1,9 @@
 -- The types of a function's parameters and of its result, as its package names them.
-use Rattle.std.specs.Prelude.{List, [], map, Option, Some, None}
+use Rattle.std.specs.Prelude.{◌⊎◌, ℕ, List, [], map, Option, Some, None}
+use Rattle.resolve.specs.Closed.{IsScalarFunction}
+use Rattle.resolve.specs.Names.{IsNamed}
+use Rattle.resolve.specs.declared.tables.FunctionId.{FunctionId}
+use Rattle.resolve.specs.declared.tables.Resolve.{Resolve}
 use Rattle.resolve.specs.declared.tables.ValType.{ValType}
 use Rattle.resolve.specs.declared.tables.Function.{Function}
 
@@ -10,3 +14,8 @@ pub record Signature : Type 0 where
 abbrev pub signature_of : Option Function → Signature
 signature_of None = record { params = []; result = None }
 signature_of (Some f) = record { params = map (λ p. p.ty) f.params; result = f.result }
+
+-- nothing has this name, or what has it is no scalar function
+abbrev pub IsMissing : Resolve → List ℕ → List ℕ → Type 0
+IsMissing r iface func =
+    ((f : FunctionId) → ¬ IsNamed r iface func f) ⊎ ((f : FunctionId) × IsNamed r iface func f × ¬ (IsScalarFunction r f))

@@ -1,7 +1,9 @@
--- The exit status of a refusal.
+-- Refusals: what a fault becomes, and the exit status.
 use Rattle.std.specs.Prelude.{ℕ}
 use Rattle.witcall.specs.declared.refused.Refused.{Refused}
-use Rattle.witcall.specs.declared.refused.Refused.TheVariants.{Words, Trap}
+use Rattle.witcall.specs.declared.refused.Refused.TheVariants.{Words, Trap, NoMemory}
+use Rattle.canonical_abi.specs.declared.trap.Fault.{Fault}
+use Rattle.canonical_abi.specs.declared.trap.Fault.TheVariants as fault
 use Rattle.words.specs.declared.parsing.WordsError.TheVariants.{Usage}
 
 -- 2 for wrong words, 3 for a trap, 1 for any other refusal
@@ -9,3 +11,8 @@ abbrev pub status_of : Refused → ℕ
 status_of (Words Usage) = 2
 status_of (Trap trap) = 3
 status_of _ = 1
+
+-- a fault of the call as a refusal
+abbrev pub refusal_of : Fault → Refused
+refusal_of (fault.Trap t) = Trap t
+refusal_of fault.NoMemory = NoMemory

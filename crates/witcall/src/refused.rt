@@ -72,10 +72,10 @@ impl From<MemoryError> for Refused {
 }
 
 impl From<Fault> for Refused {
-    ghost use Rattle.std.specs.Prelude.{◌≢◌};
-    ghost use Rattle.witcall.specs.declared.refused.Refused.TheVariants.{Write};
+    ghost use Rattle.std.specs.Prelude.{◌≡◌};
+    ghost use Rattle.witcall.specs.Status.{refusal_of};
 
-    ghost from_gives = { λ _ e. e ≢ Write };
+    ghost from_gives = { λ fault e. e ≡ refusal_of fault };
 
     fn from(fault: Fault) -> Refused {
         match fault {

@@ -1,12 +1,12 @@
 //! The functions that a session calls, and the types of their parameters and results.
 
-ghost use Rattle.std.specs.Prelude.{◌≡◌, ◌≤◌, length, map, take, IfOk, IfErr, option_to_list};
+ghost use Rattle.std.specs.Prelude.{◌≡◌, ◌≤◌, length, map, take, IfOk, IfErr, OnErr, option_to_list};
 ghost use Rattle.canonical_abi.specs.Types.{result_fields};
 ghost use Rattle.resolve.specs.Closed.{IsScalarFunction, function_at, function_type};
 ghost use Rattle.resolve.specs.Names.{IsNamed};
 ghost use Rattle.lift_lower.specs.Scalars.{AreScalar};
 ghost use Rattle.lift_lower.specs.Crossing.{fields_of_types};
-ghost use Rattle.witcall.specs.Signature.{signature_of};
+ghost use Rattle.witcall.specs.Signature.{signature_of, IsMissing};
 
 use crate::package::Package;
 use crate::refused::Refused;
@@ -20,12 +20,17 @@ const MAX_PARAMS: usize = 16;
 pub fn scalar_function(package: &Package, iface: &str, func: &str) -> Result<FunctionId, Refused>
     ensures scalar { IfOk result (IsScalarFunction «package».now.resolve) }
     ensures named { IfOk result (IsNamed «package».now.resolve iface.now func.now) }
-    ensures none { IfErr result (λ e. e ≡ Refused.NoFunction) }
+    ensures err { IfErr result (λ e. e ≡ Refused.NoFunction) }
+    ensures none { OnErr result (IsMissing «package».now.resolve iface.now func.now) }
 {
     let resolve = package.resolve();
-    match resolve.function(iface, func) {
-        Some(func) if resolve.is_scalar(func) => Ok(func),
-        _ => Err(Refused::NoFunction),
+    let Some(found) = resolve.function(iface, func) else {
+        return Err(Refused::NoFunction);
+    };
+    if resolve.is_scalar(found) {
+        Ok(found)
+    } else {
+        Err(Refused::NoFunction)
     }
 }
 
