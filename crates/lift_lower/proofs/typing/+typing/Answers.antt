@@ -59,9 +59,10 @@ have_types-loop-index-preserved t c =
     let at : c.loop-index.index < length c.args.values.now = omega (arith, c.if-values-count.false, c.loop-index-test.true) in
     let here = get_or-map value_of c.args.values.now c.loop-index.index v (value_of v) at ∙ ap value_of (sym c.index-values-index.is) in
     let below : c.loop-index.index < length vs = omega (arith, length-map c.args.values.now value_of, at) in
-    let next = sym c.in-Some.ensures.found in
-    (λ have. have-rest fs vs c.loop-index.index u (value_of v) next below (c.loop-index.invariant.0 have),
-     λ rest. c.loop-index.invariant.1 (have-both fs vs c.loop-index.index u (value_of v) next below (subst P (sym here) (c.if-not-is_of.ensures.0 refl)) rest))
+    let next = sym c.in-Some.ensures.found in (
+      λ have. have-rest fs vs c.loop-index.index u (value_of v) next below (c.loop-index.invariant.0 have),
+      λ rest. c.loop-index.invariant.1 (have-both fs vs c.loop-index.index u (value_of v) next below (subst P (sym here) (c.if-not-is_of.ensures.0 refl)) rest),
+    )
 
 pub have_types-returns : goal.have_types-returns
 have_types-returns t c =
@@ -91,7 +92,8 @@ is_of-returns-in-List-shape t c =
     let same = ap (map value_of) c.as_slice.ensures.value in
     rw (c.in-List.is, value_of-List, ← c.followed-ty.ensures.same) (
       λ yes. list-is vs (closed_type r c.followed-ty.result) u c.in-List-shape.ensures.shape.0 (subst P same (c.are_of.ensures.0 yes)),
-      λ typed. c.are_of.ensures.1 (subst P (sym same) (is-list vs (closed_type r c.followed-ty.result) u c.in-List-shape.ensures.shape.0 typed)))
+      λ typed. c.are_of.ensures.1 (subst P (sym same) (is-list vs (closed_type r c.followed-ty.result) u c.in-List-shape.ensures.shape.0 typed)),
+    )
 
 pub is_of-returns-in_default-shape : goal.is_of-returns-in_default-shape
 is_of-returns-in_default-shape t c =
@@ -109,7 +111,8 @@ is_of-returns-in-Record-shape t c =
     let same = ap (map value_of) c.as_slice-in-Record-shape.ensures.value in
     rw (c.in-Record.is, value_of-Record, ← c.followed-ty.ensures.same) (
       λ yes. record-is vs T shaped.0 shaped.1 (subst P same (c.have_types.ensures.0 yes)),
-      λ typed. c.have_types.ensures.1 (subst P (sym same) (is-record vs T shaped.0 shaped.1 typed)))
+      λ typed. c.have_types.ensures.1 (subst P (sym same) (is-record vs T shaped.0 shaped.1 typed)),
+    )
 
 pub is_of-returns-in_default-shape-2 : goal.is_of-returns-in_default-shape-2
 is_of-returns-in_default-shape-2 t c =
@@ -156,7 +159,8 @@ is_of_case-returns-in-Some-known-2 t c =
     let found : nth_case (variant_cases T) c.args.case ≡ Some (Some u) = sym c.in-Some.ensures.found ∙ ap (λ o. Some (option_map (closed_type c.args.resolve.now) o)) c.in-Some-known-2.is in
     rw c.in-Some-payload.is (
       λ yes. payload-is T c.args.case c.requires.variant u w found (subst P same (c.is_of.ensures.0 yes)),
-      λ typed. c.is_of.ensures.1 (subst P (sym same) (is-payload T c.args.case c.requires.variant u w found typed)))
+      λ typed. c.is_of.ensures.1 (subst P (sym same) (is-payload T c.args.case c.requires.variant u w found typed)),
+    )
 
 pub is_of_case-returns-in-None-known-2 : goal.is_of_case-returns-in-None-known-2
 is_of_case-returns-in-None-known-2 t c =
