@@ -1,5 +1,6 @@
 pub mod Arrays
 pub mod OneChar
+pub mod Packages
 pub mod Promised
 pub mod Printing
 pub mod Results

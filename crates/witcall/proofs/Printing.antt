@@ -1,8 +1,11 @@
 -- The parts of a call whose output is printed.
-use Rattle.std.proofs.Common.{◌≡◌, ℕ, List, Option, Ok, map, ap, ◌∙◌, subst}
+use Rattle.std.proofs.Common.{◌≡◌, ℕ, List, Option, Result, Ok, Err, map, sym, ap, ◌∙◌, subst}
 use Rattle.canonical_abi.specs.Values.{Value}
+use Rattle.canonical_abi.specs.Guest.{Memory}
 use Rattle.canonical_abi.specs.Call.{Run, PostRun, World, either}
 use Rattle.canonical_abi.specs.Session.{TypedCall}
+use Rattle.canonical_abi.specs.declared.trap.Fault.{Fault}
+use Rattle.canonical_abi.specs.declared.trap.Fault.TheVariants as fault
 use Rattle.lift_lower.specs.Val.{value_of}
 use Rattle.lift_lower.specs.declared.val.Val.{Val}
 use Rattle.resolve.specs.Closed.{function_at, function_type}
@@ -10,25 +13,49 @@ use Rattle.resolve.specs.Names.{IsNamed}
 use Rattle.resolve.specs.declared.tables.FunctionId.{FunctionId}
 use Rattle.resolve.specs.declared.tables.Resolve.{Resolve}
 use Rattle.resolve.specs.declared.tables.ValType.{ValType}
-use Rattle.witcall.specs.Calling.{IsOutputOf, Prints, program_parties, program_world}
+use Rattle.witcall.specs.declared.refused.Refused.{Refused}
+use Rattle.witcall.specs.declared.refused.Refused.TheVariants as refused
+use Rattle.witcall.specs.Calling.{Asks, CallAnswers, CallRefuses, Refuses, fresh, program_parties}
 use Rattle.witcall.specs.Json.{IsArrayTextOf}
 use Rattle.witcall.specs.Signature.{Signature, signature_of}
+use Rattle.witcall.specs.Status.{refusal_of}
 
-pub prints : (r own : Resolve) (iface func args : List ℕ) (runs : Run) (posts : PostRun) (state output : List ℕ) (f : FunctionId)
-    (types : Signature) (params : List ValType) (values handed : List Val) (answer : Option Value)
+-- the words ask for the call of this function with the values that were read and handed on
+pub asks : (r own : Resolve) (iface func args : List ℕ) (f : FunctionId) (types : Signature) (params : List ValType) (values handed : List Val)
     → IsNamed r iface func f → own ≡ r → types ≡ signature_of (function_at own f) → params ≡ types.params
-    → IsArrayTextOf params args (map value_of values) → handed ≡ values
-    → ((new : World) × TypedCall (program_parties runs posts) either (function_type r f) (map value_of handed) (program_world state) (Ok answer) new)
-    → IsOutputOf (signature_of (function_at r f)).result answer output → Prints r iface func args runs posts state output
-prints r own iface func args runs posts state output f types params values handed answer named same are params_are read same_values (new, called) printed =
+    → IsArrayTextOf params args (map value_of values) → handed ≡ values → Asks r iface func args f (map value_of handed)
+asks r own iface func args f types params values handed named same are params_are read same_values =
     let own_params = params_are ∙ ap (λ t. t.params) (are ∙ ap (λ q. signature_of (function_at q f)) same) in
-    record {
-      function = f;
-      named = named;
-      arguments = map value_of values;
-      are_read = subst (λ ts. IsArrayTextOf ts args (map value_of values)) own_params read;
-      answer = answer;
-      new = new;
-      called = subst (λ vs. TypedCall (program_parties runs posts) either (function_type r f) (map value_of vs) (program_world state) (Ok answer) new) same_values called;
-      printed = printed;
-    }
+    let own_read = subst (λ ts. IsArrayTextOf ts args (map value_of values)) own_params read in
+    record { named = named; are_read = subst (λ vs. IsArrayTextOf (signature_of (function_at r f)).params args (map value_of vs)) (sym same_values) own_read }
+
+-- a typed call over memories that are fresh, on a body that was put into a box
+pub answers : (B : Type 0) (runs : B → Run) (posts : B → PostRun) (state : B → List ℕ) (b boxed : B) (r own : Resolve) (f : FunctionId)
+    (vs : List Value) (answer : Result (Option Value) Fault) (caller callee : Memory) (new : World)
+    → boxed ≡ b → own ≡ r → caller ≡ fresh 1048576 → callee ≡ fresh 1048576
+    → TypedCall (program_parties (runs boxed) (posts boxed)) either (function_type own f) vs (record { caller = caller; callee = callee; body = state boxed }) answer new
+    → CallAnswers r f vs (runs b) (posts b) (state b) answer
+answers B runs posts state b boxed r own f vs answer caller callee new same_body same_package same_caller same_callee called =
+    let own_body = subst (λ x. TypedCall (program_parties (runs x) (posts x)) either (function_type own f) vs (record { caller = caller; callee = callee; body = state x }) answer new) same_body called in
+    let own_type = subst (λ q. TypedCall (program_parties (runs b) (posts b)) either (function_type q f) vs (record { caller = caller; callee = callee; body = state b }) answer new) same_package own_body in
+    let own_caller = subst (λ m. TypedCall (program_parties (runs b) (posts b)) either (function_type r f) vs (record { caller = m; callee = callee; body = state b }) answer new) same_caller own_type in
+    (new, subst (λ m. TypedCall (program_parties (runs b) (posts b)) either (function_type r f) vs (record { caller = fresh 1048576; callee = m; body = state b }) answer new) same_callee own_caller)
+
+-- a fault of the call, as a refusal
+pub call-refuses : (r : Resolve) (f : FunctionId) (vs : List Value) (runs : Run) (posts : PostRun) (state : List ℕ) (e : Fault)
+    → CallAnswers r f vs runs posts state (Err e) → CallRefuses r f vs runs posts state (refusal_of e)
+call-refuses r f vs runs posts state (fault.Trap t) answers = answers
+call-refuses r f vs runs posts state fault.NoMemory answers = tt
+
+-- a refusal of the call that the words ask for
+pub refuses : (r : Resolve) (iface func args : List ℕ) (runs : Run) (posts : PostRun) (state : List ℕ) (f : FunctionId) (vs : List Value) (e : Refused)
+    → Asks r iface func args f vs → CallRefuses r f vs runs posts state e → Refuses r iface func args runs posts state e
+refuses r iface func args runs posts state f vs (refused.Words e) asked g = elim g [ ]
+refuses r iface func args runs posts state f vs refused.File asked g = elim g [ ]
+refuses r iface func args runs posts state f vs (refused.Open e) asked g = elim g [ ]
+refuses r iface func args runs posts state f vs refused.NoFunction asked g = elim g [ ]
+refuses r iface func args runs posts state f vs (refused.Json e) asked g = elim g [ ]
+refuses r iface func args runs posts state f vs (refused.Memory e) asked is = (f, vs, asked, is)
+refuses r iface func args runs posts state f vs (refused.Trap t) asked answers = (f, vs, asked, answers)
+refuses r iface func args runs posts state f vs refused.Write asked g = elim g [ ]
+refuses r iface func args runs posts state f vs refused.NoMemory asked is = (f, vs, asked, tt)

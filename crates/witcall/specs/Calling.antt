@@ -1,5 +1,5 @@
 -- One call whose arguments and result are JSON, over two fresh memories.
-use Rattle.std.specs.Prelude.{◌≡◌, ℕ, List, [], ◌∷◌, ◌++◌, Option, Some, None, Ok, replicate}
+use Rattle.std.specs.Prelude.{◌≡◌, ℕ, List, [], ◌∷◌, ◌++◌, Option, Some, None, Result, Ok, Err, replicate}
 use Rattle.canonical_abi.specs.Values.{Value}
 use Rattle.canonical_abi.specs.Guest.{Memory}
 use Rattle.canonical_abi.specs.Call.{Run, PostRun, Parties, World, either}
@@ -11,8 +11,13 @@ use Rattle.resolve.specs.Names.{IsNamed}
 use Rattle.resolve.specs.declared.tables.FunctionId.{FunctionId}
 use Rattle.resolve.specs.declared.tables.Resolve.{Resolve}
 use Rattle.resolve.specs.declared.tables.ValType.{ValType}
-use Rattle.witcall.specs.Json.{IsCompactTextOf, IsArrayTextOf}
-use Rattle.witcall.specs.Signature.{signature_of}
+use Rattle.canonical_abi.specs.declared.trap.Fault.{Fault}
+use Rattle.canonical_abi.specs.declared.trap.Fault.TheVariants as fault
+use Rattle.memory.specs.declared.error.MemoryError.TheVariants as memory
+use Rattle.witcall.specs.declared.refused.Refused.{Refused}
+use Rattle.witcall.specs.declared.refused.Refused.TheVariants as refused
+use Rattle.witcall.specs.Json.{IsCompactTextOf, IsArrayTextOf, RefusesArray}
+use Rattle.witcall.specs.Signature.{signature_of, IsMissing}
 
 -- a memory of so many zeros, none of them live
 unfoldable pub fresh : ℕ → Memory
@@ -34,13 +39,37 @@ program_parties runs posts = record { caller_allocates = SpaceAllocates; callee_
 abbrev pub program_world : List ℕ → World
 program_world state = record { caller = fresh 1048576; callee = fresh 1048576; body = state }
 
+-- the words name this function of the package, and give it these arguments
+pub record Asks (r : Resolve) (iface func args : List ℕ) (f : FunctionId) (vs : List Value) : Type 0 where
+  pub named : IsNamed r iface func f
+  pub are_read : IsArrayTextOf (signature_of (function_at r f)).params args vs
+
+-- a call of the function over two fresh memories, on a body that may make these runs, has this answer
+abbrev pub CallAnswers : Resolve → FunctionId → List Value → Run → PostRun → List ℕ → Result (Option Value) Fault → Type 0
+CallAnswers r f vs runs posts state answer =
+    (new : World) × TypedCall (program_parties runs posts) either (function_type r f) vs (program_world state) answer new
+
 -- the call that the words ask for is made on a body that may make these runs, and this is its output
 pub record Prints (r : Resolve) (iface func args : List ℕ) (runs : Run) (posts : PostRun) (state output : List ℕ) : Type 0 where
   pub function : FunctionId
-  pub named : IsNamed r iface func function
   pub arguments : List Value
-  pub are_read : IsArrayTextOf (signature_of (function_at r function)).params args arguments
+  pub asked : Asks r iface func args function arguments
   pub answer : Option Value
-  pub new : World
-  pub called : TypedCall (program_parties runs posts) either (function_type r function) arguments (program_world state) (Ok answer) new
+  pub called : CallAnswers r function arguments runs posts state (Ok answer)
   pub printed : IsOutputOf (signature_of (function_at r function)).result answer output
+
+-- why the call of a function is refused: a trap of it, or want of the host's memory
+abbrev pub CallRefuses : Resolve → FunctionId → List Value → Run → PostRun → List ℕ → Refused → Type 0
+CallRefuses r f vs runs posts state (refused.Trap t) = CallAnswers r f vs runs posts state (Err (fault.Trap t))
+CallRefuses r f vs runs posts state (refused.Memory e) = e ≡ memory.NoMemory
+CallRefuses r f vs runs posts state refused.NoMemory = Unit {0}
+CallRefuses r f vs runs posts state _ = ⊥
+
+-- why the call that the words ask for is refused
+abbrev pub Refuses : Resolve → (iface func args : List ℕ) → Run → PostRun → (state : List ℕ) → Refused → Type 0
+Refuses r iface func args runs posts state refused.NoFunction = IsMissing r iface func
+Refuses r iface func args runs posts state (refused.Json e) =
+    (f : FunctionId) × IsNamed r iface func f × RefusesArray (signature_of (function_at r f)).params args e
+Refuses r iface func args runs posts state refused.Write = (output : List ℕ) × Prints r iface func args runs posts state output
+Refuses r iface func args runs posts state e =
+    (f : FunctionId) × (vs : List Value) × Asks r iface func args f vs × CallRefuses r f vs runs posts state e

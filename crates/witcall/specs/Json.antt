@@ -1,5 +1,5 @@
 -- How values stand in JSON.
-use Rattle.std.specs.Prelude.{◌≡◌, ◌<◌, ◌^◌, ℕ, ℤ, List, [], ◌∷◌, Bool, Some, FitsSigned, encode_utf8}
+use Rattle.std.specs.Prelude.{◌≡◌, ◌<◌, ◌^◌, ℕ, ℤ, List, [], ◌∷◌, Bool, Some, None, FitsSigned, encode_utf8}
 use Rattle.std.specs.Char.{IsScalar}
 use Rattle.canonical_abi.specs.Types.{Prim, boolean, unsigned, signed, scalar_value, bits, width_of}
 use Rattle.canonical_abi.specs.Values.{Value, HasPrimType, bool_value, unsigned_value, signed_value, char_value}
@@ -12,6 +12,8 @@ use Rattle.serde_json.specs.Find.{of_integer}
 use Rattle.serde_json.specs.View.{items_of}
 use Rattle.serde_json.specs.Read.{read}
 use Rattle.serde_json.specs.Written.{compact_text}
+use Rattle.witcall.specs.declared.json.JsonError.{JsonError}
+use Rattle.witcall.specs.declared.json.JsonError.TheVariants as error
 
 -- the JSON value stands for this value of a primitive type: a truth value, a whole number in the type's range, a text of one character
 abbrev pub PrimJson : Prim → Value → Data → Type 0
@@ -50,6 +52,12 @@ IsArrayTextOf ts text vs = (j : Data) × (read text ≡ Some j) × JsonArray ts 
 -- the text is JSON, and it stands for no values of the types
 abbrev pub IsArrayTextOfNone : List ValType → List ℕ → Type 0
 IsArrayTextOfNone ts text = (j : Data) × (read text ≡ Some j) × ((vs : List Value) → JsonArray ts vs j → ⊥)
+
+-- why a text is refused where it is to be JSON for values of these types
+abbrev pub RefusesArray : List ValType → List ℕ → JsonError → Type 0
+RefusesArray ts text error.BadJson = read text ≡ None
+RefusesArray ts text error.NotThisType = IsArrayTextOfNone ts text
+RefusesArray ts text error.NoMemory = Unit {0}
 
 -- the text is JSON for this value of the type
 abbrev pub IsTextOf : ValType → List ℕ → Value → Type 0

@@ -10,9 +10,12 @@ use Rattle.lift_lower.specs.Val.{value_of}
 use Rattle.resolve.specs.Closed.{function_at}
 use Rattle.resolve.specs.Names.{IsNamed}
 use Rattle.resolve.specs.Same.{IsSamePackage}
+use Rattle.resolve.specs.declared.tables.FunctionId.{FunctionId}
 use Rattle.resolve.specs.declared.tables.Resolve.{Resolve}
-use Rattle.witcall.specs.Json.{IsArrayTextOf}
-use Rattle.witcall.specs.Signature.{signature_of}
+use Rattle.witcall.specs.Json.{IsArrayTextOf, RefusesArray}
+use Rattle.witcall.specs.Signature.{signature_of, IsMissing}
+use Rattle.witcall.specs.declared.refused.Refused.{Refused}
+use Rattle.witcall.specs.declared.refused.Refused.TheVariants as refused
 use Rattle.witcall.specs.declared.reply.Reply.{Reply}
 
 -- it answers the flat values that carry these values, lowered into its memory; or it stops
@@ -25,3 +28,11 @@ pub record IsReplyOf (r : Resolve) (iface func text : List ℕ) (reply : Reply) 
   pub own : IsSamePackage reply.«package».resolve r
   pub named : IsNamed r iface func reply.func
   pub are_read : IsArrayTextOf (option_to_list (signature_of (function_at r reply.func)).result) text (map value_of (option_to_list reply.value))
+
+-- why no body is made for these names and this text
+abbrev pub ReplyRefuses : Resolve → (iface func text : List ℕ) → Refused → Type 0
+ReplyRefuses r iface func text refused.NoFunction = IsMissing r iface func
+ReplyRefuses r iface func text (refused.Json e) =
+    (f : FunctionId) × IsNamed r iface func f × RefusesArray (option_to_list (signature_of (function_at r f)).result) text e
+ReplyRefuses r iface func text refused.NoMemory = Unit {0}
+ReplyRefuses r iface func text _ = ⊥

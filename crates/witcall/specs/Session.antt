@@ -2,7 +2,7 @@
 use Rattle.std.specs.Prelude.{◌≡◌, ℕ, List, Option, Result, Ok, Err}
 use Rattle.std.specs.Option.{option_map}
 use Rattle.canonical_abi.specs.Values.{Value}
-use Rattle.canonical_abi.specs.Types.{Fields}
+use Rattle.canonical_abi.specs.Types.{Fields, no_field, field, FunctionType, result_fields, IsPlain}
 use Rattle.canonical_abi.specs.Layout.{max_flat_results}
 use Rattle.canonical_abi.specs.Flat.{DenotesFault}
 use Rattle.canonical_abi.specs.declared.flat.Flat.{Flat}
@@ -21,3 +21,11 @@ typed_answer (Err fault) = Err fault
 abbrev pub TakeFails : Fields → List ℕ → List Flat → Fault → Type 0
 TakeFails ts m flats (Trap t) = (t.step ≡ step.Take) × DenotesFault max_flat_results ts m flats t.kind
 TakeFails ts m flats NoMemory = Unit {0}
+
+-- the values of such fields are trees of one node each, which take no memory of the host
+abbrev pub ArePlain : Fields → Type 0
+ArePlain no_field = Unit {0}
+ArePlain (field t ts) = IsPlain t × ArePlain ts
+
+abbrev pub IsPlainFunction : FunctionType → Type 0
+IsPlainFunction f = ArePlain f.params × ArePlain (result_fields f.result)

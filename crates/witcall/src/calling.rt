@@ -5,12 +5,11 @@ ghost use Rattle.std.specs.Option.{option_map};
 ghost use Rattle.std.specs.Io.KnownBytes.{Appends, Keeps};
 ghost use Rattle.canonical_abi.specs.Values.{HasType, HaveTypes};
 ghost use Rattle.canonical_abi.specs.Types.{result_fields};
-ghost use Rattle.canonical_abi.specs.Call.{World, either};
-ghost use Rattle.canonical_abi.specs.Session.{TypedCall, as_list};
+ghost use Rattle.canonical_abi.specs.Session.{as_list};
 ghost use Rattle.resolve.specs.Closed.{IsScalarFunction, function_at, function_type};
 ghost use Rattle.lift_lower.specs.Val.{value_of};
 ghost use Rattle.witcall.specs.Signature.{signature_of};
-ghost use Rattle.witcall.specs.Calling.{IsOutputOf, Prints, fresh, program_parties, program_world};
+ghost use Rattle.witcall.specs.Calling.{IsOutputOf, Prints, Refuses, CallAnswers, CallRefuses, fresh};
 
 use crate::json::{to_json, values_from_json};
 use crate::package::Package;
@@ -47,6 +46,7 @@ pub fn run_call<W: Sink>(
     ensures begun { IsErrOf result Refused.Write → (output : List ℕ) × (count : ℕ)
         × Prints «package».now.resolve iface.now func.now args.now (runs body) (posts body) (state body) output
         × (count ≤ length output) × Appends (W.contents writer.old) (W.contents writer.new) (take count output) }
+    ensures err { IfErr result (Refuses «package».now.resolve iface.now func.now args.now (runs body) (posts body) (state body)) }
     ensures unwritten { IfErr result (λ e. e ≢ Refused.Write → Keeps (W.contents writer.old) (W.contents writer.new)) }
 {
     let func = scalar_function(package, iface, func)?;
@@ -68,12 +68,11 @@ fn call_once(
 ) -> Result<Option<Val>, Refused>
     requires scalar { IsScalarFunction «package».now.resolve func }
     requires typed { HaveTypes (map value_of arguments.now) (function_type «package».now.resolve func).params }
-    ensures call { IfOk result (λ v. (new : World) × TypedCall (program_parties (runs body) (posts body)) either
-        (function_type «package».now.resolve func) (map value_of arguments.now) (program_world (state body))
-        (Ok (option_map value_of v)) new) }
+    ensures call { IfOk result (λ v. CallAnswers «package».now.resolve func (map value_of arguments.now)
+        (runs body) (posts body) (state body) (Ok (option_map value_of v))) }
+    ensures err { IfErr result (CallRefuses «package».now.resolve func (map value_of arguments.now) (runs body) (posts body) (state body)) }
     ensures typed { IfOk result (λ v. HaveTypes (as_list (option_map value_of v))
         (result_fields (function_type «package».now.resolve func).result)) }
-    ensures other { IfErr result (λ e. e ≢ Refused.Write) }
 {
     let caller = fresh_memory(alloc, MEMORY)?;
     let callee = fresh_memory(alloc, MEMORY)?;
@@ -85,7 +84,9 @@ fn call_once(
 /// A memory of so many zeros.
 #[tactic(auto, unfolding(crate::specs::Calling::fresh))]
 fn fresh_memory(alloc: Global, len: u32) -> Result<Space, MemoryError>
-    ensures { IfOk result (λ space. ⟦<Space as Guest>⟧.memory space ≡ fresh len) }
+    requires { len ≤ 16777216 }
+    ensures fresh { IfOk result (λ space. ⟦<Space as Guest>⟧.memory space ≡ fresh len) }
+    ensures err { IfErr result (λ e. e ≡ MemoryError.NoMemory) }
 {
     let bump = Bump::new(alloc, len)?;
     Ok(Space::Bump(bump))

@@ -1,6 +1,6 @@
 //! Values as JSON, both ways.
 
-ghost use Rattle.std.specs.Prelude.{◌≡◌, ℕ, None, Some, IfOk, IfSome, IfNone, IsErrOf, IsTrue, true, encode_utf8, string_bytes, List, map};
+ghost use Rattle.std.specs.Prelude.{◌≡◌, ℕ, None, Some, IfOk, IfErr, IfSome, IfNone, IsErrOf, IsTrue, true, encode_utf8, string_bytes, List, map};
 ghost use Rattle.std.specs.List.{list_all};
 ghost use Rattle.std.specs.Char.{IsScalar};
 ghost use Rattle.serde_json.specs.Data.{Data};
@@ -10,7 +10,7 @@ ghost use Rattle.canonical_abi.specs.Types.{ClosedType, fields_of};
 ghost use Rattle.canonical_abi.specs.Values.{HasType, HaveTypes, Value};
 ghost use Rattle.resolve.specs.Closed.{prim_of, is_scalar, closed_type, closed_val};
 ghost use Rattle.lift_lower.specs.Val.{value_of};
-ghost use Rattle.witcall.specs.Json.{PrimJson, HasNoneOfPrim, Json as StandsAs, HasNone, IsTextOf, IsTextOfNone, IsOfPrim, data_of, IsCompactTextOf, EachJson, IsArrayTextOf, IsArrayTextOfNone};
+ghost use Rattle.witcall.specs.Json.{PrimJson, HasNoneOfPrim, Json as StandsAs, HasNone, IsTextOf, IsTextOfNone, IsOfPrim, data_of, IsCompactTextOf, EachJson, IsArrayTextOf, RefusesArray};
 
 use crate::package::Package;
 use lift_lower::Val;
@@ -82,8 +82,7 @@ pub fn values_from_json(
     ensures ok { IfOk result (λ vs. IsArrayTextOf types.now text.now (map value_of vs.items)) }
     ensures typed { IfOk result (λ vs. HaveTypes (map value_of vs.items)
         (fields_of (map (closed_type «package».now.resolve) types.now))) }
-    ensures bad { IsErrOf result JsonError.BadJson → read_text text.now ≡ None }
-    ensures other { IsErrOf result JsonError.NotThisType → IsArrayTextOfNone types.now text.now }
+    ensures err { IfErr result (RefusesArray types.now text.now) }
 {
     let json = read_json(alloc, text)?;
     let Some(items) = json.as_array() else {

@@ -1,7 +1,7 @@
 //! Packages, and how they are opened.
 
 ghost use Rattle.std.specs.Prelude.{◌≡◌, IfOk, IfErr};
-ghost use Rattle.layout.specs.Layout.{layouts_of};
+ghost use Rattle.layout.specs.Layout.{layouts_of, AreWithin};
 ghost use Rattle.witcall.specs.Opening.{IsOpened, OpenRefuses};
 ghost use Rattle.resolve.specs.Same.{IsSamePackage};
 
@@ -87,6 +87,7 @@ pub struct Package {
     resolve: Resolve,
     layouts: Layouts,
     ghost laid_out: { layouts ≡ layouts_of resolve },
+    ghost within: { ∥ AreWithin resolve ∥₁ },
 }
 
 impl Package {
@@ -106,12 +107,16 @@ impl Package {
     }
 
     /// The same package.
-    pub fn copy(&self, alloc: Global) -> Result<Package, OpenError>
+    pub fn copy(&self, alloc: Global) -> Result<Package, AllocError>
         ensures { IfOk result (λ p. IsSamePackage p.resolve self.now.resolve) }
     {
         let resolve = self.resolve.copy(alloc)?;
-        let layouts = Layouts::of(alloc, &resolve)?;
-        Ok(Package { resolve, layouts })
+        match Layouts::of(alloc, &resolve) {
+            Ok(layouts) => Ok(Package { resolve, layouts }),
+            Err(LayoutError::NoMemory) => Err(AllocError),
+            // The layouts of the same tables are within the limits.
+            Err(LayoutError::TooDeep | LayoutError::TooLarge) => unreachable!(),
+        }
     }
 }
 

@@ -27,8 +27,8 @@ pub struct Reply {
 }
 
 impl Reply {
-    ghost use Rattle.std.specs.Prelude.{IfOk};
-    ghost use Rattle.witcall.specs.Replying.{IsReplyOf};
+    ghost use Rattle.std.specs.Prelude.{IfOk, IfErr};
+    ghost use Rattle.witcall.specs.Replying.{IsReplyOf, ReplyRefuses};
 
     /// The body of a function of the package: 63 where it has no scalar function of that name, 61 and 62
     /// where `reply` is no JSON array of the one value of its result, or of none where it has no result.
@@ -39,7 +39,8 @@ impl Reply {
         func: &str,
         reply: &str,
     ) -> Result<Reply, Refused>
-        ensures { IfOk result (IsReplyOf «package».now.resolve iface.now func.now reply.now) }
+        ensures ok { IfOk result (IsReplyOf «package».now.resolve iface.now func.now reply.now) }
+        ensures err { IfErr result (ReplyRefuses «package».now.resolve iface.now func.now reply.now) }
     {
         let func = scalar_function(package, iface, func)?;
         let types = ScalarTypes::of(package.resolve(), func);

@@ -1,10 +1,9 @@
 //! Typed calls between two components.
 
-ghost use Rattle.std.specs.Prelude.{◌≡◌, map, IfOk, IfErr, option_to_list};
+ghost use Rattle.std.specs.Prelude.{◌≡◌, ◌≢◌, ◌≤◌, ℕ, List, Err, length, map, IfOk, IfErr, option_to_list};
 ghost use Rattle.std.specs.Option.{option_map};
 ghost use Rattle.canonical_abi.specs.Values.{HaveTypes};
 ghost use Rattle.canonical_abi.specs.Types.{result_fields};
-ghost use Rattle.layout.specs.Layout.{layouts_of};
 ghost use Rattle.resolve.specs.Closed.{IsScalarFunction, function_type};
 ghost use Rattle.canonical_abi.specs.Layout.{max_flat_results};
 ghost use Rattle.canonical_abi.specs.Flat.{Denotes};
@@ -14,15 +13,16 @@ ghost use Rattle.canonical_abi.specs.Headline.{IsPromised};
 ghost use Rattle.lift_lower.specs.Val.{value_of};
 ghost use Rattle.lift_lower.specs.Crossing.{fields_of_types};
 ghost use Rattle.lift_lower.specs.Scalars.{AreScalar};
-ghost use Rattle.witcall.specs.Session.{typed_answer, TakeFails};
+ghost use Rattle.lift_lower.specs.Scalar.{value_in};
+ghost use Rattle.resolve.specs.declared.tables.Resolve.{Resolve};
+ghost use Rattle.witcall.specs.Session.{typed_answer, TakeFails, IsPlainFunction};
 
 use crate::package::Package;
 use crate::signature::ScalarTypes;
 use adapter::{Body, Link};
-use canonical_abi::{Fault, Flat, Guest};
-use layout::Layouts;
-use lift_lower::{Val, lift, lower};
-use resolve::{FunctionId, Resolve};
+use canonical_abi::{Fault, Flat, Guest, Step, Trap};
+use lift_lower::{Scalar, Val, lift_scalars, lower};
+use resolve::FunctionId;
 use std::alloc::Global;
 
 /// Two components' memories and the callee's body: typed calls of one package's functions.
@@ -70,7 +70,7 @@ impl<'a, C: Guest, E: Guest, B: Body<E>> Session<'a, C, E, B> {
     /// answer, no byte outside the blocks is changed, and a trap stands.
     pub fn call(
         &mut self,
-        alloc: Global,
+        _alloc: Global,
         func: FunctionId,
         arguments: &[Val],
     ) -> Result<Option<Val>, Fault>
@@ -100,6 +100,7 @@ impl<'a, C: Guest, E: Guest, B: Body<E>> Session<'a, C, E, B> {
         ensures typed { IfOk result (λ v. HaveTypes (as_list (option_map value_of v))
             (result_fields (function_type self.old.package.now.resolve func).result)) }
         ensures package { self.new.package.now ≡ self.old.package.now }
+        ensures plain { IsPlainFunction (function_type self.old.package.now.resolve func) → result ≢ Err Fault.NoMemory }
     {
         let resolve = self.package.resolve();
         let layouts = self.package.layouts();
@@ -119,36 +120,37 @@ impl<'a, C: Guest, E: Guest, B: Body<E>> Session<'a, C, E, B> {
             &mut self.callee,
             &mut self.body,
         )?;
-        take_result(
-            alloc,
-            resolve,
-            layouts,
-            &types,
-            back.as_slice(),
-            &self.caller,
-        )
+        take_result(&types, back.as_slice())
     }
 }
 
-/// The result that flat values denote, in step `take`.
-fn take_result<G: Guest>(
-    alloc: Global,
-    resolve: &Resolve,
-    layouts: &Layouts,
-    types: &ScalarTypes,
-    flats: &[Flat],
-    guest: &G,
-) -> Result<Option<Val>, Fault>
-    requires laid_out { layouts.now ≡ layouts_of resolve.now }
+/// The result that flat values denote, in step `take`. It takes no memory of the host.
+fn take_result(types: &ScalarTypes, flats: &[Flat]) -> Result<Option<Val>, Fault>
     requires scalar { AreScalar (option_to_list types.now.result) }
-    ensures denotes { IfOk result (λ v. Denotes max_flat_results
-        (fields_of_types resolve.now (option_to_list types.now.result))
-        (G.memory guest.now).bytes flats.now (as_list (option_map value_of v))) }
-    ensures typed { IfOk result (λ v. HaveTypes (as_list (option_map value_of v))
-        (fields_of_types resolve.now (option_to_list types.now.result))) }
-    ensures fault { IfErr result (TakeFails (fields_of_types resolve.now (option_to_list types.now.result))
-        (G.memory guest.now).bytes flats.now) }
+    ensures denotes { (r : Resolve) (m : List ℕ) → IfOk result (λ v. Denotes max_flat_results
+        (fields_of_types r (option_to_list types.now.result)) m flats.now (as_list (option_map value_of v))) }
+    ensures typed { (r : Resolve) → IfOk result (λ v. HaveTypes (as_list (option_map value_of v))
+        (fields_of_types r (option_to_list types.now.result))) }
+    ensures fault { (r : Resolve) (m : List ℕ) → IfErr result (TakeFails
+        (fields_of_types r (option_to_list types.now.result)) m flats.now) }
+    ensures no_memory { result ≢ Err Fault.NoMemory }
 {
-    let mut values = lift(alloc, resolve, layouts, types.results(), flats, guest)?;
-    Ok(values.pop())
+    match lift_scalars(types.results(), flats) {
+        Ok(values) => Ok(only_value(values.as_slice())),
+        Err(kind) => Err(Fault::Trap(Trap {
+            kind,
+            step: Step::Take,
+        })),
+    }
+}
+
+/// The value of a list of at most one.
+fn only_value(values: &[Scalar]) -> Option<Val>
+    requires { length values.now ≤ 1 }
+    ensures { as_list (option_map value_of result) ≡ map value_in values.now }
+{
+    match values {
+        [value, ..] => Some(value.to_val()),
+        [] => None,
+    }
 }

@@ -14,8 +14,8 @@ use Rattle.witcall.proofs.reply.Reply.of.Goals as goal
 pub invariant_of-result : goal.invariant_of-result
 invariant_of-result c = record { scalar = same_scalar _ _ _ c.in_ok-copy.ensures c.in_ok-func.ensures.scalar }
 
-pub returns : goal.returns
-returns c =
+pub returns-clause-ok : goal.returns-clause-ok
+returns-clause-ok c =
     let r = c.args.package.now.resolve in
     let o = c.of-types.result.result in
     let items = c.in_ok-values.values.items in

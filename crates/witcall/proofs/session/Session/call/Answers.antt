@@ -90,15 +90,15 @@ returns-clause-call g c =
     let m = (g.C.Guest.memory c.call.new.caller).bytes in
     let P : Fields → List Flat → Type 0 = λ ts fs. IfOk c.take_result.result (λ v. Denotes 1 ts m fs (as_list (option_map value_of v))) in
     let Q : Fields → List Flat → Type 0 = λ ts fs. IfErr c.take_result.result (TakeFails ts m fs) in
-    let denoted = subst (P (result_fields f.result)) c.as_slice-2.ensures.value (subst (λ ts. P ts c.as_slice-2.result.now) results c.take_result.ensures.denotes) in
-    let fault = subst (Q (result_fields f.result)) c.as_slice-2.ensures.value (subst (λ ts. Q ts c.as_slice-2.result.now) results c.take_result.ensures.fault) in
+    let denoted = subst (P (result_fields f.result)) c.as_slice-2.ensures.value (subst (λ ts. P ts c.as_slice-2.result.now) results (c.take_result.ensures.denotes own m)) in
+    let fault = subst (Q (result_fields f.result)) c.as_slice-2.ensures.value (subst (λ ts. Q ts c.as_slice-2.result.now) results (c.take_result.ensures.fault own m)) in
     takes parties f arguments flat (world caller callee body) new back c.take_result.result came denoted fault
 
 pub returns-clause-typed : goal.returns-clause-typed
 returns-clause-typed g c =
     let own = c.resolve-resolve.result.now in
     let results = own_results c.args.self.now.package.now.resolve own c.args.func (option_to_list c.of-types.result.result) c.resolve-resolve.ensures c.of-types.ensures.results in
-    subst (λ ts. IfOk c.take_result.result (λ v. HaveTypes (as_list (option_map value_of v)) ts)) results c.take_result.ensures.typed
+    subst (λ ts. IfOk c.take_result.result (λ v. HaveTypes (as_list (option_map value_of v)) ts)) results (c.take_result.ensures.typed own)
 
 pub returns-in_err-flats-clause-promise : goal.returns-in_err-flats-clause-promise
 returns-in_err-flats-clause-promise g c = promised _ _ _ c.args.self.now.package.now.resolve c.args.func _ _ _ _ c.requires.scalar (returns-in_err-flats-clause-call g c)
