@@ -4,17 +4,17 @@ use Rattle.std.specs.Prelude.{◌&&◌}
 use Rattle.productions.specs.Production.{next, give, never, ◌>>=◌, one, when, entries}
 use Rattle.productions.specs.Exactness.{Exact, Anything, Unless, AtEnd}
 use Rattle.productions.proofs.Exact.{Opens, exact-give, exact-then, exact-last, exact-before, exact-optional, exact-peek, exact-many, exact-comma_or, exact-entries, exact-all, opens-bind, opens-one}
-use Rattle.wit_text.specs.declared.token.Keyword.TheVariants as kw
-use Rattle.wit_text.specs.declared.token.Punctuation.{Punctuation}
-use Rattle.wit_text.specs.declared.token.Punctuation.TheVariants as mark
-use Rattle.wit_text.specs.declared.token.TokenKind.{TokenKind}
-use Rattle.wit_text.specs.declared.token.TokenKind.TheVariants as kind
-use Rattle.wit_text.specs.declared.error.Expected.TheVariants as want
+use Rattle.wit_tokens.specs.declared.token.Keyword.TheVariants as kw
+use Rattle.wit_tokens.specs.declared.token.Punctuation.{Punctuation}
+use Rattle.wit_tokens.specs.declared.token.Punctuation.TheVariants as mark
+use Rattle.wit_tokens.specs.declared.token.TokenKind.{TokenKind}
+use Rattle.wit_tokens.specs.declared.token.TokenKind.TheVariants as kind
+use Rattle.wit_tokens.specs.declared.error.Expected.TheVariants as want
 use Rattle.wit_text.specs.declared.types.Start.{Start}
 use Rattle.wit_text.specs.declared.types.Start.TheVariants as start
-use Rattle.wit_text.specs.Lexing.{limit}
-use Rattle.wit_text.specs.Tokens.{Lexeme}
-use Rattle.wit_text.specs.Syntax.{Ty}
+use Rattle.wit_tokens.specs.Lexing.{limit}
+use Rattle.wit_tokens.specs.Tokens.{Lexeme}
+use Rattle.wit_syntax.specs.Syntax.{Ty}
 use Rattle.wit_text.specs.Faults.{wanted, is, StandsAt}
 use Rattle.wit_text.specs.Lookahead.{lookahead, Phrase}
 use Rattle.wit_text.specs.Grammar as g

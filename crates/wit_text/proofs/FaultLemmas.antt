@@ -4,10 +4,10 @@ use Rattle.std.proofs.lemmas.List.{append-nil}
 use Rattle.productions.specs.Production.{next, passes, one_of, never, one, read_end}
 use Rattle.productions.specs.Exactness.{Exact}
 use Rattle.productions.proofs.Exact.{Owed, no_ok, stopped, exact-one, exact-never}
-use Rattle.wit_text.specs.declared.error.Expected.{Expected}
-use Rattle.wit_text.specs.declared.error.Feature.{Feature}
-use Rattle.wit_text.specs.declared.error.TextError.{TextError}
-use Rattle.wit_text.specs.Tokens.{Lexeme}
+use Rattle.wit_tokens.specs.declared.error.Expected.{Expected}
+use Rattle.wit_tokens.specs.declared.error.Feature.{Feature}
+use Rattle.wit_tokens.specs.declared.error.TextError.{TextError}
+use Rattle.wit_tokens.specs.Tokens.{Lexeme}
 use Rattle.wit_text.specs.Faults.{met, wanted, feature_or, unless_feature, StandsAt}
 use Rattle.wit_text.specs.Lookahead.{lookahead, Looks, Phrase, NoneBegins}
 

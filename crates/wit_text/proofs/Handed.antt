@@ -1,9 +1,9 @@
 -- A fault is handed on.
 use Rattle.std.proofs.Common.{◌≡◌, ℕ, List, Option, Result, Ok, Err}
-use Rattle.wit_text.specs.declared.token.Token.{Token}
-use Rattle.wit_text.specs.Tokens.{Lexeme, optional_lexeme}
-use Rattle.wit_text.specs.declared.error.TextError.{TextError}
-use Rattle.wit_text.specs.declared.error.TextError.TheVariants as error
+use Rattle.wit_tokens.specs.declared.token.Token.{Token}
+use Rattle.wit_tokens.specs.Tokens.{Lexeme, optional_lexeme}
+use Rattle.wit_tokens.specs.declared.error.TextError.{TextError}
+use Rattle.wit_tokens.specs.declared.error.TextError.TheVariants as error
 use Rattle.wit_text.specs.Faults.{Fails}
 
 pub Fails-on : {Y V : Type 0} (e : TextError) (r : Result Y TextError) (s : Result V TextError) → (r ≡ Err e → s ≡ Err e) → Fails e r → Fails e s

@@ -1,5 +1,3 @@
-pub mod Comments
-pub mod Unique
 pub mod Versions
 pub mod Handed
 pub mod KindLemmas

@@ -3,18 +3,18 @@ use Rattle.std.proofs.Common.{◌≡◌, ◌≤◌, ◌-◌, ℕ, List, [], Resu
 use Rattle.std.specs.Prelude.{IfOk, IfErr}
 use Rattle.std.proofs.lemmas.List.{append-nil}
 use Rattle.productions.proofs.Exact.{ok_is, no_err}
-use Rattle.wit_text.specs.declared.token.Token.{Token}
-use Rattle.wit_text.specs.declared.error.TextError.{TextError}
-use Rattle.wit_text.specs.declared.error.TextError.TheVariants as error
-use Rattle.wit_text.specs.Lexing.{limit, Lexes, LexFault}
-use Rattle.wit_text.specs.Tokens.{Lexeme, lexemes}
-use Rattle.wit_text.specs.Syntax.{File}
+use Rattle.wit_tokens.specs.declared.token.Token.{Token}
+use Rattle.wit_tokens.specs.declared.error.TextError.{TextError}
+use Rattle.wit_tokens.specs.declared.error.TextError.TheVariants as error
+use Rattle.wit_tokens.specs.Lexing.{limit, Lexes, LexFault}
+use Rattle.wit_tokens.specs.Tokens.{Lexeme, lexemes}
+use Rattle.wit_syntax.specs.Syntax.{File}
 use Rattle.wit_text.specs.Faults.{Fails, Gives}
-use Rattle.wit_text.specs.View.{file_view}
-use Rattle.wit_text.specs.declared.ast.Ast.{Ast}
+use Rattle.wit_syntax.specs.View.{file_view}
+use Rattle.wit_syntax.specs.declared.ast.Ast.{Ast}
 use Rattle.wit_text.specs.Reading.{IsRead, GrammarFault, Faulty}
 use Rattle.wit_text.specs.Grammar.{file}
-use Rattle.wit_text.proofs.Unique.{one_lexing, bad_is_refused, open_is_refused}
+use Rattle.wit_tokens.specs.Laws.{OneLexing, BadIsRefused, OpenIsRefused}
 use Rattle.wit_text.proofs.FaultLemmas.{none-begins}
 use Rattle.wit_text.proofs.Exactness.{exact-file}
 use Rattle.wit_text.proofs.Handed.{Fails-on}
@@ -28,16 +28,16 @@ lex_faulty text (error.Expected k s) h = absurd h
 lex_faulty text (error.Unsupported k s) h = absurd h
 lex_faulty text (error.Depth s) h = absurd h
 
-pub lex_refuses : (text : List ℕ) (e : TextError) → LexFault text e → (f : File) → IsRead text f → Fails {Y = File} e (Ok f)
-lex_refuses text (error.BadChar s) h f r = absurd (bad_is_refused text s.start (s.end - s.start) h.1.0 r.tokens h.1.1 h.1.2 r.lexed)
-lex_refuses text (error.OpenComment s) h f r = absurd (open_is_refused text s.start h.1.0 r.tokens h.1.1 h.1.2 r.lexed)
-lex_refuses text error.Limit h f r = absurd (omega (arith, h, r.short))
-lex_refuses text error.NoMemory h f r = tt
-lex_refuses text (error.Expected k s) h f r = absurd h
-lex_refuses text (error.Unsupported k s) h f r = absurd h
-lex_refuses text (error.Depth s) h f r = absurd h
+pub lex_refuses : (text : List ℕ) (e : TextError) → BadIsRefused text → OpenIsRefused text → LexFault text e → (f : File) → IsRead text f → Fails {Y = File} e (Ok f)
+lex_refuses text (error.BadChar s) bad unclosed h f r = absurd (bad s r.tokens h.1 r.lexed)
+lex_refuses text (error.OpenComment s) bad unclosed h f r = absurd (unclosed s r.tokens h.1 r.lexed)
+lex_refuses text error.Limit bad unclosed h f r = absurd (omega (arith, h, r.short))
+lex_refuses text error.NoMemory bad unclosed h f r = tt
+lex_refuses text (error.Expected k s) bad unclosed h f r = absurd h
+lex_refuses text (error.Unsupported k s) bad unclosed h f r = absurd h
+lex_refuses text (error.Depth s) bad unclosed h f r = absurd h
 
-module _ (text : List ℕ) (ts : List Token) (short : length text ≤ limit) (lexed : Lexes text ts) where
+module _ (text : List ℕ) (ts : List Token) (short : length text ≤ limit) (lexed : Lexes text ts) (one : OneLexing text) where
   abbrev answer : Result (File × List Lexeme) TextError
   answer = (file (length text)).read (lexemes text ts)
 
@@ -51,7 +51,7 @@ module _ (text : List ℕ) (ts : List Token) (short : length text ≤ limit) (le
   reads f r =
       let whole = (exact-file (length text)).complete (lexemes text r.tokens) [] f r.spelt refl in
       let here : (file (length text)).read (lexemes text r.tokens) ≡ Ok (f, []) = subst (λ (us : List Lexeme). (file (length text)).read us ≡ Ok (f, [])) (append-nil (lexemes text r.tokens)) whole in
-      subst (λ (us : List Token). (file (length text)).read (lexemes text us) ≡ Ok (f, [])) (one_lexing text r.tokens ts r.lexed lexed) here
+      subst (λ (us : List Token). (file (length text)).read (lexemes text us) ≡ Ok (f, [])) (one r.tokens ts r.lexed lexed) here
 
   pub only_that : (f g : File) → answer ≡ Ok (f, []) → IsRead text g → ◌≡◌ {A = Result File TextError} (Ok g) (Ok f)
   only_that f g h r = let e : ◌≡◌ {A = File × List Lexeme} (g, []) (f, []) = ok_is (g, []) (f, []) (sym (reads g r) ∙ h) in ap (λ (p : File × List Lexeme). Ok p.0) e

@@ -6,25 +6,25 @@ use Rattle.std.specs.Str.{is_utf8}
 use Rattle.semver.specs.Parse.{version_parts}
 use Rattle.atoms.specs.Label.{is_label, is_upper}
 use Rattle.productions.specs.Production.{give, never, ◌>>=◌, one, optional, unless_some, many, comma_or, entries, all}
-use Rattle.wit_text.specs.declared.token.Keyword.{Keyword}
-use Rattle.wit_text.specs.declared.token.Keyword.TheVariants as kw
-use Rattle.wit_text.specs.declared.token.Punctuation.{Punctuation}
-use Rattle.wit_text.specs.declared.token.Punctuation.TheVariants as mark
-use Rattle.wit_text.specs.declared.token.TokenKind.{TokenKind}
-use Rattle.wit_text.specs.declared.token.TokenKind.TheVariants as kind
-use Rattle.wit_text.specs.declared.error.Expected.{Expected}
-use Rattle.wit_text.specs.declared.error.Expected.TheVariants as want
-use Rattle.wit_text.specs.declared.error.Feature.{Feature}
-use Rattle.wit_text.specs.declared.error.Feature.TheVariants as feature
-use Rattle.wit_text.specs.declared.error.TextError.{TextError}
+use Rattle.wit_tokens.specs.declared.token.Keyword.{Keyword}
+use Rattle.wit_tokens.specs.declared.token.Keyword.TheVariants as kw
+use Rattle.wit_tokens.specs.declared.token.Punctuation.{Punctuation}
+use Rattle.wit_tokens.specs.declared.token.Punctuation.TheVariants as mark
+use Rattle.wit_tokens.specs.declared.token.TokenKind.{TokenKind}
+use Rattle.wit_tokens.specs.declared.token.TokenKind.TheVariants as kind
+use Rattle.wit_tokens.specs.declared.error.Expected.{Expected}
+use Rattle.wit_tokens.specs.declared.error.Expected.TheVariants as want
+use Rattle.wit_tokens.specs.declared.error.Feature.{Feature}
+use Rattle.wit_tokens.specs.declared.error.Feature.TheVariants as feature
+use Rattle.wit_tokens.specs.declared.error.TextError.{TextError}
 use Rattle.wit_text.specs.declared.types.Start.{Start}
 use Rattle.wit_text.specs.declared.types.Start.TheVariants as start
-use Rattle.wit_text.specs.declared.ast.Primitive.TheVariants as primitive
-use Rattle.wit_text.specs.Lexing.{limit}
-use Rattle.wit_text.specs.Tokens.{Lexeme}
+use Rattle.wit_syntax.specs.declared.ast.Primitive.TheVariants as primitive
+use Rattle.wit_tokens.specs.Lexing.{limit}
+use Rattle.wit_tokens.specs.Tokens.{Lexeme}
 use Rattle.wit_text.specs.Faults.{wanted, is, feature_or, unless_feature}
 use Rattle.wit_text.specs.Lookahead.{Phrase}
-use Rattle.wit_text.specs.Syntax.{Ty, Prim, Member, Function, Entry, Declares, FileEntry, AnInterface, File}
+use Rattle.wit_syntax.specs.Syntax.{Ty, Prim, Member, Function, Entry, Declares, FileEntry, AnInterface, File}
 
 abbrev pub token : ℕ → TokenKind → Expected → Phrase Lexeme
 token end k e = one (is k) (wanted end e)

@@ -1,11 +1,8 @@
 -- What holds of the definitions, whatever the text.
 use Rattle.std.specs.Prelude.{◌≡◌, ℕ, List, Err}
 use Rattle.productions.specs.Exactness.{Exact, AtEnd}
-use Rattle.wit_text.specs.declared.token.Span.{Span}
-use Rattle.wit_text.specs.declared.token.Token.{Token}
-use Rattle.wit_text.specs.declared.error.TextError.{TextError}
-use Rattle.wit_text.specs.Lexing.{Lexes, IsBadAt, IsOpenAt}
-use Rattle.wit_text.specs.Tokens.{Lexeme}
+use Rattle.wit_tokens.specs.declared.error.TextError.{TextError}
+use Rattle.wit_tokens.specs.Tokens.{Lexeme}
 use Rattle.wit_text.specs.Lookahead.{lookahead, NoneBegins}
 use Rattle.wit_text.specs.Grammar.{file}
 
@@ -16,12 +13,3 @@ FilesAreExact end = Exact (lookahead end) AtEnd (file end)
 -- where reading a file meets a fault, no file begins with the tokens up to the one met
 abbrev pub FaultsAreFinal : ℕ → Type 0
 FaultsAreFinal end = (ts : List Lexeme) (e : TextError) → (file end).read ts ≡ Err e → NoneBegins end (file end) ts e
-
-abbrev pub OneLexing : List ℕ → Type 0
-OneLexing text = (ts us : List Token) → Lexes text ts → Lexes text us → ts ≡ us
-
-abbrev pub BadIsRefused : List ℕ → Type 0
-BadIsRefused text = (s : Span) (ts : List Token) → IsBadAt text s → Lexes text ts → ⊥
-
-abbrev pub OpenIsRefused : List ℕ → Type 0
-OpenIsRefused text = (s : Span) (ts : List Token) → IsOpenAt text s → Lexes text ts → ⊥

@@ -1,12 +1,12 @@
 -- What it means that a text is read as a tree, or is refused.
 use Rattle.std.specs.Prelude.{◌≤◌, ℕ, List, length}
-use Rattle.wit_text.specs.declared.token.Token.{Token}
-use Rattle.wit_text.specs.declared.error.TextError.{TextError}
-use Rattle.wit_text.specs.declared.error.TextError.TheVariants as error
-use Rattle.wit_text.specs.Lexing.{limit, Lexes, LexFault}
-use Rattle.wit_text.specs.Tokens.{lexemes}
+use Rattle.wit_tokens.specs.declared.token.Token.{Token}
+use Rattle.wit_tokens.specs.declared.error.TextError.{TextError}
+use Rattle.wit_tokens.specs.declared.error.TextError.TheVariants as error
+use Rattle.wit_tokens.specs.Lexing.{limit, Lexes, LexFault}
+use Rattle.wit_tokens.specs.Tokens.{lexemes}
 use Rattle.wit_text.specs.Lookahead.{NoneBegins}
-use Rattle.wit_text.specs.Syntax.{File}
+use Rattle.wit_syntax.specs.Syntax.{File}
 use Rattle.wit_text.specs.Grammar.{file}
 
 -- The text's tokens spell this file, and it is not too long.

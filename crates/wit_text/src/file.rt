@@ -1,22 +1,22 @@
 //! Whole texts.
 ghost use Rattle.std.specs.Prelude.{◌≡◌, ◌≤◌, ℕ, List, [], length, map, Ok, IfOk, IfErr};
 ghost use Rattle.productions.specs.Production.{at_end};
-ghost use Rattle.wit_text.specs.Lexing.{limit};
-ghost use Rattle.wit_text.specs.Tokens.{lexemes};
-ghost use Rattle.wit_text.specs.Syntax.{File};
-ghost use Rattle.wit_text.specs.View.{item_view, file_view};
+ghost use Rattle.wit_tokens.specs.Lexing.{limit};
+ghost use Rattle.wit_tokens.specs.Tokens.{lexemes};
+ghost use Rattle.wit_syntax.specs.Syntax.{File};
+ghost use Rattle.wit_syntax.specs.View.{item_view, file_view};
 ghost use Rattle.wit_text.specs.Faults.{Gives};
 ghost use Rattle.wit_text.specs.Grammar.{file_keyword, file_feature, file_fault, items, file};
 ghost use Rattle.wit_text.specs.Reading.{IsRead, Faulty};
 
-use crate::ast::{Ast, Item};
-use crate::error::{Expected, Feature, TextError};
 use crate::header::{gate, header};
 use crate::interfaces::interface;
-use crate::lexer::lex;
 use crate::parser::{feature_or, same};
-use crate::token::{Keyword, Token, TokenKind};
 use std::alloc::Global;
+use wit_syntax::{Ast, Item};
+use wit_tokens::{
+    Expected, Feature, Keyword, TextError, Token, TokenKind, lex, texts_have_one_lexing,
+};
 
 fn file_keyword(keyword: Keyword) -> Option<Feature>
     ensures { result ≡ file_keyword keyword }
@@ -102,6 +102,7 @@ pub fn parse(alloc: Global, text: &str) -> Result<Ast, TextError>
     ensures only { (f : File) → IsRead text.now f → Gives file_view result (Ok f) }
     ensures fault { IfErr result (λ e. Faulty text.now e) }
 {
+    texts_have_one_lexing();
     let tokens = lex(alloc, text)?;
     file(alloc, text.as_bytes(), tokens.as_slice())
 }

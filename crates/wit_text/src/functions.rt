@@ -1,16 +1,15 @@
 //! Functions.
 ghost use Rattle.std.specs.Prelude.{◌≡◌, ◌<◌, ◌≤◌, length, map, IfOk};
-ghost use Rattle.wit_text.specs.Tokens.{lexeme, lexemes};
-ghost use Rattle.wit_text.specs.View.{field_view, function_view, optional_view};
+ghost use Rattle.wit_tokens.specs.Tokens.{lexeme, lexemes};
+ghost use Rattle.wit_syntax.specs.View.{field_view, function_view, optional_view};
 ghost use Rattle.wit_text.specs.Faults.{Gives};
 ghost use Rattle.wit_text.specs.Grammar.{member, after_member, surplus_fault, param_list, most_params, parameters, optional_result, func_fault, func_word, function};
 
-use crate::ast::{Field, FuncType, TypeExpression};
-use crate::error::{Expected, Feature, TextError};
 use crate::parser::{comma_or, feature_or, identifier, punctuation, same};
-use crate::token::{Keyword, Punctuation, Token, TokenKind};
 use crate::types::{function_result, type_at};
 use std::alloc::Global;
+use wit_syntax::{Field, FuncType, TypeExpression};
+use wit_tokens::{Expected, Feature, Keyword, Punctuation, TextError, Token, TokenKind};
 
 /// As many parameters are read.
 const MOST_PARAMS: usize = 16;

@@ -1,17 +1,16 @@
 //! The package's name.
 ghost use Rattle.std.specs.Prelude.{◌≡◌, ◌<◌, length, is_ok, IfOk, None};
 ghost use Rattle.semver.specs.Parse.{version_parts};
-ghost use Rattle.wit_text.specs.Tokens.{lexeme, lexemes};
+ghost use Rattle.wit_tokens.specs.Tokens.{lexeme, lexemes};
 ghost use Rattle.wit_text.specs.Faults.{Gives};
 ghost use Rattle.wit_text.specs.Grammar.{is_version, is_lower_case, is_lower_name, lower_id, gate, first_feature, first_fault, package_word, header_fault, header_end, header};
 
-use crate::ast::PackageId;
-use crate::error::{Expected, Feature, TextError};
 use crate::parser::{feature_or, is_name, label_of, met, name_of, punctuation, same};
-use crate::token::{Keyword, Punctuation, Token, TokenKind};
 use atoms::Label;
 use semver::{Error, Version};
 use std::alloc::{AllocError, Global};
+use wit_syntax::PackageId;
+use wit_tokens::{Expected, Feature, Keyword, Punctuation, TextError, Token, TokenKind};
 
 fn is_semver(alloc: Global, text: &str) -> Result<bool, AllocError>
     ensures { IfOk result (λ b. b ≡ is_ok (version_parts text.now)) }

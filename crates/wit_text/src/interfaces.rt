@@ -1,19 +1,18 @@
 //! Interfaces.
 ghost use Rattle.std.specs.Prelude.{◌≡◌, ◌<◌, ◌≤◌, length, map, IfOk};
-ghost use Rattle.wit_text.specs.Lexing.{limit};
-ghost use Rattle.wit_text.specs.Tokens.{lexeme, lexemes, name_of};
-ghost use Rattle.wit_text.specs.View.{entry_view, function_view, item_view};
+ghost use Rattle.wit_tokens.specs.Lexing.{limit};
+ghost use Rattle.wit_tokens.specs.Tokens.{lexeme, lexemes, name_of};
+ghost use Rattle.wit_syntax.specs.View.{entry_view, function_view, item_view};
 ghost use Rattle.wit_text.specs.Faults.{Gives};
 ghost use Rattle.wit_text.specs.Grammar.{after_function, function_end, declared, entry_keyword, entry_feature, entry_fault, entry, entry_list, interface};
 
-use crate::ast::{Func, FuncType, Interface, InterfaceItem, Item};
-use crate::error::{Expected, Feature, TextError};
 use crate::functions::function;
 use crate::header::gate;
 use crate::parser::{feature_or, identifier, is_name, label_of, met, peek, punctuation, same};
-use crate::token::{Keyword, Punctuation, Token, TokenKind};
 use atoms::Label;
 use std::alloc::Global;
+use wit_syntax::{Func, FuncType, Interface, InterfaceItem, Item};
+use wit_tokens::{Expected, Feature, Keyword, Punctuation, TextError, Token, TokenKind};
 
 fn after_function(ty: &FuncType) -> Expected
     ensures { result ≡ after_function (function_view ty.now) }

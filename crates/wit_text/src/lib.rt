@@ -4,29 +4,25 @@
 //! Stands on `productions`, in which the grammar is written, on `atoms` for labels, and on `semver` for versions.
 #![tactic(auto)]
 
-mod ast;
-mod error;
 mod file;
 mod functions;
 mod header;
 mod interfaces;
-mod keyword;
 mod laws;
-mod lexer;
 mod parser;
-mod token;
 mod types;
 
-pub use ast::{
+pub use file::parse;
+pub use laws::files_are_read_exactly;
+pub use wit_syntax::{
     Ast, Case, Direction, Field, Func, FuncType, Interface, InterfaceItem, Item, PackageId, Path,
     Primitive, TypeDef, TypeDefKind, TypeExpression, Use, UsedName, World, WorldItem,
     WorldItemKind,
 };
-pub use error::{Expected, Feature, TextError};
-pub use file::parse;
-pub use laws::{files_are_read_exactly, texts_have_one_lexing};
-pub use lexer::lex;
-pub use token::{Keyword, Punctuation, Span, Token, TokenKind};
+pub use wit_tokens::{
+    Expected, Feature, Keyword, Punctuation, Span, TextError, Token, TokenKind, lex,
+    texts_have_one_lexing,
+};
 
 #[cfg(test)]
 mod tests;

@@ -1,17 +1,16 @@
 //! Small readers: each takes a front of the tokens, and answers the rest.
 ghost use Rattle.std.specs.Prelude.{◌≡◌, ◌<◌, ◌≤◌, length, IsTrue, IfOk, Ok};
-ghost use Rattle.wit_text.specs.Tokens.{same_kind, lexeme, optional_lexeme, lexemes, bytes_of, word_of, name_of};
+ghost use Rattle.wit_tokens.specs.Tokens.{same_kind, lexeme, optional_lexeme, lexemes, bytes_of, word_of, name_of};
 ghost use Rattle.wit_text.specs.Faults.{Gives, feature_or, met, is, wanted};
-ghost use Rattle.wit_text.specs.declared.token.TokenKind.TheVariants as kind;
-ghost use Rattle.wit_text.specs.declared.error.Expected.TheVariants as want;
-ghost use Rattle.wit_text.specs.declared.token.Punctuation.TheVariants.{Comma};
+ghost use Rattle.wit_tokens.specs.declared.token.TokenKind.TheVariants as kind;
+ghost use Rattle.wit_tokens.specs.declared.error.Expected.TheVariants as want;
+ghost use Rattle.wit_tokens.specs.declared.token.Punctuation.TheVariants.{Comma};
 ghost use Rattle.productions.specs.Production.{comma_or};
 ghost use Rattle.wit_text.specs.Grammar.{comma, peek, token, punctuation, keyword, is_name, id};
 
-use crate::error::{Expected, Feature, TextError};
-use crate::token::{Keyword, Punctuation, Span, Token, TokenKind};
 use atoms::{Label, is_label};
 use std::alloc::Global;
+use wit_tokens::{Expected, Feature, Keyword, Punctuation, Span, TextError, Token, TokenKind};
 
 pub fn same(kind: TokenKind, other: TokenKind) -> bool
     ensures { result ≡ same_kind kind other }

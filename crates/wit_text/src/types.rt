@@ -1,15 +1,14 @@
 //! Types.
 ghost use Rattle.std.specs.Prelude.{◌≡◌, ◌<◌, length, IfOk};
-ghost use Rattle.wit_text.specs.Tokens.{lexemes};
-ghost use Rattle.wit_text.specs.View.{ty_view};
-ghost use Rattle.wit_text.specs.Syntax.{Prim};
+ghost use Rattle.wit_tokens.specs.Tokens.{lexemes};
+ghost use Rattle.wit_syntax.specs.View.{ty_view};
+ghost use Rattle.wit_syntax.specs.Syntax.{Prim};
 ghost use Rattle.wit_text.specs.Faults.{Gives};
 ghost use Rattle.wit_text.specs.Grammar.{keyword_start, start_of, start_feature, type_fault, ty, result_fault, function_result};
 
-use crate::ast::{Primitive, TypeExpression};
-use crate::error::{Expected, Feature, TextError};
 use crate::parser::{feature_or, same};
-use crate::token::{Keyword, Punctuation, Token, TokenKind};
+use wit_syntax::{Primitive, TypeExpression};
+use wit_tokens::{Expected, Feature, Keyword, Punctuation, TextError, Token, TokenKind};
 
 /// What a token is at the place of a type.
 #[derive(Clone, Copy, Debug)]

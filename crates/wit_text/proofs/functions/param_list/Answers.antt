@@ -3,9 +3,9 @@ use Rattle.std.proofs.lemmas.Result.{err_from_is_err_and}
 use Rattle.std.proofs.lemmas.List.{map_push, length-append}
 use Rattle.productions.specs.Production.{never}
 use Rattle.productions.proofs.Lists.{entry_goes_on, entry_is_last, entry_fails, more_fails, last_fails}
-use Rattle.wit_text.specs.Tokens.{lexemes}
-use Rattle.wit_text.specs.View.{field_view}
-use Rattle.wit_text.specs.Syntax.{Member}
+use Rattle.wit_tokens.specs.Tokens.{lexemes}
+use Rattle.wit_syntax.specs.View.{field_view}
+use Rattle.wit_syntax.specs.Syntax.{Member}
 use Rattle.wit_text.specs.Lookahead.{Phrase}
 use Rattle.wit_text.specs.Grammar.{member, after_member, surplus_fault, most_params}
 use Rattle.wit_text.proofs.Handed.{Fails-on, Fails-same}

@@ -1,7 +1,7 @@
 use Rattle.std.proofs.Common.{◌≡◌, ◌≤◌, ◌-◌, length, map}
 use Rattle.productions.proofs.Lists.{with_front}
-use Rattle.wit_text.specs.Tokens.{lexemes}
-use Rattle.wit_text.specs.View.{field_view}
+use Rattle.wit_tokens.specs.Tokens.{lexemes}
+use Rattle.wit_syntax.specs.View.{field_view}
 use Rattle.wit_text.specs.Grammar.{param_list, most_params}
 use Rattle.wit_text.proofs.functions.param_list.Given as goal
 

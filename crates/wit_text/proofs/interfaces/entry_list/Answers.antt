@@ -2,13 +2,13 @@ use Rattle.std.proofs.Common.{◌≡◌, ◌<◌, ℕ, suc, ◌-◌, length, map
 use Rattle.std.proofs.lemmas.Result.{err_from_is_err_and}
 use Rattle.std.proofs.lemmas.List.{map_push, length-append}
 use Rattle.productions.proofs.Lists.{many_goes_on, many_fails, many_closes}
-use Rattle.wit_text.specs.Lexing.{limit}
-use Rattle.wit_text.specs.Tokens.{Lexeme, lexeme, lexemes}
-use Rattle.wit_text.specs.View.{entry_view}
+use Rattle.wit_tokens.specs.Lexing.{limit}
+use Rattle.wit_tokens.specs.Tokens.{Lexeme, lexeme, lexemes}
+use Rattle.wit_syntax.specs.View.{entry_view}
 use Rattle.wit_text.specs.Faults.{is, wanted}
 use Rattle.wit_text.specs.Grammar.{entry, close_brace}
-use Rattle.wit_text.specs.declared.error.TextError.{TextError}
-use Rattle.wit_text.specs.declared.error.Expected.TheVariants as want
+use Rattle.wit_tokens.specs.declared.error.TextError.{TextError}
+use Rattle.wit_tokens.specs.declared.error.Expected.TheVariants as want
 use Rattle.wit_text.proofs.Handed.{Fails-on, peeked}
 use Rattle.wit_text.proofs.interfaces.entry_list.Goals as goal
 

@@ -1,8 +1,8 @@
 use Rattle.std.proofs.Common.{◌≡◌, ◌≤◌, ◌+◌, ◌-◌, length, map}
 use Rattle.productions.proofs.Lists.{with_front}
-use Rattle.wit_text.specs.Lexing.{limit}
-use Rattle.wit_text.specs.Tokens.{lexemes}
-use Rattle.wit_text.specs.View.{entry_view}
+use Rattle.wit_tokens.specs.Lexing.{limit}
+use Rattle.wit_tokens.specs.Tokens.{lexemes}
+use Rattle.wit_syntax.specs.View.{entry_view}
 use Rattle.wit_text.specs.Grammar.{entry_list}
 use Rattle.wit_text.proofs.interfaces.entry_list.Given as goal
 
