@@ -1,5 +1,6 @@
 -- The syntax of a text, as plain trees: what a value of the crate's types stands for.
 use Rattle.std.specs.Prelude.{ℕ, ◌+◌, max, List, [], ◌∷◌, Option}
+use Rattle.wit_tokens.specs.declared.token.Span.{Span}
 use Rattle.wit_syntax.specs.declared.ast.Primitive.{Primitive}
 use Rattle.wit_syntax.specs.declared.ast.Direction.{Direction}
 
@@ -69,18 +70,19 @@ pub record Function : Type 0 where
 pub data PathTo : Type 0 where
   Local : (name : List ℕ) → PathTo
 
+-- the span is that of the first token
 pub data Entry : Type 0 where
-  Uses : (interface : PathTo) → List UsedAs → Entry
-  Defines : (name : List ℕ) → Definition → Entry
-  Declares : (name : List ℕ) → Function → Entry
+  Uses : (at : Span) → (interface : PathTo) → List UsedAs → Entry
+  Defines : (at : Span) → (name : List ℕ) → Definition → Entry
+  Declares : (at : Span) → (name : List ℕ) → Function → Entry
 
 pub data WorldEntry : Type 0 where
   Whole : Direction → (interface : PathTo) → WorldEntry
-  Single : Direction → (name : List ℕ) → Function → WorldEntry
+  Single : Direction → (at : Span) → (name : List ℕ) → Function → WorldEntry
 
 pub data FileEntry : Type 0 where
   AnInterface : (name : List ℕ) → List Entry → FileEntry
-  AWorld : (name : List ℕ) → List WorldEntry → FileEntry
+  AWorld : (at : Span) → (name : List ℕ) → List WorldEntry → FileEntry
 
 pub record File : Type 0 where
   pub namespace : List ℕ

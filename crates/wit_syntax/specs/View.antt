@@ -72,20 +72,20 @@ abbrev pub function_view : FuncType → Function
 function_view f = record { params = map field_view f.params.items; result = optional_view f.result }
 
 abbrev pub entry_view : InterfaceItem → Entry
-entry_view (entry.Use u) = Uses (path_view u.interface) (map used_view u.names.items)
-entry_view (entry.TypeDef t) = Defines t.name (definition_view t.kind)
-entry_view (entry.Func f) = Declares f.name (function_view f.ty)
+entry_view (entry.Use u) = Uses u.span (path_view u.interface) (map used_view u.names.items)
+entry_view (entry.TypeDef t) = Defines t.span t.name (definition_view t.kind)
+entry_view (entry.Func f) = Declares f.span f.name (function_view f.ty)
 
 abbrev pub world_kind_view : Direction → WorldItemKind → WorldEntry
 world_kind_view d (world.Interface p) = Whole d (path_view p)
-world_kind_view d (world.Func f) = Single d f.name (function_view f.ty)
+world_kind_view d (world.Func f) = Single d f.span f.name (function_view f.ty)
 
 abbrev pub world_entry_view : WorldItem → WorldEntry
 world_entry_view w = world_kind_view w.direction w.kind
 
 abbrev pub item_view : Item → FileEntry
 item_view (item.Interface i) = AnInterface i.name (map entry_view i.items.items)
-item_view (item.World w) = AWorld w.name (map world_entry_view w.items.items)
+item_view (item.World w) = AWorld w.span w.name (map world_entry_view w.items.items)
 
 abbrev pub version_view : Option (String Global) → Option (List ℕ)
 version_view None = None

@@ -1,5 +1,6 @@
-//! The syntax of a WIT text. Names stand as they were written.
+//! The syntax of a WIT text. Names stand as they were written, without the `%` of an escaped word.
 use atoms::Label;
+use wit_tokens::Span;
 
 /// A whole text.
 #[derive(Debug, Drop)]
@@ -12,6 +13,7 @@ pub struct Ast {
 pub struct PackageId {
     pub namespace: Label,
     pub name: Label,
+    /// What stands behind the `@`.
     pub version: Option<String>,
 }
 
@@ -36,6 +38,8 @@ pub enum InterfaceItem {
 
 #[derive(Debug, Drop)]
 pub struct Use {
+    /// Where the first token stands.
+    pub span: Span,
     pub interface: Path,
     pub names: Vec<UsedName>,
 }
@@ -54,6 +58,8 @@ pub struct UsedName {
 
 #[derive(Debug, Drop)]
 pub struct TypeDef {
+    /// Where the first token stands.
+    pub span: Span,
     pub name: Label,
     pub kind: TypeDefKind,
 }
@@ -82,6 +88,8 @@ pub struct Case {
 
 #[derive(Debug, Drop)]
 pub struct Func {
+    /// Where the first token stands.
+    pub span: Span,
     pub name: Label,
     pub ty: FuncType,
 }
@@ -94,6 +102,8 @@ pub struct FuncType {
 
 #[derive(Debug, Drop)]
 pub struct World {
+    /// Where the first token stands.
+    pub span: Span,
     pub name: Label,
     pub items: Vec<WorldItem>,
 }

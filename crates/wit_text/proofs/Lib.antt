@@ -2,5 +2,8 @@ pub mod Versions
 pub mod Handed
 pub mod KindLemmas
 pub mod FaultLemmas
+pub mod TypeLemmas
+pub mod Results
 pub mod Exactness
+pub mod Limits
 pub mod Parsed

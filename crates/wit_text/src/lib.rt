@@ -1,9 +1,10 @@
-//! WIT texts: tokens, syntax trees, and how they are read. `parse` carries the promise: it answers the tree exactly
-//! where the text's tokens spell it by the grammar, and else the first fault with its span. So far a package without a
-//! version and one interface of functions over primitives is read; what else the grammar allows is 33 `later-stage`.
-//! Stands on `productions`, in which the grammar is written, on `atoms` for labels, and on `semver` for versions.
+//! WIT texts: how tokens are read as syntax trees. `parse` carries the promise: it answers the tree exactly where the text's
+//! tokens spell it by the grammar, and else the first fault with its span. The whole profile is read: interfaces with uses,
+//! types and functions, and worlds. Stands on `productions`, in which the grammar is written, on `wit_tokens` and
+//! `wit_syntax`, on `atoms` for labels, and on `semver` for versions.
 #![tactic(auto)]
 
+mod definitions;
 mod file;
 mod functions;
 mod header;
@@ -11,6 +12,8 @@ mod interfaces;
 mod laws;
 mod parser;
 mod types;
+mod uses;
+mod worlds;
 
 pub use file::parse;
 pub use laws::files_are_read_exactly;
