@@ -3,9 +3,9 @@ use Rattle.std.proofs.Common.{◌≡◌, ◌≢◌, inl, inr, ℕ, zero, suc, �
 use Rattle.std.specs.List.{list_all}
 use Rattle.std.proofs.lemmas.List.{get_or-map, length-map}
 use Rattle.std.proofs.lemmas.List.Folds.{list_all_at, list_all-append}
-use Rattle.wit_text.specs.declared.ast.Func.{Func}
-use Rattle.wit_text.specs.declared.ast.InterfaceItem.{InterfaceItem}
-use Rattle.wit_text.specs.declared.ast.InterfaceItem.TheVariants as part
+use Rattle.wit_syntax.specs.declared.ast.Func.{Func}
+use Rattle.wit_syntax.specs.declared.ast.InterfaceItem.{InterfaceItem}
+use Rattle.wit_syntax.specs.declared.ast.InterfaceItem.TheVariants as part
 use Rattle.resolve.specs.Closed.{is_scalar_function}
 use Rattle.resolve.specs.FromAst.{function_name, parameter_names, function_of, row_of, is_scalar_row, HasOthers, RefusesNames, RefusesFunctions}
 use Rattle.resolve.specs.declared.tables.Function.{Function}

@@ -5,12 +5,12 @@ use Rattle.std.proofs.lemmas.List.{length-map, get_or-map}
 use Rattle.std.proofs.lemmas.List.Elements.{All-map}
 use Rattle.std.proofs.lemmas.Simd.{map-map}
 use Rattle.std.proofs.lemmas.List.Folds.{list_all-append}
-use Rattle.wit_text.specs.declared.ast.Ast.{Ast}
-use Rattle.wit_text.specs.declared.ast.Func.{Func}
-use Rattle.wit_text.specs.declared.ast.Item.TheVariants as item
-use Rattle.wit_text.specs.declared.ast.Interface.{Interface as InterfaceTree}
-use Rattle.wit_text.specs.declared.ast.InterfaceItem.{InterfaceItem}
-use Rattle.wit_text.specs.declared.ast.InterfaceItem.TheVariants as part
+use Rattle.wit_syntax.specs.declared.ast.Ast.{Ast}
+use Rattle.wit_syntax.specs.declared.ast.Func.{Func}
+use Rattle.wit_syntax.specs.declared.ast.Item.TheVariants as item
+use Rattle.wit_syntax.specs.declared.ast.Interface.{Interface as InterfaceTree}
+use Rattle.wit_syntax.specs.declared.ast.InterfaceItem.{InterfaceItem}
+use Rattle.wit_syntax.specs.declared.ast.InterfaceItem.TheVariants as part
 use Rattle.resolve.specs.Closed.{is_scalar, is_scalar_result, is_scalar_function}
 use Rattle.resolve.specs.Scope.{AreDistinct, IsDuplicate}
 use Rattle.resolve.specs.Tables.{is_below, option_below, function_below, are_earlier, are_standard, is_function_id, is_there, function_of, are_placed}

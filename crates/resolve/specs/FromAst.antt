@@ -3,18 +3,18 @@ use Rattle.std.specs.Prelude.{◌≡◌, ◌≢◌, ◌<◌, ◌++◌, ℕ, zero
 use Rattle.std.specs.Borrow.{Bor}
 use Rattle.std.specs.Option.{option_map}
 use Rattle.std.specs.List.{list_all}
-use Rattle.wit_text.specs.declared.ast.Ast.{Ast}
-use Rattle.wit_text.specs.declared.ast.Item.TheVariants as item
-use Rattle.wit_text.specs.declared.ast.Interface.{Interface as InterfaceTree}
-use Rattle.wit_text.specs.declared.ast.InterfaceItem.{InterfaceItem}
-use Rattle.wit_text.specs.declared.ast.InterfaceItem.TheVariants as part
-use Rattle.wit_text.specs.declared.ast.Func.{Func}
-use Rattle.wit_text.specs.declared.ast.Field.{Field}
-use Rattle.wit_text.specs.declared.ast.Primitive.{Primitive as Keyword}
-use Rattle.wit_text.specs.declared.ast.Primitive.TheVariants as keyword
-use Rattle.wit_text.specs.declared.ast.TypeExpression.{TypeExpression}
-use Rattle.wit_text.specs.declared.ast.TypeExpression.TheOpen as one
-use Rattle.wit_text.specs.declared.ast.TypeExpression.TheFolds.{fold-TypeExpression}
+use Rattle.wit_syntax.specs.declared.ast.Ast.{Ast}
+use Rattle.wit_syntax.specs.declared.ast.Item.TheVariants as item
+use Rattle.wit_syntax.specs.declared.ast.Interface.{Interface as InterfaceTree}
+use Rattle.wit_syntax.specs.declared.ast.InterfaceItem.{InterfaceItem}
+use Rattle.wit_syntax.specs.declared.ast.InterfaceItem.TheVariants as part
+use Rattle.wit_syntax.specs.declared.ast.Func.{Func}
+use Rattle.wit_syntax.specs.declared.ast.Field.{Field}
+use Rattle.wit_syntax.specs.declared.ast.Primitive.{Primitive as Keyword}
+use Rattle.wit_syntax.specs.declared.ast.Primitive.TheVariants as keyword
+use Rattle.wit_syntax.specs.declared.ast.TypeExpression.{TypeExpression}
+use Rattle.wit_syntax.specs.declared.ast.TypeExpression.TheOpen as one
+use Rattle.wit_syntax.specs.declared.ast.TypeExpression.TheFolds.{fold-TypeExpression}
 use Rattle.resolve.specs.Scope.{AreDistinct, IsDuplicate}
 use Rattle.resolve.specs.Closed.{is_scalar_function}
 use Rattle.resolve.specs.declared.error.ResolveError.{ResolveError}

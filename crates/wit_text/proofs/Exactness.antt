@@ -1,28 +1,65 @@
 -- Each production is read exactly.
-use Rattle.std.proofs.Common.{◌≡◌, ℕ, zero, suc, Bool, true, false, List, [], ◌∷◌, Option, Some, None, refl}
-use Rattle.std.specs.Prelude.{◌&&◌}
-use Rattle.productions.specs.Production.{next, give, never, ◌>>=◌, one, when, entries}
+use Rattle.std.proofs.Common.{◌≡◌, ℕ, zero, suc, Bool, true, false, List, [], ◌∷◌, ◌++◌, Option, Some, None, Result, Ok, Err, refl, sym, ap, subst, ◌∙◌, inl, inr}
+use Rattle.std.specs.Prelude.{◌&&◌, ◌||◌, is_some}
+use Rattle.productions.specs.Production.{next, passes, give, never, ◌>>=◌, one, only, when, optional, entries}
 use Rattle.productions.specs.Exactness.{Exact, Anything, Unless, AtEnd}
-use Rattle.productions.proofs.Exact.{Opens, exact-give, exact-then, exact-last, exact-before, exact-optional, exact-peek, exact-many, exact-comma_or, exact-entries, exact-all, opens-bind, opens-one}
-use Rattle.wit_text.specs.declared.token.Keyword.TheVariants as kw
-use Rattle.wit_text.specs.declared.token.Punctuation.{Punctuation}
-use Rattle.wit_text.specs.declared.token.Punctuation.TheVariants as mark
-use Rattle.wit_text.specs.declared.token.TokenKind.{TokenKind}
-use Rattle.wit_text.specs.declared.token.TokenKind.TheVariants as kind
-use Rattle.wit_text.specs.declared.error.Expected.TheVariants as want
+use Rattle.productions.proofs.Exact.{ok_is, after_ok, stopped, Opens, exact-give, exact-bind, exact-then, exact-last, exact-before, exact-when, exact-optional, exact-peek, exact-only, exact-many, exact-listed, exact-comma_or, exact-entries, exact-all, leads-comma_or, opens-bind, opens-one}
+use Rattle.wit_tokens.specs.declared.token.Keyword.TheVariants as kw
+use Rattle.wit_tokens.specs.declared.token.Punctuation.{Punctuation}
+use Rattle.wit_tokens.specs.declared.token.Punctuation.TheVariants as mark
+use Rattle.wit_tokens.specs.declared.token.TokenKind.{TokenKind}
+use Rattle.wit_tokens.specs.declared.token.TokenKind.TheVariants as kind
+use Rattle.wit_tokens.specs.declared.token.Span.{Span}
+use Rattle.wit_tokens.specs.declared.error.Expected.TheVariants as want
+use Rattle.wit_tokens.specs.declared.error.Feature.{Feature}
+use Rattle.wit_tokens.specs.declared.error.Feature.TheVariants as feature
+use Rattle.wit_tokens.specs.declared.error.TextError.{TextError}
+use Rattle.wit_tokens.specs.declared.error.TextError.TheVariants as error
 use Rattle.wit_text.specs.declared.types.Start.{Start}
 use Rattle.wit_text.specs.declared.types.Start.TheVariants as start
-use Rattle.wit_text.specs.Lexing.{limit}
-use Rattle.wit_text.specs.Tokens.{Lexeme}
-use Rattle.wit_text.specs.Syntax.{Ty}
-use Rattle.wit_text.specs.Faults.{wanted, is, StandsAt}
-use Rattle.wit_text.specs.Lookahead.{lookahead, Phrase}
+use Rattle.wit_text.specs.declared.interfaces.ItemStart.{ItemStart}
+use Rattle.wit_text.specs.declared.interfaces.ItemStart.TheVariants as begin
+use Rattle.wit_syntax.specs.declared.ast.Direction.{Direction}
+use Rattle.wit_tokens.specs.Lexing.{limit}
+use Rattle.wit_tokens.specs.Tokens.{Lexeme}
+use Rattle.wit_syntax.specs.Syntax.{Ty, Member, CaseOf, UsedAs, Function, Single}
+use Rattle.wit_text.specs.Faults.{wanted, is, feature_or, unless_feature, StandsAt}
+use Rattle.wit_text.specs.Lookahead.{lookahead, Looks, Phrase}
 use Rattle.wit_text.specs.Grammar as g
 use Rattle.wit_text.proofs.KindLemmas.{same_true}
-use Rattle.wit_text.proofs.FaultLemmas.{ByNext, exact-token, exact-fault, owed, owed-end, next-wanted, next-feature, feature_place}
+use Rattle.wit_text.proofs.FaultLemmas.{ByNext, exact-token, exact-fault, owed, owed-end, next-first, next-wanted, next-feature, feature_place}
 
 abbrev look : {X : Type 0} → ℕ → Phrase X → Type 0
 look end p = Exact (lookahead end) Anything p
+
+-- where anything may come next, all the more where less may
+weak : {X : Type 0} (end : ℕ) (stops : X → Option Lexeme → Type 0) (p : Phrase X) → look end p → Exact (lookahead end) stops p
+weak end stops p ep = record { sound = ep.sound; complete = λ text rest x s more. ep.complete text rest x s tt; faulty = ep.faulty; stays = ep.stays }
+
+-- what a token of one kind is not
+apart : (a b : TokenKind) (t : Lexeme) → (is a t ≡ true) → is b t ≡ is b (record { token = record { kind = a; span = t.token.span }; text = t.text })
+apart a b t h = rw (same_true t.token.kind a h) refl
+
+both_left : (a b : Bool) → (a && b) ≡ true → a ≡ true
+both_left true b e = refl
+both_left false b e = e
+
+either : (a b : Bool) → (a || b) ≡ true → (C : Type 0) → (a ≡ true → C) → (b ≡ true → C) → C
+either true b e C l r = l refl
+either false b e C l r = r e
+
+never_both : (b : Bool) → b ≡ true → b ≡ false → ⊥
+never_both b t f = let both : true ≡ false = sym t ∙ f in cc
+
+-- a test that no token of this kind passes
+by_kind : (k : TokenKind) (test : Lexeme → Bool) → ((t : Lexeme) → t.token.kind ≡ k → test t ≡ false) → (t : Lexeme) → test t ≡ true → is k t ≡ false
+by_kind k test off t h = by (is k t) refl
+  where
+    by : (b : Bool) → is k t ≡ b → is k t ≡ false
+    by false e = e
+    by true e = absurd (never_both (test t) h (off t (same_true t.token.kind k e)))
+
+-- ---- tokens
 
 exact-punctuation : (end : ℕ) (p : Punctuation) → look end (g.punctuation end p)
 unfolding g.punctuation
@@ -36,164 +73,514 @@ exact-lower_id : (end : ℕ) → look end (g.lower_id end)
 unfolding g.lower_id
 exact-lower_id end = exact-then (lookahead end) (one g.is_lower_name (wanted end want.Identifier)) _ (exact-token end _ (next-wanted end _) _) (λ t. exact-give (lookahead end) _)
 
--- what a token of one kind is not
-apart : (a b : TokenKind) (t : Lexeme) → (is a t ≡ true) → is b t ≡ is b (record { token = record { kind = a; span = t.token.span }; text = t.text })
-apart a b t h = rw (same_true t.token.kind a h) refl
-
--- ---- the package
-
-next-first : (end : ℕ) → ByNext end (g.first_fault end)
-unfolding g.first_fault
-next-first end = next-feature end _ _
-
-next-header : (end : ℕ) → ByNext end (g.header_fault end)
-unfolding g.header_fault
-next-header end = record { same = alike; place = placed }
-  where
-    alike : (ts other : List Lexeme) → next other ≡ next ts → g.header_fault end other ≡ g.header_fault end ts
-    alike [] [] n = refl
-    alike [] (u ∷ us) n = absurd cc
-    alike (t ∷ ts) [] n = absurd cc
-    alike (t ∷ ts) (u ∷ us) n = let same : u ≡ t = cc in rw same refl
-
-    placed : (ts : List Lexeme) → StandsAt end ts (g.header_fault end ts)
-    placed [] = refl
-    placed (t ∷ ts) = feature_place end (g.header_feature t) (g.header_wanted t) (t ∷ ts)
-
-exact-package_word : (end : ℕ) → look end (g.package_word end)
-unfolding g.package_word
-exact-package_word end = exact-token end _ (next-first end) _
-
-exact-header_end : (end : ℕ) → look end (g.header_end end)
-unfolding g.header_end
-exact-header_end end = exact-token end _ (next-header end) _
-
-exact-header : (end : ℕ) → look end (g.header end)
-unfolding g.header
-exact-header end =
-    exact-then (lookahead end) (g.package_word end) _ (exact-package_word end) (λ a. exact-then (lookahead end) (g.lower_id end) _ (exact-lower_id end) (λ namespace.
-    exact-then (lookahead end) (g.punctuation end _) _ (exact-punctuation end _) (λ b. exact-then (lookahead end) (g.lower_id end) _ (exact-lower_id end) (λ name.
-    exact-then (lookahead end) (g.header_end end) _ (exact-header_end end) (λ c. exact-give (lookahead end) _)))))
-
--- ---- types
-
-next-type : (end : ℕ) → ByNext end (g.type_fault end)
-unfolding g.type_fault
-next-type end = next-feature end _ _
-
-exact-begun : (end : ℕ) (s : Start) → look end (g.begun end s)
-unfolding g.begun
-exact-begun end (start.Plain p) = exact-give (lookahead end) _
-exact-begun end (start.LeftOut f) = exact-fault end (g.type_fault end) (next-type end)
-exact-begun end start.Nothing = exact-fault end (g.type_fault end) (next-type end)
-
-exact-ty : (end : ℕ) → look end (g.ty end)
-unfolding g.ty
-exact-ty end = exact-then (lookahead end) (one g.begins_type (g.type_fault end)) _ (exact-token end _ (next-type end) g.begins_type) (λ t. exact-begun end (g.start_of t.token.kind))
-
--- ---- functions
-
-exact-member : (end : ℕ) → look end (g.member end)
-unfolding g.member
-exact-member end = exact-then (lookahead end) (g.id end) _ (exact-id end) (λ name. exact-then (lookahead end) (g.punctuation end _) _ (exact-punctuation end _) (λ a. exact-then (lookahead end) (g.ty end) _ (exact-ty end) (λ t. exact-give (lookahead end) _)))
-
-exact-after_member : (end : ℕ) → look end (g.after_member end)
-unfolding g.after_member
-exact-after_member end = exact-comma_or (lookahead end) (is g.comma) (is g.close_parenthesis) _ (owed end _ (next-wanted end _) _)
-
-next-surplus : (end : ℕ) → ByNext end (g.surplus_fault end)
-unfolding g.surplus_fault
-next-surplus end = next-feature end _ _
-
-exact-param_list : (end n : ℕ) → look end (g.param_list end n)
-unfolding g.after_member
-exact-param_list end n = exact-entries (lookahead end) (λ m. g.after_member end) (g.member end) (never (g.surplus_fault end)) (exact-member end) (λ m. exact-after_member end)
-    (λ m b text rest s. tt) (exact-fault end (g.surplus_fault end) (next-surplus end)) n
+exact-peeked : (end : ℕ) (k : TokenKind) → Exact (lookahead end) (Unless (is k) Anything) (g.peek k)
+exact-peeked end k = exact-optional (lookahead end) (is k) give (λ t. exact-give (lookahead end) {stops = Anything} t)
 
 -- a name is an identifier
 name_kind : (t : Lexeme) → g.is_name t ≡ true → is kind.Identifier t ≡ true
 unfolding g.is_name
-name_kind t h = by (is kind.Identifier t) _ h
-  where
-    by : (a b : Bool) → (a && b) ≡ true → a ≡ true
-    by true b e = refl
-    by false b e = e
+name_kind t h = both_left (is kind.Identifier t) _ h
 
 not_name : (p : Punctuation) (t : Lexeme) → g.is_name t ≡ true → is (kind.Punctuation p) t ≡ false
 not_name p t h = apart kind.Identifier (kind.Punctuation p) t (name_kind t h)
+
+no_name : (k : TokenKind) (t : Lexeme) → is kind.Identifier (record { token = record { kind = k; span = t.token.span }; text = t.text }) ≡ false → t.token.kind ≡ k → g.is_name t ≡ false
+unfolding g.is_name
+no_name k t other same = let e : is kind.Identifier t ≡ false = rw same other in rw e refl
 
 opens-id : (p : Punctuation) (end : ℕ) → Opens (lookahead end) (is (kind.Punctuation p)) (g.id end)
 unfolding g.id
 opens-id p end = opens-bind (lookahead end) (is (kind.Punctuation p)) (one g.is_name (wanted end want.Identifier)) (λ t. give t.text) (opens-one (lookahead end) (is (kind.Punctuation p)) g.is_name (wanted end want.Identifier) (not_name p))
 
-opens-member : (p : Punctuation) (end : ℕ) → Opens (lookahead end) (is (kind.Punctuation p)) (g.member end)
+-- ---- the package
+
+next-start : (end : ℕ) → ByNext end (g.first_fault end)
+unfolding g.first_fault
+next-start end = next-feature end _ _
+
+next-header : (end : ℕ) (v : Option (List ℕ)) → ByNext end (g.header_fault end v)
+unfolding g.header_fault
+next-header end v = next-first end (g.header_fault end v) (λ t ts us. refl) placed
+  where
+    placed : (ts : List Lexeme) → StandsAt end ts (g.header_fault end v ts)
+    placed [] = refl
+    placed (t ∷ ts) = feature_place end _ (g.header_wanted v t) (t ∷ ts)
+
+exact-package_word : (end : ℕ) → look end (g.package_word end)
+unfolding g.package_word
+exact-package_word end = exact-token end _ (next-start end) _
+
+exact-version : (end : ℕ) → Exact (lookahead end) (Unless g.is_version_token Anything) g.version
+unfolding g.version
+exact-version end = exact-optional (lookahead end) g.is_version_token _ (λ t. exact-give (lookahead end) _)
+
+version_ends : (v : Option (List ℕ)) (t : Lexeme) → is g.semicolon t ≡ true → Unless g.is_version_token Anything v (Some t)
+unfolding g.is_version_token
+version_ends (Some v) t h = tt
+version_ends None t h = let e : is kind.Version t ≡ false = apart g.semicolon kind.Version t h in rw e refl
+
+exact-header : (end : ℕ) → look end (g.header end)
+unfolding g.header g.header_end
+exact-header end =
+    exact-then (lookahead end) (g.package_word end) _ (exact-package_word end) (λ a. exact-then (lookahead end) (g.lower_id end) _ (exact-lower_id end) (λ namespace.
+    exact-then (lookahead end) (g.punctuation end _) _ (exact-punctuation end _) (λ b. exact-then (lookahead end) (g.lower_id end) _ (exact-lower_id end) (λ name.
+    exact-before (lookahead end) g.version _ _ _ (exact-version end) (λ v. exact-then (lookahead end) _ _ (exact-token end _ (next-header end v) _) (λ c. exact-give (lookahead end) _)) version_ends))))
+
+-- ---- types
+
+-- `<` doesn't come next behind a bare result
+abbrev NotLess : Ty → Option Lexeme → Type 0
+NotLess t n = g.is_bare t ≡ true → passes (is g.less) n ≡ false
+
+not_less : (k : TokenKind) → ((t : Lexeme) → t.token.kind ≡ g.less → is k t ≡ false) → (x : Ty) (t : Lexeme) → is k t ≡ true → NotLess x (Some t)
+not_less k other x t h bare = by_kind g.less (is k) other t h
+
+greater_ends : (x : Ty) (t : Lexeme) → is g.greater t ≡ true → NotLess x (Some t)
+greater_ends = not_less g.greater (λ t e. rw e refl)
+
+comma_ends : (x : Ty) (t : Lexeme) → is g.comma t ≡ true → NotLess x (Some t)
+comma_ends = not_less g.comma (λ t e. rw e refl)
+
+parenthesis_ends : (x : Ty) (t : Lexeme) → is g.close_parenthesis t ≡ true → NotLess x (Some t)
+parenthesis_ends = not_less g.close_parenthesis (λ t e. rw e refl)
+
+brace_ends : (x : Ty) (t : Lexeme) → is g.close_brace t ≡ true → NotLess x (Some t)
+brace_ends = not_less g.close_brace (λ t e. rw e refl)
+
+semicolon_ends : (x : Ty) (t : Lexeme) → is g.semicolon t ≡ true → NotLess x (Some t)
+semicolon_ends = not_less g.semicolon (λ t e. rw e refl)
+
+either_ends : (k : TokenKind) → ((x : Ty) (t : Lexeme) → is k t ≡ true → NotLess x (Some t)) → (x : Ty) (t : Lexeme) → (is k t || is g.comma t) ≡ true → NotLess x (Some t)
+either_ends k ends x t h = either (is k t) (is g.comma t) h (NotLess x (Some t)) (ends x t) (comma_ends x t)
+
+abbrev Types : ℕ → Phrase Ty → Type 0
+Types end inner = Exact (lookahead end) NotLess inner
+
+next-type : (end : ℕ) → ByNext end (g.type_fault end)
+unfolding g.type_fault
+next-type end = next-first end (g.type_fault end) (λ t ts us. refl) placed
+  where
+    at_start : (s : Start) (t : Lexeme) (ts : List Lexeme) → StandsAt end (t ∷ ts) (g.start_fault s t.token.span)
+    at_start (start.Plain p) t ts = refl
+    at_start start.List t ts = refl
+    at_start start.Option t ts = refl
+    at_start start.Tuple t ts = refl
+    at_start start.Result t ts = refl
+    at_start (start.LeftOut f) t ts = refl
+    at_start start.Nothing t ts = refl
+
+    at_token : (b : Bool) (t : Lexeme) (ts : List Lexeme) → g.is_name t ≡ b → StandsAt end (t ∷ ts) (g.fault_at t)
+    at_token true t ts e = rw e refl
+    at_token false t ts e = rw e (at_start (g.kind_start t.token.kind) t ts)
+
+    placed : (ts : List Lexeme) → StandsAt end ts (g.type_fault end ts)
+    placed [] = refl
+    placed (t ∷ ts) = at_token (g.is_name t) t ts refl
+
+exact-list : (end : ℕ) (inner : Phrase Ty) → Types end inner → look end (g.list end inner)
+unfolding g.list g.close_list
+exact-list end inner ei = exact-then (lookahead end) (g.punctuation end _) _ (exact-punctuation end _) (λ a. exact-before (lookahead end) inner _ _ _ ei (λ t. exact-then (lookahead end) _ _ (exact-token end _ (next-feature end _ _) _) (λ b. exact-give (lookahead end) _)) greater_ends)
+
+exact-option : (end : ℕ) (inner : Phrase Ty) → Types end inner → look end (g.option end inner)
+unfolding g.option g.close_angle
+exact-option end inner ei = exact-then (lookahead end) (g.punctuation end _) _ (exact-punctuation end _) (λ a. exact-before (lookahead end) inner _ _ _ ei (λ t. exact-then (lookahead end) _ _ (exact-token end _ (next-wanted end _) _) (λ b. exact-give (lookahead end) _)) greater_ends)
+
+exact-members : (end : ℕ) (inner : Phrase Ty) → Types end inner → Opens (lookahead end) (is g.greater) inner → (n : ℕ) → look end (g.members end inner n)
+exact-members end inner ei opens n = exact-listed (lookahead end) inner ei (is g.greater) opens (is g.comma) _ (λ x. owed end _ (next-wanted end _) _) (λ x. owed end _ (next-wanted end _) _) (either_ends g.greater greater_ends) greater_ends n
+
+exact-tuple : (end : ℕ) (inner : Phrase Ty) → Types end inner → Opens (lookahead end) (is g.greater) inner → look end (g.tuple end inner)
+unfolding g.tuple
+exact-tuple end inner ei opens = exact-then (lookahead end) (g.punctuation end _) _ (exact-punctuation end _) (λ a. exact-then (lookahead end) (g.members end inner limit) _ (exact-members end inner ei opens limit) (λ ts. exact-give (lookahead end) _))
+
+exact-error_type : (end : ℕ) (inner : Phrase Ty) → Types end inner → look end (g.error_type end inner)
+unfolding g.error_type g.close_angle
+exact-error_type end inner ei = exact-before (lookahead end) inner _ _ _ ei (λ t. exact-then (lookahead end) _ _ (exact-token end _ (next-wanted end _) _) (λ b. exact-give (lookahead end) _)) greater_ends
+
+exact-result_error : (end : ℕ) (inner : Phrase Ty) → Types end inner → look end (g.result_error end inner)
+unfolding g.result_error
+exact-result_error end inner ei = exact-then (lookahead end) (g.punctuation end _) _ (exact-punctuation end _) (λ a. exact-then (lookahead end) (g.error_type end inner) _ (exact-error_type end inner ei) (λ e. exact-give (lookahead end) _))
+
+exact-result_ok : (end : ℕ) (inner : Phrase Ty) → Types end inner → look end (g.result_ok end inner)
+unfolding g.result_ok g.result_rest
+exact-result_ok end inner ei = exact-before (lookahead end) inner _ _ _ ei (λ t. exact-then (lookahead end) _ _ (exact-token end _ (next-wanted end _) _) (λ s.
+    exact-when (lookahead end) (is g.greater s) _ _ (exact-give (lookahead end) _) (exact-then (lookahead end) (g.error_type end inner) _ (exact-error_type end inner ei) (λ e. exact-give (lookahead end) _)))) (either_ends g.greater greater_ends)
+
+-- a type begins with a token that begins types
+opens-type : (p : Punctuation) (end n : ℕ) → Opens (lookahead end) (is (kind.Punctuation p)) (g.ty end n)
+unfolding g.ty g.type_of g.begins_type
+opens-type p end zero = λ x text rest s. absurd s
+opens-type p end (suc n) = opens-bind (lookahead end) (is (kind.Punctuation p)) (one g.begins_type (g.type_fault end)) (g.type_behind end (g.ty end n)) (opens-one (lookahead end) (is (kind.Punctuation p)) g.begins_type (g.type_fault end) (by_kind (kind.Punctuation p) g.begins_type off))
+  where
+    off : (t : Lexeme) → t.token.kind ≡ kind.Punctuation p → g.begins_type t ≡ false
+    off t e = let m : g.is_name t ≡ false = no_name (kind.Punctuation p) t refl e in rw (m, e) refl
+
+exact-result_parts : (end : ℕ) (inner : Phrase Ty) → Types end inner → Opens (lookahead end) (is g.underscore) inner → look end (g.result_parts end inner)
+unfolding g.result_parts g.result_ok
+exact-result_parts end inner ei opens = exact-peek (lookahead end) (is g.underscore) (g.result_error end inner) (g.result_ok end inner) (exact-result_error end inner ei) (exact-result_ok end inner ei) (opens-bind (lookahead end) (is g.underscore) inner (g.result_rest end inner) opens)
+
+exact-result : (end : ℕ) (inner : Phrase Ty) → Types end inner → Opens (lookahead end) (is g.underscore) inner → Types end (g.result_type end inner)
+unfolding g.result_type
+exact-result end inner ei opens = exact-last (lookahead end) (optional (is g.less) (λ t. g.result_parts end inner)) g.or_bare (exact-optional (lookahead end) (is g.less) _ (λ t. exact-result_parts end inner ei opens)) ends
+  where
+    ends : (x : Option Ty) (n : Option Lexeme) → NotLess (g.or_bare x) n → Unless (is g.less) Anything x n
+    ends None n h = h refl
+    ends (Some x) n h = tt
+
+exact-begun : (end : ℕ) (inner : Phrase Ty) → Types end inner → ((p : Punctuation) → Opens (lookahead end) (is (kind.Punctuation p)) inner) → (s : Start) → Types end (g.begun end inner s)
+unfolding g.begun
+exact-begun end inner ei opens (start.Plain p) = exact-give (lookahead end) _
+exact-begun end inner ei opens start.List = weak end NotLess (g.list end inner) (exact-list end inner ei)
+exact-begun end inner ei opens start.Option = weak end NotLess (g.option end inner) (exact-option end inner ei)
+exact-begun end inner ei opens start.Tuple = weak end NotLess (g.tuple end inner) (exact-tuple end inner ei (opens mark.Greater))
+exact-begun end inner ei opens start.Result = exact-result end inner ei (opens mark.Underscore)
+exact-begun end inner ei opens (start.LeftOut f) = exact-fault end (g.type_fault end) (next-type end)
+exact-begun end inner ei opens start.Nothing = exact-fault end (g.type_fault end) (next-type end)
+
+exact-type_behind : (end : ℕ) (inner : Phrase Ty) → Types end inner → ((p : Punctuation) → Opens (lookahead end) (is (kind.Punctuation p)) inner) → (t : Lexeme) → Types end (g.type_behind end inner t)
+unfolding g.type_behind
+exact-type_behind end inner ei opens t = exact-when (lookahead end) (g.is_name t) (give _) (g.begun end inner (g.kind_start t.token.kind)) (exact-give (lookahead end) _) (exact-begun end inner ei opens (g.kind_start t.token.kind))
+
+exact-ty : (end n : ℕ) → Types end (g.ty end n)
+unfolding g.ty g.type_of
+exact-ty end zero = exact-fault end (g.type_fault end) (next-type end)
+exact-ty end (suc n) = exact-then (lookahead end) (one g.begins_type (g.type_fault end)) _ (exact-token end _ (next-type end) g.begins_type) (exact-type_behind end (g.ty end n) (exact-ty end n) (λ p. opens-type p end n))
+
+-- ---- functions
+
+exact-member : (end n : ℕ) → Exact (lookahead end) (λ m. NotLess m.ty) (g.member end n)
 unfolding g.member
-opens-member p end = opens-bind (lookahead end) (is (kind.Punctuation p)) (g.id end) (λ name. g.punctuation end mark.Colon >>= λ a. g.ty end >>= λ t. give (record { name = name; ty = t })) (opens-id p end)
+exact-member end n = exact-then (lookahead end) (g.id end) _ (exact-id end) (λ name. exact-then (lookahead end) (g.punctuation end _) _ (exact-punctuation end _) (λ a. exact-last (lookahead end) (g.ty end n) _ (exact-ty end n) (λ x n h. h)))
 
-opens-param_list : (end n : ℕ) → Opens (lookahead end) (is g.close_parenthesis) (g.param_list end n)
+opens-member : (p : Punctuation) (end n : ℕ) → Opens (lookahead end) (is (kind.Punctuation p)) (g.member end n)
+unfolding g.member
+opens-member p end n = opens-bind (lookahead end) (is (kind.Punctuation p)) (g.id end) (λ name. g.punctuation end mark.Colon >>= λ a. g.ty end n >>= λ t. give (record { name = name; ty = t })) (opens-id p end)
+
+exact-after_member : (end : ℕ) → look end (g.after_member end)
+unfolding g.after_member
+exact-after_member end = exact-comma_or (lookahead end) (is g.comma) (is g.close_parenthesis) _ (owed end _ (next-wanted end _) _)
+
+exact-param_list : (end n k : ℕ) → look end (g.param_list end n k)
+unfolding g.after_member
+exact-param_list end n k = exact-entries (lookahead end) (λ m. g.after_member end) (g.member end n) (never (wanted end want.Identifier)) (exact-member end n) (λ m. exact-after_member end)
+    (leads-comma_or (lookahead end) (λ (m : Member). NotLess m.ty) (is g.comma) (is g.close_parenthesis) (λ m. g.comma_wanted end end) (λ m. either_ends g.close_parenthesis parenthesis_ends m.ty)) (exact-fault end (wanted end want.Identifier) (next-wanted end _)) k
+
+opens-param_list : (end n k : ℕ) → Opens (lookahead end) (is g.close_parenthesis) (g.param_list end n k)
 unfolding entries
-opens-param_list end zero = λ x text rest s. absurd s
-opens-param_list end (suc n) = opens-bind (lookahead end) (is g.close_parenthesis) (g.member end)
-    (λ x. g.after_member end >>= λ b. when b (g.param_list end n >>= λ xs. give (x ∷ xs)) (give (x ∷ []))) (opens-member mark.CloseParenthesis end)
+opens-param_list end n zero = λ x text rest s. absurd s
+opens-param_list end n (suc k) = opens-bind (lookahead end) (is g.close_parenthesis) (g.member end n)
+    (λ x. g.after_member end >>= λ b. when b (g.param_list end n k >>= λ xs. give (x ∷ xs)) (give (x ∷ []))) (opens-member mark.CloseParenthesis end n)
 
-exact-parameters : (end : ℕ) → look end (g.parameters end)
+exact-parameters : (end n : ℕ) → look end (g.parameters end n)
 unfolding g.parameters
-exact-parameters end = exact-peek (lookahead end) (is g.close_parenthesis) (give []) (g.param_list end g.most_params) (exact-give (lookahead end) _) (exact-param_list end g.most_params) (opens-param_list end g.most_params)
+exact-parameters end n = exact-peek (lookahead end) (is g.close_parenthesis) (give []) (g.param_list end n limit) (exact-give (lookahead end) _) (exact-param_list end n limit) (opens-param_list end n limit)
 
 next-result : (end : ℕ) → ByNext end (g.result_fault end)
-unfolding g.result_fault
-next-result end = next-feature end _ _
+unfolding g.result_fault g.type_fault
+next-result end = next-first end (g.result_fault end) (λ t ts us. refl) placed
+  where
+    at_token : (b : Bool) (t : Lexeme) (ts : List Lexeme) → is g.open_parenthesis t ≡ b → StandsAt end (t ∷ ts) (g.result_fault end (t ∷ ts))
+    at_token true t ts e = rw e refl
+    at_token false t ts e = rw e ((next-type end).place (t ∷ ts))
 
-exact-function_result : (end : ℕ) → look end (g.function_result end)
+    placed : (ts : List Lexeme) → StandsAt end ts (g.result_fault end ts)
+    placed [] = refl
+    placed (t ∷ ts) = at_token (is g.open_parenthesis t) t ts refl
+
+exact-function_result : (end n : ℕ) → Types end (g.function_result end n)
 unfolding g.function_result
-exact-function_result end = exact-then (lookahead end) (one g.begins_type (g.result_fault end)) _ (exact-token end _ (next-result end) g.begins_type) (λ t. exact-begun end (g.start_of t.token.kind))
+exact-function_result end zero = exact-fault end (g.result_fault end) (next-result end)
+exact-function_result end (suc n) = exact-then (lookahead end) (one g.begins_type (g.result_fault end)) _ (exact-token end _ (next-result end) g.begins_type) (exact-type_behind end (g.ty end n) (exact-ty end n) (λ p. opens-type p end n))
 
-exact-optional_result : (end : ℕ) → Exact (lookahead end) (Unless (is g.arrow) Anything) (g.optional_result end)
-unfolding g.optional_result
-exact-optional_result end = exact-optional (lookahead end) (is g.arrow) (λ t. g.function_result end) (λ t. exact-function_result end)
-
-next-func : (end : ℕ) → ByNext end (g.func_fault end)
-unfolding g.func_fault
-next-func end = next-feature end _ _
-
-exact-func_word : (end : ℕ) → look end (g.func_word end)
+exact-func_word : (end : ℕ) (f : Lexeme → Option Feature) → look end (g.func_word end f)
 unfolding g.func_word
-exact-func_word end = exact-token end _ (next-func end) _
+exact-func_word end f = exact-token end _ (next-feature end _ _) _
 
-exact-function : (end : ℕ) → Exact (lookahead end) (λ f. Unless (is g.arrow) Anything f.result) (g.function end)
-unfolding g.function
-exact-function end = exact-then (lookahead end) (g.func_word end) _ (exact-func_word end) (λ a. exact-then (lookahead end) (g.punctuation end _) _ (exact-punctuation end _) (λ b. exact-then (lookahead end) (g.parameters end) _ (exact-parameters end) (λ ps.
-    exact-last (lookahead end) (g.optional_result end) (λ r. record { params = ps; result = r }) (exact-optional_result end) (λ x n h. h))))
+-- what may come next behind an optional result
+abbrev Ended : Option Ty → Option Lexeme → Type 0
+Ended = Unless (is g.arrow) NotLess
+
+exact-function : (end n : ℕ) → Exact (lookahead end) (λ f. Ended f.result) (g.function end n)
+unfolding g.function g.optional_result
+exact-function end n = exact-then (lookahead end) (g.punctuation end _) _ (exact-punctuation end _) (λ b. exact-then (lookahead end) (g.parameters end n) _ (exact-parameters end n) (λ ps.
+    exact-last (lookahead end) (optional (is g.arrow) (λ t. g.function_result end n)) (λ r. record { params = ps; result = r }) (exact-optional (lookahead end) (is g.arrow) (λ t. g.function_result end n) (λ t. exact-function_result end n)) (λ x n h. h)))
+
+function_ends : (r : Option Ty) (t : Lexeme) → is g.semicolon t ≡ true → Ended r (Some t)
+function_ends (Some x) t h = semicolon_ends x t h
+function_ends None t h = apart g.semicolon g.arrow t h
+
+exact-whole_function : (end n : ℕ) → look end (g.whole_function end n)
+unfolding g.whole_function g.function_end
+exact-whole_function end n = exact-before (lookahead end) (g.function end n) _ _ _ (exact-function end n) (λ f. exact-then (lookahead end) _ _ (exact-token end _ (next-wanted end _) _) (λ b. exact-give (lookahead end) _)) (λ f. function_ends f.result)
+
+-- ---- uses
+
+abbrev NotAs : Option (List ℕ) → Option Lexeme → Type 0
+NotAs = Unless (is (kind.Keyword kw.As)) Anything
+
+exact-used : (end : ℕ) → Exact (lookahead end) (λ u. NotAs u.local) (g.used end)
+unfolding g.used g.local_name
+exact-used end = exact-then (lookahead end) (g.id end) _ (exact-id end) (λ name. exact-last (lookahead end) (optional (is (kind.Keyword kw.As)) (λ t. g.id end)) (λ l. record { name = name; local = l }) (exact-optional (lookahead end) (is (kind.Keyword kw.As)) (λ t. g.id end) (λ t. exact-id end)) (λ x n h. h))
+
+opens-used : (p : Punctuation) (end : ℕ) → Opens (lookahead end) (is (kind.Punctuation p)) (g.used end)
+unfolding g.used
+opens-used p end = opens-bind (lookahead end) (is (kind.Punctuation p)) (g.id end) (λ name. g.local_name end >>= λ l. give (record { name = name; local = l })) (opens-id p end)
+
+-- a mark isn't `as`
+not_as : (p : Punctuation) (l : Option (List ℕ)) (s : Lexeme) → is (kind.Punctuation p) s ≡ true → NotAs l (Some s)
+not_as p (Some x) s h = tt
+not_as p None s h = apart (kind.Punctuation p) (kind.Keyword kw.As) s h
+
+either_as : (l : Option (List ℕ)) (s : Lexeme) → (is g.close_brace s || is g.comma s) ≡ true → NotAs l (Some s)
+either_as l s h = either (is g.close_brace s) (is g.comma s) h (NotAs l (Some s)) (not_as mark.CloseBrace l s) (not_as mark.Comma l s)
+
+exact-used_list : (end k : ℕ) → look end (g.used_list end k)
+exact-used_list end k = exact-listed (lookahead end) (g.used end) (exact-used end) (is g.close_brace) (opens-used mark.CloseBrace end) (is g.comma) _ (λ x. owed end _ (next-wanted end _) _) (λ x. owed end _ (next-wanted end _) _) (λ u. either_as u.local) (λ u. not_as mark.CloseBrace u.local) k
+
+exact-use : (end : ℕ) (at : Span) → look end (g.use_item end at)
+unfolding g.use_item g.use_dot
+exact-use end at = exact-then (lookahead end) (g.id end) _ (exact-id end) (λ i. exact-then (lookahead end) (one (is (kind.Punctuation mark.Dot)) _) _ (exact-token end _ (next-feature end _ _) _) (λ a. exact-then (lookahead end) (g.punctuation end _) _ (exact-punctuation end _) (λ b.
+    exact-then (lookahead end) (g.used_list end limit) _ (exact-used_list end limit) (λ us. exact-then (lookahead end) (g.punctuation end _) _ (exact-punctuation end _) (λ c. exact-give (lookahead end) _)))))
+
+-- ---- type definitions
+
+-- a type and a mark that ends it
+exact-ended : {Y : Type 0} (end n : ℕ) (p : Punctuation) (f : Ty → Y) → ((x : Ty) (t : Lexeme) → is (kind.Punctuation p) t ≡ true → NotLess x (Some t)) → look end (g.ty end n >>= λ t. g.punctuation end p >>= λ b. give (f t))
+unfolding g.punctuation
+exact-ended end n p f ends = exact-before (lookahead end) (g.ty end n) _ _ _ (exact-ty end n) (λ t. exact-then (lookahead end) _ _ (exact-token end _ (next-wanted end _) _) (λ b. exact-give (lookahead end) _)) ends
+
+exact-alias : (end n : ℕ) → look end (g.alias end n)
+unfolding g.alias
+exact-alias end n = exact-then (lookahead end) (g.punctuation end _) _ (exact-punctuation end _) (λ a. exact-ended end n mark.Semicolon _ semicolon_ends)
+
+exact-field_list : (end n k : ℕ) → look end (g.field_list end n k)
+exact-field_list end n k = exact-listed (lookahead end) (g.member end n) (exact-member end n) (is g.close_brace) (opens-member mark.CloseBrace end n) (is g.comma) _ (λ x. owed end _ (next-wanted end _) _) (λ x. owed end _ (next-wanted end _) _) (λ m. either_ends g.close_brace brace_ends m.ty) (λ m. brace_ends m.ty) k
+
+exact-record : (end n : ℕ) → look end (g.record_fields end n)
+unfolding g.record_fields
+exact-record end n = exact-then (lookahead end) (g.punctuation end _) _ (exact-punctuation end _) (λ a. exact-then (lookahead end) (g.field_list end n limit) _ (exact-field_list end n limit) (λ ms. exact-give (lookahead end) _))
+
+exact-payload : (end n : ℕ) → look end (g.payload end n)
+unfolding g.payload
+exact-payload end n = exact-ended end n mark.CloseParenthesis (λ t. t) parenthesis_ends
+
+next-case : (end : ℕ) → ByNext end (g.case_fault end)
+unfolding g.case_fault
+next-case end = next-feature end _ _
+
+exact-case_id : (end : ℕ) → look end (g.case_id end)
+unfolding g.case_id
+exact-case_id end = exact-then (lookahead end) (one g.is_name (g.case_fault end)) _ (exact-token end _ (next-case end) _) (λ t. exact-give (lookahead end) _)
+
+opens-case_id : (p : Punctuation) (end : ℕ) → Opens (lookahead end) (is (kind.Punctuation p)) (g.case_id end)
+unfolding g.case_id
+opens-case_id p end = opens-bind (lookahead end) (is (kind.Punctuation p)) (one g.is_name (g.case_fault end)) (λ t. give t.text) (opens-one (lookahead end) (is (kind.Punctuation p)) g.is_name (g.case_fault end) (not_name p))
+
+-- `(` doesn't come next behind a case without a payload
+abbrev NoPayload : Option Ty → Option Lexeme → Type 0
+NoPayload = Unless (is g.open_parenthesis) Anything
+
+exact-case : (end n : ℕ) → Exact (lookahead end) (λ c. NoPayload c.payload) (g.variant_case end n)
+unfolding g.variant_case g.optional_payload
+exact-case end n = exact-then (lookahead end) (g.case_id end) _ (exact-case_id end) (λ name. exact-last (lookahead end) (optional (is g.open_parenthesis) (λ t. g.payload end n)) (λ p. record { name = name; payload = p }) (exact-optional (lookahead end) (is g.open_parenthesis) (λ t. g.payload end n) (λ t. exact-payload end n)) (λ x n h. h))
+
+opens-case : (p : Punctuation) (end n : ℕ) → Opens (lookahead end) (is (kind.Punctuation p)) (g.variant_case end n)
+unfolding g.variant_case
+opens-case p end n = opens-bind (lookahead end) (is (kind.Punctuation p)) (g.case_id end) (λ name. g.optional_payload end n >>= λ l. give (record { name = name; payload = l })) (opens-case_id p end)
+
+brace_ends_case : (p : Option Ty) (s : Lexeme) → is g.close_brace s ≡ true → NoPayload p (Some s)
+brace_ends_case (Some x) s h = tt
+brace_ends_case None s h = apart g.close_brace g.open_parenthesis s h
+
+comma_ends_case : (p : Option Ty) (s : Lexeme) → is g.comma s ≡ true → NoPayload p (Some s)
+comma_ends_case (Some x) s h = tt
+comma_ends_case None s h = apart g.comma g.open_parenthesis s h
+
+exact-case_list : (end n k : ℕ) → look end (g.case_list end n k)
+exact-case_list end n k = exact-listed (lookahead end) (g.variant_case end n) (exact-case end n) (is g.close_brace) (opens-case mark.CloseBrace end n) (is g.comma) _ (λ x. owed end _ (next-wanted end _) _) (λ x. owed end _ (next-wanted end _) _)
+    (λ c s h. either (is g.close_brace s) (is g.comma s) h (NoPayload c.payload (Some s)) (brace_ends_case c.payload s) (comma_ends_case c.payload s)) (λ c. brace_ends_case c.payload) k
+
+exact-variant : (end n : ℕ) → look end (g.variant_cases end n)
+unfolding g.variant_cases
+exact-variant end n = exact-then (lookahead end) (g.punctuation end _) _ (exact-punctuation end _) (λ a. exact-then (lookahead end) (g.case_list end n limit) _ (exact-case_list end n limit) (λ ms. exact-give (lookahead end) _))
+
+exact-name_of_case : (end : ℕ) (gated : Bool) → look end (g.name_of_case end gated)
+unfolding g.name_of_case
+exact-name_of_case end true = exact-case_id end
+exact-name_of_case end false = exact-id end
+
+opens-name : (p : Punctuation) (end : ℕ) (gated : Bool) → Opens (lookahead end) (is (kind.Punctuation p)) (g.name_of_case end gated)
+unfolding g.name_of_case
+opens-name p end true = opens-case_id p end
+opens-name p end false = opens-id p end
+
+exact-name_list : (end : ℕ) (gated : Bool) (k : ℕ) → look end (g.name_list end gated k)
+exact-name_list end gated k = exact-listed (lookahead end) (g.name_of_case end gated) (exact-name_of_case end gated) (is g.close_brace) (opens-name mark.CloseBrace end gated) (is g.comma) _ (λ x. owed end _ (next-wanted end _) _) (λ x. owed end _ (next-wanted end _) _) (λ x s h. tt) (λ x s h. tt) k
+
+exact-enum : (end : ℕ) → look end (g.enum_cases end)
+unfolding g.enum_cases
+exact-enum end = exact-then (lookahead end) (g.punctuation end _) _ (exact-punctuation end _) (λ a. exact-then (lookahead end) (g.name_list end true limit) _ (exact-name_list end true limit) (λ ns. exact-give (lookahead end) _))
+
+exact-flags : (end : ℕ) → look end (g.flag_names end)
+unfolding g.flag_names
+exact-flags end = exact-then (lookahead end) (g.punctuation end _) _ (exact-punctuation end _) (λ a. exact-then (lookahead end) (g.name_list end false limit) _ (exact-name_list end false limit) (λ ns. exact-give (lookahead end) _))
 
 -- ---- interfaces
-
-exact-declared : (end : ℕ) (name : List ℕ) → look end (g.declared end name)
-unfolding g.declared g.function_end
-exact-declared end name = exact-then (lookahead end) (g.punctuation end _) _ (exact-punctuation end _) (λ a. exact-before (lookahead end) (g.function end) _ _ _ (exact-function end) (λ f. exact-then (lookahead end) _ _ (exact-token end _ (next-wanted end _) _) (λ b. exact-give (lookahead end) _)) (λ f. ends f.result))
-  where
-    ends : (r : Option Ty) (t : Lexeme) → is g.semicolon t ≡ true → Unless (is g.arrow) Anything r (Some t)
-    ends (Some x) t h = tt
-    ends None t h = apart g.semicolon g.arrow t h
 
 next-entry : (end : ℕ) → ByNext end (g.entry_fault end)
 unfolding g.entry_fault
 next-entry end = next-feature end _ _
 
-exact-entry : (end : ℕ) → look end (g.entry end)
+exact-definition : (end n : ℕ) (s : ItemStart) → look end (g.definition end n s)
+unfolding g.definition
+exact-definition end n begin.Alias = exact-alias end n
+exact-definition end n begin.Record = exact-record end n
+exact-definition end n begin.Variant = exact-variant end n
+exact-definition end n begin.Enum = exact-enum end
+exact-definition end n begin.Flags = exact-flags end
+exact-definition end n begin.Use = exact-fault end (g.entry_fault end) (next-entry end)
+exact-definition end n (begin.LeftOut f) = exact-fault end (g.entry_fault end) (next-entry end)
+exact-definition end n begin.Nothing = exact-fault end (g.entry_fault end) (next-entry end)
+
+exact-defined : (end n : ℕ) (s : ItemStart) (at : Span) → look end (g.defined end n s at)
+unfolding g.defined
+exact-defined end n s at = exact-then (lookahead end) (g.id end) _ (exact-id end) (λ name. exact-then (lookahead end) (g.definition end n s) _ (exact-definition end n s) (λ d. exact-give (lookahead end) _))
+
+exact-declared : (end n : ℕ) (at : Span) (name : List ℕ) → look end (g.declared end n at name)
+unfolding g.declared
+exact-declared end n at name = exact-then (lookahead end) (g.punctuation end _) _ (exact-punctuation end _) (λ a. exact-then (lookahead end) (g.func_word end _) _ (exact-func_word end _) (λ b. exact-then (lookahead end) (g.whole_function end n) _ (exact-whole_function end n) (λ f. exact-give (lookahead end) _)))
+
+exact-keyword_entry : (end n : ℕ) (s : ItemStart) (at : Span) → look end (g.keyword_entry end n s at)
+unfolding g.keyword_entry
+exact-keyword_entry end n begin.Use at = exact-use end at
+exact-keyword_entry end n begin.Alias at = exact-defined end n begin.Alias at
+exact-keyword_entry end n begin.Record at = exact-defined end n begin.Record at
+exact-keyword_entry end n begin.Variant at = exact-defined end n begin.Variant at
+exact-keyword_entry end n begin.Enum at = exact-defined end n begin.Enum at
+exact-keyword_entry end n begin.Flags at = exact-defined end n begin.Flags at
+exact-keyword_entry end n (begin.LeftOut f) at = exact-fault end (g.entry_fault end) (next-entry end)
+exact-keyword_entry end n begin.Nothing at = exact-fault end (g.entry_fault end) (next-entry end)
+
+exact-entry_behind : (end n : ℕ) (t : Lexeme) → look end (g.entry_behind end n t)
+unfolding g.entry_behind
+exact-entry_behind end n t = exact-when (lookahead end) (g.is_name t) _ _ (exact-declared end n t.token.span t.text) (exact-keyword_entry end n (g.item_kind t.token.kind) t.token.span)
+
+exact-entry : (end n : ℕ) → look end (g.entry end n)
 unfolding g.entry
-exact-entry end = exact-then (lookahead end) (one g.is_name (g.entry_fault end)) _ (exact-token end _ (next-entry end) _) (λ t. exact-declared end t.text)
+exact-entry end n = exact-then (lookahead end) (one g.begins_entry (g.entry_fault end)) _ (exact-token end _ (next-entry end) _) (exact-entry_behind end n)
 
-opens-entry : (p : Punctuation) (end : ℕ) → Opens (lookahead end) (is (kind.Punctuation p)) (g.entry end)
+no_entry : (t : Lexeme) → t.token.kind ≡ g.close_brace → g.begins_entry t ≡ false
+unfolding g.begins_entry
+no_entry t e = let m : g.is_name t ≡ false = no_name g.close_brace t refl e in rw (m, e) refl
+
+opens-entry : (end n : ℕ) → Opens (lookahead end) (is g.close_brace) (g.entry end n)
 unfolding g.entry
-opens-entry p end = opens-bind (lookahead end) (is (kind.Punctuation p)) (one g.is_name (g.entry_fault end)) (λ t. g.declared end t.text) (opens-one (lookahead end) (is (kind.Punctuation p)) g.is_name (g.entry_fault end) (not_name p))
+opens-entry end n = opens-bind (lookahead end) (is g.close_brace) (one g.begins_entry (g.entry_fault end)) (g.entry_behind end n) (opens-one (lookahead end) (is g.close_brace) g.begins_entry (g.entry_fault end) (by_kind g.close_brace g.begins_entry no_entry))
 
-exact-entry_list : (end n : ℕ) → look end (g.entry_list end n)
-exact-entry_list end n = exact-many (lookahead end) (g.entry end) (exact-entry end) (is g.close_brace) (opens-entry mark.CloseBrace end) _ (owed end _ (next-wanted end _) _) (λ x m. tt) n
+exact-entry_list : (end n k : ℕ) → look end (g.entry_list end n k)
+exact-entry_list end n k = exact-many (lookahead end) (g.entry end n) (exact-entry end n) (is g.close_brace) (opens-entry end n) _ (owed end _ (next-wanted end _) _) (λ x m. tt) k
 
-exact-interface : (end : ℕ) → look end (g.interface end)
+exact-interface : (end n : ℕ) → look end (g.interface end n)
 unfolding g.interface
-exact-interface end = exact-then (lookahead end) (g.id end) _ (exact-id end) (λ name. exact-then (lookahead end) (g.punctuation end _) _ (exact-punctuation end _) (λ a.
-    exact-then (lookahead end) (g.entry_list end limit) _ (exact-entry_list end limit) (λ es. exact-give (lookahead end) _)))
+exact-interface end n = exact-then (lookahead end) (g.id end) _ (exact-id end) (λ name. exact-then (lookahead end) (g.punctuation end _) _ (exact-punctuation end _) (λ a.
+    exact-then (lookahead end) (g.entry_list end n limit) _ (exact-entry_list end n limit) (λ es. exact-give (lookahead end) _)))
+
+-- ---- worlds
+
+next-world : (end : ℕ) → ByNext end (g.world_fault end)
+unfolding g.world_fault
+next-world end = next-feature end _ _
+
+-- an identifier doesn't come next where none was read
+abbrev NoId : {Y : Type 0} → Y × Option Lexeme → Option Lexeme → Type 0
+NoId x = Unless (is kind.Identifier) Anything x.1
+
+exact-colon_id : (end : ℕ) → Exact (lookahead end) NoId (g.colon_id end)
+unfolding g.colon_id
+exact-colon_id end = exact-then (lookahead end) (g.punctuation end _) _ (exact-punctuation end _) (λ c. exact-last (lookahead end) (g.peek kind.Identifier) (λ i. let pair : Lexeme × Option Lexeme = (c, i) in pair) (exact-peeked end kind.Identifier) (λ x n h. h))
+
+-- the same is peeked whatever follows the next token
+peek_same : (k : TokenKind) (us other : List Lexeme) (i : Lexeme) (vs : List Lexeme) → next other ≡ next us → (g.peek k).read us ≡ Ok (Some i, vs) → (ws : List Lexeme) × ((g.peek k).read other ≡ Ok (Some i, ws))
+peek_same k [] other i vs n h = absurd (let e : ◌≡◌ {A = Option Lexeme × List Lexeme} (None, []) (Some i, vs) = ok_is (None, []) (Some i, vs) h in let o : ◌≡◌ {A = Option Lexeme} None (Some i) = ap (λ (p : Option Lexeme × List Lexeme). p.0) e in cc)
+peek_same k (t ∷ us) [] i vs n h = absurd cc
+peek_same k (t ∷ us) (u ∷ other) i vs n h = by (is k t) refl
+  where
+    by : (b : Bool) → is k t ≡ b → (ws : List Lexeme) × ((g.peek k).read (u ∷ other) ≡ Ok (Some i, ws))
+    by true e =
+        let same : u ≡ t = cc in
+        let told : ◌≡◌ {A = Result (Option Lexeme × List Lexeme) TextError} (Ok (Some t, us)) (Ok (Some i, vs)) = rw e at h in
+        let o : ◌≡◌ {A = Option Lexeme} (Some t) (Some i) = ap (λ (p : Option Lexeme × List Lexeme). p.0) (ok_is (Some t, us) (Some i, vs) told) in
+        let it : t ≡ i = cc in
+        (other, rw (same, e) (ap (λ (x : Lexeme). Ok (Some x, other)) it))
+    by false e = absurd (
+        let told : ◌≡◌ {A = Result (Option Lexeme × List Lexeme) TextError} (Ok (None, t ∷ us)) (Ok (Some i, vs)) = rw e at h in
+        let o : ◌≡◌ {A = Option Lexeme} None (Some i) = ap (λ (p : Option Lexeme × List Lexeme). p.0) (ok_is (None, t ∷ us) (Some i, vs) told) in cc)
+
+foreign : (end : ℕ) (ts : List Lexeme) (x : Lexeme × Option Lexeme) (rest : List Lexeme) (f : TextError) → (g.colon_id end).read ts ≡ Ok (x, rest) → g.foreign_fault x ts ≡ Some f → Looks end (λ other e. (only (g.colon_id end) g.foreign_fault).read other ≡ Err e) ts f
+unfolding g.colon_id g.punctuation
+foreign end ts x rest f h k =
+    let a = after_ok ((g.punctuation end mark.Colon).read ts) _ (x, rest) h in
+    let b = after_ok ((g.peek kind.Identifier).read a.0.1) _ (x, rest) a.2 in
+    let pair = ok_is ((a.0.0, b.0.0), b.0.1) (x, rest) b.2 in
+    let is_x : (a.0.0, b.0.0) ≡ x = ap (λ (p : (Lexeme × Option Lexeme) × List Lexeme). p.0) pair in
+    by a.0.0 a.0.1 b.0.0 b.0.1 a.1 b.1 is_x
+  where
+    by : (c : Lexeme) (us : List Lexeme) (o : Option Lexeme) (vs : List Lexeme) → (g.punctuation end mark.Colon).read ts ≡ Ok (c, us) → (g.peek kind.Identifier).read us ≡ Ok (o, vs) → (c, o) ≡ x → Looks end (λ other e. (only (g.colon_id end) g.foreign_fault).read other ≡ Err e) ts f
+    by c us None vs r p e = absurd (let none : ◌≡◌ {A = Option TextError} None (Some f) = subst (λ (y : Lexeme × Option Lexeme). g.foreign_fault y ts ≡ Some f) (sym e) k in cc)
+    by c us (Some i) vs r p e =
+        let first = (exact-punctuation end mark.Colon).sound ts c us tt r in
+        let told : ◌≡◌ {A = Option TextError} (Some (error.Unsupported feature.ForeignInterface c.token.span)) (Some f) = subst (λ (y : Lexeme × Option Lexeme). g.foreign_fault y ts ≡ Some f) (sym e) k in
+        let is_f : error.Unsupported feature.ForeignInterface c.token.span ≡ f = cc in
+        record {
+          front = first.text;
+          met = us;
+          whole = first.parts;
+          place = inr ([], c, first.spelt.0, sym is_f);
+          same = λ other n. let w = peek_same kind.Identifier us other i vs n p in rw (first.again other n, w.1) (ap (stopped ((Lexeme × Option Lexeme) × List Lexeme)) is_f);
+        }
+
+exact-world_colon : (end : ℕ) → Exact (lookahead end) NoId (g.world_colon end)
+unfolding g.world_colon
+exact-world_colon end = exact-only (lookahead end) (g.colon_id end) g.foreign_fault (λ x ts other h. h) (exact-colon_id end) (foreign end)
+
+func_ends : {Y : Type 0} (y : Y) (o : Option Lexeme) (t : Lexeme) → is (kind.Keyword kw.Func) t ≡ true → NoId (y, o) (Some t)
+func_ends y (Some i) t h = tt
+func_ends y None t h = apart (kind.Keyword kw.Func) kind.Identifier t h
+
+exact-single : (end n : ℕ) (d : Direction) (at : Span) (name : List ℕ) → look end (g.single end n d at name)
+unfolding g.single g.func_word
+exact-single end n d at name = exact-before (lookahead end) (g.world_colon end) _ _ _ (exact-world_colon end) (λ a. exact-then (lookahead end) _ _ (exact-token end _ (next-feature end _ _) _) (λ b. exact-then (lookahead end) (g.whole_function end n) _ (exact-whole_function end n) (λ f. exact-give (lookahead end) _))) (λ x. func_ends x.0 x.1)
+
+opens-colon_id : (end : ℕ) → Opens (lookahead end) (is g.semicolon) (g.colon_id end)
+unfolding g.colon_id g.punctuation
+opens-colon_id end = opens-bind (lookahead end) (is g.semicolon) (g.token end g.colon (want.Punctuation mark.Colon)) (λ c. g.peek kind.Identifier >>= λ i. give (c, i)) (opens-one (lookahead end) (is g.semicolon) (is g.colon) (wanted end (want.Punctuation mark.Colon)) (apart g.colon g.semicolon))
+
+opens-single : (end n : ℕ) (d : Direction) (at : Span) (name : List ℕ) → Opens (lookahead end) (is g.semicolon) (g.single end n d at name)
+unfolding g.single g.world_colon
+opens-single end n d at name = opens-bind (lookahead end) (is g.semicolon) (only (g.colon_id end) g.foreign_fault) (λ a. g.func_word end g.single_feature >>= λ b. g.whole_function end n >>= λ f. give (Single d at name f)) (λ x text rest s. opens-colon_id end x text rest s.0)
+
+exact-world_entry_behind : (end n : ℕ) (d : Direction) (at : Span) → look end (g.world_entry_behind end n d at)
+unfolding g.world_entry_behind
+exact-world_entry_behind end n d at = exact-then (lookahead end) (g.id end) _ (exact-id end) (λ name. exact-peek (lookahead end) (is g.semicolon) (give _) (g.single end n d at name) (exact-give (lookahead end) _) (exact-single end n d at name) (opens-single end n d at name))
+
+exact-directed : (end n : ℕ) (o : Option Direction) (at : Span) → look end (g.directed end n o at)
+exact-directed end n (Some d) at = exact-world_entry_behind end n d at
+exact-directed end n None at = exact-fault end (g.world_fault end) (next-world end)
+
+exact-world_entry : (end n : ℕ) → look end (g.world_entry end n)
+unfolding g.world_entry
+exact-world_entry end n = exact-then (lookahead end) (one g.begins_world_entry (g.world_fault end)) _ (exact-token end _ (next-world end) _) (λ t. exact-directed end n (g.direction_of t.token.kind) t.token.span)
+
+opens-world_entry : (end n : ℕ) → Opens (lookahead end) (is g.close_brace) (g.world_entry end n)
+unfolding g.world_entry
+opens-world_entry end n = opens-bind (lookahead end) (is g.close_brace) (one g.begins_world_entry (g.world_fault end)) (λ t. g.directed end n (g.direction_of t.token.kind) t.token.span) (opens-one (lookahead end) (is g.close_brace) g.begins_world_entry (g.world_fault end) (by_kind g.close_brace g.begins_world_entry (λ t e. rw e refl)))
+
+exact-world_list : (end n k : ℕ) → look end (g.world_list end n k)
+exact-world_list end n k = exact-many (lookahead end) (g.world_entry end n) (exact-world_entry end n) (is g.close_brace) (opens-world_entry end n) _ (owed end _ (next-wanted end _) _) (λ x m. tt) k
+
+exact-world : (end n : ℕ) (at : Span) → look end (g.world end n at)
+unfolding g.world
+exact-world end n at = exact-then (lookahead end) (g.id end) _ (exact-id end) (λ name. exact-then (lookahead end) (g.punctuation end _) _ (exact-punctuation end _) (λ a.
+    exact-then (lookahead end) (g.world_list end n limit) _ (exact-world_list end n limit) (λ es. exact-give (lookahead end) _)))
 
 -- ---- the file
 
@@ -201,10 +588,13 @@ next-file : (end : ℕ) → ByNext end (g.file_fault end)
 unfolding g.file_fault
 next-file end = next-feature end _ _
 
-exact-items : (end : ℕ) → Exact (lookahead end) AtEnd (g.items end)
-unfolding g.items
-exact-items end = exact-all (lookahead end) (is (kind.Keyword kw.Interface)) _ (λ t. g.interface end) (λ t. exact-interface end) (owed-end end _ (next-file end)) 1
+exact-item : (end n : ℕ) (t : Lexeme) → look end (g.item end n t)
+unfolding g.item
+exact-item end n t = exact-when (lookahead end) (g.is_interface t) _ _ (exact-interface end n) (exact-world end n t.token.span)
 
-pub exact-file : (end : ℕ) → Exact (lookahead end) AtEnd (g.file end)
+exact-items : (end n k : ℕ) → Exact (lookahead end) AtEnd (g.items end n k)
+exact-items end n k = exact-all (lookahead end) g.begins_item _ (g.item end n) (exact-item end n) (owed-end end _ (next-file end)) k
+
+pub exact-file : (end n : ℕ) → Exact (lookahead end) AtEnd (g.file end n)
 unfolding g.file
-exact-file end = exact-then (lookahead end) (g.header end) _ (exact-header end) (λ h. exact-last (lookahead end) (g.items end) _ (exact-items end) (λ x n e. e))
+exact-file end n = exact-then (lookahead end) (g.header end) _ (exact-header end) (λ h. exact-last (lookahead end) (g.items end n limit) _ (exact-items end n limit) (λ x m e. e))

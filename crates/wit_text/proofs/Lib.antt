@@ -1,8 +1,9 @@
-pub mod Comments
-pub mod Unique
 pub mod Versions
 pub mod Handed
 pub mod KindLemmas
 pub mod FaultLemmas
+pub mod TypeLemmas
+pub mod Results
 pub mod Exactness
+pub mod Limits
 pub mod Parsed

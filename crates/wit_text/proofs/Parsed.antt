@@ -1,22 +1,25 @@
 -- What reading a file's tokens says of the text.
-use Rattle.std.proofs.Common.{◌≡◌, ◌≤◌, ◌-◌, ℕ, List, [], Result, Ok, Err, length, refl, sym, ap, subst, ◌∙◌, arith}
+use Rattle.std.proofs.Common.{◌≡◌, ◌≤◌, ◌-◌, ℕ, List, [], Result, Ok, Err, length, refl, sym, ap, subst, ◌∙◌, inl, inr, arith}
 use Rattle.std.specs.Prelude.{IfOk, IfErr}
 use Rattle.std.proofs.lemmas.List.{append-nil}
 use Rattle.productions.proofs.Exact.{ok_is, no_err}
-use Rattle.wit_text.specs.declared.token.Token.{Token}
-use Rattle.wit_text.specs.declared.error.TextError.{TextError}
-use Rattle.wit_text.specs.declared.error.TextError.TheVariants as error
-use Rattle.wit_text.specs.Lexing.{limit, Lexes, LexFault}
-use Rattle.wit_text.specs.Tokens.{Lexeme, lexemes}
-use Rattle.wit_text.specs.Syntax.{File}
+use Rattle.wit_tokens.specs.declared.token.Token.{Token}
+use Rattle.wit_tokens.specs.declared.error.TextError.{TextError}
+use Rattle.wit_tokens.specs.declared.error.TextError.TheVariants as error
+use Rattle.wit_tokens.specs.Lexing.{limit, Lexes, LexFault}
+use Rattle.wit_tokens.specs.Tokens.{Lexeme, lexemes}
+use Rattle.wit_syntax.specs.Syntax.{File}
 use Rattle.wit_text.specs.Faults.{Fails, Gives}
-use Rattle.wit_text.specs.View.{file_view}
-use Rattle.wit_text.specs.declared.ast.Ast.{Ast}
-use Rattle.wit_text.specs.Reading.{IsRead, GrammarFault, Faulty}
-use Rattle.wit_text.specs.Grammar.{file}
-use Rattle.wit_text.proofs.Unique.{one_lexing, bad_is_refused, open_is_refused}
+use Rattle.wit_syntax.specs.View.{file_view}
+use Rattle.wit_syntax.specs.declared.ast.Ast.{Ast}
+use Rattle.wit_tokens.specs.declared.error.Feature.TheVariants.{ForeignInterface}
+use Rattle.wit_text.specs.Lookahead.{NoneBegins, Stands}
+use Rattle.wit_text.specs.Reading.{IsRead, IsFile, IsDepth, GrammarFault, Faulty}
+use Rattle.wit_text.specs.Grammar.{nesting, file}
+use Rattle.wit_tokens.specs.Laws.{OneLexing, BadIsRefused, OpenIsRefused}
 use Rattle.wit_text.proofs.FaultLemmas.{none-begins}
 use Rattle.wit_text.proofs.Exactness.{exact-file}
+use Rattle.wit_text.proofs.Limits.{none-at-any-nesting}
 use Rattle.wit_text.proofs.Handed.{Fails-on}
 
 pub lex_faulty : (text : List ℕ) (e : TextError) → LexFault text e → Faulty text e
@@ -28,30 +31,30 @@ lex_faulty text (error.Expected k s) h = absurd h
 lex_faulty text (error.Unsupported k s) h = absurd h
 lex_faulty text (error.Depth s) h = absurd h
 
-pub lex_refuses : (text : List ℕ) (e : TextError) → LexFault text e → (f : File) → IsRead text f → Fails {Y = File} e (Ok f)
-lex_refuses text (error.BadChar s) h f r = absurd (bad_is_refused text s.start (s.end - s.start) h.1.0 r.tokens h.1.1 h.1.2 r.lexed)
-lex_refuses text (error.OpenComment s) h f r = absurd (open_is_refused text s.start h.1.0 r.tokens h.1.1 h.1.2 r.lexed)
-lex_refuses text error.Limit h f r = absurd (omega (arith, h, r.short))
-lex_refuses text error.NoMemory h f r = tt
-lex_refuses text (error.Expected k s) h f r = absurd h
-lex_refuses text (error.Unsupported k s) h f r = absurd h
-lex_refuses text (error.Depth s) h f r = absurd h
+pub lex_refuses : (text : List ℕ) (e : TextError) → BadIsRefused text → OpenIsRefused text → LexFault text e → (f : File) → IsRead text f → Fails {Y = File} e (Ok f)
+lex_refuses text (error.BadChar s) bad unclosed h f r = absurd (bad s r.tokens h.1 r.lexed)
+lex_refuses text (error.OpenComment s) bad unclosed h f r = absurd (unclosed s r.tokens h.1 r.lexed)
+lex_refuses text error.Limit bad unclosed h f r = absurd (omega (arith, h, r.short))
+lex_refuses text error.NoMemory bad unclosed h f r = tt
+lex_refuses text (error.Expected k s) bad unclosed h f r = absurd h
+lex_refuses text (error.Unsupported k s) bad unclosed h f r = absurd h
+lex_refuses text (error.Depth s) bad unclosed h f r = absurd h
 
-module _ (text : List ℕ) (ts : List Token) (short : length text ≤ limit) (lexed : Lexes text ts) where
+module _ (text : List ℕ) (ts : List Token) (short : length text ≤ limit) (lexed : Lexes text ts) (one : OneLexing text) where
   abbrev answer : Result (File × List Lexeme) TextError
-  answer = (file (length text)).read (lexemes text ts)
+  answer = (file (length text) nesting).read (lexemes text ts)
 
   pub is_found : (f : File) → answer ≡ Ok (f, []) → IsRead text f
   is_found f h =
-      let t = (exact-file (length text)).sound (lexemes text ts) f [] tt h in
+      let t = (exact-file (length text) nesting).sound (lexemes text ts) f [] tt h in
       let all : t.text ≡ lexemes text ts = sym (append-nil t.text) ∙ sym t.parts in
-      record { tokens = ts; short = short; lexed = lexed; spelt = subst (λ (us : List Lexeme). (file (length text)).spells us f) all t.spelt }
+      record { tokens = ts; short = short; lexed = lexed; spelt = subst (λ (us : List Lexeme). (file (length text) nesting).spells us f) all t.spelt }
 
   reads : (f : File) → IsRead text f → answer ≡ Ok (f, [])
   reads f r =
-      let whole = (exact-file (length text)).complete (lexemes text r.tokens) [] f r.spelt refl in
-      let here : (file (length text)).read (lexemes text r.tokens) ≡ Ok (f, []) = subst (λ (us : List Lexeme). (file (length text)).read us ≡ Ok (f, [])) (append-nil (lexemes text r.tokens)) whole in
-      subst (λ (us : List Token). (file (length text)).read (lexemes text us) ≡ Ok (f, [])) (one_lexing text r.tokens ts r.lexed lexed) here
+      let whole = (exact-file (length text) nesting).complete (lexemes text r.tokens) [] f r.spelt refl in
+      let here : (file (length text) nesting).read (lexemes text r.tokens) ≡ Ok (f, []) = subst (λ (us : List Lexeme). (file (length text) nesting).read us ≡ Ok (f, [])) (append-nil (lexemes text r.tokens)) whole in
+      subst (λ (us : List Token). (file (length text) nesting).read (lexemes text us) ≡ Ok (f, [])) (one r.tokens ts r.lexed lexed) here
 
   pub only_that : (f g : File) → answer ≡ Ok (f, []) → IsRead text g → ◌≡◌ {A = Result File TextError} (Ok g) (Ok f)
   only_that f g h r = let e : ◌≡◌ {A = File × List Lexeme} (g, []) (f, []) = ok_is (g, []) (f, []) (sym (reads g r) ∙ h) in ap (λ (p : File × List Lexeme). Ok p.0) e
@@ -59,17 +62,27 @@ module _ (text : List ℕ) (ts : List Token) (short : length text ≤ limit) (le
   pub none_read : (e : TextError) (f : File) → Fails e answer → IsRead text f → Fails {Y = File} e (Ok f)
   none_read e f h r = Fails-on e answer (Ok f) (λ s. absurd (no_err (f, []) e (sym (reads f r) ∙ s))) h
 
-  refused : (e : TextError) → answer ≡ Err e → GrammarFault text e
-  refused e h = record { tokens = ts; short = short; lexed = lexed; first = (exact-file (length text)).faulty (lexemes text ts) e tt h; none = none-begins (length text) (file (length text)) (exact-file (length text)) (λ x. refl) (lexemes text ts) e h }
+  refused : {spells : List Lexeme → File → Type 0} (e : TextError) → answer ≡ Err e → NoneBegins (length text) spells (lexemes text ts) e → GrammarFault text spells e
+  refused e h none = record { tokens = ts; short = short; lexed = lexed; first = (exact-file (length text) nesting).faulty (lexemes text ts) e tt h; none = none }
+
+  within : (e : TextError) → answer ≡ Err e → NoneBegins (length text) (file (length text) nesting).spells (lexemes text ts) e
+  within e h = none-begins (length text) (file (length text) nesting) (exact-file (length text) nesting) (λ x. refl) (lexemes text ts) e h
+
+  anyhow : (e : TextError) → (IsDepth e → ⊥) → answer ≡ Err e → GrammarFault text (IsFile (length text)) e
+  anyhow e other h = refused e h (none-at-any-nesting (length text) (lexemes text ts) e other h)
+
+  -- no fault of another class stands at a token
+  misplaced : (e : TextError) → ((front met : List Lexeme) → Stands (length text) front met e → ⊥) → answer ≡ Err e → ⊥
+  misplaced e off h = let n = within e h in off n.front n.met n.place
 
   pub is_faulty : (e : TextError) → Fails e answer → Faulty text e
-  is_faulty (error.BadChar s) h = absurd ((refused (error.BadChar s) h).none.place)
-  is_faulty (error.OpenComment s) h = absurd ((refused (error.OpenComment s) h).none.place)
-  is_faulty error.Limit h = absurd ((refused error.Limit h).none.place)
+  is_faulty (error.BadChar s) h = absurd (misplaced (error.BadChar s) (λ front met p. elim p [ inl x ↦ x | inr x ↦ let e : error.BadChar s ≡ error.Unsupported ForeignInterface x.1.token.span = x.3 in cc ]) h)
+  is_faulty (error.OpenComment s) h = absurd (misplaced (error.OpenComment s) (λ front met p. elim p [ inl x ↦ x | inr x ↦ let e : error.OpenComment s ≡ error.Unsupported ForeignInterface x.1.token.span = x.3 in cc ]) h)
+  is_faulty error.Limit h = absurd (misplaced error.Limit (λ front met p. elim p [ inl x ↦ x | inr x ↦ let e : error.Limit ≡ error.Unsupported ForeignInterface x.1.token.span = x.3 in cc ]) h)
   is_faulty error.NoMemory h = tt
-  is_faulty (error.Expected k s) h = refused (error.Expected k s) h
-  is_faulty (error.Unsupported k s) h = refused (error.Unsupported k s) h
-  is_faulty (error.Depth s) h = refused (error.Depth s) h
+  is_faulty (error.Expected k s) h = anyhow (error.Expected k s) (λ d. let e : error.Expected k s ≡ error.Depth d.0 = d.1 in cc) h
+  is_faulty (error.Unsupported k s) h = anyhow (error.Unsupported k s) (λ d. let e : error.Unsupported k s ≡ error.Depth d.0 = d.1 in cc) h
+  is_faulty (error.Depth s) h = refused (error.Depth s) h (within (error.Depth s) h)
 
   abbrev Answered : Result Ast TextError → Type 0
   Answered r = Gives (λ a. let pair : File × List Lexeme = (file_view a, []) in pair) r answer

@@ -1,12 +1,12 @@
 -- What is answered where a token isn't allowed. `end` is the length of the text.
 use Rattle.std.specs.Prelude.{◌≡◌, ℕ, Bool, false, List, [], ◌∷◌, Option, Some, None, Result, Ok, Err}
-use Rattle.wit_text.specs.declared.token.Span.{Span}
-use Rattle.wit_text.specs.declared.token.TokenKind.{TokenKind}
-use Rattle.wit_text.specs.declared.error.Expected.{Expected}
-use Rattle.wit_text.specs.declared.error.Feature.{Feature}
-use Rattle.wit_text.specs.declared.error.TextError.{TextError}
-use Rattle.wit_text.specs.declared.error.TextError.TheVariants as error
-use Rattle.wit_text.specs.Tokens.{Lexeme, same_kind}
+use Rattle.wit_tokens.specs.declared.token.Span.{Span}
+use Rattle.wit_tokens.specs.declared.token.TokenKind.{TokenKind}
+use Rattle.wit_tokens.specs.declared.error.Expected.{Expected}
+use Rattle.wit_tokens.specs.declared.error.Feature.{Feature}
+use Rattle.wit_tokens.specs.declared.error.TextError.{TextError}
+use Rattle.wit_tokens.specs.declared.error.TextError.TheVariants as error
+use Rattle.wit_tokens.specs.Tokens.{Lexeme, same_kind}
 
 -- the span of the token met, and an empty one at the end
 abbrev pub met : ℕ → List Lexeme → Span

@@ -1,30 +1,71 @@
--- The grammar of WIT texts (WIT.md), production by production, as far as it is read here: a package without a version
--- and one interface of functions, whose types are primitives other than string. `end` is the length of the text.
-use Rattle.std.specs.Prelude.{ℕ, Bool, true, false, not, ◌&&◌, is_some, is_ok, nat_le, List, [], ◌∷◌, length, Option, Some, None, if◌then◌else◌}
+-- The grammar of WIT texts (WIT.md), production by production. `end` is the length of the text; the number behind it says
+-- how deep a type may nest.
+use Rattle.std.specs.Prelude.{ℕ, zero, suc, Bool, true, false, not, ◌&&◌, ◌||◌, is_some, is_ok, nat_le, List, [], ◌∷◌, length, Option, Some, None, if◌then◌else◌}
 use Rattle.std.specs.List.{list_all}
 use Rattle.std.specs.Str.{is_utf8}
 use Rattle.semver.specs.Parse.{version_parts}
 use Rattle.atoms.specs.Label.{is_label, is_upper}
-use Rattle.productions.specs.Production.{give, never, ◌>>=◌, one, optional, unless_some, many, comma_or, entries, all}
-use Rattle.wit_text.specs.declared.token.Keyword.{Keyword}
-use Rattle.wit_text.specs.declared.token.Keyword.TheVariants as kw
-use Rattle.wit_text.specs.declared.token.Punctuation.{Punctuation}
-use Rattle.wit_text.specs.declared.token.Punctuation.TheVariants as mark
-use Rattle.wit_text.specs.declared.token.TokenKind.{TokenKind}
-use Rattle.wit_text.specs.declared.token.TokenKind.TheVariants as kind
-use Rattle.wit_text.specs.declared.error.Expected.{Expected}
-use Rattle.wit_text.specs.declared.error.Expected.TheVariants as want
-use Rattle.wit_text.specs.declared.error.Feature.{Feature}
-use Rattle.wit_text.specs.declared.error.Feature.TheVariants as feature
-use Rattle.wit_text.specs.declared.error.TextError.{TextError}
+use Rattle.productions.specs.Production.{give, never, ◌>>=◌, one, only, when, optional, unless_some, many, listed, comma_or, entries, all}
+use Rattle.wit_tokens.specs.declared.token.Keyword.{Keyword}
+use Rattle.wit_tokens.specs.declared.token.Keyword.TheVariants as kw
+use Rattle.wit_tokens.specs.declared.token.Punctuation.{Punctuation}
+use Rattle.wit_tokens.specs.declared.token.Punctuation.TheVariants as mark
+use Rattle.wit_tokens.specs.declared.token.TokenKind.{TokenKind}
+use Rattle.wit_tokens.specs.declared.token.TokenKind.TheVariants as kind
+use Rattle.wit_tokens.specs.declared.token.Span.{Span}
+use Rattle.wit_tokens.specs.declared.error.Expected.{Expected}
+use Rattle.wit_tokens.specs.declared.error.Expected.TheVariants as want
+use Rattle.wit_tokens.specs.declared.error.Feature.{Feature}
+use Rattle.wit_tokens.specs.declared.error.Feature.TheVariants as feature
+use Rattle.wit_tokens.specs.declared.error.TextError.{TextError}
+use Rattle.wit_tokens.specs.declared.error.TextError.TheVariants as error
 use Rattle.wit_text.specs.declared.types.Start.{Start}
 use Rattle.wit_text.specs.declared.types.Start.TheVariants as start
-use Rattle.wit_text.specs.declared.ast.Primitive.TheVariants as primitive
-use Rattle.wit_text.specs.Lexing.{limit}
-use Rattle.wit_text.specs.Tokens.{Lexeme}
+use Rattle.wit_text.specs.declared.interfaces.ItemStart.{ItemStart}
+use Rattle.wit_text.specs.declared.interfaces.ItemStart.TheVariants as begin
+use Rattle.wit_syntax.specs.declared.ast.Primitive.TheVariants as primitive
+use Rattle.wit_syntax.specs.declared.ast.Direction.{Direction}
+use Rattle.wit_syntax.specs.declared.ast.Direction.TheVariants as direction
+use Rattle.wit_tokens.specs.Lexing.{limit}
+use Rattle.wit_tokens.specs.Tokens.{Lexeme}
 use Rattle.wit_text.specs.Faults.{wanted, is, feature_or, unless_feature}
 use Rattle.wit_text.specs.Lookahead.{Phrase}
-use Rattle.wit_text.specs.Syntax.{Ty, Prim, Member, Function, Entry, Declares, FileEntry, AnInterface, File}
+use Rattle.wit_syntax.specs.Syntax.{Ty, Prim, Named, ListOf, OptionOf, TupleOf, ResultOf, Absent, Present, tys_of, Member, CaseOf, UsedAs, Definition, Alias, Record, Variant, Enumeration, FlagSet, Function, Local, Entry, Uses, Defines, Declares, WorldEntry, Whole, Single, FileEntry, AnInterface, AWorld, File}
+
+-- ---- tokens
+
+abbrev pub colon : TokenKind
+colon = kind.Punctuation mark.Colon
+
+abbrev pub semicolon : TokenKind
+semicolon = kind.Punctuation mark.Semicolon
+
+abbrev pub comma : TokenKind
+comma = kind.Punctuation mark.Comma
+
+abbrev pub open_brace : TokenKind
+open_brace = kind.Punctuation mark.OpenBrace
+
+abbrev pub close_brace : TokenKind
+close_brace = kind.Punctuation mark.CloseBrace
+
+abbrev pub open_parenthesis : TokenKind
+open_parenthesis = kind.Punctuation mark.OpenParenthesis
+
+abbrev pub close_parenthesis : TokenKind
+close_parenthesis = kind.Punctuation mark.CloseParenthesis
+
+abbrev pub less : TokenKind
+less = kind.Punctuation mark.Less
+
+abbrev pub greater : TokenKind
+greater = kind.Punctuation mark.Greater
+
+abbrev pub underscore : TokenKind
+underscore = kind.Punctuation mark.Underscore
+
+abbrev pub arrow : TokenKind
+arrow = kind.Punctuation mark.Arrow
 
 abbrev pub token : ℕ → TokenKind → Expected → Phrase Lexeme
 token end k e = one (is k) (wanted end e)
@@ -36,9 +77,6 @@ peek k = optional (is k) give
 unfoldable pub punctuation : ℕ → Punctuation → Phrase Lexeme
 punctuation end p = token end (kind.Punctuation p) (want.Punctuation p)
 
-unfoldable pub keyword : ℕ → Keyword → Phrase Lexeme
-keyword end k = token end (kind.Keyword k) (want.Keyword k)
-
 -- a word that is no keyword
 unfoldable pub is_name : Lexeme → Bool
 is_name t = is kind.Identifier t && is_label t.text
@@ -48,10 +86,11 @@ id end = do
   t ← one is_name (wanted end want.Identifier)
   give t.text
 
--- ---- the package
+-- the feature that this token begins where this kind of token does, if any
+abbrev pub feature_at : TokenKind → Feature → Lexeme → Option Feature
+feature_at k f t = if is k t then Some f else None
 
-abbrev pub semicolon : TokenKind
-semicolon = kind.Punctuation mark.Semicolon
+-- ---- the package
 
 abbrev pub is_lower_case : List ℕ → Bool
 is_lower_case = list_all (λ c. not (is_upper c))
@@ -69,6 +108,12 @@ lower_id end = do
 unfoldable pub is_version : List ℕ → Bool
 is_version text = nat_le (length text) 255 && (is_utf8 text && is_ok (version_parts text))
 
+unfoldable pub is_version_token : Lexeme → Bool
+is_version_token t = is kind.Version t && is_version t.text
+
+unfoldable pub version : Phrase (Option (List ℕ))
+version = optional is_version_token (λ t. give t.text)
+
 -- `@` stands before what a later version gates
 abbrev pub gate : Punctuation → Option Feature
 gate mark.At = Some feature.Gate
@@ -78,36 +123,37 @@ abbrev pub first_feature : TokenKind → Option Feature
 first_feature (kind.Punctuation p) = gate p
 first_feature _ = None
 
+-- where a file, or a case of a variant or an enum begins
+abbrev pub gate_feature : Lexeme → Option Feature
+gate_feature t = first_feature t.token.kind
+
 unfoldable pub first_fault : ℕ → List Lexeme → TextError
-first_fault end = unless_feature end (λ t. first_feature t.token.kind) (want.Keyword kw.Package)
+first_fault end = unless_feature end gate_feature (want.Keyword kw.Package)
 
--- behind the package's name, where a version isn't read yet
-abbrev pub header_wanted : Lexeme → Expected
-header_wanted t = if is kind.Version t then want.Version else want.Punctuation mark.Semicolon
+-- a version may stand where none was read: one that is met there is malformed
+abbrev pub header_wanted : Option (List ℕ) → Lexeme → Expected
+header_wanted None t = if is kind.Version t then want.Version else want.Punctuation mark.Semicolon
+header_wanted (Some v) t = want.Punctuation mark.Semicolon
 
-abbrev pub header_feature : Lexeme → Option Feature
-header_feature t =
-    if is (kind.Punctuation mark.OpenBrace) t then Some feature.NestedPackage
-    else (if is kind.Version t && is_version t.text then Some feature.LaterStage else None)
-
-unfoldable pub header_fault : ℕ → List Lexeme → TextError
-header_fault end [] = wanted end (want.Punctuation mark.Semicolon) []
-header_fault end (t ∷ ts) = feature_or (header_feature t) (header_wanted t) t.token.span
+unfoldable pub header_fault : ℕ → Option (List ℕ) → List Lexeme → TextError
+header_fault end v [] = wanted end (want.Punctuation mark.Semicolon) []
+header_fault end v (t ∷ ts) = feature_or (feature_at open_brace feature.NestedPackage t) (header_wanted v t) t.token.span
 
 unfoldable pub package_word : ℕ → Phrase Lexeme
 package_word end = one (is (kind.Keyword kw.Package)) (first_fault end)
 
-unfoldable pub header_end : ℕ → Phrase Lexeme
-header_end end = one (is semicolon) (header_fault end)
+unfoldable pub header_end : ℕ → Option (List ℕ) → Phrase Lexeme
+header_end end v = one (is semicolon) (header_fault end v)
 
-unfoldable pub header : ℕ → Phrase (List ℕ × List ℕ)
+unfoldable pub header : ℕ → Phrase (List ℕ × List ℕ × Option (List ℕ))
 header end = do
   a ← package_word end
   namespace ← lower_id end
   b ← punctuation end mark.Colon
   name ← lower_id end
-  c ← header_end end
-  give (namespace, name)
+  v ← version
+  c ← header_end end v
+  give (namespace, name, v)
 
 -- ---- types
 
@@ -115,6 +161,7 @@ header end = do
 abbrev pub keyword_start : Keyword → Start
 keyword_start kw.Bool = start.Plain primitive.Bool
 keyword_start kw.Char = start.Plain primitive.Char
+keyword_start kw.String = start.Plain primitive.String
 keyword_start kw.S8 = start.Plain primitive.S8
 keyword_start kw.S16 = start.Plain primitive.S16
 keyword_start kw.S32 = start.Plain primitive.S32
@@ -123,11 +170,10 @@ keyword_start kw.U8 = start.Plain primitive.U8
 keyword_start kw.U16 = start.Plain primitive.U16
 keyword_start kw.U32 = start.Plain primitive.U32
 keyword_start kw.U64 = start.Plain primitive.U64
-keyword_start kw.String = start.LeftOut feature.LaterStage
-keyword_start kw.List = start.LeftOut feature.LaterStage
-keyword_start kw.Option = start.LeftOut feature.LaterStage
-keyword_start kw.Tuple = start.LeftOut feature.LaterStage
-keyword_start kw.Result = start.LeftOut feature.LaterStage
+keyword_start kw.List = start.List
+keyword_start kw.Option = start.Option
+keyword_start kw.Tuple = start.Tuple
+keyword_start kw.Result = start.Result
 keyword_start kw.F32 = start.LeftOut feature.Float
 keyword_start kw.F64 = start.LeftOut feature.Float
 keyword_start kw.Own = start.LeftOut feature.Resource
@@ -139,197 +185,541 @@ keyword_start kw.ErrorContext = start.LeftOut feature.ErrorContext
 keyword_start kw.Async = start.LeftOut feature.Async
 keyword_start _ = start.Nothing
 
--- and what a token is there
-abbrev pub start_of : TokenKind → Start
-start_of kind.Identifier = start.LeftOut feature.LaterStage
-start_of (kind.Keyword k) = keyword_start k
-start_of (kind.Punctuation p) = start.Nothing
-start_of kind.Version = start.Nothing
-start_of kind.Integer = start.Nothing
+abbrev pub kind_start : TokenKind → Start
+kind_start (kind.Keyword k) = keyword_start k
+kind_start _ = start.Nothing
 
 abbrev pub is_start : Start → Bool
 is_start (start.Plain p) = true
+is_start start.List = true
+is_start start.Option = true
+is_start start.Tuple = true
+is_start start.Result = true
 is_start (start.LeftOut f) = false
 is_start start.Nothing = false
 
 unfoldable pub begins_type : Lexeme → Bool
-begins_type t = is_start (start_of t.token.kind)
+begins_type t = is_name t || is_start (kind_start t.token.kind)
 
-abbrev pub start_feature : Start → Option Feature
-start_feature (start.Plain p) = None
-start_feature (start.LeftOut f) = Some f
-start_feature start.Nothing = None
+abbrev pub start_fault : Start → Span → TextError
+start_fault (start.LeftOut f) at = error.Unsupported f at
+start_fault start.Nothing at = error.Expected want.Identifier at
+start_fault (start.Plain p) at = error.Depth at
+start_fault start.List at = error.Depth at
+start_fault start.Option at = error.Depth at
+start_fault start.Tuple at = error.Depth at
+start_fault start.Result at = error.Depth at
 
-abbrev pub type_feature : Lexeme → Option Feature
-type_feature t = start_feature (start_of t.token.kind)
+abbrev pub fault_at : Lexeme → TextError
+fault_at t = if is_name t then error.Depth t.token.span else start_fault (kind_start t.token.kind) t.token.span
 
--- where a type is wanted
+-- where a type is wanted, or no deeper nesting is allowed
 unfoldable pub type_fault : ℕ → List Lexeme → TextError
-type_fault end = unless_feature end type_feature want.Identifier
+type_fault end [] = wanted end want.Identifier []
+type_fault end (t ∷ ts) = fault_at t
+
+abbrev pub is_bare : Ty → Bool
+is_bare (ResultOf Absent Absent) = true
+is_bare _ = false
+
+-- behind `result` alone `<` is allowed too, and comes before `>`
+abbrev pub greater_wanted : Ty → Expected
+greater_wanted t = if is_bare t then want.Punctuation mark.Less else want.Punctuation mark.Greater
+
+unfoldable pub close_list : ℕ → Ty → Phrase Lexeme
+close_list end t = one (is greater) (unless_feature end (feature_at comma feature.FixedLengthList) (greater_wanted t))
+
+unfoldable pub close_angle : ℕ → Ty → Phrase Lexeme
+close_angle end t = one (is greater) (wanted end (greater_wanted t))
+
+unfoldable pub list : ℕ → Phrase Ty → Phrase Ty
+list end inner = do
+  a ← punctuation end mark.Less
+  t ← inner
+  b ← close_list end t
+  give (ListOf t)
+
+unfoldable pub option : ℕ → Phrase Ty → Phrase Ty
+option end inner = do
+  a ← punctuation end mark.Less
+  t ← inner
+  b ← close_angle end t
+  give (OptionOf t)
+
+abbrev pub comma_wanted : {X : Type 0} → ℕ → X → List Lexeme → TextError
+comma_wanted end x = wanted end (want.Punctuation mark.Comma)
+
+abbrev pub members : ℕ → Phrase Ty → ℕ → Phrase (List Ty)
+members end inner = listed (is comma) (is greater) (comma_wanted end) inner
+
+unfoldable pub tuple : ℕ → Phrase Ty → Phrase Ty
+tuple end inner = do
+  a ← punctuation end mark.Less
+  ts ← members end inner limit
+  give (TupleOf (tys_of ts))
+
+-- the error type, with the `>` behind it
+unfoldable pub error_type : ℕ → Phrase Ty → Phrase Ty
+error_type end inner = do
+  e ← inner
+  b ← close_angle end e
+  give e
+
+unfoldable pub result_error : ℕ → Phrase Ty → Phrase Ty
+result_error end inner = do
+  a ← punctuation end mark.Comma
+  e ← error_type end inner
+  give (ResultOf Absent (Present e))
+
+-- behind the first type of a result
+unfoldable pub result_rest : ℕ → Phrase Ty → Ty → Phrase Ty
+result_rest end inner t = do
+  s ← one (λ s. is greater s || is comma s) (comma_wanted end t)
+  when (is greater s) (give (ResultOf (Present t) Absent)) (error_type end inner >>= λ e. give (ResultOf (Present t) (Present e)))
+
+unfoldable pub result_ok : ℕ → Phrase Ty → Phrase Ty
+result_ok end inner = do
+  t ← inner
+  result_rest end inner t
+
+-- behind `result <`
+unfoldable pub result_parts : ℕ → Phrase Ty → Phrase Ty
+result_parts end inner = do
+  u ← peek underscore
+  unless_some u (result_error end inner) (result_ok end inner)
+
+abbrev pub or_bare : Option Ty → Ty
+or_bare None = ResultOf Absent Absent
+or_bare (Some t) = t
+
+unfoldable pub result_type : ℕ → Phrase Ty → Phrase Ty
+result_type end inner = do
+  r ← optional (is less) (λ t. result_parts end inner)
+  give (or_bare r)
+
+-- behind the keyword that begins a type
+unfoldable pub begun : ℕ → Phrase Ty → Start → Phrase Ty
+begun end inner (start.Plain p) = give (Prim p)
+begun end inner start.List = list end inner
+begun end inner start.Option = option end inner
+begun end inner start.Tuple = tuple end inner
+begun end inner start.Result = result_type end inner
+begun end inner (start.LeftOut f) = never (type_fault end)
+begun end inner start.Nothing = never (type_fault end)
 
 -- behind the token that begins a type
-unfoldable pub begun : ℕ → Start → Phrase Ty
-begun end (start.Plain p) = give (Prim p)
-begun end (start.LeftOut f) = never (type_fault end)
-begun end start.Nothing = never (type_fault end)
+unfoldable pub type_behind : ℕ → Phrase Ty → Lexeme → Phrase Ty
+type_behind end inner t = when (is_name t) (give (Named t.text)) (begun end inner (kind_start t.token.kind))
 
-unfoldable pub ty : ℕ → Phrase Ty
-ty end = do
+-- a type, and how the types in it are read
+unfoldable pub type_of : ℕ → Phrase Ty → Phrase Ty
+type_of end inner = do
   t ← one begins_type (type_fault end)
-  begun end (start_of t.token.kind)
+  type_behind end inner t
+
+-- a type with at most so many levels of nesting
+unfoldable pub ty : ℕ → ℕ → Phrase Ty
+ty end zero = never (type_fault end)
+ty end (suc n) = type_of end (ty end n)
+
+-- the levels that are read
+abbrev pub nesting : ℕ
+nesting = 64
 
 -- ---- functions
 
-unfoldable pub member : ℕ → Phrase Member
-member end = do
+unfoldable pub member : ℕ → ℕ → Phrase Member
+member end n = do
   name ← id end
   a ← punctuation end mark.Colon
-  t ← ty end
+  t ← ty end n
   give (record { name = name; ty = t })
 
-abbrev pub comma : TokenKind
-comma = kind.Punctuation mark.Comma
-
-abbrev pub close_parenthesis : TokenKind
-close_parenthesis = kind.Punctuation mark.CloseParenthesis
-
 unfoldable pub after_member : ℕ → Phrase Bool
-after_member end = comma_or (is comma) (is close_parenthesis) (wanted end (want.Punctuation mark.Comma))
+after_member end = comma_or (is comma) (is close_parenthesis) (comma_wanted end end)
 
--- one parameter more than can be passed flat isn't read yet
-abbrev pub surplus : Lexeme → Option Feature
-surplus t = if is kind.Identifier t then Some feature.LaterStage else None
-
-unfoldable pub surplus_fault : ℕ → List Lexeme → TextError
-surplus_fault end = unless_feature end surplus want.Identifier
-
-abbrev pub param_list : ℕ → ℕ → Phrase (List Member)
-param_list end = entries (λ m. after_member end) (member end) (never (surplus_fault end))
-
--- as many parameters are read here
-unfoldable pub most_params : ℕ
-most_params = 16
+abbrev pub param_list : ℕ → ℕ → ℕ → Phrase (List Member)
+param_list end n = entries (λ m. after_member end) (member end n) (never (wanted end want.Identifier))
 
 -- behind `(`, with its `)`
-unfoldable pub parameters : ℕ → Phrase (List Member)
-parameters end = do
+unfoldable pub parameters : ℕ → ℕ → Phrase (List Member)
+parameters end n = do
   c ← peek close_parenthesis
-  unless_some c (give []) (param_list end most_params)
+  unless_some c (give []) (param_list end n limit)
 
-abbrev pub result_feature : Lexeme → Option Feature
-result_feature t = if is (kind.Punctuation mark.OpenParenthesis) t then Some feature.NamedResults else type_feature t
-
+-- behind `->`, where named results would begin with `(`
 unfoldable pub result_fault : ℕ → List Lexeme → TextError
-result_fault end = unless_feature end result_feature want.Identifier
+result_fault end [] = wanted end want.Identifier []
+result_fault end (t ∷ ts) = if is open_parenthesis t then error.Unsupported feature.NamedResults t.token.span else fault_at t
 
-unfoldable pub function_result : ℕ → Phrase Ty
-function_result end = do
+unfoldable pub function_result : ℕ → ℕ → Phrase Ty
+function_result end zero = never (result_fault end)
+function_result end (suc n) = do
   t ← one begins_type (result_fault end)
-  begun end (start_of t.token.kind)
+  type_behind end (ty end n) t
 
-abbrev pub arrow : TokenKind
-arrow = kind.Punctuation mark.Arrow
+unfoldable pub func_word : ℕ → (Lexeme → Option Feature) → Phrase Lexeme
+func_word end f = one (is (kind.Keyword kw.Func)) (unless_feature end f (want.Keyword kw.Func))
 
-abbrev pub func_feature : Lexeme → Option Feature
-func_feature t = if is (kind.Keyword kw.Async) t then Some feature.Async else None
+unfoldable pub optional_result : ℕ → ℕ → Phrase (Option Ty)
+optional_result end n = optional (is arrow) (λ t. function_result end n)
 
-unfoldable pub func_fault : ℕ → List Lexeme → TextError
-func_fault end = unless_feature end func_feature (want.Keyword kw.Func)
-
-unfoldable pub func_word : ℕ → Phrase Lexeme
-func_word end = one (is (kind.Keyword kw.Func)) (func_fault end)
-
-unfoldable pub optional_result : ℕ → Phrase (Option Ty)
-optional_result end = optional (is arrow) (λ t. function_result end)
-
-unfoldable pub function : ℕ → Phrase Function
-function end = do
-  a ← func_word end
+-- behind `func`
+unfoldable pub function : ℕ → ℕ → Phrase Function
+function end n = do
   b ← punctuation end mark.OpenParenthesis
-  ps ← parameters end
-  r ← optional_result end
+  ps ← parameters end n
+  r ← optional_result end n
   give (record { params = ps; result = r })
 
 abbrev pub after_function : Function → Expected
 after_function f = if is_some f.result then want.Punctuation mark.Semicolon else want.Punctuation mark.Arrow
 
--- ---- interfaces
-
 unfoldable pub function_end : ℕ → Function → Phrase Lexeme
 function_end end f = one (is semicolon) (wanted end (after_function f))
 
--- behind an item's name
-unfoldable pub declared : ℕ → List ℕ → Phrase Entry
-declared end name = do
-  a ← punctuation end mark.Colon
-  f ← function end
+-- a function and the `;` behind it
+unfoldable pub whole_function : ℕ → ℕ → Phrase Function
+whole_function end n = do
+  f ← function end n
   b ← function_end end f
-  give (Declares name f)
+  give f
 
-abbrev pub entry_keyword : Keyword → Option Feature
-entry_keyword kw.Use = Some feature.LaterStage
-entry_keyword kw.«Type» = Some feature.LaterStage
-entry_keyword kw.Record = Some feature.LaterStage
-entry_keyword kw.Variant = Some feature.LaterStage
-entry_keyword kw.Enum = Some feature.LaterStage
-entry_keyword kw.Flags = Some feature.LaterStage
-entry_keyword kw.Resource = Some feature.Resource
-entry_keyword _ = None
+-- ---- uses
 
-abbrev pub entry_feature : TokenKind → Option Feature
-entry_feature kind.Identifier = None
-entry_feature (kind.Keyword k) = entry_keyword k
-entry_feature (kind.Punctuation p) = gate p
-entry_feature kind.Version = None
-entry_feature kind.Integer = None
+-- `as` and a name, or nothing
+unfoldable pub local_name : ℕ → Phrase (Option (List ℕ))
+local_name end = optional (is (kind.Keyword kw.As)) (λ t. id end)
+
+unfoldable pub used : ℕ → Phrase UsedAs
+used end = do
+  name ← id end
+  local ← local_name end
+  give (record { name = name; local = local })
+
+abbrev pub after_used : UsedAs → Expected
+after_used u = if is_some u.local then want.Punctuation mark.Comma else want.Keyword kw.As
+
+abbrev pub used_fault : ℕ → UsedAs → List Lexeme → TextError
+used_fault end u = wanted end (after_used u)
+
+abbrev pub used_list : ℕ → ℕ → Phrase (List UsedAs)
+used_list end = listed (is comma) (is close_brace) (used_fault end) (used end)
+
+-- `.`, where `:` would name another package
+unfoldable pub use_dot : ℕ → Phrase Lexeme
+use_dot end = one (is (kind.Punctuation mark.Dot)) (unless_feature end (feature_at colon feature.ForeignInterface) (want.Punctuation mark.Dot))
+
+-- behind `use`, which stands at this span
+unfoldable pub use_item : ℕ → Span → Phrase Entry
+use_item end at = do
+  i ← id end
+  a ← use_dot end
+  b ← punctuation end mark.OpenBrace
+  us ← used_list end limit
+  c ← punctuation end mark.Semicolon
+  give (Uses at (Local i) us)
+
+-- ---- type definitions, each behind its keyword
+
+unfoldable pub alias : ℕ → ℕ → Phrase Definition
+alias end n = do
+  a ← punctuation end mark.Equals
+  t ← ty end n
+  b ← punctuation end mark.Semicolon
+  give (Alias t)
+
+abbrev pub field_list : ℕ → ℕ → ℕ → Phrase (List Member)
+field_list end n = listed (is comma) (is close_brace) (comma_wanted end) (member end n)
+
+unfoldable pub record_fields : ℕ → ℕ → Phrase Definition
+record_fields end n = do
+  a ← punctuation end mark.OpenBrace
+  ms ← field_list end n limit
+  give (Record ms)
+
+-- behind `(`
+unfoldable pub payload : ℕ → ℕ → Phrase Ty
+payload end n = do
+  t ← ty end n
+  b ← punctuation end mark.CloseParenthesis
+  give t
+
+unfoldable pub optional_payload : ℕ → ℕ → Phrase (Option Ty)
+optional_payload end n = optional (is open_parenthesis) (λ t. payload end n)
+
+-- where a case may begin
+unfoldable pub case_fault : ℕ → List Lexeme → TextError
+case_fault end = unless_feature end gate_feature want.Identifier
+
+unfoldable pub case_id : ℕ → Phrase (List ℕ)
+case_id end = do
+  t ← one is_name (case_fault end)
+  give t.text
+
+unfoldable pub variant_case : ℕ → ℕ → Phrase CaseOf
+variant_case end n = do
+  name ← case_id end
+  p ← optional_payload end n
+  give (record { name = name; payload = p })
+
+abbrev pub case_list : ℕ → ℕ → ℕ → Phrase (List CaseOf)
+case_list end n = listed (is comma) (is close_brace) (comma_wanted end) (variant_case end n)
+
+unfoldable pub variant_cases : ℕ → ℕ → Phrase Definition
+variant_cases end n = do
+  a ← punctuation end mark.OpenBrace
+  cs ← case_list end n limit
+  give (Variant cs)
+
+-- the name of a case of an enum, or of a flag
+unfoldable pub name_of_case : ℕ → Bool → Phrase (List ℕ)
+name_of_case end true = case_id end
+name_of_case end false = id end
+
+abbrev pub name_list : ℕ → Bool → ℕ → Phrase (List (List ℕ))
+name_list end gated = listed (is comma) (is close_brace) (comma_wanted end) (name_of_case end gated)
+
+unfoldable pub enum_cases : ℕ → Phrase Definition
+enum_cases end = do
+  a ← punctuation end mark.OpenBrace
+  ns ← name_list end true limit
+  give (Enumeration ns)
+
+unfoldable pub flag_names : ℕ → Phrase Definition
+flag_names end = do
+  a ← punctuation end mark.OpenBrace
+  ns ← name_list end false limit
+  give (FlagSet ns)
+
+-- ---- interfaces
+
+-- what a keyword is where an item of an interface may stand
+abbrev pub item_keyword : Keyword → ItemStart
+item_keyword kw.Use = begin.Use
+item_keyword kw.«Type» = begin.Alias
+item_keyword kw.Record = begin.Record
+item_keyword kw.Variant = begin.Variant
+item_keyword kw.Enum = begin.Enum
+item_keyword kw.Flags = begin.Flags
+item_keyword kw.Resource = begin.LeftOut feature.Resource
+item_keyword _ = begin.Nothing
+
+abbrev pub item_mark : Punctuation → ItemStart
+item_mark mark.At = begin.LeftOut feature.Gate
+item_mark _ = begin.Nothing
+
+abbrev pub item_kind : TokenKind → ItemStart
+item_kind (kind.Keyword k) = item_keyword k
+item_kind (kind.Punctuation p) = item_mark p
+item_kind _ = begin.Nothing
+
+abbrev pub is_item_start : ItemStart → Bool
+is_item_start begin.Use = true
+is_item_start begin.Alias = true
+is_item_start begin.Record = true
+is_item_start begin.Variant = true
+is_item_start begin.Enum = true
+is_item_start begin.Flags = true
+is_item_start (begin.LeftOut f) = false
+is_item_start begin.Nothing = false
+
+unfoldable pub begins_entry : Lexeme → Bool
+begins_entry t = is_name t || is_item_start (item_kind t.token.kind)
+
+abbrev pub item_feature : ItemStart → Option Feature
+item_feature (begin.LeftOut f) = Some f
+item_feature _ = None
 
 unfoldable pub entry_fault : ℕ → List Lexeme → TextError
-entry_fault end = unless_feature end (λ t. entry_feature t.token.kind) want.Identifier
+entry_fault end = unless_feature end (λ t. item_feature (item_kind t.token.kind)) want.Identifier
 
-unfoldable pub entry : ℕ → Phrase Entry
-entry end = do
-  t ← one is_name (entry_fault end)
-  declared end t.text
+-- a definition of a type, behind its name
+unfoldable pub definition : ℕ → ℕ → ItemStart → Phrase Definition
+definition end n begin.Alias = alias end n
+definition end n begin.Record = record_fields end n
+definition end n begin.Variant = variant_cases end n
+definition end n begin.Enum = enum_cases end
+definition end n begin.Flags = flag_names end
+definition end n begin.Use = never (entry_fault end)
+definition end n (begin.LeftOut f) = never (entry_fault end)
+definition end n begin.Nothing = never (entry_fault end)
 
-abbrev pub close_brace : TokenKind
-close_brace = kind.Punctuation mark.CloseBrace
+unfoldable pub defined : ℕ → ℕ → ItemStart → Span → Phrase Entry
+defined end n s at = do
+  name ← id end
+  d ← definition end n s
+  give (Defines at name d)
 
-abbrev pub entry_list : ℕ → ℕ → Phrase (List Entry)
-entry_list end = many (is close_brace) (wanted end want.Identifier) (entry end)
+abbrev pub async_feature : Lexeme → Option Feature
+async_feature = feature_at (kind.Keyword kw.Async) feature.Async
+
+-- behind a function's name
+unfoldable pub declared : ℕ → ℕ → Span → List ℕ → Phrase Entry
+declared end n at name = do
+  a ← punctuation end mark.Colon
+  b ← func_word end async_feature
+  f ← whole_function end n
+  give (Declares at name f)
+
+-- an item behind its keyword, which stands at this span
+unfoldable pub keyword_entry : ℕ → ℕ → ItemStart → Span → Phrase Entry
+keyword_entry end n begin.Use at = use_item end at
+keyword_entry end n begin.Alias at = defined end n begin.Alias at
+keyword_entry end n begin.Record at = defined end n begin.Record at
+keyword_entry end n begin.Variant at = defined end n begin.Variant at
+keyword_entry end n begin.Enum at = defined end n begin.Enum at
+keyword_entry end n begin.Flags at = defined end n begin.Flags at
+keyword_entry end n (begin.LeftOut f) at = never (entry_fault end)
+keyword_entry end n begin.Nothing at = never (entry_fault end)
+
+-- an item behind its first token
+unfoldable pub entry_behind : ℕ → ℕ → Lexeme → Phrase Entry
+entry_behind end n t = when (is_name t) (declared end n t.token.span t.text) (keyword_entry end n (item_kind t.token.kind) t.token.span)
+
+unfoldable pub entry : ℕ → ℕ → Phrase Entry
+entry end n = do
+  t ← one begins_entry (entry_fault end)
+  entry_behind end n t
+
+abbrev pub entry_list : ℕ → ℕ → ℕ → Phrase (List Entry)
+entry_list end n = many (is close_brace) (wanted end want.Identifier) (entry end n)
 
 -- behind `interface`
-unfoldable pub interface : ℕ → Phrase FileEntry
-interface end = do
+unfoldable pub interface : ℕ → ℕ → Phrase FileEntry
+interface end n = do
   name ← id end
   a ← punctuation end mark.OpenBrace
-  es ← entry_list end limit
+  es ← entry_list end n limit
   give (AnInterface name es)
+
+-- ---- worlds
+
+abbrev pub direction_keyword : Keyword → Option Direction
+direction_keyword kw.Import = Some direction.Import
+direction_keyword kw.Export = Some direction.Export
+direction_keyword _ = None
+
+abbrev pub direction_of : TokenKind → Option Direction
+direction_of (kind.Keyword k) = direction_keyword k
+direction_of _ = None
+
+abbrev pub begins_world_entry : Lexeme → Bool
+begins_world_entry t = is_some (direction_of t.token.kind)
+
+abbrev pub world_keyword : Keyword → Option Feature
+world_keyword kw.Include = Some feature.Include
+world_keyword kw.Use = Some feature.WorldUse
+world_keyword kw.«Type» = Some feature.WorldType
+world_keyword kw.Record = Some feature.WorldType
+world_keyword kw.Variant = Some feature.WorldType
+world_keyword kw.Enum = Some feature.WorldType
+world_keyword kw.Flags = Some feature.WorldType
+world_keyword kw.Resource = Some feature.WorldType
+world_keyword _ = None
+
+abbrev pub world_feature : TokenKind → Option Feature
+world_feature (kind.Keyword k) = world_keyword k
+world_feature (kind.Punctuation p) = gate p
+world_feature _ = None
+
+unfoldable pub world_fault : ℕ → List Lexeme → TextError
+world_fault end = unless_feature end (λ t. world_feature t.token.kind) (want.Keyword kw.Export)
+
+-- behind `:` in a world
+abbrev pub single_keyword : Keyword → Option Feature
+single_keyword kw.Async = Some feature.Async
+single_keyword kw.Interface = Some feature.InlineInterface
+single_keyword _ = None
+
+abbrev pub single_kind : TokenKind → Option Feature
+single_kind (kind.Keyword k) = single_keyword k
+single_kind _ = None
+
+abbrev pub single_feature : Lexeme → Option Feature
+single_feature t = single_kind t.token.kind
+
+-- `:` with the identifier behind it, if one stands there
+unfoldable pub colon_id : ℕ → Phrase (Lexeme × Option Lexeme)
+colon_id end = do
+  c ← punctuation end mark.Colon
+  i ← peek kind.Identifier
+  give (c, i)
+
+abbrev pub foreign_fault : Lexeme × Option Lexeme → List Lexeme → Option TextError
+foreign_fault x ts = if is_some x.1 then Some (error.Unsupported feature.ForeignInterface x.0.token.span) else None
+
+-- `:` that no identifier follows, as it would where another package's interface is named
+unfoldable pub world_colon : ℕ → Phrase (Lexeme × Option Lexeme)
+world_colon end = only (colon_id end) foreign_fault
+
+unfoldable pub single : ℕ → ℕ → Direction → Span → List ℕ → Phrase WorldEntry
+single end n d at name = do
+  a ← world_colon end
+  b ← func_word end single_feature
+  f ← whole_function end n
+  give (Single d at name f)
+
+unfoldable pub world_entry_behind : ℕ → ℕ → Direction → Span → Phrase WorldEntry
+world_entry_behind end n d at = do
+  name ← id end
+  s ← peek semicolon
+  unless_some s (give (Whole d (Local name))) (single end n d at name)
+
+abbrev pub directed : ℕ → ℕ → Option Direction → Span → Phrase WorldEntry
+directed end n (Some d) at = world_entry_behind end n d at
+directed end n None at = never (world_fault end)
+
+unfoldable pub world_entry : ℕ → ℕ → Phrase WorldEntry
+world_entry end n = do
+  t ← one begins_world_entry (world_fault end)
+  directed end n (direction_of t.token.kind) t.token.span
+
+abbrev pub world_list : ℕ → ℕ → ℕ → Phrase (List WorldEntry)
+world_list end n = many (is close_brace) (wanted end (want.Keyword kw.Export)) (world_entry end n)
+
+-- behind `world`, which stands at this span
+unfoldable pub world : ℕ → ℕ → Span → Phrase FileEntry
+world end n at = do
+  name ← id end
+  a ← punctuation end mark.OpenBrace
+  es ← world_list end n limit
+  give (AWorld at name es)
 
 -- ---- the file
 
 abbrev pub file_keyword : Keyword → Option Feature
-file_keyword kw.Interface = Some feature.LaterStage
-file_keyword kw.World = Some feature.LaterStage
 file_keyword kw.Use = Some feature.TopLevelUse
 file_keyword kw.Package = Some feature.NestedPackage
 file_keyword _ = None
 
 abbrev pub file_feature : TokenKind → Option Feature
-file_feature kind.Identifier = None
 file_feature (kind.Keyword k) = file_keyword k
 file_feature (kind.Punctuation p) = gate p
-file_feature kind.Version = None
-file_feature kind.Integer = None
+file_feature _ = None
 
 unfoldable pub file_fault : ℕ → List Lexeme → TextError
 file_fault end = unless_feature end (λ t. file_feature t.token.kind) (want.Keyword kw.Interface)
 
--- what stands behind the package: at most one interface
-unfoldable pub items : ℕ → Phrase (List FileEntry)
-items end = all (is (kind.Keyword kw.Interface)) (file_fault end) (λ t. interface end) 1
+abbrev pub is_interface : Lexeme → Bool
+is_interface = is (kind.Keyword kw.Interface)
 
-unfoldable pub file : ℕ → Phrase File
-file end = do
+abbrev pub begins_item : Lexeme → Bool
+begins_item t = is_interface t || is (kind.Keyword kw.World) t
+
+-- an item behind its first token
+unfoldable pub item : ℕ → ℕ → Lexeme → Phrase FileEntry
+item end n t = when (is_interface t) (interface end n) (world end n t.token.span)
+
+unfoldable pub optional_item : ℕ → ℕ → Phrase (Option FileEntry)
+optional_item end n = optional begins_item (item end n)
+
+-- what stands behind the package, to the end
+abbrev pub items : ℕ → ℕ → ℕ → Phrase (List FileEntry)
+items end n = all begins_item (file_fault end) (item end n)
+
+unfoldable pub file : ℕ → ℕ → Phrase File
+file end n = do
   h ← header end
-  es ← items end
-  give (record { namespace = h.0; name = h.1; version = None; entries = es })
+  es ← items end n limit
+  give (record { namespace = h.0; name = h.1; version = h.2; entries = es })

@@ -1,27 +1,25 @@
 -- What holds of the definitions, whatever the text.
 use Rattle.std.specs.Prelude.{◌≡◌, ℕ, List, Err}
 use Rattle.productions.specs.Exactness.{Exact, AtEnd}
-use Rattle.wit_text.specs.declared.token.Span.{Span}
-use Rattle.wit_text.specs.declared.token.Token.{Token}
-use Rattle.wit_text.specs.declared.error.TextError.{TextError}
-use Rattle.wit_text.specs.Lexing.{Lexes, IsBadAt, IsOpenAt}
-use Rattle.wit_text.specs.Tokens.{Lexeme}
+use Rattle.wit_tokens.specs.declared.error.TextError.{TextError}
+use Rattle.wit_tokens.specs.Tokens.{Lexeme}
+use Rattle.wit_syntax.specs.Syntax.{File}
 use Rattle.wit_text.specs.Lookahead.{lookahead, NoneBegins}
-use Rattle.wit_text.specs.Grammar.{file}
+use Rattle.wit_text.specs.Grammar.{nesting, file}
+use Rattle.wit_text.specs.Reading.{IsFile, IsDepth}
 
 -- reading a file finds just what its production spells, or its first fault
-abbrev pub FilesAreExact : ℕ → Type 0
-FilesAreExact end = Exact (lookahead end) AtEnd (file end)
+abbrev pub FilesAreExact : ℕ → ℕ → Type 0
+FilesAreExact end n = Exact (lookahead end) AtEnd (file end n)
 
--- where reading a file meets a fault, no file begins with the tokens up to the one met
+-- where reading a file meets a fault, no file within the limit begins with the tokens up to the one met
 abbrev pub FaultsAreFinal : ℕ → Type 0
-FaultsAreFinal end = (ts : List Lexeme) (e : TextError) → (file end).read ts ≡ Err e → NoneBegins end (file end) ts e
+FaultsAreFinal end = (ts : List Lexeme) (e : TextError) → (file end nesting).read ts ≡ Err e → NoneBegins end (file end nesting).spells ts e
 
-abbrev pub OneLexing : List ℕ → Type 0
-OneLexing text = (ts us : List Token) → Lexes text ts → Lexes text us → ts ≡ us
+-- and where it isn't the limit, no file at all
+abbrev pub NoneAtAnyNesting : ℕ → Type 0
+NoneAtAnyNesting end = (ts : List Lexeme) (e : TextError) → (IsDepth e → ⊥) → (file end nesting).read ts ≡ Err e → NoneBegins end (IsFile end) ts e
 
-abbrev pub BadIsRefused : List ℕ → Type 0
-BadIsRefused text = (s : Span) (ts : List Token) → IsBadAt text s → Lexes text ts → ⊥
-
-abbrev pub OpenIsRefused : List ℕ → Type 0
-OpenIsRefused text = (s : Span) (ts : List Token) → IsOpenAt text s → Lexes text ts → ⊥
+-- tokens spell at most one file
+abbrev pub OneFile : ℕ → Type 0
+OneFile end = (ts : List Lexeme) (f g : File) → IsFile end ts f → IsFile end ts g → f ≡ g

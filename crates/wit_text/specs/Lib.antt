@@ -1,8 +1,3 @@
-pub mod Keywords
-pub mod Lexing
-pub mod Tokens
-pub mod Syntax
-pub mod View
 pub mod Faults
 pub mod Lookahead
 pub mod Grammar

@@ -1,35 +1,44 @@
 -- What it means that a text is read as a tree, or is refused.
-use Rattle.std.specs.Prelude.{◌≤◌, ℕ, List, length}
-use Rattle.wit_text.specs.declared.token.Token.{Token}
-use Rattle.wit_text.specs.declared.error.TextError.{TextError}
-use Rattle.wit_text.specs.declared.error.TextError.TheVariants as error
-use Rattle.wit_text.specs.Lexing.{limit, Lexes, LexFault}
-use Rattle.wit_text.specs.Tokens.{lexemes}
+use Rattle.std.specs.Prelude.{◌≡◌, ◌≤◌, ℕ, suc, List, length}
+use Rattle.wit_tokens.specs.declared.token.Span.{Span}
+use Rattle.wit_tokens.specs.declared.token.Token.{Token}
+use Rattle.wit_tokens.specs.declared.error.TextError.{TextError}
+use Rattle.wit_tokens.specs.declared.error.TextError.TheVariants as error
+use Rattle.wit_tokens.specs.Lexing.{limit, Lexes, LexFault}
+use Rattle.wit_tokens.specs.Tokens.{Lexeme, lexemes}
+use Rattle.wit_syntax.specs.Syntax.{File}
 use Rattle.wit_text.specs.Lookahead.{NoneBegins}
-use Rattle.wit_text.specs.Syntax.{File}
-use Rattle.wit_text.specs.Grammar.{file}
+use Rattle.wit_text.specs.Grammar.{nesting, file}
 
--- The text's tokens spell this file, and it is not too long.
+-- The text's tokens spell this file, types within the limit of nesting, and it is not too long.
 pub record IsRead (text : List ℕ) (f : File) : Type 0 where
   pub tokens : List Token
   pub short : length text ≤ limit
   pub lexed : Lexes text tokens
-  pub spelt : (file (length text)).spells (lexemes text tokens) f
+  pub spelt : (file (length text) nesting).spells (lexemes text tokens) f
 
--- The text's tokens begin no file up to the one met, where this fault stands; it is the first of the grammar.
-pub record GrammarFault (text : List ℕ) (e : TextError) : Type 0 where
+-- the tokens spell this file, however deep its types nest
+abbrev pub IsFile : ℕ → List Lexeme → File → Type 0
+IsFile end ts f = (n : ℕ) × (file end (suc n)).spells ts f
+
+abbrev pub IsDepth : TextError → Type 0
+IsDepth e = (s : Span) × (e ≡ error.Depth s)
+
+-- The text's tokens begin nothing that is spelled so, up to the one met, where this fault stands; it is the first of the
+-- grammar.
+pub record GrammarFault (text : List ℕ) (spells : List Lexeme → File → Type 0) (e : TextError) : Type 0 where
   pub tokens : List Token
   pub short : length text ≤ limit
   pub lexed : Lexes text tokens
-  pub first : (file (length text)).fails (lexemes text tokens) e
-  pub none : NoneBegins (length text) (file (length text)) (lexemes text tokens) e
+  pub first : (file (length text) nesting).fails (lexemes text tokens) e
+  pub none : NoneBegins (length text) spells (lexemes text tokens) e
 
--- why a text is refused
+-- Why a text is refused. With 32 and 33 no file begins so, however deep its types nest; with 34 none within the limit.
 abbrev pub Faulty : List ℕ → TextError → Type 0
 Faulty text (error.BadChar s) = LexFault text (error.BadChar s)
 Faulty text (error.OpenComment s) = LexFault text (error.OpenComment s)
 Faulty text error.Limit = LexFault text error.Limit
 Faulty text error.NoMemory = Unit {0}
-Faulty text (error.Expected e s) = GrammarFault text (error.Expected e s)
-Faulty text (error.Unsupported f s) = GrammarFault text (error.Unsupported f s)
-Faulty text (error.Depth s) = GrammarFault text (error.Depth s)
+Faulty text (error.Expected e s) = GrammarFault text (IsFile (length text)) (error.Expected e s)
+Faulty text (error.Unsupported f s) = GrammarFault text (IsFile (length text)) (error.Unsupported f s)
+Faulty text (error.Depth s) = GrammarFault text (file (length text) nesting).spells (error.Depth s)

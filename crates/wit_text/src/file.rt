@@ -1,28 +1,29 @@
 //! Whole texts.
-ghost use Rattle.std.specs.Prelude.{◌≡◌, ◌≤◌, ℕ, List, [], length, map, Ok, IfOk, IfErr};
+ghost use Rattle.std.specs.Prelude.{◌≡◌, ◌<◌, ◌≤◌, List, [], length, map, Ok, IfOk, IfErr, IfSome};
+ghost use Rattle.std.specs.Option.{option_map};
 ghost use Rattle.productions.specs.Production.{at_end};
-ghost use Rattle.wit_text.specs.Lexing.{limit};
-ghost use Rattle.wit_text.specs.Tokens.{lexemes};
-ghost use Rattle.wit_text.specs.Syntax.{File};
-ghost use Rattle.wit_text.specs.View.{item_view, file_view};
+ghost use Rattle.wit_tokens.specs.Lexing.{limit};
+ghost use Rattle.wit_tokens.specs.Tokens.{lexeme, lexemes};
+ghost use Rattle.wit_syntax.specs.Syntax.{File};
+ghost use Rattle.wit_syntax.specs.View.{item_view, file_view};
 ghost use Rattle.wit_text.specs.Faults.{Gives};
-ghost use Rattle.wit_text.specs.Grammar.{file_keyword, file_feature, file_fault, items, file};
+ghost use Rattle.wit_text.specs.Grammar.{nesting, file_keyword, file_feature, file_fault, begins_item, item, optional_item, items, file};
 ghost use Rattle.wit_text.specs.Reading.{IsRead, Faulty};
 
-use crate::ast::{Ast, Item};
-use crate::error::{Expected, Feature, TextError};
 use crate::header::{gate, header};
 use crate::interfaces::interface;
-use crate::lexer::lex;
 use crate::parser::{feature_or, same};
-use crate::token::{Keyword, Token, TokenKind};
+use crate::worlds::world;
 use std::alloc::Global;
+use wit_syntax::{Ast, Item};
+use wit_tokens::{
+    Expected, Feature, Keyword, TextError, Token, TokenKind, lex, texts_have_one_lexing,
+};
 
 fn file_keyword(keyword: Keyword) -> Option<Feature>
     ensures { result ≡ file_keyword keyword }
 {
     match keyword {
-        Keyword::Interface | Keyword::World => Some(Feature::LaterStage),
         Keyword::Use => Some(Feature::TopLevelUse),
         Keyword::Package => Some(Feature::NestedPackage),
         _ => None,
@@ -56,6 +57,52 @@ fn file_fault(source: &[u8], tokens: &[Token]) -> TextError
     )
 }
 
+fn begins_item(token: Token) -> bool
+    ensures { result ≡ begins_item (lexeme [] token) }
+{
+    same(token.kind, TokenKind::Keyword(Keyword::Interface))
+        || same(token.kind, TokenKind::Keyword(Keyword::World))
+}
+
+/// An interface or a world behind its first token.
+#[tactic(auto, unfolding(crate::specs::Grammar::item))]
+fn item<'a>(
+    alloc: Global,
+    source: &[u8],
+    first: Token,
+    tokens: &'a [Token],
+) -> Result<(Item, &'a [Token]), TextError>
+    requires { length tokens.now ≤ limit }
+    ensures gives { Gives (λ x. (item_view x.0, lexemes source.now x.1.now)) result ((item (length source.now) nesting (lexeme source.now first)).read (lexemes source.now tokens.now)) }
+    ensures shorter { IfOk result (λ x. length x.1.now < length tokens.now) }
+{
+    if same(first.kind, TokenKind::Keyword(Keyword::Interface)) {
+        interface(alloc, source, tokens)
+    } else {
+        world(alloc, source, first.span, tokens)
+    }
+}
+
+/// An interface or a world, or nothing.
+#[tactic(auto, unfolding(crate::specs::Grammar::optional_item))]
+fn optional_item<'a>(
+    alloc: Global,
+    source: &[u8],
+    tokens: &'a [Token],
+) -> Result<(Option<Item>, &'a [Token]), TextError>
+    requires { length tokens.now ≤ limit }
+    ensures gives { Gives (λ x. (option_map item_view x.0, lexemes source.now x.1.now)) result ((optional_item (length source.now) nesting).read (lexemes source.now tokens.now)) }
+    ensures shorter { IfOk result (λ x. IfSome x.0 (λ i. length x.1.now < length tokens.now)) }
+{
+    match tokens {
+        [first, rest @ ..] if begins_item(*first) => {
+            let (item, tokens) = item(alloc, source, *first, rest)?;
+            Ok((Some(item), tokens))
+        }
+        _ => Ok((None, tokens)),
+    }
+}
+
 /// Nothing more stands there.
 fn ended(source: &[u8], tokens: &[Token]) -> Result<(), TextError>
     ensures { Gives (λ _. (0, [])) result ((at_end (file_fault (length source.now))).read (lexemes source.now tokens.now)) }
@@ -67,28 +114,27 @@ fn ended(source: &[u8], tokens: &[Token]) -> Result<(), TextError>
 }
 
 /// What stands behind the package, to the end.
-#[tactic(auto, unfolding(crate::specs::Grammar::items, productions::specs::Production::all))]
 fn items(alloc: Global, source: &[u8], tokens: &[Token]) -> Result<Vec<Item>, TextError>
-    requires { length tokens.now ≤ limit }
-    ensures { Gives (λ x. (map item_view x.items, [])) result ((items (length source.now)).read (lexemes source.now tokens.now)) }
+    requires { length tokens.now < limit }
+    ensures { Gives (λ x. (map item_view x.items, [])) result ((items (length source.now) nesting limit).read (lexemes source.now tokens.now)) }
 {
-    let word = TokenKind::Keyword(Keyword::Interface);
-    let mut items = Vec::new(alloc);
-    match tokens {
-        [first, rest @ ..] if same(first.kind, word) => {
-            let (item, rest) = interface(alloc, source, rest)?;
-            ended(source, rest)?;
-            items.push(item)?;
-        }
-        _ => ended(source, tokens)?,
+    let mut list = Vec::new(alloc);
+    let mut left = tokens;
+    'list: loop {
+        let (entry, after) = optional_item(alloc, source, left)?;
+        let Some(entry) = entry else {
+            ended(source, after)?;
+            return Ok(list);
+        };
+        list.push(entry)?;
+        left = after;
     }
-    Ok(items)
 }
 
 #[tactic(auto, unfolding(crate::specs::Grammar::file))]
 fn file(alloc: Global, source: &[u8], tokens: &[Token]) -> Result<Ast, TextError>
     requires { length tokens.now ≤ limit }
-    ensures { Gives (λ a. (file_view a, [])) result ((file (length source.now)).read (lexemes source.now tokens.now)) }
+    ensures { Gives (λ a. (file_view a, [])) result ((file (length source.now) nesting).read (lexemes source.now tokens.now)) }
 {
     let (package, tokens) = header(alloc, source, tokens)?;
     let items = items(alloc, source, tokens)?;
@@ -102,6 +148,7 @@ pub fn parse(alloc: Global, text: &str) -> Result<Ast, TextError>
     ensures only { (f : File) → IsRead text.now f → Gives file_view result (Ok f) }
     ensures fault { IfErr result (λ e. Faulty text.now e) }
 {
+    texts_have_one_lexing();
     let tokens = lex(alloc, text)?;
     file(alloc, text.as_bytes(), tokens.as_slice())
 }

@@ -1,33 +1,36 @@
 //! Functions.
 ghost use Rattle.std.specs.Prelude.{◌≡◌, ◌<◌, ◌≤◌, length, map, IfOk};
-ghost use Rattle.wit_text.specs.Tokens.{lexeme, lexemes};
-ghost use Rattle.wit_text.specs.View.{field_view, function_view, optional_view};
-ghost use Rattle.wit_text.specs.Faults.{Gives};
-ghost use Rattle.wit_text.specs.Grammar.{member, after_member, surplus_fault, param_list, most_params, parameters, optional_result, func_fault, func_word, function};
+ghost use Rattle.wit_tokens.specs.Lexing.{limit};
+ghost use Rattle.wit_tokens.specs.Tokens.{lexeme, lexemes};
+ghost use Rattle.wit_syntax.specs.View.{ty_view, field_view, function_view, optional_view};
+ghost use Rattle.wit_text.specs.Faults.{Gives, unless_feature};
+ghost use Rattle.wit_tokens.specs.declared.error.Expected.TheVariants as want;
+ghost use Rattle.wit_tokens.specs.declared.token.Keyword.TheVariants as kw;
+ghost use Rattle.wit_text.specs.Grammar.{nesting, member, after_member, param_list, parameters, result_fault, function_result, optional_result, function, async_feature, func_word, after_function, function_end, whole_function};
 
-use crate::ast::{Field, FuncType, TypeExpression};
-use crate::error::{Expected, Feature, TextError};
-use crate::parser::{comma_or, feature_or, identifier, punctuation, same};
-use crate::token::{Keyword, Punctuation, Token, TokenKind};
-use crate::types::{function_result, type_at};
+use crate::parser::{comma_or, feature_or, identifier, met, punctuation, same};
+use crate::types::{begins_type, type_at, type_behind, type_fault};
 use std::alloc::Global;
+use wit_syntax::{Field, FuncType, TypeExpression};
+use wit_tokens::{Expected, Feature, Keyword, Punctuation, TextError, Token, TokenKind};
 
-/// As many parameters are read.
-const MOST_PARAMS: usize = 16;
+/// The levels of types that are read.
+pub const NESTING: u32 = 64;
 
 /// A name, and its type behind `:`.
 #[tactic(auto, unfolding(crate::specs::Grammar::member))]
-fn field<'a>(
+pub fn field<'a>(
     alloc: Global,
     source: &[u8],
     tokens: &'a [Token],
 ) -> Result<(Field, &'a [Token]), TextError>
-    ensures gives { Gives (λ x. (field_view x.0, lexemes source.now x.1.now)) result ((member (length source.now)).read (lexemes source.now tokens.now)) }
+    requires { length tokens.now ≤ limit }
+    ensures gives { Gives (λ x. (field_view x.0, lexemes source.now x.1.now)) result ((member (length source.now) nesting).read (lexemes source.now tokens.now)) }
     ensures shorter { IfOk result (λ x. length x.1.now < length tokens.now) }
 {
     let (name, tokens) = identifier(alloc, source, tokens)?;
     let (_, tokens) = punctuation(source, tokens, Punctuation::Colon)?;
-    let (ty, tokens) = type_at(source, tokens)?;
+    let (ty, tokens) = type_at(alloc, source, NESTING, tokens)?;
     Ok((Field { name, ty }, tokens))
 }
 
@@ -40,39 +43,27 @@ fn after_param<'a>(source: &[u8], tokens: &'a [Token]) -> Result<(bool, &'a [Tok
     comma_or(source, tokens, Punctuation::CloseParenthesis)
 }
 
-/// What is answered where a parameter more than are read would begin.
-#[tactic(auto, unfolding(crate::specs::Grammar::surplus_fault))]
-fn surplus_fault(source: &[u8], tokens: &[Token]) -> TextError
-    ensures { result ≡ surplus_fault (length source.now) (lexemes source.now tokens.now) }
-{
-    let feature = match tokens {
-        [first, ..] if same(first.kind, TokenKind::Identifier) => Some(Feature::LaterStage),
-        _ => None,
-    };
-    feature_or(source, tokens, feature, Expected::Identifier)
-}
-
 /// Parameters, up to the `)` and with it.
 fn param_list<'a>(
     alloc: Global,
     source: &[u8],
     tokens: &'a [Token],
 ) -> Result<(Vec<Field>, &'a [Token]), TextError>
-    ensures gives { Gives (λ x. (map field_view x.0.items, lexemes source.now x.1.now)) result ((param_list (length source.now) most_params).read (lexemes source.now tokens.now)) }
+    requires { length tokens.now < limit }
+    ensures gives { Gives (λ x. (map field_view x.0.items, lexemes source.now x.1.now)) result ((param_list (length source.now) nesting limit).read (lexemes source.now tokens.now)) }
     ensures shorter { IfOk result (λ x. length x.1.now < length tokens.now) }
 {
-    let mut params = Vec::new(alloc);
+    let mut list = Vec::new(alloc);
     let mut left = tokens;
-    'params: while params.len() < MOST_PARAMS {
-        let (param, after) = field(alloc, source, left)?;
-        params.push(param)?;
+    'list: loop {
+        let (entry, after) = field(alloc, source, left)?;
+        list.push(entry)?;
         let (more, after) = after_param(source, after)?;
         if !more {
-            return Ok((params, after));
+            return Ok((list, after));
         }
         left = after;
     }
-    Err(surplus_fault(source, left))
 }
 
 /// Behind `(`, with the `)`.
@@ -82,7 +73,8 @@ fn parameters<'a>(
     source: &[u8],
     tokens: &'a [Token],
 ) -> Result<(Vec<Field>, &'a [Token]), TextError>
-    ensures gives { Gives (λ x. (map field_view x.0.items, lexemes source.now x.1.now)) result ((parameters (length source.now)).read (lexemes source.now tokens.now)) }
+    requires { length tokens.now < limit }
+    ensures gives { Gives (λ x. (map field_view x.0.items, lexemes source.now x.1.now)) result ((parameters (length source.now) nesting).read (lexemes source.now tokens.now)) }
     ensures shorter { IfOk result (λ x. length x.1.now < length tokens.now) }
 {
     let close = TokenKind::Punctuation(Punctuation::CloseParenthesis);
@@ -92,29 +84,80 @@ fn parameters<'a>(
     }
 }
 
+/// What is answered where a function's result is wanted.
+#[tactic(auto, unfolding(crate::specs::Grammar::result_fault, crate::specs::Grammar::type_fault))]
+fn result_fault(source: &[u8], tokens: &[Token]) -> TextError
+    ensures { result ≡ result_fault (length source.now) (lexemes source.now tokens.now) }
+{
+    let open = TokenKind::Punctuation(Punctuation::OpenParenthesis);
+    match tokens {
+        [first, ..] if same(first.kind, open) => {
+            TextError::Unsupported(Feature::NamedResults, first.span)
+        }
+        _ => type_fault(source, tokens),
+    }
+}
+
+/// The type behind `->`.
+#[tactic(auto, unfolding(crate::specs::Grammar::function_result))]
+fn function_result<'a>(
+    alloc: Global,
+    source: &[u8],
+    tokens: &'a [Token],
+) -> Result<(TypeExpression, &'a [Token]), TextError>
+    requires { length tokens.now ≤ limit }
+    ensures gives { Gives (λ x. (ty_view x.0, lexemes source.now x.1.now)) result ((function_result (length source.now) nesting).read (lexemes source.now tokens.now)) }
+    ensures shorter { IfOk result (λ x. length x.1.now < length tokens.now) }
+{
+    match tokens {
+        [first, rest @ ..] if begins_type(source, *first) => {
+            type_behind(alloc, source, NESTING - 1, *first, rest)
+        }
+        _ => Err(result_fault(source, tokens)),
+    }
+}
+
 /// `->` and a type, or nothing.
 #[tactic(auto, unfolding(crate::specs::Grammar::optional_result))]
 fn optional_result<'a>(
+    alloc: Global,
     source: &[u8],
     tokens: &'a [Token],
 ) -> Result<(Option<TypeExpression>, &'a [Token]), TextError>
-    ensures gives { Gives (λ x. (optional_view x.0, lexemes source.now x.1.now)) result ((optional_result (length source.now)).read (lexemes source.now tokens.now)) }
+    requires { length tokens.now ≤ limit }
+    ensures gives { Gives (λ x. (optional_view x.0, lexemes source.now x.1.now)) result ((optional_result (length source.now) nesting).read (lexemes source.now tokens.now)) }
     ensures shorter { IfOk result (λ x. length x.1.now ≤ length tokens.now) }
 {
     let arrow = TokenKind::Punctuation(Punctuation::Arrow);
     match tokens {
         [first, rest @ ..] if same(first.kind, arrow) => {
-            let (ty, tokens) = function_result(source, rest)?;
+            let (ty, tokens) = function_result(alloc, source, rest)?;
             Ok((Some(ty), tokens))
         }
         _ => Ok((None, tokens)),
     }
 }
 
+/// Parameters and result, behind `func`.
+#[tactic(auto, unfolding(crate::specs::Grammar::function))]
+fn function<'a>(
+    alloc: Global,
+    source: &[u8],
+    tokens: &'a [Token],
+) -> Result<(FuncType, &'a [Token]), TextError>
+    requires { length tokens.now ≤ limit }
+    ensures gives { Gives (λ x. (function_view x.0, lexemes source.now x.1.now)) result ((function (length source.now) nesting).read (lexemes source.now tokens.now)) }
+    ensures shorter { IfOk result (λ x. length x.1.now < length tokens.now) }
+{
+    let (_, tokens) = punctuation(source, tokens, Punctuation::OpenParenthesis)?;
+    let (params, tokens) = parameters(alloc, source, tokens)?;
+    let (result, tokens) = optional_result(alloc, source, tokens)?;
+    Ok((FuncType { params, result }, tokens))
+}
+
 /// What is answered where no `func` stands.
-#[tactic(auto, unfolding(crate::specs::Grammar::func_fault))]
 fn func_fault(source: &[u8], tokens: &[Token]) -> TextError
-    ensures { result ≡ func_fault (length source.now) (lexemes source.now tokens.now) }
+    ensures { result ≡ unless_feature (length source.now) async_feature (want.Keyword kw.Func) (lexemes source.now tokens.now) }
 {
     let keyword = TokenKind::Keyword(Keyword::Async);
     let feature = match tokens {
@@ -124,9 +167,10 @@ fn func_fault(source: &[u8], tokens: &[Token]) -> TextError
     feature_or(source, tokens, feature, Expected::Keyword(Keyword::Func))
 }
 
+/// `func` in an interface.
 #[tactic(auto, unfolding(crate::specs::Grammar::func_word))]
-fn func_word<'a>(source: &[u8], tokens: &'a [Token]) -> Result<(Token, &'a [Token]), TextError>
-    ensures gives { Gives (λ x. (lexeme source.now x.0, lexemes source.now x.1.now)) result ((func_word (length source.now)).read (lexemes source.now tokens.now)) }
+pub fn func_word<'a>(source: &[u8], tokens: &'a [Token]) -> Result<(Token, &'a [Token]), TextError>
+    ensures gives { Gives (λ x. (lexeme source.now x.0, lexemes source.now x.1.now)) result ((func_word (length source.now) async_feature).read (lexemes source.now tokens.now)) }
     ensures shorter { IfOk result (λ x. length x.1.now < length tokens.now) }
 {
     let func = TokenKind::Keyword(Keyword::Func);
@@ -136,19 +180,45 @@ fn func_word<'a>(source: &[u8], tokens: &'a [Token]) -> Result<(Token, &'a [Toke
     }
 }
 
-/// `func`, parameters and result.
-#[tactic(auto, unfolding(crate::specs::Grammar::function))]
-pub fn function<'a>(
+fn after_function(ty: &FuncType) -> Expected
+    ensures { result ≡ after_function (function_view ty.now) }
+{
+    if ty.result.is_some() {
+        Expected::Punctuation(Punctuation::Semicolon)
+    } else {
+        Expected::Punctuation(Punctuation::Arrow)
+    }
+}
+
+/// The `;` behind a function.
+#[tactic(auto, unfolding(crate::specs::Grammar::function_end))]
+fn function_end<'a>(
+    source: &[u8],
+    ty: &FuncType,
+    tokens: &'a [Token],
+) -> Result<(Token, &'a [Token]), TextError>
+    ensures gives { Gives (λ x. (lexeme source.now x.0, lexemes source.now x.1.now)) result ((function_end (length source.now) (function_view ty.now)).read (lexemes source.now tokens.now)) }
+    ensures shorter { IfOk result (λ x. length x.1.now < length tokens.now) }
+{
+    let semicolon = TokenKind::Punctuation(Punctuation::Semicolon);
+    match tokens {
+        [first, rest @ ..] if same(first.kind, semicolon) => Ok((*first, rest)),
+        _ => Err(TextError::Expected(after_function(ty), met(source, tokens))),
+    }
+}
+
+/// A function and its `;`, behind `func`.
+#[tactic(auto, unfolding(crate::specs::Grammar::whole_function))]
+pub fn whole_function<'a>(
     alloc: Global,
     source: &[u8],
     tokens: &'a [Token],
 ) -> Result<(FuncType, &'a [Token]), TextError>
-    ensures gives { Gives (λ x. (function_view x.0, lexemes source.now x.1.now)) result ((function (length source.now)).read (lexemes source.now tokens.now)) }
+    requires { length tokens.now ≤ limit }
+    ensures gives { Gives (λ x. (function_view x.0, lexemes source.now x.1.now)) result ((whole_function (length source.now) nesting).read (lexemes source.now tokens.now)) }
     ensures shorter { IfOk result (λ x. length x.1.now < length tokens.now) }
 {
-    let (_, tokens) = func_word(source, tokens)?;
-    let (_, tokens) = punctuation(source, tokens, Punctuation::OpenParenthesis)?;
-    let (params, tokens) = parameters(alloc, source, tokens)?;
-    let (result, tokens) = optional_result(source, tokens)?;
-    Ok((FuncType { params, result }, tokens))
+    let (ty, tokens) = function(alloc, source, tokens)?;
+    let (_, tokens) = function_end(source, &ty, tokens)?;
+    Ok((ty, tokens))
 }

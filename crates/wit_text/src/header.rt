@@ -1,17 +1,19 @@
-//! The package's name.
-ghost use Rattle.std.specs.Prelude.{◌≡◌, ◌<◌, length, is_ok, IfOk, None};
+//! The package's name and version.
+ghost use Rattle.std.specs.Prelude.{◌≡◌, ◌<◌, ◌≤◌, ℕ, List, length, is_ok, is_some, IfOk, IfSome};
+ghost use Rattle.std.specs.String.{string_bytes};
 ghost use Rattle.semver.specs.Parse.{version_parts};
-ghost use Rattle.wit_text.specs.Tokens.{lexeme, lexemes};
+ghost use Rattle.wit_tokens.specs.Tokens.{lexeme, lexemes};
+ghost use Rattle.wit_tokens.specs.declared.token.Span.{Span};
+ghost use Rattle.wit_syntax.specs.View.{version_view};
 ghost use Rattle.wit_text.specs.Faults.{Gives};
-ghost use Rattle.wit_text.specs.Grammar.{is_version, is_lower_case, is_lower_name, lower_id, gate, first_feature, first_fault, package_word, header_fault, header_end, header};
+ghost use Rattle.wit_text.specs.Grammar.{is_version, is_version_token, version, is_lower_case, is_lower_name, lower_id, gate, first_feature, first_fault, package_word, header_wanted, header_fault, header_end, header};
 
-use crate::ast::PackageId;
-use crate::error::{Expected, Feature, TextError};
 use crate::parser::{feature_or, is_name, label_of, met, name_of, punctuation, same};
-use crate::token::{Keyword, Punctuation, Token, TokenKind};
 use atoms::Label;
 use semver::{Error, Version};
 use std::alloc::{AllocError, Global};
+use wit_syntax::PackageId;
+use wit_tokens::{Expected, Feature, Keyword, Punctuation, TextError, Token, TokenKind};
 
 fn is_semver(alloc: Global, text: &str) -> Result<bool, AllocError>
     ensures { IfOk result (λ b. b ≡ is_ok (version_parts text.now)) }
@@ -23,17 +25,22 @@ fn is_semver(alloc: Global, text: &str) -> Result<bool, AllocError>
     }
 }
 
-/// Whether a package's version may be spelled so.
+/// The text, where a package's version may be spelled so.
 #[tactic(auto, using(crate::proofs::Versions::long_version, crate::proofs::Versions::bad_version, crate::proofs::Versions::good_version))]
-fn is_version(alloc: Global, text: &[u8]) -> Result<bool, AllocError>
-    ensures { IfOk result (λ b. b ≡ is_version text.now) }
+fn version_text(alloc: Global, text: &[u8]) -> Result<Option<String>, AllocError>
+    ensures is { IfOk result (λ v. is_some v ≡ is_version text.now) }
+    ensures text { IfOk result (λ v. IfSome v (λ s. string_bytes s ≡ text.now)) }
 {
     if text.len() > 255 {
-        return Ok(false);
+        return Ok(None);
     }
-    match std::str::from_utf8(text) {
-        Ok(text) => is_semver(alloc, text),
-        Err(_) => Ok(false),
+    let Ok(text) = std::str::from_utf8(text) else {
+        return Ok(None);
+    };
+    if is_semver(alloc, text)? {
+        Ok(Some(String::from_str(alloc, text)?))
+    } else {
+        Ok(None)
     }
 }
 
@@ -82,7 +89,7 @@ pub fn gate(mark: Punctuation) -> Option<Feature>
     }
 }
 
-fn first_feature(kind: TokenKind) -> Option<Feature>
+pub fn first_feature(kind: TokenKind) -> Option<Feature>
     ensures { result ≡ first_feature kind }
 {
     match kind {
@@ -103,42 +110,70 @@ fn first_fault(source: &[u8], tokens: &[Token]) -> TextError
     feature_or(source, tokens, feature, Expected::Keyword(Keyword::Package))
 }
 
+/// The version behind the package's name, if a well-formed one stands there.
+#[tactic(auto, unfolding(crate::specs::Grammar::version, crate::specs::Grammar::is_version_token))]
+fn version<'a>(
+    alloc: Global,
+    source: &[u8],
+    tokens: &'a [Token],
+) -> Result<(Option<String>, &'a [Token]), TextError>
+    ensures gives { Gives (λ x. (version_view x.0, lexemes source.now x.1.now)) result (version.read (lexemes source.now tokens.now)) }
+    ensures shorter { IfOk result (λ x. length x.1.now ≤ length tokens.now) }
+{
+    let [first, rest @ ..] = tokens else {
+        return Ok((None, tokens));
+    };
+    if !same(first.kind, TokenKind::Version) {
+        return Ok((None, tokens));
+    }
+    match version_text(alloc, name_of(source, *first))? {
+        Some(version) => Ok((Some(version), rest)),
+        None => Ok((None, tokens)),
+    }
+}
+
+/// What is wanted behind the package's name, where a token of this kind stands.
+fn header_wanted(version: &Option<String>, kind: TokenKind) -> Expected
+    ensures { (span : Span) → (text : List ℕ) → result ≡ header_wanted (version_view version.now) (record { token = record { kind = kind; span = span }; text = text }) }
+{
+    if version.is_none() && same(kind, TokenKind::Version) {
+        Expected::Version
+    } else {
+        Expected::Punctuation(Punctuation::Semicolon)
+    }
+}
+
 /// What is answered where no `;` stands behind the package's name.
 #[tactic(auto, unfolding(crate::specs::Grammar::header_fault))]
-fn header_fault(alloc: Global, source: &[u8], tokens: &[Token]) -> Result<TextError, AllocError>
-    ensures { IfOk result (λ e. e ≡ header_fault (length source.now) (lexemes source.now tokens.now)) }
+fn header_fault(source: &[u8], version: &Option<String>, tokens: &[Token]) -> TextError
+    ensures { result ≡ header_fault (length source.now) (version_view version.now) (lexemes source.now tokens.now) }
 {
-    let semicolon = Expected::Punctuation(Punctuation::Semicolon);
     let brace = TokenKind::Punctuation(Punctuation::OpenBrace);
-    let [first, ..] = tokens else {
-        return Ok(TextError::Expected(semicolon, met(source, tokens)));
-    };
-    if same(first.kind, brace) {
-        return Ok(TextError::Unsupported(Feature::NestedPackage, first.span));
-    }
-    if !same(first.kind, TokenKind::Version) {
-        return Ok(TextError::Expected(semicolon, first.span));
-    }
-    if is_version(alloc, name_of(source, *first))? {
-        Ok(TextError::Unsupported(Feature::LaterStage, first.span))
-    } else {
-        Ok(TextError::Expected(Expected::Version, first.span))
+    match tokens {
+        [first, ..] if same(first.kind, brace) => {
+            TextError::Unsupported(Feature::NestedPackage, first.span)
+        }
+        [first, ..] => TextError::Expected(header_wanted(version, first.kind), first.span),
+        [] => {
+            let semicolon = Expected::Punctuation(Punctuation::Semicolon);
+            TextError::Expected(semicolon, met(source, tokens))
+        }
     }
 }
 
 #[tactic(auto, unfolding(crate::specs::Grammar::header_end))]
 fn header_end<'a>(
-    alloc: Global,
     source: &[u8],
+    version: &Option<String>,
     tokens: &'a [Token],
 ) -> Result<(Token, &'a [Token]), TextError>
-    ensures gives { Gives (λ x. (lexeme source.now x.0, lexemes source.now x.1.now)) result ((header_end (length source.now)).read (lexemes source.now tokens.now)) }
+    ensures gives { Gives (λ x. (lexeme source.now x.0, lexemes source.now x.1.now)) result ((header_end (length source.now) (version_view version.now)).read (lexemes source.now tokens.now)) }
     ensures shorter { IfOk result (λ x. length x.1.now < length tokens.now) }
 {
     let semicolon = TokenKind::Punctuation(Punctuation::Semicolon);
     match tokens {
         [first, rest @ ..] if same(first.kind, semicolon) => Ok((*first, rest)),
-        _ => Err(header_fault(alloc, source, tokens)?),
+        _ => Err(header_fault(source, version, tokens)),
     }
 }
 
@@ -154,26 +189,26 @@ fn package_word<'a>(source: &[u8], tokens: &'a [Token]) -> Result<(Token, &'a [T
     }
 }
 
-/// `package`, its name, and `;`.
+/// `package`, its name, its version if it has one, and `;`.
 #[tactic(auto, unfolding(crate::specs::Grammar::header))]
 pub fn header<'a>(
     alloc: Global,
     source: &[u8],
     tokens: &'a [Token],
 ) -> Result<(PackageId, &'a [Token]), TextError>
-    ensures gives { Gives (λ x. ((x.0.namespace, x.0.name), lexemes source.now x.1.now)) result ((header (length source.now)).read (lexemes source.now tokens.now)) }
+    ensures gives { Gives (λ x. ((x.0.namespace, x.0.name, version_view x.0.version), lexemes source.now x.1.now)) result ((header (length source.now)).read (lexemes source.now tokens.now)) }
     ensures shorter { IfOk result (λ x. length x.1.now < length tokens.now) }
-    ensures plain { IfOk result (λ x. x.0.version ≡ None) }
 {
     let (_, tokens) = package_word(source, tokens)?;
     let (namespace, tokens) = lower_identifier(alloc, source, tokens)?;
     let (_, tokens) = punctuation(source, tokens, Punctuation::Colon)?;
     let (name, tokens) = lower_identifier(alloc, source, tokens)?;
-    let (_, tokens) = header_end(alloc, source, tokens)?;
+    let (version, tokens) = version(alloc, source, tokens)?;
+    let (_, tokens) = header_end(source, &version, tokens)?;
     let id = PackageId {
         namespace,
         name,
-        version: None,
+        version,
     };
     Ok((id, tokens))
 }

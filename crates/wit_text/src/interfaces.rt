@@ -1,85 +1,85 @@
 //! Interfaces.
 ghost use Rattle.std.specs.Prelude.{◌≡◌, ◌<◌, ◌≤◌, length, map, IfOk};
-ghost use Rattle.wit_text.specs.Lexing.{limit};
-ghost use Rattle.wit_text.specs.Tokens.{lexeme, lexemes, name_of};
-ghost use Rattle.wit_text.specs.View.{entry_view, function_view, item_view};
+ghost use Rattle.wit_tokens.specs.Lexing.{limit};
+ghost use Rattle.wit_tokens.specs.Tokens.{lexeme, lexemes};
+ghost use Rattle.wit_syntax.specs.View.{definition_view, entry_view, item_view};
 ghost use Rattle.wit_text.specs.Faults.{Gives};
-ghost use Rattle.wit_text.specs.Grammar.{after_function, function_end, declared, entry_keyword, entry_feature, entry_fault, entry, entry_list, interface};
+ghost use Rattle.wit_text.specs.Grammar.{nesting, item_keyword, item_mark, item_kind, is_item_start, begins_entry, item_feature, entry_fault, definition, defined, declared, keyword_entry, entry_behind, entry, entry_list, interface};
 
-use crate::ast::{Func, FuncType, Interface, InterfaceItem, Item};
-use crate::error::{Expected, Feature, TextError};
-use crate::functions::function;
-use crate::header::gate;
-use crate::parser::{feature_or, identifier, is_name, label_of, met, peek, punctuation, same};
-use crate::token::{Keyword, Punctuation, Token, TokenKind};
+use crate::definitions::{alias, enum_cases, flag_names, record_fields, variant_cases};
+use crate::functions::{func_word, whole_function};
+use crate::parser::{feature_or, identifier, is_name, label_of, peek, punctuation};
+use crate::uses::use_item;
 use atoms::Label;
 use std::alloc::Global;
+use wit_syntax::{Func, Interface, InterfaceItem, Item, TypeDef, TypeDefKind};
+use wit_tokens::{Expected, Feature, Keyword, Punctuation, Span, TextError, Token, TokenKind};
 
-fn after_function(ty: &FuncType) -> Expected
-    ensures { result ≡ after_function (function_view ty.now) }
-{
-    if ty.result.is_some() {
-        Expected::Punctuation(Punctuation::Semicolon)
-    } else {
-        Expected::Punctuation(Punctuation::Arrow)
-    }
+/// What a keyword or a mark is where an item of an interface may stand.
+#[derive(Clone, Copy, Debug)]
+pub enum ItemStart {
+    Use,
+    Alias,
+    Record,
+    Variant,
+    Enum,
+    Flags,
+    LeftOut(Feature),
+    Nothing,
 }
 
-/// The `;` behind a function.
-#[tactic(auto, unfolding(crate::specs::Grammar::function_end))]
-fn function_end<'a>(
-    source: &[u8],
-    ty: &FuncType,
-    tokens: &'a [Token],
-) -> Result<(Token, &'a [Token]), TextError>
-    ensures gives { Gives (λ x. (lexeme source.now x.0, lexemes source.now x.1.now)) result ((function_end (length source.now) (function_view ty.now)).read (lexemes source.now tokens.now)) }
-    ensures shorter { IfOk result (λ x. length x.1.now < length tokens.now) }
-{
-    let semicolon = TokenKind::Punctuation(Punctuation::Semicolon);
-    match tokens {
-        [first, rest @ ..] if same(first.kind, semicolon) => Ok((*first, rest)),
-        _ => Err(TextError::Expected(after_function(ty), met(source, tokens))),
-    }
-}
-
-/// Behind an item's name: `:`, a function and `;`.
-#[tactic(auto, unfolding(crate::specs::Grammar::declared))]
-fn declared<'a>(
-    alloc: Global,
-    source: &[u8],
-    name: Label,
-    tokens: &'a [Token],
-) -> Result<(InterfaceItem, &'a [Token]), TextError>
-    ensures gives { Gives (λ x. (entry_view x.0, lexemes source.now x.1.now)) result ((declared (length source.now) name).read (lexemes source.now tokens.now)) }
-    ensures shorter { IfOk result (λ x. length x.1.now < length tokens.now) }
-{
-    let (_, tokens) = punctuation(source, tokens, Punctuation::Colon)?;
-    let (ty, tokens) = function(alloc, source, tokens)?;
-    let (_, tokens) = function_end(source, &ty, tokens)?;
-    Ok((InterfaceItem::Func(Func { name, ty }), tokens))
-}
-
-fn entry_keyword(keyword: Keyword) -> Option<Feature>
-    ensures { result ≡ entry_keyword keyword }
+fn item_keyword(keyword: Keyword) -> ItemStart
+    ensures { result ≡ item_keyword keyword }
 {
     match keyword {
-        Keyword::Use
-        | Keyword::Type
-        | Keyword::Record
-        | Keyword::Variant
-        | Keyword::Enum
-        | Keyword::Flags => Some(Feature::LaterStage),
-        Keyword::Resource => Some(Feature::Resource),
-        _ => None,
+        Keyword::Use => ItemStart::Use,
+        Keyword::Type => ItemStart::Alias,
+        Keyword::Record => ItemStart::Record,
+        Keyword::Variant => ItemStart::Variant,
+        Keyword::Enum => ItemStart::Enum,
+        Keyword::Flags => ItemStart::Flags,
+        Keyword::Resource => ItemStart::LeftOut(Feature::Resource),
+        _ => ItemStart::Nothing,
     }
 }
 
-fn entry_feature(kind: TokenKind) -> Option<Feature>
-    ensures { result ≡ entry_feature kind }
+fn item_mark(mark: Punctuation) -> ItemStart
+    ensures { result ≡ item_mark mark }
+{
+    match mark {
+        Punctuation::At => ItemStart::LeftOut(Feature::Gate),
+        _ => ItemStart::Nothing,
+    }
+}
+
+fn item_kind(kind: TokenKind) -> ItemStart
+    ensures { result ≡ item_kind kind }
 {
     match kind {
-        TokenKind::Keyword(keyword) => entry_keyword(keyword),
-        TokenKind::Punctuation(mark) => gate(mark),
+        TokenKind::Keyword(keyword) => item_keyword(keyword),
+        TokenKind::Punctuation(mark) => item_mark(mark),
+        _ => ItemStart::Nothing,
+    }
+}
+
+fn is_item_start(start: ItemStart) -> bool
+    ensures { result ≡ is_item_start start }
+{
+    !matches!(start, ItemStart::LeftOut(_) | ItemStart::Nothing)
+}
+
+#[tactic(auto, unfolding(crate::specs::Grammar::begins_entry))]
+fn begins_entry(source: &[u8], token: Token) -> bool
+    ensures { result ≡ begins_entry (lexeme source.now token) }
+{
+    is_name(source, token) || is_item_start(item_kind(token.kind))
+}
+
+fn item_feature(start: ItemStart) -> Option<Feature>
+    ensures { result ≡ item_feature start }
+{
+    match start {
+        ItemStart::LeftOut(feature) => Some(feature),
         _ => None,
     }
 }
@@ -90,10 +90,114 @@ fn entry_fault(source: &[u8], tokens: &[Token]) -> TextError
     ensures { result ≡ entry_fault (length source.now) (lexemes source.now tokens.now) }
 {
     let feature = match tokens {
-        [first, ..] => entry_feature(first.kind),
+        [first, ..] => item_feature(item_kind(first.kind)),
         [] => None,
     };
     feature_or(source, tokens, feature, Expected::Identifier)
+}
+
+/// What a type definition has behind its name.
+#[tactic(auto, unfolding(crate::specs::Grammar::definition))]
+fn definition<'a>(
+    alloc: Global,
+    source: &[u8],
+    start: ItemStart,
+    tokens: &'a [Token],
+) -> Result<(TypeDefKind, &'a [Token]), TextError>
+    requires { length tokens.now ≤ limit }
+    ensures gives { Gives (λ x. (definition_view x.0, lexemes source.now x.1.now)) result ((definition (length source.now) nesting start).read (lexemes source.now tokens.now)) }
+    ensures shorter { IfOk result (λ x. length x.1.now < length tokens.now) }
+{
+    match start {
+        ItemStart::Alias => alias(alloc, source, tokens),
+        ItemStart::Record => record_fields(alloc, source, tokens),
+        ItemStart::Variant => variant_cases(alloc, source, tokens),
+        ItemStart::Enum => enum_cases(alloc, source, tokens),
+        ItemStart::Flags => flag_names(alloc, source, tokens),
+        ItemStart::Use | ItemStart::LeftOut(_) | ItemStart::Nothing => {
+            Err(entry_fault(source, tokens))
+        }
+    }
+}
+
+/// A type definition behind its keyword, which stands at `span`.
+#[tactic(auto, unfolding(crate::specs::Grammar::defined))]
+fn defined<'a>(
+    alloc: Global,
+    source: &[u8],
+    start: ItemStart,
+    span: Span,
+    tokens: &'a [Token],
+) -> Result<(InterfaceItem, &'a [Token]), TextError>
+    requires { length tokens.now ≤ limit }
+    ensures gives { Gives (λ x. (entry_view x.0, lexemes source.now x.1.now)) result ((defined (length source.now) nesting start span).read (lexemes source.now tokens.now)) }
+    ensures shorter { IfOk result (λ x. length x.1.now < length tokens.now) }
+{
+    let (name, tokens) = identifier(alloc, source, tokens)?;
+    let (kind, tokens) = definition(alloc, source, start, tokens)?;
+    Ok((InterfaceItem::TypeDef(TypeDef { span, name, kind }), tokens))
+}
+
+/// Behind a function's name, which stands at `span`.
+#[tactic(auto, unfolding(crate::specs::Grammar::declared))]
+fn declared<'a>(
+    alloc: Global,
+    source: &[u8],
+    span: Span,
+    name: Label,
+    tokens: &'a [Token],
+) -> Result<(InterfaceItem, &'a [Token]), TextError>
+    requires { length tokens.now ≤ limit }
+    ensures gives { Gives (λ x. (entry_view x.0, lexemes source.now x.1.now)) result ((declared (length source.now) nesting span name).read (lexemes source.now tokens.now)) }
+    ensures shorter { IfOk result (λ x. length x.1.now < length tokens.now) }
+{
+    let (_, tokens) = punctuation(source, tokens, Punctuation::Colon)?;
+    let (_, tokens) = func_word(source, tokens)?;
+    let (ty, tokens) = whole_function(alloc, source, tokens)?;
+    Ok((InterfaceItem::Func(Func { span, name, ty }), tokens))
+}
+
+/// An item behind its keyword, which stands at `span`.
+#[tactic(auto, unfolding(crate::specs::Grammar::keyword_entry))]
+fn keyword_entry<'a>(
+    alloc: Global,
+    source: &[u8],
+    start: ItemStart,
+    span: Span,
+    tokens: &'a [Token],
+) -> Result<(InterfaceItem, &'a [Token]), TextError>
+    requires { length tokens.now ≤ limit }
+    ensures gives { Gives (λ x. (entry_view x.0, lexemes source.now x.1.now)) result ((keyword_entry (length source.now) nesting start span).read (lexemes source.now tokens.now)) }
+    ensures shorter { IfOk result (λ x. length x.1.now < length tokens.now) }
+{
+    match start {
+        ItemStart::Use => use_item(alloc, source, span, tokens),
+        ItemStart::Alias
+        | ItemStart::Record
+        | ItemStart::Variant
+        | ItemStart::Enum
+        | ItemStart::Flags => defined(alloc, source, start, span, tokens),
+        ItemStart::LeftOut(_) | ItemStart::Nothing => Err(entry_fault(source, tokens)),
+    }
+}
+
+/// An item behind its first token.
+#[tactic(auto, unfolding(crate::specs::Grammar::entry_behind))]
+fn entry_behind<'a>(
+    alloc: Global,
+    source: &[u8],
+    first: Token,
+    tokens: &'a [Token],
+) -> Result<(InterfaceItem, &'a [Token]), TextError>
+    requires { length tokens.now ≤ limit }
+    ensures gives { Gives (λ x. (entry_view x.0, lexemes source.now x.1.now)) result ((entry_behind (length source.now) nesting (lexeme source.now first)).read (lexemes source.now tokens.now)) }
+    ensures shorter { IfOk result (λ x. length x.1.now < length tokens.now) }
+{
+    if is_name(source, first) {
+        let name = label_of(alloc, source, first)?;
+        return declared(alloc, source, first.span, name, tokens);
+    }
+    keyword_entry(alloc, source, item_kind(first.kind), first.span, tokens)
 }
 
 /// An item of an interface.
@@ -103,13 +207,13 @@ fn entry<'a>(
     source: &[u8],
     tokens: &'a [Token],
 ) -> Result<(InterfaceItem, &'a [Token]), TextError>
-    ensures gives { Gives (λ x. (entry_view x.0, lexemes source.now x.1.now)) result ((entry (length source.now)).read (lexemes source.now tokens.now)) }
+    requires { length tokens.now ≤ limit }
+    ensures gives { Gives (λ x. (entry_view x.0, lexemes source.now x.1.now)) result ((entry (length source.now) nesting).read (lexemes source.now tokens.now)) }
     ensures shorter { IfOk result (λ x. length x.1.now < length tokens.now) }
 {
     match tokens {
-        [first, rest @ ..] if is_name(source, *first) => {
-            let name = label_of(alloc, source, *first)?;
-            declared(alloc, source, name, rest)
+        [first, rest @ ..] if begins_entry(source, *first) => {
+            entry_behind(alloc, source, *first, rest)
         }
         _ => Err(entry_fault(source, tokens)),
     }
@@ -122,19 +226,19 @@ fn entry_list<'a>(
     tokens: &'a [Token],
 ) -> Result<(Vec<InterfaceItem>, &'a [Token]), TextError>
     requires { length tokens.now < limit }
-    ensures gives { Gives (λ x. (map entry_view x.0.items, lexemes source.now x.1.now)) result ((entry_list (length source.now) limit).read (lexemes source.now tokens.now)) }
+    ensures gives { Gives (λ x. (map entry_view x.0.items, lexemes source.now x.1.now)) result ((entry_list (length source.now) nesting limit).read (lexemes source.now tokens.now)) }
     ensures shorter { IfOk result (λ x. length x.1.now < length tokens.now) }
 {
     let close = TokenKind::Punctuation(Punctuation::CloseBrace);
-    let mut entries = Vec::new(alloc);
+    let mut list = Vec::new(alloc);
     let mut left = tokens;
-    'entries: loop {
+    'list: loop {
         let (brace, rest) = peek(source, left, close);
         if let Some(_) = brace {
-            return Ok((entries, rest));
+            return Ok((list, rest));
         }
-        let (item, rest) = entry(alloc, source, rest)?;
-        entries.push(item)?;
+        let (entry, rest) = entry(alloc, source, rest)?;
+        list.push(entry)?;
         left = rest;
     }
 }
@@ -147,7 +251,7 @@ pub fn interface<'a>(
     tokens: &'a [Token],
 ) -> Result<(Item, &'a [Token]), TextError>
     requires { length tokens.now ≤ limit }
-    ensures gives { Gives (λ x. (item_view x.0, lexemes source.now x.1.now)) result ((interface (length source.now)).read (lexemes source.now tokens.now)) }
+    ensures gives { Gives (λ x. (item_view x.0, lexemes source.now x.1.now)) result ((interface (length source.now) nesting).read (lexemes source.now tokens.now)) }
     ensures shorter { IfOk result (λ x. length x.1.now < length tokens.now) }
 {
     let (name, tokens) = identifier(alloc, source, tokens)?;

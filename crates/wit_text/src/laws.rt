@@ -1,17 +1,12 @@
-//! What holds of tokens and grammar, whatever the text.
-ghost use Rattle.std.specs.Prelude.{ℕ, List};
-ghost use Rattle.wit_text.specs.Laws.{FilesAreExact, FaultsAreFinal, OneLexing, BadIsRefused, OpenIsRefused};
+//! What holds of the grammar, whatever the text.
+ghost use Rattle.std.specs.Prelude.{ℕ};
+ghost use Rattle.wit_text.specs.Laws.{FilesAreExact, FaultsAreFinal, NoneAtAnyNesting, OneFile};
 
-/// Reading a file finds just what its production spells, or its first fault; and where a fault is met no file begins
-/// with the tokens up to there.
+/// Reading a file finds just what its production spells, or its first fault; where a fault is met no file begins with the
+/// tokens up to there; and tokens spell at most one file.
 pub fn files_are_read_exactly()
-    ensures exact { (end : ℕ) → FilesAreExact end }
+    ensures exact { (end n : ℕ) → FilesAreExact end n }
     ensures begun { (end : ℕ) → FaultsAreFinal end }
-{}
-
-/// A text has at most one list of tokens, and none where a character, a word or a comment in it is bad.
-pub fn texts_have_one_lexing()
-    ensures one { (text : List ℕ) → OneLexing text }
-    ensures bad { (text : List ℕ) → BadIsRefused text }
-    ensures unclosed { (text : List ℕ) → OpenIsRefused text }
+    ensures anyhow { (end : ℕ) → NoneAtAnyNesting end }
+    ensures one { (end : ℕ) → OneFile end }
 {}

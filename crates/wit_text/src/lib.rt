@@ -1,32 +1,31 @@
-//! WIT texts: tokens, syntax trees, and how they are read. `parse` carries the promise: it answers the tree exactly
-//! where the text's tokens spell it by the grammar, and else the first fault with its span. So far a package without a
-//! version and one interface of functions over primitives is read; what else the grammar allows is 33 `later-stage`.
-//! Stands on `productions`, in which the grammar is written, on `atoms` for labels, and on `semver` for versions.
+//! WIT texts: how tokens are read as syntax trees. `parse` carries the promise: it answers the tree exactly where the text's
+//! tokens spell it by the grammar, and else the first fault with its span. The whole profile is read: interfaces with uses,
+//! types and functions, and worlds. Stands on `productions`, in which the grammar is written, on `wit_tokens` and
+//! `wit_syntax`, on `atoms` for labels, and on `semver` for versions.
 #![tactic(auto)]
 
-mod ast;
-mod error;
+mod definitions;
 mod file;
 mod functions;
 mod header;
 mod interfaces;
-mod keyword;
 mod laws;
-mod lexer;
 mod parser;
-mod token;
 mod types;
+mod uses;
+mod worlds;
 
-pub use ast::{
+pub use file::parse;
+pub use laws::files_are_read_exactly;
+pub use wit_syntax::{
     Ast, Case, Direction, Field, Func, FuncType, Interface, InterfaceItem, Item, PackageId, Path,
     Primitive, TypeDef, TypeDefKind, TypeExpression, Use, UsedName, World, WorldItem,
     WorldItemKind,
 };
-pub use error::{Expected, Feature, TextError};
-pub use file::parse;
-pub use laws::{files_are_read_exactly, texts_have_one_lexing};
-pub use lexer::lex;
-pub use token::{Keyword, Punctuation, Span, Token, TokenKind};
+pub use wit_tokens::{
+    Expected, Feature, Keyword, Punctuation, Span, TextError, Token, TokenKind, lex,
+    texts_have_one_lexing,
+};
 
 #[cfg(test)]
 mod tests;

@@ -1,17 +1,16 @@
 //! Small readers: each takes a front of the tokens, and answers the rest.
 ghost use Rattle.std.specs.Prelude.{◌≡◌, ◌<◌, ◌≤◌, length, IsTrue, IfOk, Ok};
-ghost use Rattle.wit_text.specs.Tokens.{same_kind, lexeme, optional_lexeme, lexemes, bytes_of, word_of, name_of};
+ghost use Rattle.wit_tokens.specs.Tokens.{same_kind, lexeme, optional_lexeme, lexemes, bytes_of, word_of, name_of};
 ghost use Rattle.wit_text.specs.Faults.{Gives, feature_or, met, is, wanted};
-ghost use Rattle.wit_text.specs.declared.token.TokenKind.TheVariants as kind;
-ghost use Rattle.wit_text.specs.declared.error.Expected.TheVariants as want;
-ghost use Rattle.wit_text.specs.declared.token.Punctuation.TheVariants.{Comma};
-ghost use Rattle.productions.specs.Production.{comma_or};
-ghost use Rattle.wit_text.specs.Grammar.{comma, peek, token, punctuation, keyword, is_name, id};
+ghost use Rattle.wit_tokens.specs.declared.token.TokenKind.TheVariants as kind;
+ghost use Rattle.wit_tokens.specs.declared.error.Expected.TheVariants as want;
+ghost use Rattle.wit_tokens.specs.declared.token.Punctuation.TheVariants.{Comma};
+ghost use Rattle.productions.specs.Production.{comma_or, separator};
+ghost use Rattle.wit_text.specs.Grammar.{comma, peek, token, punctuation, is_name, id};
 
-use crate::error::{Expected, Feature, TextError};
-use crate::token::{Keyword, Punctuation, Span, Token, TokenKind};
 use atoms::{Label, is_label};
 use std::alloc::Global;
+use wit_tokens::{Expected, Feature, Keyword, Punctuation, Span, TextError, Token, TokenKind};
 
 pub fn same(kind: TokenKind, other: TokenKind) -> bool
     ensures { result ≡ same_kind kind other }
@@ -174,5 +173,28 @@ pub fn comma_or<'a>(
             let wanted = Expected::Punctuation(Punctuation::Comma);
             Err(TextError::Expected(wanted, met(source, tokens)))
         }
+    }
+}
+
+/// Takes what stands behind an entry of a list, a comma or this mark or both: whether more entries follow.
+#[tactic(auto, unfolding(productions::specs::Production::separator))]
+pub fn separator<'a>(
+    source: &[u8],
+    tokens: &'a [Token],
+    close: Punctuation,
+    expected: Expected,
+) -> Result<(bool, &'a [Token]), TextError>
+    ensures gives { Gives (λ x. (x.0, lexemes source.now x.1.now)) result ((separator (is comma) (is (kind.Punctuation close)) (wanted (length source.now) expected)).read (lexemes source.now tokens.now)) }
+    ensures shorter { IfOk result (λ x. length x.1.now < length tokens.now) }
+{
+    let close = TokenKind::Punctuation(close);
+    let comma = TokenKind::Punctuation(Punctuation::Comma);
+    match tokens {
+        [first, rest @ ..] if same(first.kind, close) => Ok((false, rest)),
+        [first, rest @ ..] if same(first.kind, comma) => match rest {
+            [second, behind @ ..] if same(second.kind, close) => Ok((false, behind)),
+            _ => Ok((true, rest)),
+        },
+        _ => Err(TextError::Expected(expected, met(source, tokens))),
     }
 }

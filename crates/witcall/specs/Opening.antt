@@ -3,10 +3,10 @@ use Rattle.std.specs.Prelude.{◌≡◌, ◌⊎◌, ◌==◌, ℕ, true, List, [
 use Rattle.std.specs.List.{starts_with}
 use Rattle.std.specs.Str.{IsUtf8, IsValidUpTo}
 use Rattle.wit_text.specs.Reading.{IsRead, Faulty}
-use Rattle.wit_text.specs.View.{file_view}
-use Rattle.wit_text.specs.declared.ast.Ast.{Ast}
-use Rattle.wit_text.specs.declared.error.Feature.TheVariants.{LaterStage}
-use Rattle.wit_text.specs.declared.error.TextError.TheVariants.{Unsupported}
+use Rattle.wit_syntax.specs.View.{file_view}
+use Rattle.wit_syntax.specs.declared.ast.Ast.{Ast}
+use Rattle.wit_tokens.specs.declared.error.Feature.TheVariants.{LaterStage}
+use Rattle.wit_tokens.specs.declared.error.TextError.TheVariants.{Unsupported}
 use Rattle.resolve.specs.FromAst.{IsPackageOf, Refuses}
 use Rattle.resolve.specs.declared.tables.Resolve.{Resolve}
 use Rattle.layout.specs.Layout.{AreWithin, RefusesFirst}

@@ -1,7 +1,7 @@
 use Rattle.std.proofs.Common.{arith, subst, Bor}
 use Rattle.std.proofs.lemmas.Grind.{common_steps}
 use Rattle.std.proofs.lemmas.List.Elements.{All-more}
-use Rattle.wit_text.specs.declared.ast.Func.{Func}
+use Rattle.wit_syntax.specs.declared.ast.Func.{Func}
 use Rattle.resolve.specs.Scope.{AreDistinct}
 use Rattle.std.proofs.lemmas.Result.{err_from_is_err_and}
 use Rattle.resolve.specs.FromAst.{function_name, parameter_names}

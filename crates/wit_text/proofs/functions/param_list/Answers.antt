@@ -1,78 +1,66 @@
-use Rattle.std.proofs.Common.{◌≡◌, ◌≤◌, ◌<◌, ℕ, suc, ◌-◌, length, map, List, [], ◌∷◌, ◌++◌, refl, arith}
+use Rattle.std.proofs.Common.{◌≡◌, ◌≤◌, ◌<◌, ◌+◌, ℕ, suc, ◌-◌, length, map, List, [], ◌∷◌, ◌++◌, true, arith}
 use Rattle.std.proofs.lemmas.Result.{err_from_is_err_and}
 use Rattle.std.proofs.lemmas.List.{map_push, length-append}
 use Rattle.productions.specs.Production.{never}
-use Rattle.productions.proofs.Lists.{entry_goes_on, entry_is_last, entry_fails, more_fails, last_fails}
-use Rattle.wit_text.specs.Tokens.{lexemes}
-use Rattle.wit_text.specs.View.{field_view}
-use Rattle.wit_text.specs.Syntax.{Member}
+use Rattle.productions.proofs.Lists.{entry_goes_on, entry_is_last, entry_fails, more_fails}
+use Rattle.wit_tokens.specs.declared.error.Expected.TheVariants as want
+use Rattle.wit_tokens.specs.Lexing.{limit}
+use Rattle.wit_tokens.specs.Tokens.{lexemes}
+use Rattle.wit_syntax.specs.View.{field_view}
+use Rattle.wit_syntax.specs.Syntax.{Member}
 use Rattle.wit_text.specs.Lookahead.{Phrase}
-use Rattle.wit_text.specs.Grammar.{member, after_member, surplus_fault, most_params}
-use Rattle.wit_text.proofs.Handed.{Fails-on, Fails-same}
+use Rattle.wit_text.specs.Faults.{wanted}
+use Rattle.wit_text.specs.Grammar.{nesting, member, after_member}
+use Rattle.wit_text.proofs.Handed.{Fails-on}
 use Rattle.wit_text.proofs.functions.param_list.Goals as goal
 
 abbrev last : ℕ → Phrase (List Member)
-last end = never (surplus_fault end)
+last end = never (wanted end want.Identifier)
 
-room : (n : ℕ) → n < 16 → most_params - n ≡ suc (most_params - suc n)
-unfolding most_params
+room : (n : ℕ) → n < limit → limit - n ≡ suc (limit - suc n)
 room n h = omega arith
 
-full : (n : ℕ) → 16 ≤ n → most_params - n ≡ 0
-unfolding most_params
-full n h = omega arith
+few : (n left all : ℕ) → n + left ≤ all → all < limit → n < limit
+few n left all h l = omega arith
 
-pub returns-in_err-param-clause-gives : goal.returns-in_err-param-clause-gives
-returns-in_err-param-clause-gives c =
-    let end = length c.args.source.now in
-    let before = c.params.params.items in
+pub returns-in_err-entry-clause-gives : goal.returns-in_err-entry-clause-gives
+returns-in_err-entry-clause-gives c =
+    let source = c.args.source.now in
+    let end = length source in
+    let before = c.list.list.items in
     let p = err_from_is_err_and c.from_residual.result c.from_residual.ensures.1 in
-    let few : length before < 16 = omega (arith, c.params-test.true, c.len.ensures) in
-    rw (p.1, p.2) (Fails-on c.in_err-param.field-0.0 _ _
-    (entry_fails (λ m. after_member end) (member end) (last end) (map field_view before) _ _ (lexemes c.args.source.now c.params.left.now) c.in_err-param.field-0.0 _ (room (length before) few) c.params.invariant.so_far)
-    c.in_err-param.ensures.gives)
+    rw (p.1, p.2) (Fails-on c.in_err-entry.field-0.0 _ _
+    (entry_fails (λ m. after_member end) (member end nesting) (last end) (map field_view before) _ _ (lexemes source c.list.left.now) c.in_err-entry.field-0.0 _ (room (length before) (few _ _ _ c.list.invariant.shrinks c.requires)) c.list.invariant.so_far)
+    c.in_err-entry.ensures.gives)
 
 pub returns-in_err-more-clause-gives : goal.returns-in_err-more-clause-gives
 returns-in_err-more-clause-gives c =
     let source = c.args.source.now in
     let end = length source in
-    let before = c.params.params.items in
+    let before = c.list.list.items in
     let p = err_from_is_err_and c.from_residual-in_err-more.result c.from_residual-in_err-more.ensures.1 in
-    let few : length before < 16 = omega (arith, c.params-test.true, c.len.ensures) in
     rw (p.1, p.2) (Fails-on c.in_err-more.field-0.0 _ _
-    (more_fails (λ m. after_member end) (member end) (last end) (map field_view before) _ _ (lexemes source c.params.left.now) (field_view c.in_ok-param.param) (lexemes source c.in_ok-param.after.now) c.in_err-more.field-0.0 _ (room (length before) few) c.in_ok-param.ensures.gives c.params.invariant.so_far)
+    (more_fails (λ m. after_member end) (member end nesting) (last end) (map field_view before) _ _ (lexemes source c.list.left.now) (field_view c.in_ok-entry.entry) (lexemes source c.in_ok-entry.after.now) c.in_err-more.field-0.0 _ (room (length before) (omega (arith, c.requires, c.in_ok-entry.ensures.shorter, c.list.invariant.shrinks))) c.in_ok-entry.ensures.gives c.list.invariant.so_far)
     c.in_err-more.ensures.gives)
 
 pub returns-then-not-more-clause-gives : goal.returns-then-not-more-clause-gives
 returns-then-not-more-clause-gives c =
     let source = c.args.source.now in
     let end = length source in
-    let before = c.params.params.items in
+    let before = c.list.list.items in
     let front = map field_view before in
-    let few : length before < 16 = omega (arith, c.params-test.true, c.len.ensures) in
-    let pushed : map field_view c.push.new.self.items ≡ front ++ field_view c.in_ok-param.param ∷ [] = rw c.in_ok-push.ensures.items (map_push field_view before c.in_ok-param.param) in
-    rw pushed (entry_is_last (λ m. after_member end) (member end) (last end) front _ _ (lexemes source c.params.left.now) (field_view c.in_ok-param.param) (lexemes source c.in_ok-param.after.now) (lexemes source c.in_ok-more.after.now) _ (room (length before) few) c.in_ok-param.ensures.gives (rw (← c.if-not-more.true) c.in_ok-more.ensures.gives) c.params.invariant.so_far)
+    let pushed : map field_view c.push.new.self.items ≡ front ++ field_view c.in_ok-entry.entry ∷ [] = rw c.in_ok-push.ensures.items (map_push field_view before c.in_ok-entry.entry) in
+    rw pushed (entry_is_last (λ m. after_member end) (member end nesting) (last end) front _ _ (lexemes source c.list.left.now) (field_view c.in_ok-entry.entry) (lexemes source c.in_ok-entry.after.now) (lexemes source c.in_ok-more.after.now) _ (room (length before) (omega (arith, c.requires, c.in_ok-entry.ensures.shorter, c.list.invariant.shrinks))) c.in_ok-entry.ensures.gives (rw (← c.if-not-more.true) c.in_ok-more.ensures.gives) c.list.invariant.so_far)
 
-pub params-preserved : goal.params-preserved
-params-preserved c =
+pub list-preserved : goal.list-preserved
+list-preserved c =
     let source = c.args.source.now in
     let end = length source in
-    let before = c.params.params.items in
+    let before = c.list.list.items in
     let front = map field_view before in
-    let few : length before < 16 = omega (arith, c.params-test.true, c.len.ensures) in
-    let pushed : map field_view c.push.new.self.items ≡ front ++ field_view c.in_ok-param.param ∷ [] = rw c.in_ok-push.ensures.items (map_push field_view before c.in_ok-param.param) in
-    let longer : length c.push.new.self.items ≡ suc (length before) = rw c.in_ok-push.ensures.items (omega (arith, length-append before (c.in_ok-param.param ∷ []))) in
+    let pushed : map field_view c.push.new.self.items ≡ front ++ field_view c.in_ok-entry.entry ∷ [] = rw c.in_ok-push.ensures.items (map_push field_view before c.in_ok-entry.entry) in
+    let longer : length c.push.new.self.items ≡ suc (length before) = rw c.in_ok-push.ensures.items (omega (arith, length-append before (c.in_ok-entry.entry ∷ []))) in
     record {
-      so_far = rw (pushed, longer) (entry_goes_on (λ m. after_member end) (member end) (last end) front _ _ (lexemes source c.params.left.now) (field_view c.in_ok-param.param) (lexemes source c.in_ok-param.after.now) (lexemes source c.in_ok-more.after.now) _ (room (length before) few) c.in_ok-param.ensures.gives (rw (← c.if-not-more.false) c.in_ok-more.ensures.gives) c.params.invariant.so_far);
-      shrinks = omega (arith, c.in_ok-param.ensures.shorter, c.in_ok-more.ensures.shorter, c.params.invariant.shrinks);
+      so_far = rw (pushed, longer) (entry_goes_on (λ m. after_member end) (member end nesting) (last end) front _ _ (lexemes source c.list.left.now) (field_view c.in_ok-entry.entry) (lexemes source c.in_ok-entry.after.now) (lexemes source c.in_ok-more.after.now) _ (room (length before) (omega (arith, c.requires, c.in_ok-entry.ensures.shorter, c.list.invariant.shrinks))) c.in_ok-entry.ensures.gives (rw (← c.if-not-more.false) c.in_ok-more.ensures.gives) c.list.invariant.so_far);
+      shrinks = omega (arith, longer, c.in_ok-entry.ensures.shorter, c.in_ok-more.ensures.shorter, c.list.invariant.shrinks);
     }
-
-pub returns-clause-gives : goal.returns-clause-gives
-returns-clause-gives c =
-    let source = c.args.source.now in
-    let end = length source in
-    let before = c.params.params.items in
-    let many : 16 ≤ length before = omega (arith, c.params-test.false, c.len.ensures) in
-    Fails-on c.surplus_fault.result _ _
-    (last_fails (λ m. after_member end) (member end) (last end) (map field_view before) _ (lexemes source c.params.left.now) c.surplus_fault.result _ (full (length before) many) c.params.invariant.so_far)
-    (Fails-same c.surplus_fault.result ((last end).read (lexemes source c.params.left.now)) (rw c.surplus_fault.ensures refl))

@@ -1,7 +1,7 @@
 use Rattle.std.proofs.Common.{subst}
 use Rattle.std.proofs.lemmas.Result.{err_from_is_err_and}
 use Rattle.wit_text.specs.Reading.{IsRead}
-use Rattle.wit_text.specs.View.{file_view}
+use Rattle.wit_syntax.specs.View.{file_view}
 use Rattle.witcall.proofs.package.open.Goals as goal
 
 pub returns-in_err-resolve-clause-err : goal.returns-in_err-resolve-clause-err

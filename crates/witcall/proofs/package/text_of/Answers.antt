@@ -1,5 +1,5 @@
 use Rattle.std.proofs.Common.{inr}
-use Rattle.wit_text.specs.Lexing.{limit}
+use Rattle.wit_tokens.specs.Lexing.{limit}
 use Rattle.witcall.proofs.package.text_of.Goals as goal
 
 pub returns-then-bytes-gt-MAX_INPUT-clause-err : goal.returns-then-bytes-gt-MAX_INPUT-clause-err

@@ -1,0 +1,95 @@
+-- The syntax tree that a value of the crate's types stands for.
+use Rattle.std.specs.Prelude.{ℕ, List, map, Option, Some, None}
+use Rattle.std.specs.declared.boxed.Box.{Box}
+use Rattle.std.specs.declared.alloc.Global.{Global}
+use Rattle.std.specs.String.{string_bytes}
+use Rattle.std.specs.declared.string.String.{String}
+use Rattle.wit_syntax.specs.Syntax.{Ty, MaybeTy, Prim, Named, ListOf, OptionOf, TupleOf, ResultOf, Absent, Present, tys_of, Member, CaseOf, UsedAs, Definition, Alias, Record, Variant, Enumeration, FlagSet, Function, PathTo, Local, Entry, Uses, Defines, Declares, WorldEntry, Whole, Single, FileEntry, AnInterface, AWorld, File}
+use Rattle.wit_syntax.specs.declared.ast.Ast.{Ast}
+use Rattle.wit_syntax.specs.declared.ast.Item.{Item}
+use Rattle.wit_syntax.specs.declared.ast.Item.TheVariants as item
+use Rattle.wit_syntax.specs.declared.ast.InterfaceItem.{InterfaceItem}
+use Rattle.wit_syntax.specs.declared.ast.InterfaceItem.TheVariants as entry
+use Rattle.wit_syntax.specs.declared.ast.Path.{Path}
+use Rattle.wit_syntax.specs.declared.ast.UsedName.{UsedName}
+use Rattle.wit_syntax.specs.declared.ast.TypeDefKind.{TypeDefKind}
+use Rattle.wit_syntax.specs.declared.ast.TypeDefKind.TheVariants as definition
+use Rattle.wit_syntax.specs.declared.ast.Field.{Field}
+use Rattle.wit_syntax.specs.declared.ast.Case.{Case}
+use Rattle.wit_syntax.specs.declared.ast.FuncType.{FuncType}
+use Rattle.wit_syntax.specs.declared.ast.WorldItem.{WorldItem}
+use Rattle.wit_syntax.specs.declared.ast.WorldItemKind.{WorldItemKind}
+use Rattle.wit_syntax.specs.declared.ast.WorldItemKind.TheVariants as world
+use Rattle.wit_syntax.specs.declared.ast.Direction.{Direction}
+use Rattle.wit_syntax.specs.declared.ast.TypeExpression.{TypeExpression}
+use Rattle.wit_syntax.specs.declared.ast.TypeExpression.TheOpen as one
+use Rattle.wit_syntax.specs.declared.ast.TypeExpression.TheFolds.{fold-TypeExpression}
+
+abbrev pub maybe_ty : Option (Box Ty Global) → MaybeTy
+maybe_ty None = Absent
+maybe_ty (Some b) = Present b.value
+
+-- One type, with the trees of the types in it in their places.
+abbrev pub ty_layer : one.TypeExpression-F Ty → Ty
+ty_layer (one.Primitive p) = Prim p
+ty_layer (one.Named n) = Named n
+ty_layer (one.List t) = ListOf t.value
+ty_layer (one.Option t) = OptionOf t.value
+ty_layer (one.Tuple ts) = TupleOf (tys_of ts.items)
+ty_layer (one.Result ok error) = ResultOf (maybe_ty ok) (maybe_ty error)
+
+abbrev pub ty_view : TypeExpression → Ty
+ty_view = fold-TypeExpression Ty ty_layer
+
+abbrev pub boxed_view : Option (Box TypeExpression Global) → MaybeTy
+boxed_view None = Absent
+boxed_view (Some b) = Present (ty_view b.value)
+
+abbrev pub optional_view : Option TypeExpression → Option Ty
+optional_view None = None
+optional_view (Some t) = Some (ty_view t)
+
+abbrev pub field_view : Field → Member
+field_view f = record { name = f.name; ty = ty_view f.ty }
+
+abbrev pub case_view : Case → CaseOf
+case_view c = record { name = c.name; payload = optional_view c.payload }
+
+abbrev pub used_view : UsedName → UsedAs
+used_view u = record { name = u.name; local = u.local }
+
+abbrev pub path_view : Path → PathTo
+path_view p = Local p.name
+
+abbrev pub definition_view : TypeDefKind → Definition
+definition_view (definition.Alias t) = Alias (ty_view t)
+definition_view (definition.Record fs) = Record (map field_view fs.items)
+definition_view (definition.Variant cs) = Variant (map case_view cs.items)
+definition_view (definition.Enum ns) = Enumeration ns.items
+definition_view (definition.Flags ns) = FlagSet ns.items
+
+abbrev pub function_view : FuncType → Function
+function_view f = record { params = map field_view f.params.items; result = optional_view f.result }
+
+abbrev pub entry_view : InterfaceItem → Entry
+entry_view (entry.Use u) = Uses u.span (path_view u.interface) (map used_view u.names.items)
+entry_view (entry.TypeDef t) = Defines t.span t.name (definition_view t.kind)
+entry_view (entry.Func f) = Declares f.span f.name (function_view f.ty)
+
+abbrev pub world_kind_view : Direction → WorldItemKind → WorldEntry
+world_kind_view d (world.Interface p) = Whole d (path_view p)
+world_kind_view d (world.Func f) = Single d f.span f.name (function_view f.ty)
+
+abbrev pub world_entry_view : WorldItem → WorldEntry
+world_entry_view w = world_kind_view w.direction w.kind
+
+abbrev pub item_view : Item → FileEntry
+item_view (item.Interface i) = AnInterface i.name (map entry_view i.items.items)
+item_view (item.World w) = AWorld w.span w.name (map world_entry_view w.items.items)
+
+abbrev pub version_view : Option (String Global) → Option (List ℕ)
+version_view None = None
+version_view (Some v) = Some (string_bytes v)
+
+abbrev pub file_view : Ast → File
+file_view a = record { namespace = a.package.namespace; name = a.package.name; version = version_view a.package.version; entries = map item_view a.items.items }

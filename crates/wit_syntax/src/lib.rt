@@ -1,0 +1,11 @@
+//! The syntax trees of WIT texts, and in `specs/View.antt` the plain tree that each stands for. Stands on `atoms` for labels
+//! and on `wit_tokens` for spans.
+#![tactic(auto)]
+
+mod ast;
+
+pub use ast::{
+    Ast, Case, Direction, Field, Func, FuncType, Interface, InterfaceItem, Item, PackageId, Path,
+    Primitive, TypeDef, TypeDefKind, TypeExpression, Use, UsedName, World, WorldItem,
+    WorldItemKind,
+};

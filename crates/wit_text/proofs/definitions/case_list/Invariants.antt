@@ -1,0 +1,16 @@
+use Rattle.std.proofs.Common.{◌≡◌, ◌≤◌, ◌+◌, ◌*◌, ◌-◌, length, map}
+use Rattle.productions.proofs.Lists.{with_front}
+use Rattle.wit_tokens.specs.Lexing.{limit}
+use Rattle.wit_tokens.specs.Tokens.{lexemes}
+use Rattle.wit_syntax.specs.View.{case_view}
+use Rattle.wit_text.specs.Grammar.{nesting, case_list}
+use Rattle.wit_text.proofs.definitions.case_list.Given as goal
+
+abbrev pub invariant-list : goal.invariant-list
+invariant-list l = record {
+  so_far : with_front (map case_view l.list.items) ((case_list (length l.source) nesting (limit - length l.list.items)).read (lexemes l.source l.left)) ≡ (case_list (length l.source) nesting limit).read (lexemes l.source l.tokens);
+  shrinks : length l.list.items + length l.left ≤ length l.tokens;
+}
+
+abbrev pub decreases-list : goal.decreases-list
+decreases-list l = length l.left

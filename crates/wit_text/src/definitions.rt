@@ -1,0 +1,271 @@
+//! Definitions of types.
+ghost use Rattle.std.specs.Prelude.{◌≡◌, ◌<◌, ◌≤◌, length, map, IfOk};
+ghost use Rattle.wit_tokens.specs.Lexing.{limit};
+ghost use Rattle.wit_tokens.specs.Tokens.{lexemes};
+ghost use Rattle.wit_syntax.specs.View.{ty_view, optional_view, field_view, case_view, definition_view};
+ghost use Rattle.wit_text.specs.Faults.{Gives};
+ghost use Rattle.wit_text.specs.Grammar.{nesting, alias, field_list, record_fields, payload, optional_payload, case_fault, case_id, variant_case, case_list, variant_cases, name_of_case, name_list, enum_cases, flag_names};
+
+use crate::functions::{NESTING, field};
+use crate::header::first_feature;
+use crate::parser::{feature_or, identifier, is_name, label_of, punctuation, same, separator};
+use crate::types::type_at;
+use atoms::Label;
+use std::alloc::Global;
+use wit_syntax::{Case, Field, TypeDefKind, TypeExpression};
+use wit_tokens::{Expected, Punctuation, TextError, Token, TokenKind};
+
+/// `=`, a type and `;`.
+#[tactic(auto, unfolding(crate::specs::Grammar::alias))]
+pub fn alias<'a>(
+    alloc: Global,
+    source: &[u8],
+    tokens: &'a [Token],
+) -> Result<(TypeDefKind, &'a [Token]), TextError>
+    requires { length tokens.now ≤ limit }
+    ensures gives { Gives (λ x. (definition_view x.0, lexemes source.now x.1.now)) result ((alias (length source.now) nesting).read (lexemes source.now tokens.now)) }
+    ensures shorter { IfOk result (λ x. length x.1.now < length tokens.now) }
+{
+    let (_, tokens) = punctuation(source, tokens, Punctuation::Equals)?;
+    let (ty, tokens) = type_at(alloc, source, NESTING, tokens)?;
+    let (_, tokens) = punctuation(source, tokens, Punctuation::Semicolon)?;
+    Ok((TypeDefKind::Alias(ty), tokens))
+}
+
+/// Fields, up to the `}` and with it.
+fn field_list<'a>(
+    alloc: Global,
+    source: &[u8],
+    tokens: &'a [Token],
+) -> Result<(Vec<Field>, &'a [Token]), TextError>
+    requires { length tokens.now ≤ limit }
+    ensures gives { Gives (λ x. (map field_view x.0.items, lexemes source.now x.1.now)) result ((field_list (length source.now) nesting limit).read (lexemes source.now tokens.now)) }
+    ensures shorter { IfOk result (λ x. length x.1.now < length tokens.now) }
+{
+    let mut list = Vec::new(alloc);
+    let mut left = tokens;
+    'list: loop {
+        let (entry, after) = field(alloc, source, left)?;
+        let comma = Expected::Punctuation(Punctuation::Comma);
+        list.push(entry)?;
+        let (more, after) = separator(source, after, Punctuation::CloseBrace, comma)?;
+        if !more {
+            return Ok((list, after));
+        }
+        left = after;
+    }
+}
+
+/// The fields of a record in their braces.
+#[tactic(auto, unfolding(crate::specs::Grammar::record_fields))]
+pub fn record_fields<'a>(
+    alloc: Global,
+    source: &[u8],
+    tokens: &'a [Token],
+) -> Result<(TypeDefKind, &'a [Token]), TextError>
+    requires { length tokens.now ≤ limit }
+    ensures gives { Gives (λ x. (definition_view x.0, lexemes source.now x.1.now)) result ((record_fields (length source.now) nesting).read (lexemes source.now tokens.now)) }
+    ensures shorter { IfOk result (λ x. length x.1.now < length tokens.now) }
+{
+    let (_, tokens) = punctuation(source, tokens, Punctuation::OpenBrace)?;
+    let (fields, tokens) = field_list(alloc, source, tokens)?;
+    Ok((TypeDefKind::Record(fields), tokens))
+}
+
+/// A type behind `(`, with the `)`.
+#[tactic(auto, unfolding(crate::specs::Grammar::payload))]
+fn payload<'a>(
+    alloc: Global,
+    source: &[u8],
+    tokens: &'a [Token],
+) -> Result<(TypeExpression, &'a [Token]), TextError>
+    requires { length tokens.now ≤ limit }
+    ensures gives { Gives (λ x. (ty_view x.0, lexemes source.now x.1.now)) result ((payload (length source.now) nesting).read (lexemes source.now tokens.now)) }
+    ensures shorter { IfOk result (λ x. length x.1.now < length tokens.now) }
+{
+    let (ty, tokens) = type_at(alloc, source, NESTING, tokens)?;
+    let (_, tokens) = punctuation(source, tokens, Punctuation::CloseParenthesis)?;
+    Ok((ty, tokens))
+}
+
+/// A type in parentheses, or nothing.
+#[tactic(auto, unfolding(crate::specs::Grammar::optional_payload))]
+fn optional_payload<'a>(
+    alloc: Global,
+    source: &[u8],
+    tokens: &'a [Token],
+) -> Result<(Option<TypeExpression>, &'a [Token]), TextError>
+    requires { length tokens.now ≤ limit }
+    ensures gives { Gives (λ x. (optional_view x.0, lexemes source.now x.1.now)) result ((optional_payload (length source.now) nesting).read (lexemes source.now tokens.now)) }
+    ensures shorter { IfOk result (λ x. length x.1.now ≤ length tokens.now) }
+{
+    let open = TokenKind::Punctuation(Punctuation::OpenParenthesis);
+    match tokens {
+        [first, rest @ ..] if same(first.kind, open) => {
+            let (ty, tokens) = payload(alloc, source, rest)?;
+            Ok((Some(ty), tokens))
+        }
+        _ => Ok((None, tokens)),
+    }
+}
+
+/// What is answered where no case begins.
+#[tactic(auto, unfolding(crate::specs::Grammar::case_fault))]
+fn case_fault(source: &[u8], tokens: &[Token]) -> TextError
+    ensures { result ≡ case_fault (length source.now) (lexemes source.now tokens.now) }
+{
+    let feature = match tokens {
+        [first, ..] => first_feature(first.kind),
+        [] => None,
+    };
+    feature_or(source, tokens, feature, Expected::Identifier)
+}
+
+/// A case's name.
+#[tactic(auto, unfolding(crate::specs::Grammar::case_id))]
+fn case_id<'a>(
+    alloc: Global,
+    source: &[u8],
+    tokens: &'a [Token],
+) -> Result<(Label, &'a [Token]), TextError>
+    ensures gives { Gives (λ x. (x.0, lexemes source.now x.1.now)) result ((case_id (length source.now)).read (lexemes source.now tokens.now)) }
+    ensures shorter { IfOk result (λ x. length x.1.now < length tokens.now) }
+{
+    match tokens {
+        [first, rest @ ..] if is_name(source, *first) => {
+            Ok((label_of(alloc, source, *first)?, rest))
+        }
+        _ => Err(case_fault(source, tokens)),
+    }
+}
+
+/// A case of a variant.
+#[tactic(auto, unfolding(crate::specs::Grammar::variant_case))]
+fn variant_case<'a>(
+    alloc: Global,
+    source: &[u8],
+    tokens: &'a [Token],
+) -> Result<(Case, &'a [Token]), TextError>
+    requires { length tokens.now ≤ limit }
+    ensures gives { Gives (λ x. (case_view x.0, lexemes source.now x.1.now)) result ((variant_case (length source.now) nesting).read (lexemes source.now tokens.now)) }
+    ensures shorter { IfOk result (λ x. length x.1.now < length tokens.now) }
+{
+    let (name, tokens) = case_id(alloc, source, tokens)?;
+    let (payload, tokens) = optional_payload(alloc, source, tokens)?;
+    Ok((Case { name, payload }, tokens))
+}
+
+/// Cases, up to the `}` and with it.
+fn case_list<'a>(
+    alloc: Global,
+    source: &[u8],
+    tokens: &'a [Token],
+) -> Result<(Vec<Case>, &'a [Token]), TextError>
+    requires { length tokens.now ≤ limit }
+    ensures gives { Gives (λ x. (map case_view x.0.items, lexemes source.now x.1.now)) result ((case_list (length source.now) nesting limit).read (lexemes source.now tokens.now)) }
+    ensures shorter { IfOk result (λ x. length x.1.now < length tokens.now) }
+{
+    let mut list = Vec::new(alloc);
+    let mut left = tokens;
+    'list: loop {
+        let (entry, after) = variant_case(alloc, source, left)?;
+        let comma = Expected::Punctuation(Punctuation::Comma);
+        list.push(entry)?;
+        let (more, after) = separator(source, after, Punctuation::CloseBrace, comma)?;
+        if !more {
+            return Ok((list, after));
+        }
+        left = after;
+    }
+}
+
+/// The cases of a variant in their braces.
+#[tactic(auto, unfolding(crate::specs::Grammar::variant_cases))]
+pub fn variant_cases<'a>(
+    alloc: Global,
+    source: &[u8],
+    tokens: &'a [Token],
+) -> Result<(TypeDefKind, &'a [Token]), TextError>
+    requires { length tokens.now ≤ limit }
+    ensures gives { Gives (λ x. (definition_view x.0, lexemes source.now x.1.now)) result ((variant_cases (length source.now) nesting).read (lexemes source.now tokens.now)) }
+    ensures shorter { IfOk result (λ x. length x.1.now < length tokens.now) }
+{
+    let (_, tokens) = punctuation(source, tokens, Punctuation::OpenBrace)?;
+    let (cases, tokens) = case_list(alloc, source, tokens)?;
+    Ok((TypeDefKind::Variant(cases), tokens))
+}
+
+/// The name of a case of an enum, where `@` may gate it, or of a flag.
+#[tactic(auto, unfolding(crate::specs::Grammar::name_of_case))]
+fn name_of_case<'a>(
+    alloc: Global,
+    source: &[u8],
+    gated: bool,
+    tokens: &'a [Token],
+) -> Result<(Label, &'a [Token]), TextError>
+    ensures gives { Gives (λ x. (x.0, lexemes source.now x.1.now)) result ((name_of_case (length source.now) gated).read (lexemes source.now tokens.now)) }
+    ensures shorter { IfOk result (λ x. length x.1.now < length tokens.now) }
+{
+    if gated {
+        case_id(alloc, source, tokens)
+    } else {
+        identifier(alloc, source, tokens)
+    }
+}
+
+/// Such names, up to the `}` and with it.
+fn name_list<'a>(
+    alloc: Global,
+    source: &[u8],
+    gated: bool,
+    tokens: &'a [Token],
+) -> Result<(Vec<Label>, &'a [Token]), TextError>
+    requires { length tokens.now ≤ limit }
+    ensures gives { Gives (λ x. (x.0.items, lexemes source.now x.1.now)) result ((name_list (length source.now) gated limit).read (lexemes source.now tokens.now)) }
+    ensures shorter { IfOk result (λ x. length x.1.now < length tokens.now) }
+{
+    let mut list = Vec::new(alloc);
+    let mut left = tokens;
+    'list: loop {
+        let (entry, after) = name_of_case(alloc, source, gated, left)?;
+        let comma = Expected::Punctuation(Punctuation::Comma);
+        list.push(entry)?;
+        let (more, after) = separator(source, after, Punctuation::CloseBrace, comma)?;
+        if !more {
+            return Ok((list, after));
+        }
+        left = after;
+    }
+}
+
+/// The cases of an enum in their braces.
+#[tactic(auto, unfolding(crate::specs::Grammar::enum_cases))]
+pub fn enum_cases<'a>(
+    alloc: Global,
+    source: &[u8],
+    tokens: &'a [Token],
+) -> Result<(TypeDefKind, &'a [Token]), TextError>
+    requires { length tokens.now ≤ limit }
+    ensures gives { Gives (λ x. (definition_view x.0, lexemes source.now x.1.now)) result ((enum_cases (length source.now)).read (lexemes source.now tokens.now)) }
+    ensures shorter { IfOk result (λ x. length x.1.now < length tokens.now) }
+{
+    let (_, tokens) = punctuation(source, tokens, Punctuation::OpenBrace)?;
+    let (names, tokens) = name_list(alloc, source, true, tokens)?;
+    Ok((TypeDefKind::Enum(names), tokens))
+}
+
+/// The names of flags in their braces.
+#[tactic(auto, unfolding(crate::specs::Grammar::flag_names))]
+pub fn flag_names<'a>(
+    alloc: Global,
+    source: &[u8],
+    tokens: &'a [Token],
+) -> Result<(TypeDefKind, &'a [Token]), TextError>
+    requires { length tokens.now ≤ limit }
+    ensures gives { Gives (λ x. (definition_view x.0, lexemes source.now x.1.now)) result ((flag_names (length source.now)).read (lexemes source.now tokens.now)) }
+    ensures shorter { IfOk result (λ x. length x.1.now < length tokens.now) }
+{
+    let (_, tokens) = punctuation(source, tokens, Punctuation::OpenBrace)?;
+    let (names, tokens) = name_list(alloc, source, false, tokens)?;
+    Ok((TypeDefKind::Flags(names), tokens))
+}

@@ -1,0 +1,129 @@
+//! Uses of other interfaces' types.
+ghost use Rattle.std.specs.Prelude.{◌≡◌, ◌<◌, ◌≤◌, length, map, IfOk};
+ghost use Rattle.wit_tokens.specs.Lexing.{limit};
+ghost use Rattle.wit_tokens.specs.Tokens.{lexeme, lexemes};
+ghost use Rattle.wit_syntax.specs.View.{used_view, entry_view};
+ghost use Rattle.wit_text.specs.Faults.{Gives};
+ghost use Rattle.wit_text.specs.Grammar.{local_name, used, after_used, used_list, use_dot, use_item};
+
+use crate::parser::{identifier, met, punctuation, same, separator};
+use atoms::Label;
+use std::alloc::Global;
+use wit_syntax::{InterfaceItem, Path, Use, UsedName};
+use wit_tokens::{Expected, Feature, Keyword, Punctuation, Span, TextError, Token, TokenKind};
+
+/// `as` and a name, or nothing.
+#[tactic(auto, unfolding(crate::specs::Grammar::local_name))]
+fn local_name<'a>(
+    alloc: Global,
+    source: &[u8],
+    tokens: &'a [Token],
+) -> Result<(Option<Label>, &'a [Token]), TextError>
+    ensures gives { Gives (λ x. (x.0, lexemes source.now x.1.now)) result ((local_name (length source.now)).read (lexemes source.now tokens.now)) }
+    ensures shorter { IfOk result (λ x. length x.1.now ≤ length tokens.now) }
+{
+    let word = TokenKind::Keyword(Keyword::As);
+    match tokens {
+        [first, rest @ ..] if same(first.kind, word) => {
+            let (name, tokens) = identifier(alloc, source, rest)?;
+            Ok((Some(name), tokens))
+        }
+        _ => Ok((None, tokens)),
+    }
+}
+
+/// A used name, and its local name if it has one.
+#[tactic(auto, unfolding(crate::specs::Grammar::used))]
+fn used<'a>(
+    alloc: Global,
+    source: &[u8],
+    tokens: &'a [Token],
+) -> Result<(UsedName, &'a [Token]), TextError>
+    ensures gives { Gives (λ x. (used_view x.0, lexemes source.now x.1.now)) result ((used (length source.now)).read (lexemes source.now tokens.now)) }
+    ensures shorter { IfOk result (λ x. length x.1.now < length tokens.now) }
+{
+    let (name, tokens) = identifier(alloc, source, tokens)?;
+    let (local, tokens) = local_name(alloc, source, tokens)?;
+    Ok((UsedName { name, local }, tokens))
+}
+
+fn after_used(name: &UsedName) -> Expected
+    ensures { result ≡ after_used (used_view name.now) }
+{
+    if name.local.is_some() {
+        Expected::Punctuation(Punctuation::Comma)
+    } else {
+        Expected::Keyword(Keyword::As)
+    }
+}
+
+/// Used names, up to the `}` and with it.
+fn used_list<'a>(
+    alloc: Global,
+    source: &[u8],
+    tokens: &'a [Token],
+) -> Result<(Vec<UsedName>, &'a [Token]), TextError>
+    requires { length tokens.now ≤ limit }
+    ensures gives { Gives (λ x. (map used_view x.0.items, lexemes source.now x.1.now)) result ((used_list (length source.now) limit).read (lexemes source.now tokens.now)) }
+    ensures shorter { IfOk result (λ x. length x.1.now < length tokens.now) }
+{
+    let mut list = Vec::new(alloc);
+    let mut left = tokens;
+    'list: loop {
+        let (entry, after) = used(alloc, source, left)?;
+        let expected = after_used(&entry);
+        list.push(entry)?;
+        let (more, after) = separator(source, after, Punctuation::CloseBrace, expected)?;
+        if !more {
+            return Ok((list, after));
+        }
+        left = after;
+    }
+}
+
+/// The `.` behind the interface of a use.
+#[tactic(auto, unfolding(crate::specs::Grammar::use_dot))]
+fn use_dot<'a>(source: &[u8], tokens: &'a [Token]) -> Result<(Token, &'a [Token]), TextError>
+    ensures gives { Gives (λ x. (lexeme source.now x.0, lexemes source.now x.1.now)) result ((use_dot (length source.now)).read (lexemes source.now tokens.now)) }
+    ensures shorter { IfOk result (λ x. length x.1.now < length tokens.now) }
+{
+    let dot = TokenKind::Punctuation(Punctuation::Dot);
+    let colon = TokenKind::Punctuation(Punctuation::Colon);
+    match tokens {
+        [first, rest @ ..] if same(first.kind, dot) => Ok((*first, rest)),
+        [first, ..] if same(first.kind, colon) => {
+            let feature = Feature::ForeignInterface;
+            Err(TextError::Unsupported(feature, first.span))
+        }
+        _ => {
+            let dot = Expected::Punctuation(Punctuation::Dot);
+            Err(TextError::Expected(dot, met(source, tokens)))
+        }
+    }
+}
+
+/// Behind `use`, which stands at `span`.
+#[tactic(auto, unfolding(crate::specs::Grammar::use_item))]
+pub fn use_item<'a>(
+    alloc: Global,
+    source: &[u8],
+    span: Span,
+    tokens: &'a [Token],
+) -> Result<(InterfaceItem, &'a [Token]), TextError>
+    requires { length tokens.now ≤ limit }
+    ensures gives { Gives (λ x. (entry_view x.0, lexemes source.now x.1.now)) result ((use_item (length source.now) span).read (lexemes source.now tokens.now)) }
+    ensures shorter { IfOk result (λ x. length x.1.now < length tokens.now) }
+{
+    let (name, tokens) = identifier(alloc, source, tokens)?;
+    let (_, tokens) = use_dot(source, tokens)?;
+    let (_, tokens) = punctuation(source, tokens, Punctuation::OpenBrace)?;
+    let (names, tokens) = used_list(alloc, source, tokens)?;
+    let (_, tokens) = punctuation(source, tokens, Punctuation::Semicolon)?;
+    let interface = Path { name };
+    let item = Use {
+        span,
+        interface,
+        names,
+    };
+    Ok((InterfaceItem::Use(item), tokens))
+}

@@ -1,0 +1,238 @@
+//! Worlds.
+ghost use Rattle.std.specs.Prelude.{◌≡◌, ◌<◌, ◌≤◌, length, map, None, IfOk};
+ghost use Rattle.wit_tokens.specs.Lexing.{limit};
+ghost use Rattle.wit_tokens.specs.Tokens.{lexeme, optional_lexeme, lexemes};
+ghost use Rattle.wit_tokens.specs.declared.error.Expected.TheVariants as want;
+ghost use Rattle.wit_tokens.specs.declared.token.Keyword.TheVariants as kw;
+ghost use Rattle.wit_syntax.specs.View.{world_entry_view, item_view};
+ghost use Rattle.wit_text.specs.Faults.{Gives, unless_feature};
+ghost use Rattle.wit_text.specs.Grammar.{nesting, direction_keyword, direction_of, world_keyword, world_feature, world_fault, world_colon, single_keyword, single_kind, single_feature, func_word, single, world_entry_behind, world_entry, world_list, world};
+
+use crate::functions::whole_function;
+use crate::header::gate;
+use crate::parser::{feature_or, identifier, peek, punctuation, same};
+use atoms::Label;
+use std::alloc::Global;
+use wit_syntax::{Direction, Func, Item, Path, World, WorldItem, WorldItemKind};
+use wit_tokens::{Expected, Feature, Keyword, Punctuation, Span, TextError, Token, TokenKind};
+
+fn direction_keyword(keyword: Keyword) -> Option<Direction>
+    ensures { result ≡ direction_keyword keyword }
+{
+    match keyword {
+        Keyword::Import => Some(Direction::Import),
+        Keyword::Export => Some(Direction::Export),
+        _ => None,
+    }
+}
+
+fn direction_of(kind: TokenKind) -> Option<Direction>
+    ensures { result ≡ direction_of kind }
+{
+    match kind {
+        TokenKind::Keyword(keyword) => direction_keyword(keyword),
+        _ => None,
+    }
+}
+
+fn world_keyword(keyword: Keyword) -> Option<Feature>
+    ensures { result ≡ world_keyword keyword }
+{
+    match keyword {
+        Keyword::Include => Some(Feature::Include),
+        Keyword::Use => Some(Feature::WorldUse),
+        Keyword::Type
+        | Keyword::Record
+        | Keyword::Variant
+        | Keyword::Enum
+        | Keyword::Flags
+        | Keyword::Resource => Some(Feature::WorldType),
+        _ => None,
+    }
+}
+
+fn world_feature(kind: TokenKind) -> Option<Feature>
+    ensures { result ≡ world_feature kind }
+{
+    match kind {
+        TokenKind::Keyword(keyword) => world_keyword(keyword),
+        TokenKind::Punctuation(mark) => gate(mark),
+        _ => None,
+    }
+}
+
+/// What is answered where no item of a world begins.
+#[tactic(auto, unfolding(crate::specs::Grammar::world_fault))]
+fn world_fault(source: &[u8], tokens: &[Token]) -> TextError
+    ensures { result ≡ world_fault (length source.now) (lexemes source.now tokens.now) }
+{
+    let feature = match tokens {
+        [first, ..] => world_feature(first.kind),
+        [] => None,
+    };
+    feature_or(source, tokens, feature, Expected::Keyword(Keyword::Export))
+}
+
+fn single_keyword(keyword: Keyword) -> Option<Feature>
+    ensures { result ≡ single_keyword keyword }
+{
+    match keyword {
+        Keyword::Async => Some(Feature::Async),
+        Keyword::Interface => Some(Feature::InlineInterface),
+        _ => None,
+    }
+}
+
+fn single_kind(kind: TokenKind) -> Option<Feature>
+    ensures { result ≡ single_kind kind }
+{
+    match kind {
+        TokenKind::Keyword(keyword) => single_keyword(keyword),
+        _ => None,
+    }
+}
+
+/// What is answered where no `func` stands.
+fn single_fault(source: &[u8], tokens: &[Token]) -> TextError
+    ensures { result ≡ unless_feature (length source.now) single_feature (want.Keyword kw.Func) (lexemes source.now tokens.now) }
+{
+    let feature = match tokens {
+        [first, ..] => single_kind(first.kind),
+        [] => None,
+    };
+    feature_or(source, tokens, feature, Expected::Keyword(Keyword::Func))
+}
+
+/// The `:` behind a name, where no identifier follows it.
+#[tactic(auto, unfolding(crate::specs::Grammar::world_colon, crate::specs::Grammar::colon_id))]
+fn world_colon<'a>(source: &[u8], tokens: &'a [Token]) -> Result<(Token, &'a [Token]), TextError>
+    ensures gives { Gives (λ x. ((lexeme source.now x.0, optional_lexeme source.now None), lexemes source.now x.1.now)) result ((world_colon (length source.now)).read (lexemes source.now tokens.now)) }
+    ensures shorter { IfOk result (λ x. length x.1.now < length tokens.now) }
+{
+    let (colon, rest) = punctuation(source, tokens, Punctuation::Colon)?;
+    let (name, rest) = peek(source, rest, TokenKind::Identifier);
+    match name {
+        Some(_) => Err(TextError::Unsupported(Feature::ForeignInterface, colon.span)),
+        None => Ok((colon, rest)),
+    }
+}
+
+/// `func` in a world.
+#[tactic(auto, unfolding(crate::specs::Grammar::func_word))]
+fn world_func<'a>(source: &[u8], tokens: &'a [Token]) -> Result<(Token, &'a [Token]), TextError>
+    ensures gives { Gives (λ x. (lexeme source.now x.0, lexemes source.now x.1.now)) result ((func_word (length source.now) single_feature).read (lexemes source.now tokens.now)) }
+    ensures shorter { IfOk result (λ x. length x.1.now < length tokens.now) }
+{
+    let func = TokenKind::Keyword(Keyword::Func);
+    match tokens {
+        [first, rest @ ..] if same(first.kind, func) => Ok((*first, rest)),
+        _ => Err(single_fault(source, tokens)),
+    }
+}
+
+/// A function of a world behind its name; the item stands at `span`.
+#[tactic(auto, unfolding(crate::specs::Grammar::single))]
+fn single<'a>(
+    alloc: Global,
+    source: &[u8],
+    direction: Direction,
+    span: Span,
+    name: Label,
+    tokens: &'a [Token],
+) -> Result<(WorldItem, &'a [Token]), TextError>
+    requires { length tokens.now ≤ limit }
+    ensures gives { Gives (λ x. (world_entry_view x.0, lexemes source.now x.1.now)) result ((single (length source.now) nesting direction span name).read (lexemes source.now tokens.now)) }
+    ensures shorter { IfOk result (λ x. length x.1.now < length tokens.now) }
+{
+    let (_, tokens) = world_colon(source, tokens)?;
+    let (_, tokens) = world_func(source, tokens)?;
+    let (ty, tokens) = whole_function(alloc, source, tokens)?;
+    let kind = WorldItemKind::Func(Func { span, name, ty });
+    Ok((WorldItem { direction, kind }, tokens))
+}
+
+/// An item of a world behind its direction, which stands at `span`.
+#[tactic(auto, unfolding(crate::specs::Grammar::world_entry_behind))]
+fn world_entry_behind<'a>(
+    alloc: Global,
+    source: &[u8],
+    direction: Direction,
+    span: Span,
+    tokens: &'a [Token],
+) -> Result<(WorldItem, &'a [Token]), TextError>
+    requires { length tokens.now ≤ limit }
+    ensures gives { Gives (λ x. (world_entry_view x.0, lexemes source.now x.1.now)) result ((world_entry_behind (length source.now) nesting direction span).read (lexemes source.now tokens.now)) }
+    ensures shorter { IfOk result (λ x. length x.1.now < length tokens.now) }
+{
+    let semicolon = TokenKind::Punctuation(Punctuation::Semicolon);
+    let (name, tokens) = identifier(alloc, source, tokens)?;
+    match tokens {
+        [first, rest @ ..] if same(first.kind, semicolon) => {
+            let kind = WorldItemKind::Interface(Path { name });
+            Ok((WorldItem { direction, kind }, rest))
+        }
+        _ => single(alloc, source, direction, span, name, tokens),
+    }
+}
+
+/// An item of a world.
+#[tactic(auto, unfolding(crate::specs::Grammar::world_entry))]
+fn world_entry<'a>(
+    alloc: Global,
+    source: &[u8],
+    tokens: &'a [Token],
+) -> Result<(WorldItem, &'a [Token]), TextError>
+    requires { length tokens.now ≤ limit }
+    ensures gives { Gives (λ x. (world_entry_view x.0, lexemes source.now x.1.now)) result ((world_entry (length source.now) nesting).read (lexemes source.now tokens.now)) }
+    ensures shorter { IfOk result (λ x. length x.1.now < length tokens.now) }
+{
+    let [first, rest @ ..] = tokens else {
+        return Err(world_fault(source, tokens));
+    };
+    match direction_of(first.kind) {
+        Some(direction) => world_entry_behind(alloc, source, direction, first.span, rest),
+        None => Err(world_fault(source, tokens)),
+    }
+}
+
+/// The items of a world, up to the `}` and with it.
+fn world_list<'a>(
+    alloc: Global,
+    source: &[u8],
+    tokens: &'a [Token],
+) -> Result<(Vec<WorldItem>, &'a [Token]), TextError>
+    requires { length tokens.now < limit }
+    ensures gives { Gives (λ x. (map world_entry_view x.0.items, lexemes source.now x.1.now)) result ((world_list (length source.now) nesting limit).read (lexemes source.now tokens.now)) }
+    ensures shorter { IfOk result (λ x. length x.1.now < length tokens.now) }
+{
+    let close = TokenKind::Punctuation(Punctuation::CloseBrace);
+    let mut list = Vec::new(alloc);
+    let mut left = tokens;
+    'list: loop {
+        let (brace, rest) = peek(source, left, close);
+        if let Some(_) = brace {
+            return Ok((list, rest));
+        }
+        let (entry, rest) = world_entry(alloc, source, rest)?;
+        list.push(entry)?;
+        left = rest;
+    }
+}
+
+/// Behind `world`, which stands at `span`.
+#[tactic(auto, unfolding(crate::specs::Grammar::world))]
+pub fn world<'a>(
+    alloc: Global,
+    source: &[u8],
+    span: Span,
+    tokens: &'a [Token],
+) -> Result<(Item, &'a [Token]), TextError>
+    requires { length tokens.now ≤ limit }
+    ensures gives { Gives (λ x. (item_view x.0, lexemes source.now x.1.now)) result ((world (length source.now) nesting span).read (lexemes source.now tokens.now)) }
+    ensures shorter { IfOk result (λ x. length x.1.now < length tokens.now) }
+{
+    let (name, tokens) = identifier(alloc, source, tokens)?;
+    let (_, tokens) = punctuation(source, tokens, Punctuation::OpenBrace)?;
+    let (items, tokens) = world_list(alloc, source, tokens)?;
+    Ok((Item::World(World { span, name, items }), tokens))
+}

@@ -1,0 +1,4 @@
+pub mod Keywords
+pub mod Lexing
+pub mod Tokens
+pub mod Laws

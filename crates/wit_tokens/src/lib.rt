@@ -1,0 +1,18 @@
+//! Tokens of WIT texts: what they are, where they stand, and why a text is refused. `lex` carries the promise: it answers
+//! the text's one list of tokens, or the first character, word or comment that is neither token nor blank. Stands on
+//! `atoms` for labels.
+#![tactic(auto)]
+
+mod error;
+mod keyword;
+mod laws;
+mod lexer;
+mod token;
+
+pub use error::{Expected, Feature, TextError};
+pub use laws::texts_have_one_lexing;
+pub use lexer::lex;
+pub use token::{Keyword, Punctuation, Span, Token, TokenKind};
+
+#[cfg(test)]
+mod tests;
