@@ -4,5 +4,6 @@ pub mod Loading
 pub mod Members
 pub mod Scalar
 pub mod Scalars
+pub mod Scripts
 pub mod Shape
 pub mod Val

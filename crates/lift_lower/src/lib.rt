@@ -15,8 +15,10 @@ mod refusal;
 mod scalar;
 mod scalars;
 mod shape;
+mod storing;
 mod typing;
 mod val;
+mod writing;
 
 pub use lifting::lift;
 pub use loading::load;
