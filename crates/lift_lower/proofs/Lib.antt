@@ -12,3 +12,4 @@ pub mod ScalarTypes
 pub mod Scripting
 pub mod Scripted
 pub mod Storings
+pub mod Lowerings

@@ -135,6 +135,20 @@ module _ (limit : ℕ) (allocates : Allocation) where
   ended-last S T U old mid k new b e last =
       begun-ended S T U old mid k new b e (λ first u. ([], subst T (sym (append-nil first)) (last first u)))
 
+  -- a node, and what is in it
+  node-begun : (S : List Event → Type 0) (m : Memory) → IsBegun limit allocates S (λ rest. S (node ∷ rest)) m m
+  node-begun S m = begun-event S S node m m m (begun S m) (visited m)
+
+  pub node-done : (S U : List Event → Type 0) (old new : Memory) → ((es : List Event) → U es → S (node ∷ es)) → IsDone limit allocates U old new → IsDone limit allocates S old new
+  node-done S U old new holds d = begun-last S (λ rest. S (node ∷ rest)) U old old new (node-begun S old) d holds
+
+  pub node-ended : (S U : List Event → Type 0) (old : Memory) (k : TrapKind) (new : Memory) → ((es : List Event) → U es → S (node ∷ es)) → HasEnded limit allocates U old k new
+      → HasEnded limit allocates S old k new
+  node-ended S U old k new holds e = ended-last S (λ rest. S (node ∷ rest)) U old old k new (node-begun S old) e holds
+
+  pub node-alone : (S : List Event → Type 0) (m : Memory) → S (node ∷ []) → IsDone limit allocates S m m
+  node-alone S m s = begun-done S (λ rest. S (node ∷ rest)) m m (node-begun S m) s
+
   -- ---- a block, and a text in a block
 
   pub granted : (align size at : ℕ) (old new : Memory) → size ≤ limit → allocates old align size (Some at) new → at % align ≡ 0 → at + size ≤ length new.bytes

@@ -237,6 +237,14 @@ type-of-text (record_type fs) text h = let e = typed-form (string_value text) (r
 type-of-text (variant_type cs) text h = let e = typed-form (string_value text) (variant_type cs) h in cc
 type-of-text (flags_type n) text h = let e = typed-form (string_value text) (flags_type n) h in cc
 
+pub type-of-flags : (t : ClosedType) (bits : ℕ) → HasType (flags_value bits) t → (n : ℕ) × (t ≡ flags_type n) × (bits < 2 ^ n)
+type-of-flags (flags_type n) bits h = (n, refl, typed-flags n bits h)
+type-of-flags (prim_type q) bits h = let e = typed-form (flags_value bits) (prim_type q) h in cc
+type-of-flags string_type bits h = let e = typed-form (flags_value bits) string_type h in cc
+type-of-flags (list_type t) bits h = let e = typed-form (flags_value bits) (list_type t) h in cc
+type-of-flags (record_type fs) bits h = let e = typed-form (flags_value bits) (record_type fs) h in cc
+type-of-flags (variant_type cs) bits h = let e = typed-form (flags_value bits) (variant_type cs) h in cc
+
 pub type-of-record : (t : ClosedType) (vs : Values) → HasType (record_value vs) t → t ≡ record_type (record_fields t)
 type-of-record (record_type fs) vs h = refl
 type-of-record (prim_type q) vs h = let e = typed-form (record_value vs) (prim_type q) h in cc

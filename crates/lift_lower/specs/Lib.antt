@@ -1,6 +1,7 @@
 pub mod Crossing
 pub mod Gives
 pub mod Loading
+pub mod Lowered
 pub mod Members
 pub mod Scalar
 pub mod Scalars

@@ -8,6 +8,7 @@
 mod bytes;
 mod extent;
 mod flat;
+mod flattening;
 mod lifting;
 mod loading;
 mod lowering;
