@@ -9,3 +9,7 @@ pub mod FlatSteps
 pub mod Denoting
 pub mod Typings
 pub mod ScalarTypes
+pub mod Scripting
+pub mod Scripted
+pub mod Storings
+pub mod Lowerings

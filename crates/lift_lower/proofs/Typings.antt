@@ -2,7 +2,7 @@
 use Rattle.std.proofs.Common.{Box, Global, ◌≡◌, ℕ, zero, suc, ◌+◌, ◌<◌, ◌^◌, List, [], ◌∷◌, length, take, drop, get_or, Option, Some, None, refl, sym, ap, ◌∙◌, subst, arith, add-one, drop-cons}
 use Rattle.std.proofs.lemmas.List.{drop_all}
 use Rattle.std.specs.List.{AllByRecursion}
-use Rattle.canonical_abi.specs.Types.{Prim, boolean, unsigned, signed, scalar_value, ClosedType, prim_type, string_type, list_type, record_type, variant_type, flags_type, Fields, no_field, field, Cases, no_case, plain_case, case_with, nth_field, nth_case, field_count}
+use Rattle.canonical_abi.specs.Types.{Prim, boolean, unsigned, signed, scalar_value, ClosedType, prim_type, string_type, list_type, record_type, variant_type, flags_type, Fields, no_field, field, Cases, no_case, plain_case, case_with, nth_field, nth_case, field_count, IsStandard, AreStandardFields, AreStandardCases}
 use Rattle.canonical_abi.specs.Values.{Value, Values, values_of, bool_value, unsigned_value, signed_value, char_value, string_value, list_value, record_value, plain_value, payload_value, flags_value, HasPrimType, HasType, HaveTypes, IsOfCase}
 use Rattle.std.specs.Prelude.{IsUtf8}
 use Rattle.std.proofs.lemmas.Str.{is_utf8-from_IsUtf8}
@@ -201,6 +201,58 @@ payload-typed c cs v (i, h) =
     let P : ℕ → Type 0 = λ n. (t : ClosedType) × (nth_case cs n ≡ Some (Some t)) × HasType v t in
     subst P (sym only.0) only.1
 
+-- ---- types that are known by a value of theirs
+
+prim-one : (v : Value) (p q : Prim) → HasPrimType v p → HasPrimType v q → p ≡ q
+prim-one v boolean boolean h k = refl
+prim-one v boolean (unsigned x) h k = let e = sym h.1 ∙ k.2 in cc
+prim-one v boolean (signed x) h k = let e = sym h.1 ∙ k.2 in cc
+prim-one v boolean scalar_value h k = let e = sym h.1 ∙ k.2 in cc
+prim-one v (unsigned w) boolean h k = let e = sym h.2 ∙ k.1 in cc
+prim-one v (unsigned w) (unsigned x) h k = let e = sym h.2 ∙ k.2 in cc
+prim-one v (unsigned w) (signed x) h k = let e = sym h.2 ∙ k.2 in cc
+prim-one v (unsigned w) scalar_value h k = let e = sym h.2 ∙ k.2 in cc
+prim-one v (signed w) boolean h k = let e = sym h.2 ∙ k.1 in cc
+prim-one v (signed w) (unsigned x) h k = let e = sym h.2 ∙ k.2 in cc
+prim-one v (signed w) (signed x) h k = let e = sym h.2 ∙ k.2 in cc
+prim-one v (signed w) scalar_value h k = let e = sym h.2 ∙ k.2 in cc
+prim-one v scalar_value boolean h k = let e = sym h.2 ∙ k.1 in cc
+prim-one v scalar_value (unsigned x) h k = let e = sym h.2 ∙ k.2 in cc
+prim-one v scalar_value (signed x) h k = let e = sym h.2 ∙ k.2 in cc
+prim-one v scalar_value scalar_value h k = refl
+
+pub type-of-scalar : (t : ClosedType) (v : Value) (p : Prim) → HasPrimType v p → HasType v t → t ≡ prim_type p
+type-of-scalar (prim_type q) v p typed h = ap prim_type (prim-one v q p h typed)
+type-of-scalar string_type v p typed h = let e = sym (prim-form v p typed) ∙ typed-form v string_type h in cc
+type-of-scalar (list_type t) v p typed h = let e = sym (prim-form v p typed) ∙ typed-form v (list_type t) h in cc
+type-of-scalar (record_type fs) v p typed h = let e = sym (prim-form v p typed) ∙ typed-form v (record_type fs) h in cc
+type-of-scalar (variant_type cs) v p typed h = let e = sym (prim-form v p typed) ∙ typed-form v (variant_type cs) h in cc
+type-of-scalar (flags_type n) v p typed h = let e = sym (prim-form v p typed) ∙ typed-form v (flags_type n) h in cc
+
+pub type-of-text : (t : ClosedType) (text : List ℕ) → HasType (string_value text) t → t ≡ string_type
+type-of-text string_type text h = refl
+type-of-text (prim_type q) text h = let e = typed-form (string_value text) (prim_type q) h in cc
+type-of-text (list_type t) text h = let e = typed-form (string_value text) (list_type t) h in cc
+type-of-text (record_type fs) text h = let e = typed-form (string_value text) (record_type fs) h in cc
+type-of-text (variant_type cs) text h = let e = typed-form (string_value text) (variant_type cs) h in cc
+type-of-text (flags_type n) text h = let e = typed-form (string_value text) (flags_type n) h in cc
+
+pub type-of-flags : (t : ClosedType) (bits : ℕ) → HasType (flags_value bits) t → (n : ℕ) × (t ≡ flags_type n) × (bits < 2 ^ n)
+type-of-flags (flags_type n) bits h = (n, refl, typed-flags n bits h)
+type-of-flags (prim_type q) bits h = let e = typed-form (flags_value bits) (prim_type q) h in cc
+type-of-flags string_type bits h = let e = typed-form (flags_value bits) string_type h in cc
+type-of-flags (list_type t) bits h = let e = typed-form (flags_value bits) (list_type t) h in cc
+type-of-flags (record_type fs) bits h = let e = typed-form (flags_value bits) (record_type fs) h in cc
+type-of-flags (variant_type cs) bits h = let e = typed-form (flags_value bits) (variant_type cs) h in cc
+
+pub type-of-record : (t : ClosedType) (vs : Values) → HasType (record_value vs) t → t ≡ record_type (record_fields t)
+type-of-record (record_type fs) vs h = refl
+type-of-record (prim_type q) vs h = let e = typed-form (record_value vs) (prim_type q) h in cc
+type-of-record string_type vs h = let e = typed-form (record_value vs) string_type h in cc
+type-of-record (list_type t) vs h = let e = typed-form (record_value vs) (list_type t) h in cc
+type-of-record (variant_type cs) vs h = let e = typed-form (record_value vs) (variant_type cs) h in cc
+type-of-record (flags_type n) vs h = let e = typed-form (record_value vs) (flags_type n) h in cc
+
 -- ---- one after another
 
 all-more : (P : Value → Type 0) (vs : List Value) (i : ℕ) (d : Value) → i < length vs → AllByRecursion P (take i vs) → P (get_or vs i d) → AllByRecursion P (take (i + 1) vs)
@@ -216,7 +268,7 @@ all-at P [] i d below h = absurd (omega arith)
 all-at P (v ∷ vs) zero d below h = h.0
 all-at P (v ∷ vs) (suc i) d below h = all-at P vs i d (omega arith) h.1
 
-drop-next : {A : Type 0} (i : ℕ) (xs : List A) (d : A) → i < length xs → drop i xs ≡ get_or xs i d ∷ drop (i + 1) xs
+pub drop-next : {A : Type 0} (i : ℕ) (xs : List A) (d : A) → i < length xs → drop i xs ≡ get_or xs i d ∷ drop (i + 1) xs
 drop-next i xs d below = rw add-one (drop-cons xs i d below)
 
 -- as many values as fields
@@ -320,3 +372,20 @@ module _ (t : ClosedType) (i : ℕ) (variant : variant_type (variant_cases t) �
   pub no-case : (o : Option (Box Val Global)) → nth_case (variant_cases t) i ≡ None → HasType (variant_value i o) t → ⊥
   no-case None e h = let both : None ≡ Some None = sym e ∙ is-plain h in cc
   no-case (Some b) e h = let p = payload-of-it (value_of b.value) h in let both : None ≡ Some (Some p.0) = sym e ∙ p.1 in cc
+
+-- ---- standard types: those of fields and of payloads
+
+pub field-standard : (fs : Fields) (i : ℕ) (t : ClosedType) → nth_field fs i ≡ Some t → AreStandardFields fs → IsStandard t
+field-standard no_field i t e h = absurd (let n : None ≡ Some t = e in cc)
+field-standard (field u fs) zero t e h = subst IsStandard (some-inj e) h.0
+field-standard (field u fs) (suc i) t e h = field-standard fs i t e h.1
+
+cases-standard : (cs : Cases) (i : ℕ) (t : ClosedType) → nth_case cs i ≡ Some (Some t) → AreStandardCases cs → IsStandard t
+cases-standard no_case i t e h = absurd (let n : None ≡ Some (Some t) = e in cc)
+cases-standard (plain_case cs) zero t e h = cc
+cases-standard (plain_case cs) (suc i) t e h = cases-standard cs i t e h
+cases-standard (case_with u cs) zero t e h = subst IsStandard (some-inj (some-inj e)) h.0
+cases-standard (case_with u cs) (suc i) t e h = cases-standard cs i t e h.1
+
+pub case-standard : (cs : Cases) (i : ℕ) (t : ClosedType) → nth_case cs i ≡ Some (Some t) → IsStandard (variant_type cs) → IsStandard t
+case-standard cs i t e h = cases-standard cs i t e h.2

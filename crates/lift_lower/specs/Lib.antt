@@ -1,8 +1,10 @@
 pub mod Crossing
 pub mod Gives
 pub mod Loading
+pub mod Lowered
 pub mod Members
 pub mod Scalar
 pub mod Scalars
+pub mod Scripts
 pub mod Shape
 pub mod Val

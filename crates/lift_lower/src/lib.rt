@@ -8,6 +8,7 @@
 mod bytes;
 mod extent;
 mod flat;
+mod flattening;
 mod lifting;
 mod loading;
 mod lowering;
@@ -15,8 +16,10 @@ mod refusal;
 mod scalar;
 mod scalars;
 mod shape;
+mod storing;
 mod typing;
 mod val;
+mod writing;
 
 pub use lifting::lift;
 pub use loading::load;

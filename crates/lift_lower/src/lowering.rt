@@ -1,38 +1,111 @@
-//! Lowering: the flat values that carry values.
-ghost use Rattle.std.specs.Prelude.{◌≡◌, map, IfOk, IfErr};
+//! Lowering: the core values that carry values, whose texts and lists are put into a memory.
+ghost use Rattle.std.specs.Prelude.{◌≡◌, ◌+◌, ◌<◌, ◌≤◌, ◌^◌, length, map, IfOk, IfErr};
+ghost use Rattle.canonical_abi.specs.Types.{record_type, AreStandardFields};
 ghost use Rattle.canonical_abi.specs.Values.{HaveTypes};
+ghost use Rattle.canonical_abi.specs.Layout.{size, fits_flat};
+ghost use Rattle.canonical_abi.specs.Lowering.{PassesParams, SpilledLower};
 ghost use Rattle.layout.specs.Layout.{layouts_of};
 ghost use Rattle.lift_lower.specs.Crossing.{fields_of_types, IsLowered, LowerFails};
-ghost use Rattle.lift_lower.specs.Scalars.{AreScalar};
+ghost use Rattle.lift_lower.specs.Lowered.{PassesParamsBy, SpilledLowerBy};
+ghost use Rattle.lift_lower.specs.Members.{AreAllInside};
+ghost use Rattle.lift_lower.specs.Scripts.{IsDone, HasEnded};
 ghost use Rattle.lift_lower.specs.Val.{value_of};
 
-use crate::scalar::Scalar;
-use crate::scalars::{Flats, Scalars, lower_scalars};
+use crate::extent::{kinds_within, record_extent};
+use crate::flattening::lower_fields;
+use crate::scalars::Flats;
+use crate::shape::Members;
+use crate::storing::store_fields;
 use crate::val::Val;
-use canonical_abi::{Fault, Guest};
+use crate::writing::ask_block;
+use canonical_abi::{Fault, Flat, Guest, Step, Trap, TrapKind};
 use layout::Layouts;
 use resolve::{Resolve, ValType};
 
-/// The flat values that carry values of these types, whose texts and lists are put into the guest's memory.
-/// A trap is in step `place`. Takes no memory of the host.
+/// The most bytes that a text or a list of typed values may need.
+pub(crate) const MAX_BLOCK: u32 = 16_777_216;
+
+/// The core values that carry values of these types, whose texts and lists are put into the guest's memory.
+/// A trap is in step `place`: the first request that fails. Takes no memory of the host.
 pub fn lower<G: Guest>(
-    _resolve: &Resolve,
-    _layouts: &Layouts,
+    resolve: &Resolve,
+    layouts: &Layouts,
     types: &[ValType],
     values: &[Val],
     guest: &mut G,
 ) -> Result<Flats, Fault>
-    requires laid_out { _layouts.now ≡ layouts_of _resolve.now }
-    requires scalar { AreScalar types.now }
-    requires typed { HaveTypes (map value_of values.now) (fields_of_types _resolve.now types.now) }
-    ensures flats { IfOk result (λ flats. IsLowered G.allocates (fields_of_types _resolve.now types.now)
+    requires laid_out { layouts.now ≡ layouts_of resolve.now }
+    requires inside { AreAllInside resolve.now types.now }
+    requires small { size (record_type (fields_of_types resolve.now types.now)) ≤ 16777216 }
+    requires standard { AreStandardFields (fields_of_types resolve.now types.now) }
+    requires typed { HaveTypes (map value_of values.now) (fields_of_types resolve.now types.now) }
+    ensures flats { IfOk result (λ flats. IsLowered G.allocates (fields_of_types resolve.now types.now)
         (map value_of values.now) (G.memory guest.old) flats.items (G.memory guest.new)) }
-    ensures fault { IfErr result (λ fault. LowerFails G.allocates (fields_of_types _resolve.now types.now)
+    ensures fault { IfErr result (λ fault. LowerFails G.allocates (fields_of_types resolve.now types.now)
         (map value_of values.now) (G.memory guest.old) fault (G.memory guest.new)) }
 {
-    let mut scalars = Scalars::new();
-    for value in values {
-        scalars.push(Scalar::of(value).unwrap());
+    match lower_params(resolve, layouts, MAX_BLOCK, types, values, guest) {
+        Ok(flats) => Ok(flats),
+        Err(kind) => Err(Fault::Trap(Trap { kind, step: Step::Place })),
     }
-    Ok(lower_scalars(scalars.as_slice()))
+}
+
+/// Lowers parameters: flat, or into a block where more than sixteen core values would carry them.
+pub(crate) fn lower_params<G: Guest>(
+    resolve: &Resolve,
+    layouts: &Layouts,
+    limit: u32,
+    types: &[ValType],
+    values: &[Val],
+    guest: &mut G,
+) -> Result<Flats, TrapKind>
+    requires laid_out { layouts.now ≡ layouts_of resolve.now }
+    requires inside { AreAllInside resolve.now types.now }
+    requires small { size (record_type (fields_of_types resolve.now types.now)) ≤ 16777216 }
+    requires standard { AreStandardFields (fields_of_types resolve.now types.now) }
+    requires typed { HaveTypes (map value_of values.now) (fields_of_types resolve.now types.now) }
+    ensures ok { IfOk result (λ flats. IsDone limit G.allocates
+        (λ es. PassesParams 16 (fields_of_types resolve.now types.now) (map value_of values.now) es flats.items)
+        (G.memory guest.old) (G.memory guest.new)) }
+    ensures fault { IfErr result (λ k. HasEnded limit G.allocates
+        (PassesParamsBy 16 (fields_of_types resolve.now types.now) (map value_of values.now))
+        (G.memory guest.old) k (G.memory guest.new)) }
+{
+    let Some(_) = kinds_within(resolve, layouts, types, 16) else {
+        return lower_spilled(resolve, layouts, limit, types, values, guest);
+    };
+    let mut flats = Flats::new();
+    let members = Members::Listed(types);
+    lower_fields(resolve, layouts, limit, &members, values, guest, &mut flats)?;
+    Ok(flats)
+}
+
+/// Stores values as a record in a block of its own, whose address is the one core value.
+fn lower_spilled<G: Guest>(
+    resolve: &Resolve,
+    layouts: &Layouts,
+    limit: u32,
+    types: &[ValType],
+    values: &[Val],
+    guest: &mut G,
+) -> Result<Flats, TrapKind>
+    requires laid_out { layouts.now ≡ layouts_of resolve.now }
+    requires inside { AreAllInside resolve.now types.now }
+    requires small { size (record_type (fields_of_types resolve.now types.now)) ≤ 16777216 }
+    requires standard { AreStandardFields (fields_of_types resolve.now types.now) }
+    requires typed { HaveTypes (map value_of values.now) (fields_of_types resolve.now types.now) }
+    ensures ok { IfOk result (λ flats. IsDone limit G.allocates
+        (λ es. SpilledLower (fields_of_types resolve.now types.now) (map value_of values.now) es flats.items)
+        (G.memory guest.old) (G.memory guest.new)) }
+    ensures fault { IfErr result (λ k. HasEnded limit G.allocates
+        (SpilledLowerBy (fields_of_types resolve.now types.now) (map value_of values.now))
+        (G.memory guest.old) k (G.memory guest.new)) }
+{
+    let (size, align) = record_extent(resolve, layouts, types);
+    let start = ask_block(guest, limit, align, size)?;
+    let members = Members::Listed(types);
+    store_fields(resolve, layouts, limit, &members, values, guest, start)?;
+    let mut flats = Flats::new();
+    flats.push(Flat::I32(start as u32));
+    Ok(flats)
 }

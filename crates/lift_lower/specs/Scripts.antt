@@ -1,0 +1,63 @@
+-- How much of a script, the events by which values are put into a memory, was done.
+use Rattle.std.specs.Prelude.{◌≡◌, ◌⊎◌, ℕ, ◌<◌, ◌≤◌, List, [], ◌∷◌, ◌++◌, length}
+use Rattle.std.specs.List.{AllByRecursion}
+use Rattle.canonical_abi.specs.Guest.{Memory, Allocation}
+use Rattle.canonical_abi.specs.Storing.{IsBlock}
+use Rattle.canonical_abi.specs.Trace.{Grant, Event, grant, write, grants_of, LeavesOutWrites, TraceLeads, RequestFails}
+use Rattle.canonical_abi.specs.declared.trap.TrapKind.{TrapKind}
+use Rattle.canonical_abi.specs.declared.trap.TrapKind.TheVariants as trap
+
+-- no block that was granted is for more bytes than the limit
+abbrev pub AreWithin : ℕ → List Event → Type 0
+AreWithin limit es = AllByRecursion (λ g. g.size ≤ limit) (grants_of es)
+
+-- the request is for more than the limit, and isn't made; or it is made and fails
+abbrev pub RequestEnds : ℕ → Allocation → Memory → ℕ → ℕ → TrapKind → Memory → Type 0
+RequestEnds limit allocates old align size k new =
+    ((limit < size) × (k ≡ trap.Bounds) × (new ≡ old)) ⊎ ((size ≤ limit) × RequestFails allocates old align size k new)
+
+-- a beginning of the trace was done, all its blocks within the limit, and the next request failed
+abbrev pub TraceEnds : ℕ → Allocation → Memory → List Event → TrapKind → Memory → Type 0
+TraceEnds limit allocates old es k new =
+    (done made rest : List Event) × (next : Grant) × (asked : Memory) × (es ≡ done ++ grant next ∷ rest) × AreWithin limit done × LeavesOutWrites done made
+    × TraceLeads allocates old made asked × RequestEnds limit allocates asked next.align next.size k new
+
+-- the whole script was done
+pub record IsDone (limit : ℕ) (allocates : Allocation) (S : List Event → Type 0) (old new : Memory) : Type 0 where
+  pub events : List Event
+  pub scripted : S events
+  pub within : AreWithin limit events
+  pub leads : TraceLeads allocates old events new
+  pub no_shorter : length old.bytes ≤ length new.bytes
+
+-- a beginning of the script was done, up to a request that failed
+pub record HasEnded (limit : ℕ) (allocates : Allocation) (S : List Event → Type 0) (old : Memory) (k : TrapKind) (new : Memory) : Type 0 where
+  pub events : List Event
+  pub scripted : S events
+  pub ends : TraceEnds limit allocates old events k new
+
+-- a beginning of the script S was done, which those of T complete
+pub record IsBegun (limit : ℕ) (allocates : Allocation) (S T : List Event → Type 0) (old now : Memory) : Type 0 where
+  pub events : List Event
+  pub completed : (rest : List Event) → T rest → S (events ++ rest)
+  pub within : AreWithin limit events
+  pub leads : TraceLeads allocates old events now
+  pub no_shorter : length old.bytes ≤ length now.bytes
+
+-- ---- what is asked for and written at one go
+
+-- a block is asked for
+abbrev pub AsksBlock : ℕ → ℕ → List Event → Type 0
+AsksBlock align size es = (g : Grant) × IsBlock align size g × (es ≡ grant g ∷ [])
+
+-- a block is granted at this address
+abbrev pub GrantsBlock : ℕ → ℕ → ℕ → List Event → Type 0
+GrantsBlock align size at es = (g : Grant) × IsBlock align size g × (g.at ≡ at) × (es ≡ grant g ∷ [])
+
+-- a text is put into a block of its own
+abbrev pub PutsText : List ℕ → List Event → Type 0
+PutsText text es = (g : Grant) × IsBlock 1 (length text) g × (es ≡ grant g ∷ write g.at text ∷ [])
+
+-- a text is put into a block at this address
+abbrev pub PutsTextAt : List ℕ → ℕ → List Event → Type 0
+PutsTextAt text at es = (g : Grant) × IsBlock 1 (length text) g × (g.at ≡ at) × (es ≡ grant g ∷ write g.at text ∷ [])
