@@ -13,3 +13,4 @@ pub mod Scripting
 pub mod Scripted
 pub mod Storings
 pub mod Lowerings
+pub mod Unlimited

@@ -1,11 +1,13 @@
 -- What lifting and lowering answer, in the definitions' words.
-use Rattle.std.specs.Prelude.{◌≡◌, ℕ, List, map}
-use Rattle.canonical_abi.specs.Types.{Fields, fields_of}
+use Rattle.std.specs.Prelude.{◌≡◌, ◌⊎◌, ℕ, List, map}
+use Rattle.canonical_abi.specs.Types.{ClosedType, Fields, fields_of}
 use Rattle.canonical_abi.specs.Values.{Value}
-use Rattle.canonical_abi.specs.Layout.{max_flat_params}
+use Rattle.canonical_abi.specs.Layout.{size, align, max_flat_params}
 use Rattle.canonical_abi.specs.Flat.{DenotesFault}
+use Rattle.canonical_abi.specs.Memory.{BlockHolds, BlockFaulty}
 use Rattle.canonical_abi.specs.Guest.{Memory, Allocation}
 use Rattle.canonical_abi.specs.Trace.{Event, TraceLeads}
+use Rattle.canonical_abi.specs.Storing.{Stores}
 use Rattle.canonical_abi.specs.Lowering.{PassesParams}
 use Rattle.canonical_abi.specs.Session.{AreWithinLimit, TypedTraceBreaks}
 use Rattle.canonical_abi.specs.declared.flat.Flat.{Flat}
@@ -35,3 +37,16 @@ abbrev pub LowerFails : Allocation → Fields → List Value → Memory → Faul
 LowerFails allocates ts vs old (Trap t) new =
     (t.step ≡ step.Place) × (es : List Event) × (flats : List Flat) × PassesParams max_flat_params ts vs es flats × TypedTraceBreaks allocates old es t.kind new
 LowerFails allocates ts vs old NoMemory new = ⊥
+
+-- the value stands at the address, whose block was tested
+abbrev pub IsStoredAt : Allocation → ClosedType → ℕ → Value → Memory → Memory → Type 0
+IsStoredAt allocates t at v old new =
+    BlockHolds old.bytes at (align t) (size t) × (es : List Event) × Stores t at v es × AreWithinLimit es × TraceLeads allocates old es new
+
+-- a fault of storing, found in `place`: the address's own, and then nothing was done, or a request that failed
+abbrev pub StoreFails : Allocation → ClosedType → ℕ → Value → Memory → Fault → Memory → Type 0
+StoreFails allocates t at v old (Trap fault) new =
+    (fault.step ≡ step.Place)
+    × ((BlockFaulty old.bytes at (align t) (size t) fault.kind × (new ≡ old))
+    ⊎ (BlockHolds old.bytes at (align t) (size t) × (es : List Event) × Stores t at v es × TypedTraceBreaks allocates old es fault.kind new))
+StoreFails allocates t at v old NoMemory new = ⊥

@@ -3,6 +3,7 @@ pub mod Gives
 pub mod Loading
 pub mod Lowered
 pub mod Members
+pub mod Passing
 pub mod Scalar
 pub mod Scalars
 pub mod Scripts

@@ -1,8 +1,27 @@
-//! Numbers in memory, little-endian.
-ghost use Rattle.std.specs.Prelude.{◌≡◌, ◌+◌, ◌%◌, ◌^◌, ◌≤◌, ◌⊎◌, length};
+//! Blocks of a memory, and numbers in it, little-endian.
+ghost use Rattle.std.specs.Prelude.{◌≡◌, ◌+◌, ◌%◌, ◌^◌, ◌<◌, ◌≤◌, ◌⊎◌, ℕ, List, length, IfErr, OnOk};
 ghost use Rattle.std.specs.Int.{w8, w16, w32, w64};
 ghost use Rattle.canonical_abi.specs.Layout.{discriminant_size, flags_size};
+ghost use Rattle.canonical_abi.specs.Memory.{BlockFaulty};
 ghost use Rattle.canonical_abi.specs.Reading.{number_at, byte_width};
+
+use canonical_abi::TrapKind;
+
+/// Tests the alignment of a block of a memory of `len` bytes, then its end.
+pub(crate) fn test_block(len: u32, at: usize, align: usize, size: usize) -> Result<(), TrapKind>
+    requires aligned { 0 < align }
+    requires fits { at + size < 2 ^ 64 }
+    ensures ok { OnOk result ((at % align ≡ 0) × (at + size ≤ len)) }
+    ensures fault { IfErr result (λ k. (m : List ℕ) → length m ≡ len → BlockFaulty m at align size k) }
+{
+    if at % align != 0 {
+        return Err(TrapKind::Align);
+    }
+    if at + size > len as usize {
+        return Err(TrapKind::Bounds);
+    }
+    Ok(())
+}
 
 #[tactic(auto, unfolding(canonical_abi::specs::Reading::number_at))]
 pub(crate) fn u8_at(memory: &[u8], at: usize) -> u8

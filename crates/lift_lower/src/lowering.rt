@@ -15,15 +15,12 @@ use crate::extent::{kinds_within, record_extent};
 use crate::flattening::lower_fields;
 use crate::scalars::Flats;
 use crate::shape::Members;
-use crate::storing::store_fields;
+use crate::storing::{MAX_BLOCK, place_fault, store_fields};
 use crate::val::Val;
 use crate::writing::ask_block;
-use canonical_abi::{Fault, Flat, Guest, Step, Trap, TrapKind};
+use canonical_abi::{Fault, Flat, Guest, TrapKind};
 use layout::Layouts;
 use resolve::{Resolve, ValType};
-
-/// The most bytes that a text or a list of typed values may need.
-pub(crate) const MAX_BLOCK: u32 = 16_777_216;
 
 /// The core values that carry values of these types, whose texts and lists are put into the guest's memory.
 /// A trap is in step `place`: the first request that fails. Takes no memory of the host.
@@ -46,7 +43,7 @@ pub fn lower<G: Guest>(
 {
     match lower_params(resolve, layouts, MAX_BLOCK, types, values, guest) {
         Ok(flats) => Ok(flats),
-        Err(kind) => Err(Fault::Trap(Trap { kind, step: Step::Place })),
+        Err(kind) => Err(place_fault(kind)),
     }
 }
 

@@ -8,22 +8,68 @@ ghost use Rattle.canonical_abi.specs.Types.{IsStandard, AreStandardFields, strin
 ghost use Rattle.canonical_abi.specs.Values.{HasType, HaveTypes, string_value, list_value, values_of};
 ghost use Rattle.canonical_abi.specs.Layout.{size, align, end_from, field_extents};
 ghost use Rattle.canonical_abi.specs.Storing.{Stores, EachStores, FieldsStore};
+ghost use Rattle.canonical_abi.specs.declared.trap.Step.TheVariants.{Place};
 ghost use Rattle.layout.specs.Layout.{layouts_of};
 ghost use Rattle.resolve.specs.Closed.{closed_type};
+ghost use Rattle.lift_lower.specs.Crossing.{IsStoredAt, StoreFails};
 ghost use Rattle.lift_lower.specs.Members.{AreInside, members_fields};
 ghost use Rattle.lift_lower.specs.Scripts.{IsDone, HasEnded, GrantsBlock, AsksBlock};
 ghost use Rattle.lift_lower.specs.Shape.{IsInside, IsFollowed};
 ghost use Rattle.lift_lower.specs.Val.{value_of, variant_value};
 
-use crate::bytes::{discriminant_bytes, flags_bytes};
+use crate::bytes::{discriminant_bytes, flags_bytes, test_block};
 use crate::extent::{align_of, size_of};
 use crate::scalar::Scalar;
 use crate::shape::{Members, Shape, case_payload, followed, member_type, shape_of};
 use crate::val::Val;
 use crate::writing::{ask_block, put_text, write_header, write_number, write_scalar};
-use canonical_abi::{Guest, TrapKind};
+use canonical_abi::{Fault, Guest, Step, Trap, TrapKind};
 use layout::Layouts;
 use resolve::{Resolve, ValType};
+
+/// The most bytes that a text or a list of typed values may need.
+pub(crate) const MAX_BLOCK: u32 = 16_777_216;
+
+/// Stores a value at an address of a guest's memory. A trap is in step `place`: the address's own fault,
+/// `Align` or `Bounds`, with nothing changed, or the first request that fails. Takes no memory of the host.
+pub fn store<G: Guest>(
+    resolve: &Resolve,
+    layouts: &Layouts,
+    ty: ValType,
+    value: &Val,
+    guest: &mut G,
+    at: u32,
+) -> Result<(), Fault>
+    requires laid_out { layouts.now ≡ layouts_of resolve.now }
+    requires inside { IsInside resolve.now ty }
+    requires standard { IsStandard (closed_type resolve.now ty) }
+    requires typed { HasType (value_of value.now) (closed_type resolve.now ty) }
+    ensures stored { OnOk result (IsStoredAt G.allocates (closed_type resolve.now ty) at (value_of value.now)
+        (G.memory guest.old) (G.memory guest.new)) }
+    ensures fault { IfErr result (λ fault. StoreFails G.allocates (closed_type resolve.now ty) at (value_of value.now)
+        (G.memory guest.old) fault (G.memory guest.new)) }
+{
+    let place = at as usize;
+    let align = align_of(resolve, layouts, ty);
+    let size = size_of(resolve, layouts, ty);
+    if let Err(kind) = test_block(guest.len(), place, align, size) {
+        return Err(place_fault(kind));
+    }
+    match store_at(resolve, layouts, MAX_BLOCK, ty, value, guest, place) {
+        Ok(()) => Ok(()),
+        Err(kind) => Err(place_fault(kind)),
+    }
+}
+
+/// A trap in step `place`.
+pub(crate) fn place_fault(kind: TrapKind) -> Fault
+    ensures { result ≡ Fault.Trap (record { kind = kind; step = Place }) }
+{
+    Fault::Trap(Trap {
+        kind,
+        step: Step::Place,
+    })
+}
 
 /// Stores a value at a place that lies inside the memory.
 #[cycle(store)]

@@ -9,6 +9,7 @@ ghost use Rattle.std.specs.Int.{to_le_bytes, byte_len};
 ghost use Rattle.lift_lower.specs.Scalar.{prim_in, value_in};
 ghost use Rattle.lift_lower.specs.Scripts.{IsDone, HasEnded, RequestEnds, GrantsBlock, PutsText, PutsTextAt};
 
+use crate::bytes::test_block;
 use crate::scalar::Scalar;
 use canonical_abi::{Guest, TrapKind};
 
@@ -93,12 +94,7 @@ pub(crate) fn ask_block<G: Guest>(
         return Err(TrapKind::Full);
     };
     let start = start as usize;
-    if start % align != 0 {
-        return Err(TrapKind::Align);
-    }
-    if start + size > guest.len() as usize {
-        return Err(TrapKind::Bounds);
-    }
+    test_block(guest.len(), start, align, size)?;
     Ok(start)
 }
 

@@ -1,0 +1,103 @@
+//! Lowering inside a call: parameters into the callee, and a result into the caller. No limit stands there
+//! but that of addresses.
+ghost use Rattle.std.specs.Prelude.{◌≡◌, ◌≤◌, map, IfOk, IfErr};
+ghost use Rattle.canonical_abi.specs.Types.{record_type, AreStandardFields};
+ghost use Rattle.canonical_abi.specs.Values.{HaveTypes};
+ghost use Rattle.canonical_abi.specs.Layout.{size, max_flat_params, max_flat_results};
+ghost use Rattle.canonical_abi.specs.Lowering.{PassesResult};
+ghost use Rattle.canonical_abi.specs.Requests.{params_requests, fields_requests};
+ghost use Rattle.layout.specs.Layout.{layouts_of};
+ghost use Rattle.lift_lower.specs.Crossing.{fields_of_types};
+ghost use Rattle.lift_lower.specs.Lowered.{PassesResultBy};
+ghost use Rattle.lift_lower.specs.Members.{AreAllInside};
+ghost use Rattle.lift_lower.specs.Passing.{AreAddressable, HasArea, ParamsPassed, ParamsFailed, ResultPassed, ResultFailed};
+ghost use Rattle.lift_lower.specs.Scripts.{IsDone, HasEnded};
+ghost use Rattle.lift_lower.specs.Val.{value_of};
+
+use crate::extent::kinds_within;
+use crate::flattening::lower_fields;
+use crate::lowering::lower_params;
+use crate::scalars::Flats;
+use crate::shape::Members;
+use crate::storing::store_fields;
+use crate::val::Val;
+use canonical_abi::{Guest, TrapKind};
+use layout::Layouts;
+use resolve::{Resolve, ValType};
+
+/// Lowers the parameters of a call into the callee: the core values that carry them, or the fault of the
+/// first request that fails.
+pub fn pass_params<G: Guest>(
+    resolve: &Resolve,
+    layouts: &Layouts,
+    types: &[ValType],
+    values: &[Val],
+    guest: &mut G,
+) -> Result<Flats, TrapKind>
+    requires laid_out { layouts.now ≡ layouts_of resolve.now }
+    requires inside { AreAllInside resolve.now types.now }
+    requires small { size (record_type (fields_of_types resolve.now types.now)) ≤ 16777216 }
+    requires standard { AreStandardFields (fields_of_types resolve.now types.now) }
+    requires typed { HaveTypes (map value_of values.now) (fields_of_types resolve.now types.now) }
+    requires addressable { AreAddressable (params_requests max_flat_params (fields_of_types resolve.now types.now) (map value_of values.now)) }
+    ensures passed { IfOk result (λ flats. ParamsPassed max_flat_params G.allocates (fields_of_types resolve.now types.now)
+        (map value_of values.now) (G.memory guest.old) flats.items (G.memory guest.new)) }
+    ensures fault { IfErr result (λ k. ParamsFailed max_flat_params G.allocates (fields_of_types resolve.now types.now)
+        (map value_of values.now) (G.memory guest.old) k (G.memory guest.new)) }
+{
+    lower_params(resolve, layouts, u32::MAX, types, values, guest)
+}
+
+/// Lowers the result of a call into the caller: flat, or into the return area, which lies inside the memory.
+pub fn pass_result<G: Guest>(
+    resolve: &Resolve,
+    layouts: &Layouts,
+    types: &[ValType],
+    values: &[Val],
+    guest: &mut G,
+    area: u32,
+) -> Result<Flats, TrapKind>
+    requires laid_out { layouts.now ≡ layouts_of resolve.now }
+    requires inside { AreAllInside resolve.now types.now }
+    requires standard { AreStandardFields (fields_of_types resolve.now types.now) }
+    requires typed { HaveTypes (map value_of values.now) (fields_of_types resolve.now types.now) }
+    requires addressable { AreAddressable (fields_requests (fields_of_types resolve.now types.now) (map value_of values.now)) }
+    requires area { HasArea max_flat_results (fields_of_types resolve.now types.now) area (G.memory guest.old).bytes }
+    ensures passed { IfOk result (λ flats. ResultPassed max_flat_results G.allocates (fields_of_types resolve.now types.now)
+        area (map value_of values.now) (G.memory guest.old) flats.items (G.memory guest.new)) }
+    ensures fault { IfErr result (λ k. ResultFailed max_flat_results G.allocates (fields_of_types resolve.now types.now)
+        area (map value_of values.now) (G.memory guest.old) k (G.memory guest.new)) }
+{
+    lower_result(resolve, layouts, u32::MAX, types, values, guest, area)
+}
+
+fn lower_result<G: Guest>(
+    resolve: &Resolve,
+    layouts: &Layouts,
+    limit: u32,
+    types: &[ValType],
+    values: &[Val],
+    guest: &mut G,
+    area: u32,
+) -> Result<Flats, TrapKind>
+    requires laid_out { layouts.now ≡ layouts_of resolve.now }
+    requires inside { AreAllInside resolve.now types.now }
+    requires standard { AreStandardFields (fields_of_types resolve.now types.now) }
+    requires typed { HaveTypes (map value_of values.now) (fields_of_types resolve.now types.now) }
+    requires area { HasArea max_flat_results (fields_of_types resolve.now types.now) area (G.memory guest.old).bytes }
+    ensures ok { IfOk result (λ flats. IsDone limit G.allocates
+        (λ es. PassesResult max_flat_results (fields_of_types resolve.now types.now) area (map value_of values.now) es flats.items)
+        (G.memory guest.old) (G.memory guest.new)) }
+    ensures fault { IfErr result (λ k. HasEnded limit G.allocates
+        (PassesResultBy max_flat_results (fields_of_types resolve.now types.now) area (map value_of values.now))
+        (G.memory guest.old) k (G.memory guest.new)) }
+{
+    let members = Members::Listed(types);
+    let mut flats = Flats::new();
+    let Some(_) = kinds_within(resolve, layouts, types, 1) else {
+        store_fields(resolve, layouts, limit, &members, values, guest, area as usize)?;
+        return Ok(flats);
+    };
+    lower_fields(resolve, layouts, limit, &members, values, guest, &mut flats)?;
+    Ok(flats)
+}
