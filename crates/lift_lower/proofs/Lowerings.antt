@@ -71,8 +71,7 @@ module _ (limit : ℕ) (allocates : Allocation) (ts : Fields) (vs : List Value) 
         let fs = d.scripted.0 in
         let here : IsDone limit allocates (λ es. Lowers u w es fs) mid new =
         record { events = d.events; scripted = d.scripted.1; within = d.within; leads = d.leads; no_shorter = d.no_shorter } in
-        let T : List Flat → List Event → Type 0 = λ tail es. FieldsLower (fields_from (i + 1) ts) (drop (i + 1) vs) es tail in
-        (
+        let T : List Flat → List Event → Type 0 = λ tail es. FieldsLower (fields_from (i + 1) ts) (drop (i + 1) vs) es tail in (
           b.0 ++ fs,
           d.scripted.2 ∙ ap (λ l. l ++ fs) b.1 ∙ append_assoc before b.0 fs,
           λ tail. subst (λ l. IsBegun limit allocates (λ es. FieldsLower ts vs es l) (T tail) old new) (sym (append_assoc b.0 fs tail))

@@ -3,7 +3,7 @@ use Rattle.std.proofs.Common.{◌≡◌, ℕ, ◌+◌, ◌*◌, ◌-◌, ◌%◌
 use Rattle.std.specs.List.{list_all}
 use Rattle.std.specs.Int.{next_multiple_of}
 use Rattle.std.proofs.Math.Nat.{mod-lt}
-use Rattle.canonical_abi.specs.Types.{ClosedType, prim_type, record_type, fields_of}
+use Rattle.canonical_abi.specs.Types.{ClosedType, prim_type, record_type, fields_of, AreStandardFields}
 use Rattle.canonical_abi.specs.Layout.{size, align, end_from, field_extents}
 use Rattle.canonical_abi.proofs.Sizes.{is-alignment}
 use Rattle.resolve.specs.Tables.{is_below}
@@ -24,6 +24,15 @@ all-below n (val.Id i ∷ ts) h = cc
 
 pub scalars-inside : (r : Resolve) (types : List ValType) → AreScalar types → AreAllInside r types
 scalars-inside r types s = all-below (length r.definitions) types s.primitive
+
+all-standard : (rows : List ClosedType) (types : List ValType) → list_all is_scalar types ≡ true → AreStandardFields (fields_of (map (closed_val rows) types))
+all-standard rows [] h = tt
+all-standard rows (val.Primitive p ∷ ts) h = (tt, all-standard rows ts h)
+all-standard rows (val.String ∷ ts) h = cc
+all-standard rows (val.Id i ∷ ts) h = cc
+
+pub scalars-standard : (r : Resolve) (types : List ValType) → AreScalar types → AreStandardFields (fields_of_types r types)
+scalars-standard r types s = all-standard (closed_types r) types s.primitive
 
 align-few : (t : ClosedType) → align t ≤ 8
 align-few t = elim (is-alignment t) [

@@ -175,5 +175,5 @@ module _ (limit : ℕ) (allocates : Allocation) where
       let told = write start text in
       let T : List Event → Type 0 = λ rest. rest ≡ told ∷ [] in
       let b = begun-then S S (GrantsBlock 1 (length text) start) T old old mid (begun S old) granted (λ first rest p r.
-            (p.0, p.1, p.2, ap (λ es. es ++ rest) p.3 ∙ ap (λ es. grant p.0 ∷ es) r ∙ ap (λ a. grant p.0 ∷ write a text ∷ []) (sym p.2))) in
+      (p.0, p.1, p.2, ap (λ es. es ++ rest) p.3 ∙ ap (λ es. grant p.0 ∷ es) r ∙ ap (λ a. grant p.0 ∷ write a text ∷ []) (sym p.2))) in
       begun-last S T (λ es. es ≡ told ∷ []) old mid new b (wrote mid new start text led same) (λ es u. u)

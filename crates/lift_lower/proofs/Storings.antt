@@ -145,13 +145,13 @@ module _ (limit : ℕ) (allocates : Allocation) where
       let told = write at (header start (length text)) in
       let T : List Event → Type 0 = λ rest. rest ≡ told ∷ [] in
       let b = begun-then limit allocates S (λ rest. S (node ∷ rest)) (PutsTextAt text start) T old old mid (text-begun text at old) put (λ first rest p r. (
-            text,
-            p.0,
-            refl,
-            utf8,
-            p.1,
-            ap (λ es. node ∷ (es ++ rest)) p.3 ∙ ap (λ es. node ∷ grant p.0 ∷ write p.0.at text ∷ es) r ∙ ap (λ b. node ∷ grant p.0 ∷ write p.0.at text ∷ write at (header b (length text)) ∷ []) (sym p.2),
-          )) in
+        text,
+        p.0,
+        refl,
+        utf8,
+        p.1,
+        ap (λ es. node ∷ (es ++ rest)) p.3 ∙ ap (λ es. node ∷ grant p.0 ∷ write p.0.at text ∷ es) r ∙ ap (λ b. node ∷ grant p.0 ∷ write p.0.at text ∷ write at (header b (length text)) ∷ []) (sym p.2),
+      )) in
       begun-last limit allocates S T (λ es. es ≡ told ∷ []) old mid new b (wrote limit allocates mid new at (header start (length text)) led same) (λ es u. u)
 
   pub text-ended : (text : List ℕ) (at : ℕ) (old : Memory) (k : TrapKind) (new : Memory) → is_utf8 text ≡ true → HasEnded limit allocates (PutsText text) old k new
@@ -178,14 +178,14 @@ module _ (limit : ℕ) (allocates : Allocation) where
     list-headed start old mid next granted led same =
         let told = write at (header start (length vs)) in
         let b = begun-then limit allocates ListScript (λ rest. ListScript (node ∷ rest)) (GrantsBlock (align t) (length vs * size t) start) (Headed start) old old mid (list-begun old) granted (λ first rest p r. (
-              vs,
-              p.0,
-              r.0,
-              refl,
-              p.1,
-              ap (λ es. node ∷ (es ++ rest)) p.3 ∙ ap (λ es. node ∷ grant p.0 ∷ es) r.1 ∙ ap (λ b. node ∷ grant p.0 ∷ write at (header b (length vs)) ∷ r.0) (sym p.2),
-              subst (λ b. EachStores (Stores t) (size t) b vs r.0) (sym p.2) r.2,
-            )) in
+          vs,
+          p.0,
+          r.0,
+          refl,
+          p.1,
+          ap (λ es. node ∷ (es ++ rest)) p.3 ∙ ap (λ es. node ∷ grant p.0 ∷ es) r.1 ∙ ap (λ b. node ∷ grant p.0 ∷ write at (header b (length vs)) ∷ r.0) (sym p.2),
+          subst (λ b. EachStores (Stores t) (size t) b vs r.0) (sym p.2) r.2,
+        )) in
         begun-event limit allocates ListScript (Headed start) told old mid next b (wrote limit allocates mid next at (header start (length vs)) led same)
 
     pub list-done : (start : ℕ) (old mid next new : Memory) → IsDone limit allocates (GrantsBlock (align t) (length vs * size t) start) old mid

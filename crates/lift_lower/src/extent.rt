@@ -46,11 +46,7 @@ pub(crate) fn kind_count(_resolve: &Resolve, layouts: &Layouts, ty: ValType) -> 
 }
 
 /// The core values' kinds that carry a type, where they are at most sixteen.
-pub(crate) fn kinds_of(
-    _resolve: &Resolve,
-    layouts: &Layouts,
-    ty: ValType,
-) -> ArrayVec<CoreKind, 17>
+pub(crate) fn kinds_of(_resolve: &Resolve, layouts: &Layouts, ty: ValType) -> ArrayVec<CoreKind, 17>
     requires laid_out { layouts.now ≡ layouts_of _resolve.now }
     requires inside { IsInside _resolve.now ty }
     requires flat { length (flat_kinds (closed_type _resolve.now ty)) ≤ 16 }

@@ -201,9 +201,7 @@ fn lower_variant<G: Guest>(
     let Some(known) = case_payload(resolve, ty, case as usize) else {
         unreachable!()
     };
-    let Some(member) = known else {
-        unreachable!()
-    };
+    let Some(member) = known else { unreachable!() };
     let mut carried = Flats::new();
     lower_at(resolve, layouts, limit, member, value, guest, &mut carried)?;
     push_joined(&kinds.as_slice()[1..], carried.as_slice(), flats);

@@ -95,7 +95,15 @@ fn lower_result<G: Guest>(
     let members = Members::Listed(types);
     let mut flats = Flats::new();
     let Some(_) = kinds_within(resolve, layouts, types, 1) else {
-        store_fields(resolve, layouts, limit, &members, values, guest, area as usize)?;
+        store_fields(
+            resolve,
+            layouts,
+            limit,
+            &members,
+            values,
+            guest,
+            area as usize,
+        )?;
         return Ok(flats);
     };
     lower_fields(resolve, layouts, limit, &members, values, guest, &mut flats)?;

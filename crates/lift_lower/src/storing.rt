@@ -222,7 +222,15 @@ pub(crate) fn store_items<G: Guest>(
     let step = size_of(resolve, layouts, element);
     for index in 0..items.len() {
         let place = start + index * step;
-        store_at(resolve, layouts, limit, element, &items[index], guest, place)?;
+        store_at(
+            resolve,
+            layouts,
+            limit,
+            element,
+            &items[index],
+            guest,
+            place,
+        )?;
     }
     Ok(())
 }
@@ -298,9 +306,7 @@ fn store_variant<G: Guest>(
     let Some(known) = case_payload(resolve, ty, case as usize) else {
         unreachable!()
     };
-    let Some(member) = known else {
-        unreachable!()
-    };
+    let Some(member) = known else { unreachable!() };
     // A payload stands at the variant's alignment.
     let place = at + align_of(resolve, layouts, ty);
     store_at(resolve, layouts, limit, member, value, guest, place)

@@ -171,8 +171,7 @@ lower_fields-loop-index-preserved g t c =
     let mid = g.G.Guest.memory c.loop-index.guest in
     let new = g.G.Guest.memory c.lower_at.new.guest in
     let now = c.loop-index.flats.items in
-    let more = c.lower_at.new.flats.items in
-    (
+    let more = c.lower_at.new.flats.items in (
       lowering-next limit A fs vs c.args.flats.now.items i u (value_of v) found below here now more old mid new c.loop-index.invariant.0 c.in_ok-lower_at.ensures.ok,
       have-rest fs vs i u (value_of v) found below c.loop-index.invariant.1,
       lowering-room limit A fs i u (value_of v) now more mid new found c.in_ok-lower_at.ensures.ok c.loop-index.invariant.2,

@@ -219,10 +219,9 @@ store_fields-loop-index-preserved g t c =
     let v = c.index-values-index.result in
     let here = get_or-map value_of c.args.values.now i v (value_of v) c.loop-index-test.true ∙ ap value_of (sym c.index-values-index.is) in
     let below : i < length vs = omega (arith, length-map c.args.values.now value_of, c.loop-index-test.true) in
-    let place : c.next_multiple_of-place.result ≡ next_multiple_of c.loop-index.end (align u) = c.next_multiple_of-place.ensures.value ∙ ap (next_multiple_of c.loop-index.end) c.align_of.ensures.value in
-    (
+    let place : c.next_multiple_of-place.result ≡ next_multiple_of c.loop-index.end (align u) = c.next_multiple_of-place.ensures.value ∙ ap (next_multiple_of c.loop-index.end) c.align_of.ensures.value in (
       field-done c.args.limit g.G.Guest.allocates fs c.args.at vs i c.loop-index.end u (value_of v) c.next_multiple_of-place.result c.size_of.result found below here place c.size_of.ensures.value
-      (g.G.Guest.memory c.args.guest.now) (g.G.Guest.memory c.loop-index.guest) (g.G.Guest.memory c.store_at.new.guest) c.loop-index.invariant.0 c.in_ok-store_at.ensures.ok,
+          (g.G.Guest.memory c.args.guest.now) (g.G.Guest.memory c.loop-index.guest) (g.G.Guest.memory c.store_at.new.guest) c.loop-index.invariant.0 c.in_ok-store_at.ensures.ok,
       rw (place, c.size_of.ensures.value) (sym (fields-end fs [] c.args.at c.loop-index.end i u [] (reading_fields fs [] c.args.at 0) found) ∙ c.loop-index.invariant.1),
       have-rest fs vs i u (value_of v) found below c.loop-index.invariant.2,
     )

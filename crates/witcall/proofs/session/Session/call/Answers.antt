@@ -10,7 +10,9 @@ use Rattle.canonical_abi.specs.Call.{either, Parties, Calls}
 use Rattle.canonical_abi.specs.Values.{HaveTypes}
 use Rattle.canonical_abi.specs.declared.flat.Flat.{Flat}
 use Rattle.resolve.specs.Closed.{closed_types, function_type}
+use Rattle.lift_lower.specs.Scalars.{AreScalar}
 use Rattle.lift_lower.specs.Val.{value_of}
+use Rattle.lift_lower.proofs.ScalarTypes.{scalars-inside, scalars-small, scalars-standard}
 use Rattle.lift_lower.specs.Crossing.{IsLowered, LowerFails}
 use Rattle.witcall.specs.Session.{TakeFails}
 use Rattle.witcall.proofs.Results.{result_flat}
@@ -18,6 +20,15 @@ use Rattle.witcall.proofs.ScalarFunctions.{own_params, own_results}
 use Rattle.witcall.proofs.Promised.{promised}
 use Rattle.witcall.proofs.TypedCalls.{world, placed, place_fails, link_fails, came_back, takes}
 use Rattle.witcall.proofs.session.Session.call.Goals as goal
+
+pub lower-requires-clause-inside : goal.lower-requires-clause-inside
+lower-requires-clause-inside g c = scalars-inside c.resolve-resolve.result.now c.params.result.now (subst AreScalar (sym c.params.ensures) c.of-types.ensures.scalar_params)
+
+pub lower-requires-clause-small : goal.lower-requires-clause-small
+lower-requires-clause-small g c = scalars-small c.resolve-resolve.result.now c.params.result.now (subst AreScalar (sym c.params.ensures) c.of-types.ensures.scalar_params)
+
+pub lower-requires-clause-standard : goal.lower-requires-clause-standard
+lower-requires-clause-standard g c = scalars-standard c.resolve-resolve.result.now c.params.result.now (subst AreScalar (sym c.params.ensures) c.of-types.ensures.scalar_params)
 
 pub returns-in_err-flats-clause-call : goal.returns-in_err-flats-clause-call
 returns-in_err-flats-clause-call g c =
