@@ -13,6 +13,10 @@ mod sessions;
 #[cfg(test)]
 mod streaming;
 #[cfg(test)]
+mod syntax;
+#[cfg(test)]
 mod texts;
+#[cfg(test)]
+mod type_syntax;
 #[cfg(test)]
 mod wording;
