@@ -61,7 +61,7 @@ static WORKED: [(&str, &str); 21] = [
     ),
     (
         "package a:b; interface c { f: func(p0: u8, p1: u8, p2: u8, p3: u8, p4: u8, p5: u8, p6: u8, p7: u8, p8: u8, p9: u8, p10: u8, p11: u8, p12: u8, p13: u8, p14: u8, p15: u8, q: u8); }",
-        "error 33 unsupported later-stage at 169..170",
+        "ok",
     ),
     (
         "package a:b; interface c { f: func(p0: u8, p1: u8, p2: u8, p3: u8, p4: u8, p5: u8, p6: u8, p7: u8, p8: u8, p9: u8, p10: u8, p11: u8, p12: u8, p13: u8, p14: u8, p15: u8, ); }",
@@ -201,15 +201,15 @@ fn marks(rt: HostRuntime) -> Result<(), Fail> {
 static VERSIONS: [(&str, &str); 16] = [
     (
         "package a:b@1.0.0;",
-        "error 33 unsupported later-stage at 11..17",
+        "error 43 empty package",
     ),
     (
         "package a:b@1.0.0-rc.1+b.2;",
-        "error 33 unsupported later-stage at 11..26",
+        "error 43 empty package",
     ),
     (
         "package a:b @1.0.0...;",
-        "error 33 unsupported later-stage at 12..18",
+        "error 32 expected ; at 18..19",
     ),
     ("package a:b@1.0;", "error 32 expected version at 11..15"),
     ("package a:b@1.0.0-;", "error 32 expected version at 11..18"),
@@ -221,7 +221,7 @@ static VERSIONS: [(&str, &str); 16] = [
     ("package a:b@01.0.0;", "error 32 expected version at 11..18"),
     (
         "package a:b@1.0.0-aaaaaaaaaaaaaaaaaaaaaaaaaaaaaaaaaaaaaaaaaaaaaaaaaaaaaaaaaaaaaaaaaaaaaaaaaaaaaaaaaaaaaaaaaaaaaaaaaaaaaaaaaaaaaaaaaaaaaaaaaaaaaaaaaaaaaaaaaaaaaaaaaaaaaaaaaaaaaaaaaaaaaaaaaaaaaaaaaaaaaaaaaaaaaaaaaaaaaaaaaaaaaaaaaaaaaaaaaaaaaaaaaaaaaaaaaaaaaaaaaaaaaaaaa;",
-        "error 33 unsupported later-stage at 11..267",
+        "error 43 empty package",
     ),
     (
         "package a:b@1.0.0-aaaaaaaaaaaaaaaaaaaaaaaaaaaaaaaaaaaaaaaaaaaaaaaaaaaaaaaaaaaaaaaaaaaaaaaaaaaaaaaaaaaaaaaaaaaaaaaaaaaaaaaaaaaaaaaaaaaaaaaaaaaaaaaaaaaaaaaaaaaaaaaaaaaaaaaaaaaaaaaaaaaaaaaaaaaaaaaaaaaaaaaaaaaaaaaaaaaaaaaaaaaaaaaaaaaaaaaaaaaaaaaaaaaaaaaaaaaaaaaaaaaaaaaaaa;",
@@ -237,7 +237,7 @@ static VERSIONS: [(&str, &str); 16] = [
     ("@1.0.0", "error 32 expected package at 0..6"),
     (
         "package a:b@1.0.0 {",
-        "error 33 unsupported later-stage at 11..17",
+        "error 33 unsupported nested-package at 18..19",
     ),
 ];
 
@@ -289,7 +289,7 @@ static FILES: [(&str, &str); 20] = [
     ),
     (
         "package a:b; interface c { } interface d { }",
-        "error 33 unsupported later-stage at 29..38",
+        "ok",
     ),
     (
         "package a:b; interface c { } world d { }",
@@ -356,27 +356,27 @@ fn files(rt: HostRuntime) -> Result<(), Fail> {
 static ITEMS: [(&str, &str); 41] = [
     (
         "package a:b; interface c { use x }",
-        "error 33 unsupported later-stage at 27..30",
+        "error 32 expected . at 33..34",
     ),
     (
         "package a:b; interface c { type x }",
-        "error 33 unsupported later-stage at 27..31",
+        "error 32 expected = at 34..35",
     ),
     (
         "package a:b; interface c { record x }",
-        "error 33 unsupported later-stage at 27..33",
+        "error 32 expected { at 36..37",
     ),
     (
         "package a:b; interface c { variant x }",
-        "error 33 unsupported later-stage at 27..34",
+        "error 32 expected { at 37..38",
     ),
     (
         "package a:b; interface c { enum x }",
-        "error 33 unsupported later-stage at 27..31",
+        "error 32 expected { at 34..35",
     ),
     (
         "package a:b; interface c { flags x }",
-        "error 33 unsupported later-stage at 27..32",
+        "error 32 expected { at 35..36",
     ),
     (
         "package a:b; interface c { resource r; }",
@@ -529,59 +529,59 @@ fn items(rt: HostRuntime) -> Result<(), Fail> {
 static TYPES: [(&str, &str); 21] = [
     (
         "package a:b; interface c { g: func(x: string); }",
-        "error 33 unsupported later-stage at 38..44",
+        "ok",
     ),
     (
         "package a:b; interface c { g: func() -> string; }",
-        "error 33 unsupported later-stage at 40..46",
+        "ok",
     ),
     (
         "package a:b; interface c { g: func(x: list<u8>); }",
-        "error 33 unsupported later-stage at 38..42",
+        "ok",
     ),
     (
         "package a:b; interface c { g: func() -> list<u8>; }",
-        "error 33 unsupported later-stage at 40..44",
+        "ok",
     ),
     (
         "package a:b; interface c { g: func(x: option<u8>); }",
-        "error 33 unsupported later-stage at 38..44",
+        "ok",
     ),
     (
         "package a:b; interface c { g: func() -> option<u8>; }",
-        "error 33 unsupported later-stage at 40..46",
+        "ok",
     ),
     (
         "package a:b; interface c { g: func(x: tuple<u8>); }",
-        "error 33 unsupported later-stage at 38..43",
+        "ok",
     ),
     (
         "package a:b; interface c { g: func() -> tuple<u8>; }",
-        "error 33 unsupported later-stage at 40..45",
+        "ok",
     ),
     (
         "package a:b; interface c { g: func(x: result); }",
-        "error 33 unsupported later-stage at 38..44",
+        "ok",
     ),
     (
         "package a:b; interface c { g: func() -> result; }",
-        "error 33 unsupported later-stage at 40..46",
+        "ok",
     ),
     (
         "package a:b; interface c { g: func(x: result<u8>); }",
-        "error 33 unsupported later-stage at 38..44",
+        "ok",
     ),
     (
         "package a:b; interface c { g: func() -> result<u8>; }",
-        "error 33 unsupported later-stage at 40..46",
+        "ok",
     ),
     (
         "package a:b; interface c { g: func(x: t); }",
-        "error 33 unsupported later-stage at 38..39",
+        "error 41 unknown t",
     ),
     (
         "package a:b; interface c { g: func() -> t; }",
-        "error 33 unsupported later-stage at 40..41",
+        "error 41 unknown t",
     ),
     (
         "package a:b; interface c { g: func(x: f32); }",
@@ -710,7 +710,7 @@ static OTHER: [(&str, &str); 26] = [
     ),
     (
         "package a:b; interface c { f: func(x: string, y: f32); }",
-        "error 33 unsupported later-stage at 38..44",
+        "error 33 unsupported float at 49..52",
     ),
     (
         "package a:b; interface c { f: func(x: u8,) -> f32; }",
@@ -718,7 +718,7 @@ static OTHER: [(&str, &str); 26] = [
     ),
     (
         "package a:b; interface c { f: func(x: t); use",
-        "error 33 unsupported later-stage at 38..39",
+        "error 32 expected id at 45..45",
     ),
     (
         "package a:b; interface c { f: func(x: u8) use",
