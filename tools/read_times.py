@@ -19,6 +19,8 @@ import tempfile
 LENGTHS = [65536 << step for step in range(5)]
 RUNS = 15
 MOST = 2.3
+# seconds: a text that is read in less is no measure
+LEAST = 0.001
 
 
 def filled(head, entry, tail, length):
@@ -87,7 +89,7 @@ def main():
         before = None
         for length, time in zip(LENGTHS, times):
             took = time - empty
-            grew = took / before if before else None
+            grew = took / before if before and before > LEAST else None
             worst = max(worst, grew or 0.0)
             told = f"{grew:.2f} times" if grew else ""
             print(f"{name:10} {length:8} bytes {took * 1000:8.2f} ms {told}")

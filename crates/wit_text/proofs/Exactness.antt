@@ -1,9 +1,9 @@
 -- Each production is read exactly.
-use Rattle.std.proofs.Common.{◌≡◌, ℕ, zero, suc, Bool, true, false, List, [], ◌∷◌, ◌++◌, Option, Some, None, Result, Ok, Err, refl, sym, ap, subst, ◌∙◌, inl, inr}
-use Rattle.std.specs.Prelude.{◌&&◌, ◌||◌, is_some}
+use Rattle.std.proofs.Common.{◌≡◌, ℕ, zero, suc, Bool, true, false, List, [], ◌∷◌, Option, Some, None, Result, Ok, Err, refl, sym, ap, subst, ◌∙◌, inr}
+use Rattle.std.specs.Prelude.{◌&&◌, ◌||◌}
 use Rattle.productions.specs.Production.{next, passes, give, never, ◌>>=◌, one, only, when, optional, entries}
 use Rattle.productions.specs.Exactness.{Exact, Anything, Unless, AtEnd}
-use Rattle.productions.proofs.Exact.{ok_is, after_ok, stopped, Opens, exact-give, exact-bind, exact-then, exact-last, exact-before, exact-when, exact-optional, exact-peek, exact-only, exact-many, exact-listed, exact-comma_or, exact-entries, exact-all, leads-comma_or, opens-bind, opens-one}
+use Rattle.productions.proofs.Exact.{ok_is, after_ok, stopped, Opens, exact-give, exact-then, exact-last, exact-before, exact-when, exact-optional, exact-peek, exact-only, exact-many, exact-listed, exact-comma_or, exact-entries, exact-all, leads-comma_or, opens-bind, opens-one}
 use Rattle.wit_tokens.specs.declared.token.Keyword.TheVariants as kw
 use Rattle.wit_tokens.specs.declared.token.Punctuation.{Punctuation}
 use Rattle.wit_tokens.specs.declared.token.Punctuation.TheVariants as mark
@@ -22,8 +22,8 @@ use Rattle.wit_text.specs.declared.interfaces.ItemStart.TheVariants as begin
 use Rattle.wit_syntax.specs.declared.ast.Direction.{Direction}
 use Rattle.wit_tokens.specs.Lexing.{limit}
 use Rattle.wit_tokens.specs.Tokens.{Lexeme}
-use Rattle.wit_syntax.specs.Syntax.{Ty, Member, CaseOf, UsedAs, Function, Single}
-use Rattle.wit_text.specs.Faults.{wanted, is, feature_or, unless_feature, StandsAt}
+use Rattle.wit_syntax.specs.Syntax.{Ty, Member, Single}
+use Rattle.wit_text.specs.Faults.{wanted, is, StandsAt}
 use Rattle.wit_text.specs.Lookahead.{lookahead, Looks, Phrase}
 use Rattle.wit_text.specs.Grammar as g
 use Rattle.wit_text.proofs.KindLemmas.{same_true}

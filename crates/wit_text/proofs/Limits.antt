@@ -2,8 +2,7 @@
 use Rattle.std.proofs.Common.{◌≡◌, ◌∙◌, ◌+◌, sym, ap, subst, ℕ, zero, suc, Bool, true, false, List, [], ◌∷◌, ◌++◌, Ok, Err, refl, inl, inr, arith}
 use Rattle.std.specs.Prelude.{◌⊎◌, Option, Some, None}
 use Rattle.std.proofs.lemmas.List.{append-nil}
-use Rattle.productions.specs.Production.{next, give, never, ◌>>=◌, one, when, optional, unless_some}
-use Rattle.productions.specs.Exactness.{Exact}
+use Rattle.productions.specs.Production.{one, optional}
 use Rattle.productions.proofs.Exact.{no_err, err_is, ok_is}
 use Rattle.productions.proofs.Agrees.{Agrees, agrees-same, agrees-bind, agrees-when, agrees-unless, agrees-optional, agrees-listed, agrees-entries, agrees-many, agrees-all}
 use Rattle.wit_tokens.specs.declared.token.Span.{Span}
@@ -19,7 +18,7 @@ use Rattle.wit_tokens.specs.Lexing.{limit}
 use Rattle.wit_tokens.specs.Tokens.{Lexeme}
 use Rattle.wit_syntax.specs.Syntax.{Ty, File}
 use Rattle.wit_text.specs.Faults.{is}
-use Rattle.wit_text.specs.Lookahead.{Phrase, NoneBegins, lookahead}
+use Rattle.wit_text.specs.Lookahead.{Phrase, NoneBegins}
 use Rattle.wit_text.specs.Grammar as g
 use Rattle.wit_text.specs.Reading.{IsFile, IsDepth}
 use Rattle.wit_text.proofs.TypeLemmas.{type_fails, type_missing, type_stops}

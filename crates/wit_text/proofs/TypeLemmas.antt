@@ -1,5 +1,5 @@
 -- Reading a type by its first token.
-use Rattle.std.proofs.Common.{◌≡◌, ℕ, zero, suc, ◌-◌, ◌<◌, Bool, true, false, List, [], ◌∷◌, Ok, Err, refl, arith}
+use Rattle.std.proofs.Common.{◌≡◌, ℕ, zero, suc, ◌-◌, ◌<◌, false, List, [], ◌∷◌, Err, refl, arith}
 use Rattle.wit_tokens.specs.Tokens.{Lexeme}
 use Rattle.wit_text.specs.Grammar.{ty, type_of, begins_type, type_fault}
 

@@ -47,7 +47,7 @@ pub enum Feature {
     ForeignInterface,
     FixedLengthList,
     NamedResults,
-    /// Part of the grammar, and not read yet.
+    /// Read here, and not taken yet by what opens a text. `parse` never answers it.
     LaterStage,
 }
 

@@ -1,11 +1,9 @@
-use Rattle.std.proofs.Common.{◌≡◌, ◌≤◌, ◌<◌, ◌+◌, ℕ, suc, ◌-◌, length, map, List, [], ◌∷◌, ◌++◌, arith}
+use Rattle.std.proofs.Common.{◌≡◌, ◌≤◌, ◌<◌, ◌+◌, ℕ, suc, ◌-◌, length, map, [], ◌∷◌, ◌++◌, arith}
 use Rattle.std.proofs.lemmas.Result.{err_from_is_err_and}
 use Rattle.std.proofs.lemmas.List.{map_push, length-append}
-use Rattle.std.specs.Prelude.{IfSome}
 use Rattle.productions.proofs.Lists.{all_goes_on, all_fails, all_stops, all_ends}
 use Rattle.wit_tokens.specs.Lexing.{limit}
-use Rattle.wit_tokens.specs.Tokens.{Lexeme, lexemes}
-use Rattle.wit_tokens.specs.declared.token.Token.{Token}
+use Rattle.wit_tokens.specs.Tokens.{lexemes}
 use Rattle.wit_syntax.specs.View.{item_view}
 use Rattle.wit_text.specs.Grammar.{nesting, begins_item, file_fault, item, optional_item}
 use Rattle.wit_text.proofs.Handed.{Fails-on, item_handed}
