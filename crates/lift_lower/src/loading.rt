@@ -18,11 +18,13 @@ ghost use Rattle.lift_lower.specs.Shape.{IsInside, IsFollowed};
 ghost use Rattle.lift_lower.specs.Val.{value_of};
 
 use crate::bytes::{
-    discriminant_bytes, flags_bytes, low_flags, number_of_size, u8_at, u16_at, u32_at, u64_at,
+    discriminant_bytes, flags_bytes, low_flags, number_of_size, test_block, u8_at, u16_at, u32_at,
+    u64_at,
 };
 use crate::extent::{align_of, size_of};
 use crate::refusal::Refusal;
 use crate::shape::{Members, Shape, case_payload, followed, member_type, shape_of};
+use crate::text::text_in;
 use crate::val::Val;
 use canonical_abi::{Fault, Guest, Step, TrapKind};
 use layout::Layouts;
@@ -41,13 +43,10 @@ pub(crate) fn check_block(
     ensures value { Gives (λ _. at) result (block_at memory.now at align size) }
     ensures plain { result ≢ Err Refusal.NoMemory }
 {
-    if at % align != 0 {
-        return Err(Refusal::Trap(TrapKind::Align));
+    match test_block(memory.len(), at, align, size) {
+        Ok(()) => Ok(()),
+        Err(kind) => Err(Refusal::Trap(kind)),
     }
-    if at + size > memory.len() {
-        return Err(Refusal::Trap(TrapKind::Bounds));
-    }
-    Ok(())
 }
 
 fn load_primitive(primitive: Primitive, memory: &[u8], at: usize) -> Result<Val, Refusal>
@@ -82,13 +81,9 @@ pub(crate) fn load_text(
     requires { start + size < 2 ^ 64 }
     ensures { Gives value_of result (text_at memory.now start size) }
 {
-    let end = start + size;
-    if end > memory.len() {
-        return Err(Refusal::Trap(TrapKind::Bounds));
-    }
-    match simdutf8::compat::from_utf8(&memory[start..end]) {
+    match text_in(memory, start, size) {
         Ok(text) => Ok(Val::String(String::from_str(alloc, text)?)),
-        Err(_) => Err(Refusal::Trap(TrapKind::Utf8)),
+        Err(kind) => Err(Refusal::Trap(kind)),
     }
 }
 
