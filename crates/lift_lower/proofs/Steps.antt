@@ -1,7 +1,7 @@
 -- How a reading goes on by one member, one field or one case.
 use Rattle.std.proofs.Common.{◌≡◌, ◌≢◌, ℕ, zero, suc, ◌+◌, ◌-◌, ◌*◌, ◌<◌, ◌≤◌, List, [], ◌∷◌, ◌++◌, Some, None, Result, Ok, Err, refl, sym, ap, ◌∙◌, subst, append_assoc, append-nil, add-one, arith}
 use Rattle.std.specs.Int.{next_multiple_of}
-use Rattle.canonical_abi.specs.Types.{ClosedType, Fields, no_field, field, Cases, no_case, plain_case, case_with, nth_field, nth_case, field_count}
+use Rattle.canonical_abi.specs.Types.{ClosedType, Fields, no_field, field, Cases, no_case, plain_case, case_with, nth_field, nth_case, field_count, AllPlain}
 use Rattle.canonical_abi.specs.Layout.{size, align, end_from, field_extents}
 use Rattle.canonical_abi.proofs.Sizes.{end-le}
 use Rattle.canonical_abi.specs.Values.{Value, plain_value, payload_value}
@@ -109,6 +109,13 @@ module _ (m : List ℕ) (a i : ℕ) where
   case-payload (plain_case cs) (suc n) t e = case-payload cs n t e
   case-payload (case_with u cs) zero t e = ap (λ u. reading u m a >>= λ v. Ok (payload_value i v)) (some-inj (some-inj e))
   case-payload (case_with u cs) (suc n) t e = case-payload cs n t e
+
+-- a plain case has no payload
+pub plain-none : (cs : Cases) (n : ℕ) (t : ClosedType) → AllPlain cs → nth_case cs n ≡ Some (Some t) → ⊥
+plain-none no_case n t h e = let none : None ≡ Some (Some t) = e in cc
+plain-none (plain_case cs) zero t h e = cc
+plain-none (plain_case cs) (suc n) t h e = plain-none cs n t h e
+plain-none (case_with u cs) n t h e = h
 
 pub fields-inside : (fs : Fields) (i : ℕ) (t : ClosedType) (from whole : ℕ) → nth_field fs i ≡ Some t → fields_end from (fields_from i fs) ≡ whole → next_multiple_of from (align t) + size t ≤ whole
 fields-inside fs i t from whole h w =

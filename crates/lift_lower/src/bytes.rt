@@ -8,7 +8,7 @@ ghost use Rattle.canonical_abi.specs.Reading.{number_at, byte_width};
 use canonical_abi::TrapKind;
 
 /// Tests the alignment of a block of a memory of `len` bytes, then its end.
-pub(crate) fn test_block(len: u32, at: usize, align: usize, size: usize) -> Result<(), TrapKind>
+pub(crate) fn test_block(len: usize, at: usize, align: usize, size: usize) -> Result<(), TrapKind>
     requires aligned { 0 < align }
     requires fits { at + size < 2 ^ 64 }
     ensures ok { OnOk result ((at % align ≡ 0) × (at + size ≤ len)) }
@@ -17,7 +17,7 @@ pub(crate) fn test_block(len: u32, at: usize, align: usize, size: usize) -> Resu
     if at % align != 0 {
         return Err(TrapKind::Align);
     }
-    if at + size > len as usize {
+    if at + size > len {
         return Err(TrapKind::Bounds);
     }
     Ok(())

@@ -1,9 +1,9 @@
 //! Loading: the values that stand in a memory.
 //!
 //! The walk goes down the type, whose depth is bounded; long lists are loops.
-ghost use Rattle.std.specs.Prelude.{◌≡◌, ◌+◌, ◌*◌, ◌<◌, ◌≤◌, ◌^◌, length, map};
+ghost use Rattle.std.specs.Prelude.{◌≡◌, ◌≢◌, Err, ◌+◌, ◌*◌, ◌<◌, ◌≤◌, ◌^◌, length, map};
 ghost use Rattle.std.specs.Int.{w32};
-ghost use Rattle.canonical_abi.specs.Types.{record_fields, variant_cases, field_count, case_count, prim_type, variant_type};
+ghost use Rattle.canonical_abi.specs.Types.{IsPlain, AllPlain, record_fields, variant_cases, field_count, case_count, prim_type, variant_type};
 ghost use Rattle.canonical_abi.specs.Values.{values_of, list_value};
 ghost use Rattle.canonical_abi.specs.Layout.{size, align, payload_place, end_from, field_extents};
 ghost use Rattle.canonical_abi.specs.Memory.{HoldsInBlock, FaultyInBlock};
@@ -18,11 +18,13 @@ ghost use Rattle.lift_lower.specs.Shape.{IsInside, IsFollowed};
 ghost use Rattle.lift_lower.specs.Val.{value_of};
 
 use crate::bytes::{
-    discriminant_bytes, flags_bytes, low_flags, number_of_size, u8_at, u16_at, u32_at, u64_at,
+    discriminant_bytes, flags_bytes, low_flags, number_of_size, test_block, u8_at, u16_at, u32_at,
+    u64_at,
 };
 use crate::extent::{align_of, size_of};
 use crate::refusal::Refusal;
 use crate::shape::{Members, Shape, case_payload, followed, member_type, shape_of};
+use crate::text::text_in;
 use crate::val::Val;
 use canonical_abi::{Fault, Guest, Step, TrapKind};
 use layout::Layouts;
@@ -38,20 +40,19 @@ pub(crate) fn check_block(
 ) -> Result<(), Refusal>
     requires aligned { 0 < align }
     requires fits { at + size < 2 ^ 64 }
-    ensures { Gives (λ _. at) result (block_at memory.now at align size) }
+    ensures value { Gives (λ _. at) result (block_at memory.now at align size) }
+    ensures plain { result ≢ Err Refusal.NoMemory }
 {
-    if at % align != 0 {
-        return Err(Refusal::Trap(TrapKind::Align));
+    match test_block(memory.len(), at, align, size) {
+        Ok(()) => Ok(()),
+        Err(kind) => Err(Refusal::Trap(kind)),
     }
-    if at + size > memory.len() {
-        return Err(Refusal::Trap(TrapKind::Bounds));
-    }
-    Ok(())
 }
 
 fn load_primitive(primitive: Primitive, memory: &[u8], at: usize) -> Result<Val, Refusal>
     requires { at + size (prim_type (prim_of primitive)) ≤ length memory.now }
-    ensures { Gives value_of result (reading (prim_type (prim_of primitive)) memory.now at) }
+    ensures value { Gives value_of result (reading (prim_type (prim_of primitive)) memory.now at) }
+    ensures plain { result ≢ Err Refusal.NoMemory }
 {
     match primitive {
         Primitive::Bool => Ok(Val::Bool(u8_at(memory, at) != 0)),
@@ -80,13 +81,9 @@ pub(crate) fn load_text(
     requires { start + size < 2 ^ 64 }
     ensures { Gives value_of result (text_at memory.now start size) }
 {
-    let end = start + size;
-    if end > memory.len() {
-        return Err(Refusal::Trap(TrapKind::Bounds));
-    }
-    match simdutf8::compat::from_utf8(&memory[start..end]) {
+    match text_in(memory, start, size) {
         Ok(text) => Ok(Val::String(String::from_str(alloc, text)?)),
-        Err(_) => Err(Refusal::Trap(TrapKind::Utf8)),
+        Err(kind) => Err(Refusal::Trap(kind)),
     }
 }
 
@@ -102,7 +99,8 @@ pub(crate) fn load_at(
     requires laid_out { layouts.now ≡ layouts_of resolve.now }
     requires inside { IsInside resolve.now ty }
     requires fits { at + size (closed_type resolve.now ty) ≤ length memory.now }
-    ensures { Gives value_of result (reading (closed_type resolve.now ty) memory.now at) }
+    ensures value { Gives value_of result (reading (closed_type resolve.now ty) memory.now at) }
+    ensures plain { IsPlain (closed_type resolve.now ty) → result ≢ Err Refusal.NoMemory }
 {
     let ty = followed(resolve, ty);
     match shape_of(resolve, ty) {
@@ -217,9 +215,10 @@ fn load_variant(
     requires variant { variant_type (variant_cases (closed_type resolve.now ty)) ≡ closed_type resolve.now ty }
     requires counted { case_count (variant_cases (closed_type resolve.now ty)) ≡ count }
     requires fits { at + size (closed_type resolve.now ty) ≤ length memory.now }
-    ensures { let cs = variant_cases (closed_type resolve.now ty) in
+    ensures value { let cs = variant_cases (closed_type resolve.now ty) in
         let i = case_number cs memory.now at in
         Gives value_of result (reading_case cs memory.now (at + payload_place cs) i i) }
+    ensures plain { AllPlain (variant_cases (closed_type resolve.now ty)) → result ≢ Err Refusal.NoMemory }
 {
     let case = number_of_size(memory, at, discriminant_bytes(count));
     let Some(payload) = case_payload(resolve, ty, case as usize) else {
@@ -235,7 +234,8 @@ fn load_variant(
 }
 
 /// The value at an address of a guest's memory, or the first fault: the address's own, then those of the
-/// nodes in order, in step `take`. `NoMemory` where the host has none for the value.
+/// nodes in order, in step `take`. `NoMemory` where the host has none for the value, and never where the type
+/// is plain: its values have no parts.
 pub fn load<G: Guest>(
     alloc: Global,
     resolve: &Resolve,
@@ -246,9 +246,10 @@ pub fn load<G: Guest>(
 ) -> Result<Val, Fault>
     requires laid_out { layouts.now ≡ layouts_of resolve.now }
     requires inside { IsInside resolve.now ty }
-    ensures { let t = closed_type resolve.now ty in
+    ensures value { let t = closed_type resolve.now ty in
         AnswerStands Take (λ v. HoldsInBlock t (G.memory guest.now).bytes at (value_of v))
         (FaultyInBlock t (G.memory guest.now).bytes at) result }
+    ensures plain { IsPlain (closed_type resolve.now ty) → result ≢ Err Fault.NoMemory }
 {
     match load_block(alloc, resolve, layouts, ty, guest.bytes(), at) {
         Ok(value) => Ok(value),
@@ -267,8 +268,9 @@ fn load_block(
 ) -> Result<Val, Refusal>
     requires laid_out { layouts.now ≡ layouts_of resolve.now }
     requires inside { IsInside resolve.now ty }
-    ensures { let t = closed_type resolve.now ty in
+    ensures value { let t = closed_type resolve.now ty in
         Gives value_of result (reading_block t memory.now at) }
+    ensures plain { IsPlain (closed_type resolve.now ty) → result ≢ Err Refusal.NoMemory }
 {
     let at = at as usize;
     let align = align_of(resolve, layouts, ty);

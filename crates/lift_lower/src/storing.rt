@@ -52,7 +52,7 @@ pub fn store<G: Guest>(
     let place = at as usize;
     let align = align_of(resolve, layouts, ty);
     let size = size_of(resolve, layouts, ty);
-    if let Err(kind) = test_block(guest.len(), place, align, size) {
+    if let Err(kind) = test_block(guest.len() as usize, place, align, size) {
         return Err(place_fault(kind));
     }
     match store_at(resolve, layouts, MAX_BLOCK, ty, value, guest, place) {

@@ -94,7 +94,7 @@ pub(crate) fn ask_block<G: Guest>(
         return Err(TrapKind::Full);
     };
     let start = start as usize;
-    test_block(guest.len(), start, align, size)?;
+    test_block(guest.len() as usize, start, align, size)?;
     Ok(start)
 }
 

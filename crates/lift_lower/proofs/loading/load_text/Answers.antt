@@ -1,12 +1,12 @@
-use Rattle.std.proofs.Common.{◌∙◌, arith}
+use Rattle.std.proofs.Common.{◌∙◌, ap}
+use Rattle.canonical_abi.specs.Values.{string_value}
 use Rattle.lift_lower.proofs.Views.{value_of-String}
-use Rattle.lift_lower.proofs.Texts.{text-ok, text-bad}
+use Rattle.lift_lower.proofs.Texts.{text-stands, text-fault}
 use Rattle.lift_lower.proofs.loading.load_text.Goals as goal
 
 pub returns-in_ok-from_str-in-Ok : goal.returns-in_ok-from_str-in-Ok
 returns-in_ok-from_str-in-Ok c =
-    rw value_of-String (text-ok c.args.memory.now c.args.start c.args.size _ (omega arith) (c.in_ok-from_str-in-Ok.ensures.ok ∙ c.in-Ok.ensures.cases.0) c.in-Ok.ensures.cases.1)
+    rw (value_of-String, c.in_ok-from_str-in-Ok.ensures.ok) (text-stands c.args.memory.now c.args.start c.args.size (string_value c.in-Ok.text.now) c.in-Ok.ensures.text)
 
 pub returns-in-Err : goal.returns-in-Err
-returns-in-Err c =
-    text-bad c.args.memory.now c.args.start c.args.size (omega arith) c.in-Err.ensures.cases.0
+returns-in-Err c = text-fault c.args.memory.now c.args.start c.args.size c.in-Err.kind c.in-Err.ensures.fault
