@@ -1,186 +1,98 @@
-//! The package of a syntax tree: for now one interface of scalar functions, under a name without version.
-ghost use Rattle.std.specs.Prelude.{◌≡◌, ◌≤◌, ◌⊎◌, ◌∷◌, [], IfOk, OnOk, IfErr, Some, map, length, All, IsTrue};
+//! The package of a syntax tree.
+ghost use Rattle.std.specs.Prelude.{◌≡◌, map, IfOk, IfErr};
 ghost use Rattle.std.specs.List.{list_all};
-ghost use Rattle.resolve.specs.Scope.{AreDistinct};
-ghost use Rattle.resolve.specs.FromAst.{parameter_name, parameter_names, parameter_of, val_of, val_of_primitive, function_of, function_name, item_of, row_of, is_scalar_row, HasOthers, interface_of, RefusesNames, RefusesFunctions, IsOneInterface, RefusesItems, IsPackageOf, Refuses};
+ghost use Rattle.wit_text.specs.View.{file_view};
+ghost use Rattle.resolve.specs.Declarations.{interfaces};
+ghost use Rattle.resolve.specs.Resolves.{interface_fits, IsPackageOf, Refuses, HasNoFaults};
+ghost use Rattle.resolve.specs.Sources.{declared_tree, interface_entry, interface_syntax};
+ghost use Rattle.resolve.specs.Shape.{HasInterfaces, RefusesShape};
 
+use crate::assembly::define_package;
+use crate::declared::Declarations;
+use crate::duplicates::distinct_names;
 use crate::error::ResolveError;
-use crate::scope::Scope;
-use crate::sequence::Sequence;
-use crate::tables::{
-    Definition, Function, FunctionId, Interface, InterfaceId, Owner, Parameter, Primitive, Resolve,
-    ValType,
-};
-use atoms::Label;
-use std::alloc::Global;
-use wit_text::{Ast, Field, Func, Interface as InterfaceTree, InterfaceItem, Item, TypeExpression};
+use crate::finish::finish;
+use crate::graphs::{interface_order, type_orders};
+use crate::nested::are_items_nested;
+use crate::tables::Resolve;
+use crate::unknown::known_names;
+use std::alloc::{AllocError, Global};
+use wit_text::{Ast, Interface, Item};
 
-/// The most type entries of a package.
-const MAX_DEFINITIONS: usize = 65_535;
-
-/// The type that an expression stands for, and string where it is neither string nor a primitive.
-fn lower_type(ty: &TypeExpression) -> ValType
-    ensures { result ≡ val_of ty.now }
+/// The interfaces of a tree that has no worlds. 43 where it has neither, 44 where it has a world.
+fn interfaces(alloc: Global, ast: &Ast) -> Result<Vec<&Interface>, ResolveError>
+    ensures ok { IfOk result (λ is. HasInterfaces (file_view ast.now) (map interface_entry is.items)) }
+    ensures err { IfErr result (RefusesShape (file_view ast.now)) }
 {
-    match ty {
-        TypeExpression::Primitive(primitive) => lower_primitive(*primitive),
-        _ => ValType::String,
-    }
-}
-
-fn lower_primitive(primitive: wit_text::Primitive) -> ValType
-    ensures { result ≡ val_of_primitive primitive }
-{
-    match primitive {
-        wit_text::Primitive::Bool => ValType::Primitive(Primitive::Bool),
-        wit_text::Primitive::S8 => ValType::Primitive(Primitive::S8),
-        wit_text::Primitive::U8 => ValType::Primitive(Primitive::U8),
-        wit_text::Primitive::S16 => ValType::Primitive(Primitive::S16),
-        wit_text::Primitive::U16 => ValType::Primitive(Primitive::U16),
-        wit_text::Primitive::S32 => ValType::Primitive(Primitive::S32),
-        wit_text::Primitive::U32 => ValType::Primitive(Primitive::U32),
-        wit_text::Primitive::S64 => ValType::Primitive(Primitive::S64),
-        wit_text::Primitive::U64 => ValType::Primitive(Primitive::U64),
-        wit_text::Primitive::Char => ValType::Primitive(Primitive::Char),
-        wit_text::Primitive::String => ValType::String,
-    }
-}
-
-fn lower_parameters(alloc: Global, fields: &[Field]) -> Result<Sequence<Parameter>, ResolveError>
-    ensures ok { IfOk result (λ ps. ps ≡ map parameter_of fields.now) }
-    ensures distinct { OnOk result (AreDistinct (map parameter_name fields.now)) }
-    ensures err { IfErr result (RefusesNames (map parameter_name fields.now)) }
-{
-    let mut scope = Scope::new(alloc);
-    let mut parameters = Vec::new(alloc);
-    for field in fields {
-        scope.meet(alloc, &field.name)?;
-        parameters.push(Parameter {
-            name: field.name.copy(alloc)?,
-            ty: lower_type(&field.ty),
-        })?;
-    }
-    Ok(Sequence::new(parameters))
-}
-
-fn lower_function(alloc: Global, func: &Func) -> Result<Function, ResolveError>
-    ensures ok { IfOk result (λ f. f ≡ function_of func.now) }
-    ensures distinct { OnOk result (AreDistinct (parameter_names func.now)) }
-    ensures err { IfErr result (RefusesNames (parameter_names func.now)) }
-{
-    let params = lower_parameters(alloc, &func.ty.params)?;
-    let result = match &func.ty.result {
-        Some(ty) => Some(lower_type(ty)),
-        None => None,
-    };
-    Ok(Function {
-        owner: Owner::Interface(InterfaceId(0)),
-        name: func.name.copy(alloc)?,
-        params,
-        result,
-    })
-}
-
-/// The interface of a tree that has one alone, and no version.
-fn one_interface(ast: &Ast) -> Result<&InterfaceTree, ResolveError>
-    ensures ok { IfOk result (λ i. IsOneInterface ast.now i.now) }
-    ensures err { IfErr result (RefusesItems ast.now) }
-{
-    let item = match ast.items.as_slice() {
-        [] => return Err(ResolveError::EmptyPackage),
-        [item] => item,
-        _ => return Err(ResolveError::NotThisShape),
-    };
-    if ast.package.version.is_some() {
-        return Err(ResolveError::NotThisShape);
-    }
-    match item {
-        Item::Interface(interface) => Ok(interface),
-        Item::World(_) => Err(ResolveError::NotThisShape),
-    }
-}
-
-/// The items, which are to be functions alone.
-fn functions(alloc: Global, items: &[InterfaceItem]) -> Result<Vec<&Func>, ResolveError>
-    ensures ok { IfOk result (λ fs. map item_of fs.items ≡ items.now) }
-    ensures err { IfErr result (λ e. (e ≡ ResolveError.NoMemory) ⊎ ((e ≡ ResolveError.NotThisShape) × HasOthers items.now)) }
-{
-    let mut functions = Vec::new(alloc);
-    for item in items {
-        match item {
-            InterfaceItem::Func(func) => functions.push(func)?,
-            _ => return Err(ResolveError::NotThisShape),
-        }
-    }
-    Ok(functions)
-}
-
-/// The rows of functions, which are to be scalar and to have different names.
-fn lower_functions(alloc: Global, funcs: &[&Func]) -> Result<Sequence<Definition>, ResolveError>
-    ensures ok { IfOk result (λ ds. ds ≡ map row_of funcs.now) }
-    ensures scalar { IfOk result (λ ds. IsTrue (list_all is_scalar_row ds)) }
-    ensures few { IfOk result (λ ds. length ds ≤ 65535) }
-    ensures names { OnOk result (AreDistinct (map function_name funcs.now)) }
-    ensures parameters { OnOk result (All (λ f. AreDistinct (parameter_names f.now)) funcs.now) }
-    ensures err { IfErr result (RefusesFunctions funcs.now) }
-{
-    let mut scope = Scope::new(alloc);
-    let mut definitions = Vec::new(alloc);
-    for func in funcs {
-        scope.meet(alloc, &func.name)?;
-        let function = lower_function(alloc, func)?;
-        if !function.is_scalar() {
-            return Err(ResolveError::NotThisShape);
-        }
-        if definitions.len() >= MAX_DEFINITIONS {
-            return Err(ResolveError::Limit);
-        }
-        definitions.push(Definition::Function(function))?;
-    }
-    Ok(Sequence::new(definitions))
-}
-
-/// The interface of the functions at these places.
-fn make_interface(
-    alloc: Global,
-    name: &Label,
-    count: u32,
-) -> Result<Sequence<Interface>, ResolveError>
-    ensures ok { IfOk result (λ is. is ≡ interface_of name.now count ∷ []) }
-    ensures err { IfErr result (λ e. e ≡ ResolveError.NoMemory) }
-{
-    let mut functions = Vec::new(alloc);
-    for place in 0..count {
-        functions.push(FunctionId(place))?;
+    if ast.items.is_empty() {
+        return Err(ResolveError::EmptyPackage);
     }
     let mut interfaces = Vec::new(alloc);
-    interfaces.push(Interface {
-        name: name.copy(alloc)?,
-        uses: Sequence::new(Vec::new(alloc)),
-        types: Sequence::new(Vec::new(alloc)),
-        functions: Sequence::new(functions),
-    })?;
-    Ok(Sequence::new(interfaces))
+    for item in &ast.items {
+        match item {
+            Item::Interface(interface) => interfaces.push(interface)?,
+            Item::World(_) => return Err(ResolveError::NotThisShape),
+        }
+    }
+    Ok(interfaces)
+}
+
+fn are_nested(interfaces: &[&Interface]) -> bool
+    ensures { result ≡ list_all interface_fits (map interface_entry interfaces.now) }
+{
+    for interface in interfaces {
+        if !are_items_nested(&interface.items) {
+            return false;
+        }
+    }
+    true
+}
+
+fn all_declarations<'a>(
+    alloc: Global,
+    interfaces: &[&'a Interface],
+) -> Result<Vec<Declarations<'a>>, AllocError>
+    ensures { IfOk result (λ ds. map declared_tree ds.items ≡ map interface_syntax interfaces.now) }
+{
+    let mut all = Vec::new(alloc);
+    for interface in interfaces {
+        all.push(Declarations::of(alloc, interface)?)?;
+    }
+    Ok(all)
+}
+
+/// What the interfaces of a tree declare, where each name stands for something.
+fn declarations(alloc: Global, ast: &Ast) -> Result<Vec<Declarations>, ResolveError>
+    ensures faults { IfOk result (λ _. HasNoFaults (file_view ast.now)) }
+    ensures ok { IfOk result (λ ds. map declared_tree ds.items ≡ interfaces (file_view ast.now)) }
+    ensures err { IfErr result (Refuses (file_view ast.now)) }
+{
+    let interfaces = interfaces(alloc, ast)?;
+    if !are_nested(&interfaces) {
+        return Err(ResolveError::Limit);
+    }
+    distinct_names(alloc, &interfaces)?;
+    let all = all_declarations(alloc, &interfaces)?;
+    known_names(alloc, &all, &interfaces)?;
+    Ok(all)
 }
 
 impl Resolve {
-    /// The package of a syntax tree. 43 where it has no interface and no world, 40 where two functions of its
-    /// interface or two parameters of a function have one name, 46 where memory is wanting. A tree with
-    /// anything but one interface of scalar functions, or with a version, is 44.
+    /// The package of a syntax tree. Its definitions stand in package order, in which each interface comes after
+    /// those that it uses, and within an interface uses, types and functions; types that stand inside a definition
+    /// stand before it, inner ones first. 43 where the tree has neither interface nor world, 44 where it has a
+    /// world, 40 where a name stands twice in a scope, 41 where a name stands for nothing, 42 where interfaces use
+    /// each other or types name each other, 45 where the package passes a limit, in this order; 45 also where a
+    /// type is nested more than 64 deep or has no members, as in no text; 46 where memory is wanting.
     pub fn from_ast(alloc: Global, ast: &Ast) -> Result<Resolve, ResolveError>
-        ensures ok { IfOk result (IsPackageOf ast.now) }
-        ensures err { IfErr result (Refuses ast.now) }
+        ensures ok { IfOk result (IsPackageOf (file_view ast.now)) }
+        ensures faults { IfOk result (λ _. HasNoFaults (file_view ast.now)) }
+        ensures err { IfErr result (Refuses (file_view ast.now)) }
     {
-        let interface = one_interface(ast)?;
-        let functions = functions(alloc, &interface.items)?;
-        let definitions = lower_functions(alloc, &functions)?;
-        Ok(Resolve {
-            namespace: ast.package.namespace.copy(alloc)?,
-            name: ast.package.name.copy(alloc)?,
-            version: None,
-            interfaces: make_interface(alloc, &interface.name, definitions.len() as u32)?,
-            worlds: Sequence::new(Vec::new(alloc)),
-            definitions,
-        })
+        let all = declarations(alloc, ast)?;
+        let order = interface_order(alloc, &all)?;
+        let orders = type_orders(alloc, &all)?;
+        let builder = define_package(alloc, &all, order.as_slice(), &orders)?;
+        finish(alloc, builder, &ast.package)
     }
 }

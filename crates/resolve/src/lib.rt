@@ -6,16 +6,30 @@
 //! crates above ask by them alone. It stands on `canonical_abi`, `atoms` and `wit_text`.
 #![tactic(auto)]
 
+mod assembly;
+mod bodies;
+mod builder;
 mod copy;
+mod declare;
+mod declared;
+mod define;
+mod duplicates;
 mod error;
+mod finish;
 mod from_ast;
+mod graphs;
+mod known;
 pub mod laws;
 mod lookup;
+mod lower;
+mod named;
+mod nested;
 mod order;
 mod parts;
 mod scope;
 mod sequence;
 mod tables;
+mod unknown;
 
 pub use error::ResolveError;
 pub use sequence::Sequence;

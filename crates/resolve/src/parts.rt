@@ -157,7 +157,8 @@ fn is_standard(definition: &Definition) -> bool
     }
 }
 
-fn are_standard(definitions: &[Definition]) -> bool
+/// Whether each has parts, and no more than a limit.
+pub fn are_standard(definitions: &[Definition]) -> bool
     ensures { result ≡ are_standard definitions.now }
 {
     for definition in definitions {

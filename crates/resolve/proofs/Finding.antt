@@ -1,0 +1,147 @@
+-- Names that are looked for in a list.
+use Rattle.std.proofs.Common.{◌≡◌, ◌≢◌, ℕ, zero, suc, ◌<◌, ◌≤◌, Bool, true, false, cond, List, [], ◌∷◌, Option, None, Some, IfNone, IfSome, map, flat_map, length, get_or, refl, ap, sym, ◌∙◌, subst, arith, Contains, All, Bor, inl, inr}
+use Rattle.std.specs.Option.{option_map}
+use Rattle.std.specs.Str.{bytes_eq}
+use Rattle.std.proofs.lemmas.Slice.Eq.{bytes_eq-Decides}
+use Rattle.wit_text.specs.Syntax.{Entry, Uses, Defines, Declares}
+use Rattle.resolve.specs.Declarations.{TypeItem, FunctionItem, InterfaceTree, interface_names, interface_tree, interface_at, no_interface, entry_uses, entry_types, entry_functions, used_item, type_names, named_definition, named_function}
+use Rattle.resolve.specs.Knowing.{KnowsEntry, LacksEntry, LacksAny}
+use Rattle.resolve.specs.Lent.{lent, lent_name}
+use Rattle.wit_text.specs.declared.ast.Interface.{Interface}
+use Rattle.std.proofs.lemmas.List.{get_or-map}
+use Rattle.resolve.specs.Sources.{declared_tree, interface_syntax}
+use Rattle.resolve.specs.Resolves.{place_of, IsKnownUse, IsUnknownName, IsUnknownIn, HasKnownNames}
+use Rattle.resolve.specs.declared.declared.Declarations.{Declarations}
+use Rattle.resolve.proofs.Lists.{contains-here, contains-later, contains-unmap, contains-flat, all-none, all-cons, all-head, all-tail, all-append}
+use Rattle.resolve.proofs.Placing.{place-found}
+
+some-other : (m : List ℕ) (ms : List (List ℕ)) (n : List ℕ) (b : Bool) → bytes_eq m n ≡ b → m ≢ n → cond b (Some 0) (option_map suc (place_of ms n)) ≡ option_map suc (place_of ms n)
+some-other m ms n true e h = absurd (h ((bytes_eq-Decides m n).0 e))
+some-other m ms n false e h = refl
+
+some-here : (m : List ℕ) (ms : List (List ℕ)) (n : List ℕ) (b : Bool) → bytes_eq m n ≡ b → m ≡ n → cond b (Some 0) (option_map suc (place_of ms n)) ≡ Some 0
+some-here m ms n true e h = refl
+some-here m ms n false e h = absurd (cc (e, (bytes_eq-Decides m n).1 h))
+
+pub place-first : (ns : List (Bor (List ℕ))) (n : List ℕ) (k : ℕ) (x : Bor (List ℕ)) → ((j : ℕ) (d : Bor (List ℕ)) → j < k → (get_or ns j d).now ≢ n) → k < length ns
+    → x ≡ get_or ns k x → x.now ≡ n → place_of (lent ns) n ≡ Some k
+place-first [] n k x h l is e = absurd (omega arith)
+place-first (m ∷ ns) n zero x h l is e = some-here m.now (lent ns) n (bytes_eq m.now n) refl (ap lent_name (sym is) ∙ e)
+place-first (m ∷ ns) n (suc k) x h l is e =
+    some-other m.now (lent ns) n (bytes_eq m.now n) refl (h 0 m (omega arith))
+    ∙ ap (λ (o : Option ℕ). option_map suc o) (place-first ns n k x (λ j d q. h (suc j) d (omega arith)) (omega arith) is e)
+
+pub place-none : (ns : List (Bor (List ℕ))) (n : List ℕ) (k : ℕ) → length ns ≤ k → ((j : ℕ) (d : Bor (List ℕ)) → j < k → (get_or ns j d).now ≢ n) → place_of (lent ns) n ≡ None
+place-none [] n k l h = refl
+place-none (m ∷ ns) n zero l h = absurd (omega arith)
+place-none (m ∷ ns) n (suc k) l h =
+    some-other m.now (lent ns) n (bytes_eq m.now n) refl (h 0 m (omega arith))
+    ∙ ap (λ (o : Option ℕ). option_map suc o) (place-none ns n k (omega arith) (λ j d q. h (suc j) d (omega arith)))
+
+pub place-lacks : (ns : List (List ℕ)) (n : List ℕ) → place_of ns n ≡ None → ¬ Contains ns n
+place-lacks ns n e c = let f = place-found ns n c in absurd (cc (e, f.1))
+
+has-here : (m : List ℕ) (ms : List (List ℕ)) (n : List ℕ) (j : ℕ) (b : Bool) → bytes_eq m n ≡ b → cond b (Some 0) (option_map suc (place_of ms n)) ≡ Some j
+    → ((i : ℕ) → place_of ms n ≡ Some i → Contains ms n) → Contains (m ∷ ms) n
+has-here m ms n j true e h rest = subst (Contains (m ∷ ms)) ((bytes_eq-Decides m n).0 e) (contains-here m ms)
+has-here m ms n j false e h rest = by (place_of ms n) refl h
+  where
+    by : (o : Option ℕ) → place_of ms n ≡ o → option_map suc o ≡ Some j → Contains (m ∷ ms) n
+    by None q r = absurd (cc)
+    by (Some i) q r = contains-later m n ms (rest i q)
+
+pub place-has : (ns : List (List ℕ)) (n : List ℕ) (j : ℕ) → place_of ns n ≡ Some j → Contains ns n
+place-has [] n j e = absurd (cc)
+place-has (m ∷ ms) n j e = has-here m ms n j (bytes_eq m n) refl e (λ i q. place-has ms n i q)
+
+pub no-interface : (all : List Declarations) (n : List ℕ) (k : ℕ) → length all ≤ k → ((j : ℕ) (d : Declarations) → j < k → (get_or all j d).name.now ≢ n)
+    → ¬ Contains (interface_names (map declared_tree all)) n
+no-interface all n k l h c =
+    let t = contains-unmap (λ i. i.name) (map declared_tree all) n c in
+    let d = contains-unmap declared_tree all t.0 t.1 in
+    h d.1.0 d.0 (omega (arith, d.1.1)) (ap (λ (x : Declarations). x.name.now) d.1.2 ∙ ap (λ i. i.name) d.2 ∙ t.2)
+
+pub none-of : {A : Type 0} (o : Option A) → ((x : A) → o ≡ Some x → ⊥) → o ≡ None
+none-of None h = refl
+none-of (Some x) h = absurd (h x refl)
+
+pub if-none : {A : Type 0} (o : Option A) (P : Type 0) → ((x : A) → o ≡ Some x → ⊥) → IfNone o P → P
+if-none None P h p = p
+if-none (Some x) P h p = absurd (h x refl)
+
+pub none-map : {A : Type 0} (o : Option A) (P Q : Type 0) → (P → Q) → IfNone o P → IfNone o Q
+none-map None P Q f p = f p
+none-map (Some x) P Q f p = tt
+
+pub some-map : {A : Type 0} (o : Option A) (P Q : A → Type 0) → ((x : A) → P x → Q x) → IfSome o P → IfSome o Q
+some-map None P Q f p = tt
+some-map (Some x) P Q f p = f x p
+
+-- ---- the names of an interface's types
+
+module _ (d : Declarations) (known : List (Bor (List ℕ))) (is : known ≡ d.names.items) where
+  pub names-known : lent known ≡ type_names (declared_tree d)
+  names-known = ap lent is ∙ d.named
+
+  pub knows-all : (names : List (Bor (List ℕ))) (ns : List (List ℕ)) → lent names ≡ ns → All (Contains (lent known)) (lent names) → All (Contains (type_names (declared_tree d))) ns
+  knows-all names ns e h = subst (λ zs. All (Contains zs) ns) names-known (subst (λ zs. All (Contains (lent known)) zs) e h)
+
+  pub lacks-one : (n : List ℕ) → (¬ Contains (lent known) n) → ¬ Contains (type_names (declared_tree d)) n
+  lacks-one n h c = h (subst (λ zs. Contains zs n) (sym names-known) c)
+
+  pub lacks-name : (names : List (Bor (List ℕ))) (ns : List (List ℕ)) (n : List ℕ) → lent names ≡ ns → Contains (lent names) n × (¬ Contains (lent known) n)
+      → IsUnknownName (declared_tree d) ns n
+  lacks-name names ns n e h = (subst (λ zs. Contains zs n) e h.0, lacks-one n h.1)
+
+-- ---- an interface, of its items
+
+module _ (is : List InterfaceTree) (i : InterfaceTree) where
+  uses-known : (es : List Entry) → All (KnowsEntry is i) es → All (IsKnownUse is) (flat_map entry_uses es)
+  uses-known [] h = all-none (IsKnownUse is)
+  uses-known (Uses p us ∷ es) h = all-append (IsKnownUse is) (map (used_item p) us) (flat_map entry_uses es) (all-head (KnowsEntry is i) (Uses p us) es h) (uses-known es (all-tail (KnowsEntry is i) (Uses p us) es h))
+  uses-known (Defines n d ∷ es) h = uses-known es (all-tail (KnowsEntry is i) (Defines n d) es h)
+  uses-known (Declares n f ∷ es) h = uses-known es (all-tail (KnowsEntry is i) (Declares n f) es h)
+
+  types-known : (es : List Entry) → All (KnowsEntry is i) es → All (λ t. All (Contains (type_names i)) (named_definition t.definition)) (flat_map entry_types es)
+  types-known [] h = all-none (λ (t : TypeItem). All (Contains (type_names i)) (named_definition t.definition))
+  types-known (Uses p us ∷ es) h = types-known es (all-tail (KnowsEntry is i) (Uses p us) es h)
+  types-known (Defines n d ∷ es) h =
+      all-cons (λ (t : TypeItem). All (Contains (type_names i)) (named_definition t.definition)) (record { name = n; definition = d }) (flat_map entry_types es)
+      (all-head (KnowsEntry is i) (Defines n d) es h) (types-known es (all-tail (KnowsEntry is i) (Defines n d) es h))
+  types-known (Declares n f ∷ es) h = types-known es (all-tail (KnowsEntry is i) (Declares n f) es h)
+
+  functions-known : (es : List Entry) → All (KnowsEntry is i) es → All (λ f. All (Contains (type_names i)) (named_function f.function)) (flat_map entry_functions es)
+  functions-known [] h = all-none (λ (f : FunctionItem). All (Contains (type_names i)) (named_function f.function))
+  functions-known (Uses p us ∷ es) h = functions-known es (all-tail (KnowsEntry is i) (Uses p us) es h)
+  functions-known (Defines n d ∷ es) h = functions-known es (all-tail (KnowsEntry is i) (Defines n d) es h)
+  functions-known (Declares n f ∷ es) h =
+      all-cons (λ (g : FunctionItem). All (Contains (type_names i)) (named_function g.function)) (record { name = n; function = f }) (flat_map entry_functions es)
+      (all-head (KnowsEntry is i) (Declares n f) es h) (functions-known es (all-tail (KnowsEntry is i) (Declares n f) es h))
+
+  pub interface-known : (n : List ℕ) (es : List Entry) → i ≡ interface_tree n es → All (KnowsEntry is i) es → HasKnownNames is i
+  interface-known n es e h = record {
+    uses = subst (λ (j : InterfaceTree). All (IsKnownUse is) j.uses) (sym e) (uses-known es h);
+    types = subst (λ (j : InterfaceTree). All (λ t. All (Contains (type_names i)) (named_definition t.definition)) j.types) (sym e) (types-known es h);
+    functions = subst (λ (j : InterfaceTree). All (λ f. All (Contains (type_names i)) (named_function f.function)) j.functions) (sym e) (functions-known es h);
+  }
+
+  lacks-by : (n : List ℕ) (es : List Entry) (m : List ℕ) (e : Entry) → i ≡ interface_tree n es → Contains es e → LacksEntry is i e m → IsUnknownIn is i m
+  lacks-by n es m (Uses p us) same c l = inl (l.0, subst (λ (j : InterfaceTree). Contains j.uses l.0) (sym same) (contains-flat entry_uses es (Uses p us) l.0 c l.1), l.2)
+  lacks-by n es m (Defines k d) same c l =
+      let t : TypeItem = record { name = k; definition = d } in
+      inr (inl (t, subst (λ (j : InterfaceTree). Contains j.types t) (sym same) (contains-flat entry_types es (Defines k d) t c (contains-here t [])), l))
+  lacks-by n es m (Declares k f) same c l =
+      let g : FunctionItem = record { name = k; function = f } in
+      inr (inr (g, subst (λ (j : InterfaceTree). Contains j.functions g) (sym same) (contains-flat entry_functions es (Declares k f) g c (contains-here g [])), l))
+
+  pub interface-lacks : (n : List ℕ) (es : List Entry) (m : List ℕ) → i ≡ interface_tree n es → LacksAny is i es m → IsUnknownIn is i m
+  interface-lacks n es m same l = lacks-by n es m l.0 same l.1 l.2
+
+pub same-at : (all : List Declarations) (is : List (Bor Interface)) (k : ℕ) (d : Declarations) (x : Bor Interface) → map declared_tree all ≡ map interface_syntax is → k < length all → k < length is
+    → d ≡ get_or all k d → x ≡ get_or is k x → declared_tree d ≡ interface_syntax x
+same-at all is k d x same l m isd isx =
+    ap declared_tree isd ∙ sym (get_or-map declared_tree all k d no_interface l) ∙ ap (λ ts. get_or ts k no_interface) same ∙ get_or-map interface_syntax is k x no_interface m
+    ∙ ap interface_syntax (sym isx)
+
+pub tree-at : (all : List Declarations) (k : ℕ) (d : Declarations) → k < length all → d ≡ get_or all k d → interface_at (map declared_tree all) k ≡ declared_tree d
+tree-at all k d l is = get_or-map declared_tree all k d no_interface l ∙ ap declared_tree (sym is)

@@ -1,0 +1,345 @@
+-- Types that stand in a table, when more rows come behind it.
+use Rattle.std.proofs.Common.{◌≡◌, ℕ, zero, suc, ◌+◌, ◌<◌, Bool, true, List, [], ◌∷◌, ◌++◌, Option, None, Some, map, flat_map, take, length, get_or, refl, ap, sym, ◌∙◌, subst, arith, rules, Box, Global, Vec, All, Contains}
+use Rattle.std.specs.List.{list_all}
+use Rattle.std.specs.Option.{option_map}
+use Rattle.std.proofs.lemmas.List.{map-append}
+use Rattle.wit_text.specs.Syntax.{Ty, Prim, Named, ListOf, OptionOf, TupleOf, ResultOf, tys_of}
+use Rattle.wit_text.specs.View.{ty_view, boxed_view}
+use Rattle.wit_text.specs.declared.ast.TypeExpression.{TypeExpression, Named as Name, List as Listed, Option as Optional, Tuple, Result as Either, the_lemmas}
+use Rattle.wit_text.specs.declared.ast.Primitive.{Primitive as Keyword}
+use Rattle.wit_text.specs.declared.ast.Primitive.TheVariants as keyword
+use Rattle.resolve.specs.Tables.{is_below, option_below}
+use Rattle.resolve.specs.Package.{Tree, Reference, ListTree, IsType, read_val, read_tuple, read_fields, read_params, read_cases, read_choice, read_enum, read_kind, Fields, field, Choices, empty, RecordTree, VariantTree, FlagsTree, Plain, AsTuple, AsEnum}
+use Rattle.resolve.specs.Postfix.{unnamed, unnamed_if, unnamed_field, unnamed_case, unnamed_parameter}
+use Rattle.resolve.specs.Declarations.{named, named_all}
+use Rattle.resolve.specs.Resolved.{Labelled, Choice, resolved, resolved_all, option_tree, tuple_tree, result_tree, fields_of, unlabelled, choices_of, choice, enumerated, primitive_tree, val_of_primitive}
+use Rattle.resolve.specs.Resolves.{Table}
+use Rattle.resolve.specs.Building.{table_trees, Front, Extends, Stands, Lowers, LowersIf, LowersEach, LowersKind, LowersInner, IsEntry, IsScope, KnowsNames, scope_name, read_field, read_parameter, read_case, field_below, parameter_below, case_below}
+use Rattle.resolve.specs.declared.known.Entry.{Entry}
+use Rattle.resolve.specs.declared.known.KnownTypes.{KnownTypes}
+use Rattle.resolve.specs.declared.tables.ValType.{ValType}
+use Rattle.resolve.specs.declared.tables.ValType.TheVariants as val
+use Rattle.resolve.specs.declared.tables.Definition.{Definition}
+use Rattle.resolve.specs.declared.tables.TypeId.{TypeId}
+use Rattle.resolve.specs.declared.tables.Field.{Field}
+use Rattle.resolve.specs.declared.tables.Parameter.{Parameter}
+use Rattle.resolve.specs.declared.tables.Case.{Case}
+use Rattle.resolve.specs.declared.tables.TypeDefKind.{TypeDefKind}
+use Rattle.resolve.specs.declared.tables.TypeDefKind.TheVariants as kind
+use Rattle.resolve.proofs.Rows.{split, both}
+use Rattle.resolve.proofs.Lists.{all-left, all-right, flat_map-append, flat_map-one}
+use Rattle.resolve.proofs.Reading.{stands-later, extends-trans, extends-none, read_val-same, below-stays, unnamed-same}
+
+-- what an expression stands for
+pub view-Named : (n : List ℕ) → ty_view (Name n) ≡ Named n
+view-Named n = search (rules, the_lemmas)
+
+pub view-List : (b : Box TypeExpression Global) → ty_view (Listed b) ≡ ListOf (ty_view b.value)
+view-List b = search (rules, the_lemmas)
+
+pub view-Option : (b : Box TypeExpression Global) → ty_view (Optional b) ≡ OptionOf (ty_view b.value)
+view-Option b = search (rules, the_lemmas)
+
+pub view-Tuple : (v : Vec TypeExpression Global) → ty_view (Tuple v) ≡ TupleOf (tys_of (map ty_view v.items))
+view-Tuple v = search (rules, the_lemmas)
+
+pub view-Result : (ok error : Option (Box TypeExpression Global)) → ty_view (Either ok error) ≡ ResultOf (boxed_view ok) (boxed_view error)
+view-Result None None = search (rules, the_lemmas)
+view-Result None (Some e) = search (rules, the_lemmas)
+view-Result (Some t) None = search (rules, the_lemmas)
+view-Result (Some t) (Some e) = search (rules, the_lemmas)
+
+-- ---- scopes
+
+pub scope-later : (old new : Table) (s : KnownTypes) → Front old new → IsScope old s → IsScope new s
+scope-later old new s x h = record {
+  place = omega (arith, ap length x.interfaces, h.place);
+  each = λ k d l.
+      let e = get_or s.entries k d in
+      let was = h.each k d l in
+      record {
+        stands = subst (λ (ns : List (List ℕ)). Stands new (val.Id e.id) (Reference (record { interface = get_or ns s.interface.0 []; name = e.name }))) (sym x.interfaces)
+            (stands-later old new (val.Id e.id) (Reference (record { interface = scope_name old s; name = e.name })) x was.stands);
+        named = unnamed-same old new x (val.Id e.id) was.stands.below ∙ was.named;
+      };
+}
+
+pub same_name : (old new : Table) (s : KnownTypes) → Front old new → scope_name new s ≡ scope_name old s
+same_name old new s x = ap (λ (ns : List (List ℕ)). get_or ns s.interface.0 []) x.interfaces
+
+-- ---- one type
+
+pub primitive-reads : (ts : List Tree) (p : Keyword) → read_val ts (val_of_primitive p) ≡ primitive_tree p
+primitive-reads ts keyword.Bool = refl
+primitive-reads ts keyword.S8 = refl
+primitive-reads ts keyword.U8 = refl
+primitive-reads ts keyword.S16 = refl
+primitive-reads ts keyword.U16 = refl
+primitive-reads ts keyword.S32 = refl
+primitive-reads ts keyword.U32 = refl
+primitive-reads ts keyword.S64 = refl
+primitive-reads ts keyword.U64 = refl
+primitive-reads ts keyword.Char = refl
+primitive-reads ts keyword.String = refl
+
+primitive-below : (n : ℕ) (p : Keyword) → is_below n (val_of_primitive p) ≡ true
+primitive-below n keyword.Bool = refl
+primitive-below n keyword.S8 = refl
+primitive-below n keyword.U8 = refl
+primitive-below n keyword.S16 = refl
+primitive-below n keyword.U16 = refl
+primitive-below n keyword.S32 = refl
+primitive-below n keyword.U32 = refl
+primitive-below n keyword.S64 = refl
+primitive-below n keyword.U64 = refl
+primitive-below n keyword.Char = refl
+primitive-below n keyword.String = refl
+
+primitive-unnamed : (rows : List Definition) (p : Keyword) → unnamed rows (val_of_primitive p) ≡ []
+primitive-unnamed rows keyword.Bool = refl
+primitive-unnamed rows keyword.S8 = refl
+primitive-unnamed rows keyword.U8 = refl
+primitive-unnamed rows keyword.S16 = refl
+primitive-unnamed rows keyword.U16 = refl
+primitive-unnamed rows keyword.S32 = refl
+primitive-unnamed rows keyword.U32 = refl
+primitive-unnamed rows keyword.S64 = refl
+primitive-unnamed rows keyword.U64 = refl
+primitive-unnamed rows keyword.Char = refl
+primitive-unnamed rows keyword.String = refl
+
+alias-of : (t : Table) (v : ValType) (tree : Tree) → Stands t v tree → unnamed t.rows v ≡ [] → LowersInner t t (kind.Alias v) tree
+alias-of t v tree s free = record {
+  lowers = record {
+    extends = extends-none t;
+    below = s.below;
+    means = ap (λ (u : Tree). IsType u) s.reads;
+    names = free;
+  };
+  inner = refl;
+}
+
+pub lowers-primitive : (t : Table) (p : Keyword) → LowersInner t t (kind.Alias (val_of_primitive p)) (primitive_tree p)
+lowers-primitive t p =
+    alias-of t (val_of_primitive p) (primitive_tree p) (record { below = primitive-below (length t.rows) p; reads = primitive-reads (table_trees t) p }) (primitive-unnamed t.rows p)
+
+pub lowers-named : (t : Table) (s : KnownTypes) (n : List ℕ) (id : TypeId) → IsScope t s → Contains s.entries (record { name = n; id = id })
+    → LowersInner t t (kind.Alias (val.Id id)) (Reference (record { interface = scope_name t s; name = n }))
+lowers-named t s n id scope c =
+    let e : Entry = record { name = n; id = id } in
+    let is : IsEntry t (scope_name t s) e = subst (IsEntry t (scope_name t s)) c.2 (scope.each c.0 e c.1) in
+    alias-of t (val.Id id) (Reference (record { interface = scope_name t s; name = n })) is.stands is.named
+
+pub lowers-list : (a b : Table) (v : ValType) (tree : Tree) → Lowers a b v tree → LowersInner a b (kind.List v) (ListTree tree)
+lowers-list a b v tree l = record {
+  lowers = record { extends = l.extends; below = l.stands.below; means = ap (λ (t : Tree). IsType (ListTree t)) l.stands.reads; names = refl };
+  inner = refl;
+}
+
+pub lowers-option : (a b : Table) (v : ValType) (tree : Tree) → Lowers a b v tree → LowersInner a b (kind.Option v) (option_tree tree)
+lowers-option a b v tree l = record {
+  lowers = record { extends = l.extends; below = l.stands.below; means = ap (λ (t : Tree). IsType (option_tree t)) l.stands.reads; names = refl };
+  inner = refl;
+}
+
+pub lowers-some : (a b : Table) (v : ValType) (tree : Tree) → Lowers a b v tree → LowersIf a b (Some v) (Some tree)
+lowers-some a b v tree l = record { extends = l.extends; below = l.stands.below; reads = ap (λ (t : Tree). Some t) l.stands.reads }
+
+pub lowers-none : (a : Table) → LowersIf a a None None
+lowers-none a = record { extends = extends-none a; below = refl; reads = refl }
+
+-- ---- a type that may be left out
+
+option-stays : (old new : Table) → Front old new → (v : Option ValType) → option_below (length old.rows) v ≡ true
+    → (option_below (length new.rows) v ≡ true) × (option_map (read_val (table_trees new)) v ≡ option_map (read_val (table_trees old)) v)
+    × (unnamed_if new.rows v ≡ unnamed_if old.rows v)
+option-stays old new x None h = (refl, refl, refl)
+option-stays old new x (Some v) h = (below-stays old new x v h, ap (λ (t : Tree). Some t) (read_val-same old new x v h), unnamed-same old new x v h)
+
+choice-reads : (ts : List Tree) (label : List ℕ) (v : Option ValType) (cs : Choices) → read_choice ts label v cs ≡ choice label (option_map (read_val ts) v) cs
+choice-reads ts label None cs = refl
+choice-reads ts label (Some v) cs = refl
+
+pub lowers-result : (a b c : Table) (v w : Option ValType) (t u : Option Tree) → LowersIf a b v t → LowersIf b c w u
+    → LowersInner a c (kind.Result v w) (result_tree t u)
+lowers-result a b c v w t u l m =
+    let s = option-stays b c m.extends.front v l.below in
+    let ts = table_trees c in
+    let reads : read_kind ts (kind.Result v w) ≡ result_tree t u =
+    rw (choice-reads ts (101 ∷ 114 ∷ 114 ∷ 111 ∷ 114 ∷ []) w, choice-reads ts (111 ∷ 107 ∷ []) v, s.1, l.reads, m.reads) refl in
+    record {
+      lowers = record {
+        extends = subst (λ (us : List ℕ). Extends a c (us ++ unnamed_if c.rows w)) (sym s.2) (extends-trans a b c _ _ l.extends m.extends);
+        below = both (option_below (length c.rows) v) (option_below (length c.rows) w) s.0 m.below;
+        means = ap (λ (x : Tree). IsType x) reads;
+        names = refl;
+      };
+      inner = refl;
+    }
+
+-- ---- many
+
+-- what stands in a table stands in it and reads the same when more rows come
+abbrev pub Stays : {A X : Type 0} → (ℕ → A → Bool) → (List Tree → A → X) → (List Definition → A → List ℕ) → Type 0
+Stays {A} below read rest = (old new : Table) → Front old new → (v : A) → below (length old.rows) v ≡ true
+    → (below (length new.rows) v ≡ true) × (read (table_trees new) v ≡ read (table_trees old) v) × (rest new.rows v ≡ rest old.rows v)
+
+pub val-stays : Stays is_below read_val unnamed
+val-stays old new x v h = (below-stays old new x v h, read_val-same old new x v h, unnamed-same old new x v h)
+
+pub field-stays : Stays field_below read_field unnamed_field
+field-stays old new x f h =
+    let p = val-stays old new x f.ty h in
+    let g : Tree → Labelled = λ t. record { name = f.name; tree = t } in
+    (p.0, ap g p.1, p.2)
+
+pub parameter-stays : Stays parameter_below read_parameter unnamed_parameter
+parameter-stays old new x f h =
+    let p = val-stays old new x f.ty h in
+    let g : Tree → Labelled = λ t. record { name = f.name; tree = t } in
+    (p.0, ap g p.1, p.2)
+
+pub case-stays : Stays case_below read_case unnamed_case
+case-stays old new x c h =
+    let p = option-stays old new x c.ty h in
+    let g : Option Tree → Choice = λ t. record { name = c.name; payload = t } in
+    (p.0, ap g p.1, p.2)
+
+module _ {A X : Type 0} (below : ℕ → A → Bool) (read : List Tree → A → X) (rest : List Definition → A → List ℕ) where
+  pub lowers_each-none : (a : Table) → LowersEach below read rest a a [] []
+  lowers_each-none a = record { extends = extends-none a; within = refl; reads = refl }
+
+  all-push : (n : ℕ) (vs : List A) (v : A) → list_all (below n) vs ≡ true → below n v ≡ true → list_all (below n) (vs ++ v ∷ []) ≡ true
+  all-push n [] v p q = both _ true q refl
+  all-push n (w ∷ vs) v p q = let h = split (below n w) (list_all (below n) vs) p in both _ _ h.0 (all-push n vs v h.1 q)
+
+  module _ (stays : Stays below read rest) where
+    pub all-stay : (old new : Table) → Front old new → (vs : List A) → list_all (below (length old.rows)) vs ≡ true
+        → (list_all (below (length new.rows)) vs ≡ true) × (map (read (table_trees new)) vs ≡ map (read (table_trees old)) vs)
+        × (flat_map (rest new.rows) vs ≡ flat_map (rest old.rows) vs)
+    all-stay old new x [] h = (refl, refl, refl)
+    all-stay old new x (v ∷ vs) h =
+        let p = split (below (length old.rows) v) (list_all (below (length old.rows)) vs) h in
+        let q = all-stay old new x vs p.1 in
+        let r = stays old new x v p.0 in
+        (both _ _ r.0 q.0, rw (r.1, q.1) refl, rw (r.2, q.2) refl)
+
+    pub lowers_each-more : (a b c : Table) (vs : List A) (xs : List X) (v : A) (x : X) → LowersEach below read rest a b vs xs
+        → Extends b c (rest c.rows v) → below (length c.rows) v ≡ true → read (table_trees c) v ≡ x → LowersEach below read rest a c (vs ++ v ∷ []) (xs ++ x ∷ [])
+    lowers_each-more a b c vs xs v x l m under reads =
+        let p = all-stay b c m.front vs l.within in
+        let unused : flat_map (rest b.rows) vs ++ rest c.rows v ≡ flat_map (rest c.rows) (vs ++ v ∷ []) =
+        ap (λ us. us ++ rest c.rows v) (sym p.2) ∙ ap (λ us. flat_map (rest c.rows) vs ++ us) (sym (flat_map-one (rest c.rows) v)) ∙ sym (flat_map-append (rest c.rows) vs (v ∷ [])) in
+        record {
+          extends = subst (λ (us : List ℕ). Extends a c us) unused (extends-trans a b c _ _ l.extends m);
+          within = all-push (length c.rows) vs v p.0 under;
+          reads = map-append (read (table_trees c)) vs (v ∷ []) ∙ rw (p.1, l.reads, reads) refl;
+        }
+
+-- ---- lists of the table, read
+
+pub tuple-reads : (ts : List Tree) (vs : List ValType) → read_tuple ts vs ≡ unlabelled (map (read_val ts) vs)
+tuple-reads ts [] = refl
+tuple-reads ts (v ∷ vs) = ap (λ (fs : Fields). field [] (read_val ts v) fs) (tuple-reads ts vs)
+
+pub fields-read : (ts : List Tree) (fs : List Field) → read_fields ts fs ≡ fields_of (map (read_field ts) fs)
+fields-read ts [] = refl
+fields-read ts (f ∷ fs) = ap (λ (gs : Fields). field f.name (read_val ts f.ty) gs) (fields-read ts fs)
+
+pub parameters-read : (ts : List Tree) (fs : List Parameter) → read_params ts fs ≡ fields_of (map (read_parameter ts) fs)
+parameters-read ts [] = refl
+parameters-read ts (f ∷ fs) = ap (λ (gs : Fields). field f.name (read_val ts f.ty) gs) (parameters-read ts fs)
+
+pub cases-read : (ts : List Tree) (cs : List Case) → read_cases ts cs ≡ choices_of (map (read_case ts) cs)
+cases-read ts [] = refl
+cases-read ts (c ∷ cs) =
+    choice-reads ts c.name c.ty (read_cases ts cs) ∙ ap (λ (ds : Choices). choice c.name (option_map (read_val ts) c.ty) ds) (cases-read ts cs)
+
+pub enum-reads : (ns : List (List ℕ)) → read_enum ns ≡ enumerated ns
+enum-reads [] = refl
+enum-reads (n ∷ ns) = ap (λ (cs : Choices). empty n cs) (enum-reads ns)
+
+pub lowers-tuple : (a b : Table) (vs : List ValType) (ts : List Tree) → LowersEach is_below read_val unnamed a b vs ts → LowersInner a b (kind.Tuple vs) (tuple_tree ts)
+lowers-tuple a b vs ts l = record {
+  lowers = record {
+    extends = l.extends;
+    below = l.within;
+    means = ap (λ (fs : Fields). IsType (RecordTree AsTuple fs)) (tuple-reads (table_trees b) vs ∙ ap unlabelled l.reads);
+    names = refl;
+  };
+  inner = refl;
+}
+
+-- ---- expressions
+
+resolved_all-suc : (i : List ℕ) (xs : List TypeExpression) (k : ℕ) (x : TypeExpression) → k < length xs → x ≡ get_or xs k x
+    → resolved_all i (tys_of (map ty_view (take (suc k) xs))) ≡ resolved_all i (tys_of (map ty_view (take k xs))) ++ resolved i (ty_view x) ∷ []
+resolved_all-suc i [] k x l e = absurd (omega arith)
+resolved_all-suc i (y ∷ xs) zero x l e = ap (λ z. resolved i (ty_view z) ∷ []) (sym e)
+resolved_all-suc i (y ∷ xs) (suc k) x l e = ap (λ zs. resolved i (ty_view y) ∷ zs) (resolved_all-suc i xs k x (omega arith) e)
+
+pub resolved_all-more : (i : List ℕ) (xs : List TypeExpression) (k : ℕ) (x : TypeExpression) → k < length xs → x ≡ get_or xs k x
+    → resolved_all i (tys_of (map ty_view (take (k + 1) xs))) ≡ resolved_all i (tys_of (map ty_view (take k xs))) ++ resolved i (ty_view x) ∷ []
+resolved_all-more i xs k x l e = let same : k + 1 ≡ suc k = omega arith in rw same (resolved_all-suc i xs k x l e)
+
+pub all_named-at : (P : List ℕ → Type 0) (xs : List TypeExpression) (k : ℕ) (x : TypeExpression) → All P (named_all (tys_of (map ty_view xs))) → k < length xs
+    → x ≡ get_or xs k x → All P (named (ty_view x))
+all_named-at P [] k x h l e = absurd (omega arith)
+all_named-at P (y ∷ xs) zero x h l e = subst (λ z. All P (named (ty_view z))) (sym e) (all-left P (named (ty_view y)) (named_all (tys_of (map ty_view xs))) h)
+all_named-at P (y ∷ xs) (suc k) x h l e = all_named-at P xs k x (all-right P (named (ty_view y)) (named_all (tys_of (map ty_view xs))) h) (omega arith) e
+
+abbrev labelled : List ℕ → Tree → Labelled
+labelled n t = record { name = n; tree = t }
+
+abbrev chosen : List ℕ → Option Tree → Choice
+chosen n t = record { name = n; payload = t }
+
+pub labelled-same : (n m : List ℕ) (t u : Tree) → n ≡ m → t ≡ u → labelled n t ≡ labelled m u
+labelled-same n m t u e h = rw (e, h) refl
+
+pub choice-same : (n m : List ℕ) (t u : Option Tree) → n ≡ m → t ≡ u → chosen n t ≡ chosen m u
+choice-same n m t u e h = rw (e, h) refl
+
+-- ---- bodies of definitions
+
+pub lowers-record : (a b : Table) (fs : List Field) (ls : List Labelled) → LowersEach field_below read_field unnamed_field a b fs ls
+    → LowersKind a b (kind.Record fs) (IsType (RecordTree Plain (fields_of ls)))
+lowers-record a b fs ls l = record {
+  extends = l.extends;
+  below = l.within;
+  means = ap (λ (gs : Fields). IsType (RecordTree Plain gs)) (fields-read (table_trees b) fs ∙ ap fields_of l.reads);
+  names = refl;
+}
+
+pub lowers-variant : (a b : Table) (cs : List Case) (ls : List Choice) → LowersEach case_below read_case unnamed_case a b cs ls
+    → LowersKind a b (kind.Variant cs) (IsType (VariantTree Plain (choices_of ls)))
+lowers-variant a b cs ls l = record {
+  extends = l.extends;
+  below = l.within;
+  means = ap (λ (ds : Choices). IsType (VariantTree Plain ds)) (cases-read (table_trees b) cs ∙ ap choices_of l.reads);
+  names = refl;
+}
+
+pub lowers-enum : (a : Table) (ns ms : List (List ℕ)) → ns ≡ ms → LowersKind a a (kind.Enum ns) (IsType (VariantTree AsEnum (enumerated ms)))
+lowers-enum a ns ms e = record {
+  extends = extends-none a;
+  below = refl;
+  means = ap (λ (ds : Choices). IsType (VariantTree AsEnum ds)) (enum-reads ns ∙ ap enumerated e);
+  names = refl;
+}
+
+pub lowers-flags : (a : Table) (ns ms : List (List ℕ)) → ns ≡ ms → LowersKind a a (kind.Flags ns) (IsType (FlagsTree ms))
+lowers-flags a ns ms e = record {
+  extends = extends-none a;
+  below = refl;
+  means = ap (λ (ls : List (List ℕ)). IsType (FlagsTree ls)) e;
+  names = refl;
+}
+
+pub known-by : (s : KnownTypes) (t u : Ty) → t ≡ u → KnowsNames s (named t) → KnowsNames s (named u)
+known-by s t u e h = subst (λ (x : Ty). KnowsNames s (named x)) e h
+
+pub inner-by : (a b : Table) (k : TypeDefKind) (i : List ℕ) (t u : Ty) → t ≡ u → LowersInner a b k (resolved i u) → LowersInner a b k (resolved i t)
+inner-by a b k i t u e l = subst (λ (x : Ty). LowersInner a b k (resolved i x)) (sym e) l
+
+pub ruleset lowering = (scope-later)

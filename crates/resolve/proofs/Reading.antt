@@ -1,0 +1,227 @@
+-- What a table's rows read as, when more rows come behind them.
+use Rattle.std.proofs.Common.{◌≡◌, ℕ, zero, suc, ◌+◌, ◌<◌, ◌≤◌, true, IsTrue, List, [], ◌∷◌, ◌++◌, length, get_or, slice_get, Option, Some, refl, ap, sym, subst, ◌∙◌, arith, append_assoc, append-nil}
+use Rattle.std.proofs.lemmas.List.{length-append, get_or_append_left, get_or_at}
+use Rattle.std.proofs.lemmas.Bool.{ltb-true, lt-ltb}
+use Rattle.resolve.specs.Tables.{is_below, definition_below, are_earlier}
+use Rattle.resolve.specs.Package.{Tree, TextTree, NamedDefinition, Meaning, IsUse, IsType, IsFunction, references, reference, definitions_from, definition_of, read_val, read_kind, meaning_of}
+use Rattle.resolve.specs.Postfix.{Leaves, inner, unnamed, is_inner, is_unnamed, is_unnamed_row, one_if, inner_row}
+use Rattle.resolve.specs.Resolves.{Table}
+use Rattle.resolve.specs.Building.{table_trees, table_definitions, Front, Extends, Adds, Stands, Lowers, LowersKind, LowersInner, is_expressed}
+use Rattle.resolve.specs.declared.tables.ValType.{ValType}
+use Rattle.resolve.specs.declared.tables.ValType.TheVariants as val
+use Rattle.resolve.specs.declared.tables.TypeId.{TypeId}
+use Rattle.resolve.specs.declared.tables.TypeDefKind.{TypeDefKind}
+use Rattle.resolve.specs.declared.tables.TypeDefKind.TheVariants as kind
+use Rattle.resolve.specs.declared.tables.Definition.{Definition}
+use Rattle.resolve.proofs.Rows.{is_below-later, split, both}
+
+references-append : (is : List (List ℕ)) (ts : List Tree) (ds es : List Definition) → references is ts (ds ++ es) ≡ references is (references is ts ds) es
+references-append is ts [] es = refl
+references-append is ts (d ∷ ds) es = references-append is (ts ++ reference is ts d ∷ []) ds es
+
+references-length : (is : List (List ℕ)) (ts : List Tree) (ds : List Definition) → length (references is ts ds) ≡ length ts + length ds
+references-length is ts [] = omega arith
+references-length is ts (d ∷ ds) =
+    omega (arith, references-length is (ts ++ reference is ts d ∷ []) ds, length-append ts (reference is ts d ∷ []))
+
+references-front : (is : List (List ℕ)) (ts : List Tree) (ds : List Definition) (k : ℕ) (d : Tree) → k < length ts → get_or (references is ts ds) k d ≡ get_or ts k d
+references-front is ts [] k d h = refl
+references-front is ts (e ∷ ds) k d h =
+    references-front is (ts ++ reference is ts e ∷ []) ds k d (omega (arith, length-append ts (reference is ts e ∷ [])))
+    ∙ get_or_append_left ts (reference is ts e ∷ []) d k h
+
+pub trees-length : (t : Table) → length (table_trees t) ≡ length t.rows
+unfolding table_trees
+trees-length t = references-length t.interfaces [] t.rows ∙ omega arith
+
+pub trees-more : (old new : Table) (more : List Definition) → new.interfaces ≡ old.interfaces → new.rows ≡ old.rows ++ more
+    → table_trees new ≡ references old.interfaces (table_trees old) more
+unfolding table_trees
+trees-more old new more is rows = rw (is, rows) (references-append old.interfaces [] old.rows more)
+
+-- ---- rows that stood
+
+pub longer : (old new : Table) → Front old new → length old.rows ≤ length new.rows
+longer old new x = omega (arith, ap length x.rows.1, length-append old.rows x.rows.0)
+
+pub below-stays : (old new : Table) → Front old new → (v : ValType) → is_below (length old.rows) v ≡ true → is_below (length new.rows) v ≡ true
+below-stays old new x v h = is_below-later (length old.rows) (length new.rows) v (longer old new x) h
+
+pub read_val-same : (old new : Table) → Front old new → (v : ValType) → is_below (length old.rows) v ≡ true → read_val (table_trees new) v ≡ read_val (table_trees old) v
+read_val-same old new x (val.Primitive p) h = refl
+read_val-same old new x val.String h = refl
+read_val-same old new x (val.Id t) h =
+    let l : t.0 < length (table_trees old) = omega (arith, trees-length old, ltb-true t.0 (length old.rows) h) in
+    rw (trees-more old new x.rows.0 x.interfaces x.rows.1) (references-front old.interfaces (table_trees old) x.rows.0 t.0 TextTree l)
+
+get-front : {A : Type 0} (xs ys : List A) (n : ℕ) → n < length xs → slice_get (xs ++ ys) n ≡ slice_get xs n
+get-front [] ys n h = absurd (omega arith)
+get-front (x ∷ xs) ys zero h = refl
+get-front (x ∷ xs) ys (suc n) h = get-front xs ys n (omega arith)
+
+get-end : {A : Type 0} (xs : List A) (y : A) (n : ℕ) → n ≡ length xs → slice_get (xs ++ y ∷ []) n ≡ Some y
+get-end [] y n h = rw h refl
+get-end (x ∷ xs) y zero h = absurd (omega arith)
+get-end (x ∷ xs) y (suc n) h = get-end xs y n (omega arith)
+
+pub unnamed-same : (old new : Table) → Front old new → (v : ValType) → is_below (length old.rows) v ≡ true → unnamed new.rows v ≡ unnamed old.rows v
+unnamed-same old new x (val.Primitive p) h = refl
+unnamed-same old new x val.String h = refl
+unnamed-same old new x (val.Id t) h =
+    let l = ltb-true t.0 (length old.rows) h in
+    ap (λ (o : Option Definition). one_if (is_unnamed_row o) t.0)
+    (ap (λ (ds : List Definition). slice_get ds t.0) x.rows.1 ∙ get-front old.rows x.rows.0 t.0 l)
+
+pub stands-later : (old new : Table) (v : ValType) (tree : Tree) → Front old new → Stands old v tree → Stands new v tree
+stands-later old new v tree x s = record {
+  below = below-stays old new x v s.below;
+  reads = read_val-same old new x v s.below ∙ s.reads;
+}
+
+-- ---- growth after growth
+
+pub front-none : (t : Table) → Front t t
+front-none t = record { interfaces = refl; rows = ([], sym (append-nil t.rows)); earlier = λ h. h }
+
+pub front-trans : (a b c : Table) → Front a b → Front b c → Front a c
+front-trans a b c x y = record {
+  interfaces = y.interfaces ∙ x.interfaces;
+  rows = (x.rows.0 ++ y.rows.0, y.rows.1 ∙ ap (λ ds. ds ++ y.rows.0) x.rows.1 ∙ append_assoc a.rows x.rows.0 y.rows.0);
+  earlier = λ h. y.earlier (x.earlier h);
+}
+
+pub extends-none : (t : Table) → Extends t t []
+extends-none t = record {
+  front = front-none t;
+  same = refl;
+  postfix = λ before h. subst (λ (us : List ℕ). Leaves t.rows us) (sym (append-nil before)) h;
+}
+
+pub extends-trans : (a b c : Table) (us vs : List ℕ) → Extends a b us → Extends b c vs → Extends a c (us ++ vs)
+extends-trans a b c us vs x y = record {
+  front = front-trans a b c x.front y.front;
+  same = y.same ∙ x.same;
+  postfix = λ before h. subst (λ (ws : List ℕ). Leaves c.rows ws) (append_assoc before us vs) (y.postfix (before ++ us) (x.postfix before h));
+}
+
+pub adds-none : (t : Table) → Adds t t []
+adds-none t = record { front = front-none t; definitions = sym (append-nil (table_definitions t)); postfix = λ h. h }
+
+pub adds-trans : (a b c : Table) (ds es : List NamedDefinition) → Adds a b ds → Adds b c es → Adds a c (ds ++ es)
+adds-trans a b c ds es x y = record {
+  front = front-trans a b c x.front y.front;
+  definitions = y.definitions ∙ ap (λ zs. zs ++ es) x.definitions ∙ append_assoc (table_definitions a) ds es;
+  postfix = λ h. y.postfix (x.postfix h);
+}
+
+definitions-append : (is : List (List ℕ)) (ts : List Tree) (ds es : List Definition)
+    → definitions_from is [] ts (ds ++ es) ≡ definitions_from is [] ts ds ++ definitions_from is [] (references is ts ds) es
+definitions-append is ts [] es = refl
+definitions-append is ts (d ∷ ds) es =
+    ap (λ zs. definition_of is [] ts d ++ zs) (definitions-append is (ts ++ reference is ts d ∷ []) ds es)
+    ∙ sym (append_assoc (definition_of is [] ts d) (definitions_from is [] (ts ++ reference is ts d ∷ []) ds) (definitions_from is [] (references is (ts ++ reference is ts d ∷ []) ds) es))
+
+pub definitions-more : (old new : Table) (d : Definition) → new.interfaces ≡ old.interfaces → new.rows ≡ old.rows ++ d ∷ []
+    → table_definitions new ≡ table_definitions old ++ definition_of old.interfaces [] (table_trees old) d
+unfolding table_definitions table_trees
+definitions-more old new d is rows =
+    rw (is, rows) (definitions-append old.interfaces [] old.rows (d ∷ [])
+    ∙ ap (λ zs. definitions_from old.interfaces [] [] old.rows ++ zs) (append-nil (definition_of old.interfaces [] (references old.interfaces [] old.rows) d)))
+
+-- ---- one row more
+
+-- the table with one more row
+abbrev pub With : Table → Definition → Table → Type 0
+With old d new = new ≡ record { interfaces = old.interfaces; rows = old.rows ++ d ∷ [] }
+
+earlier-more : (n : ℕ) (ds : List Definition) (d : Definition) → IsTrue (are_earlier n ds) → definition_below (n + length ds) d ≡ true → IsTrue (are_earlier n (ds ++ d ∷ []))
+earlier-more n [] d h b = let e : n + 0 ≡ n = omega arith in both (definition_below n d) true (rw e at b) refl
+earlier-more n (e ∷ ds) d h b =
+    let hs = split (definition_below n e) (are_earlier (n + 1) ds) h in
+    let same : n + suc (length ds) ≡ n + 1 + length ds = omega arith in
+    both (definition_below n e) (are_earlier (n + 1) (ds ++ d ∷ [])) hs.0 (earlier-more (n + 1) ds d hs.1 (rw same at b))
+
+module _ (old new : Table) (d : Definition) (is : With old d new) where
+  pub with-rows : new.rows ≡ old.rows ++ d ∷ []
+  with-rows = ap (λ (t : Table). t.rows) is
+
+  pub with-names : new.interfaces ≡ old.interfaces
+  with-names = ap (λ (t : Table). t.interfaces) is
+
+  pub with-front : definition_below (length old.rows) d ≡ true → Front old new
+  with-front below = let zero_plus : 0 + length old.rows ≡ length old.rows = omega arith in record {
+    interfaces = with-names;
+    rows = (d ∷ [], with-rows);
+    earlier = λ h. subst (λ (ds : List Definition). IsTrue (are_earlier 0 ds)) (sym with-rows) (earlier-more 0 old.rows d h (rw zero_plus below));
+  }
+
+  pub with-definitions : table_definitions new ≡ table_definitions old ++ definition_of old.interfaces [] (table_trees old) d
+  with-definitions = definitions-more old new d with-names with-rows
+
+  pub with-stands : (id : TypeId) → id.0 ≡ length old.rows → Stands new (val.Id id) (reference old.interfaces (table_trees old) d)
+  with-stands id at =
+      let l : id.0 < length new.rows = omega (arith, ap length with-rows, length-append old.rows (d ∷ [])) in
+      record {
+        below = lt-ltb id.0 (length new.rows) l;
+        reads = rw (trees-more old new (d ∷ []) with-names with-rows) (get_or_at (table_trees old) (reference old.interfaces (table_trees old) d) [] TextTree id.0 (omega (arith, trees-length old)));
+      }
+
+  pub with-unnamed : (id : TypeId) → id.0 ≡ length old.rows → unnamed new.rows (val.Id id) ≡ one_if (is_unnamed d) id.0
+  with-unnamed id at = ap (λ (o : Option Definition). one_if (is_unnamed_row o) id.0) (ap (λ (ds : List Definition). slice_get ds id.0) with-rows ∙ get-end old.rows d id.0 at)
+
+-- ---- types inside others
+
+abbrev tree_of : Meaning → Tree
+tree_of (IsUse t) = t
+tree_of (IsType t) = t
+tree_of (IsFunction fs result) = TextTree
+
+inner-reads : (ts : List Tree) (k : TypeDefKind) (tree : Tree) → is_inner k ≡ true → meaning_of ts k ≡ IsType tree → read_kind ts k ≡ tree
+inner-reads ts (kind.List v) tree h e = ap tree_of e
+inner-reads ts (kind.Option v) tree h e = ap tree_of e
+inner-reads ts (kind.Result v w) tree h e = ap tree_of e
+inner-reads ts (kind.Tuple vs) tree h e = ap tree_of e
+inner-reads ts (kind.Use t) tree h e = absurd (cc)
+inner-reads ts (kind.Alias v) tree h e = absurd (cc)
+inner-reads ts (kind.Record fs) tree h e = absurd (cc)
+inner-reads ts (kind.Variant cs) tree h e = absurd (cc)
+inner-reads ts (kind.Enum ns) tree h e = absurd (cc)
+inner-reads ts (kind.Flags ns) tree h e = absurd (cc)
+
+pub is-inner : (k : TypeDefKind) → ((v : ValType) → k ≡ kind.Alias v → ⊥) → IsTrue (is_expressed k) → is_inner k ≡ true
+is-inner (kind.Alias v) n h = absurd (n v refl)
+is-inner (kind.List v) n h = refl
+is-inner (kind.Option v) n h = refl
+is-inner (kind.Result v w) n h = refl
+is-inner (kind.Tuple vs) n h = refl
+is-inner (kind.Use t) n h = h
+is-inner (kind.Record fs) n h = h
+is-inner (kind.Variant cs) n h = h
+is-inner (kind.Enum ns) n h = h
+is-inner (kind.Flags ns) n h = h
+
+pub alias-lowers : (first old : Table) (k : TypeDefKind) (v : ValType) (tree : Tree) → k ≡ kind.Alias v → LowersInner first old k tree → Lowers first old v tree
+alias-lowers first old k v tree is l = by (subst (λ (j : TypeDefKind). LowersKind first old j (IsType tree)) is l.lowers)
+  where
+    by : LowersKind first old (kind.Alias v) (IsType tree) → Lowers first old v tree
+    by m = record {
+      extends = subst (λ (us : List ℕ). Extends first old us) (sym m.names) m.extends;
+      stands = record { below = m.below; reads = ap tree_of m.means };
+    }
+
+pub inner-lowers : (first old new : Table) (k : TypeDefKind) (id : TypeId) (tree : Tree) → id.0 ≡ length old.rows → With old (inner_row k) new → is_inner k ≡ true
+    → LowersInner first old k tree → Lowers first new (val.Id id) tree
+inner-lowers first old new k id tree at is isinner li =
+    let l = li.lowers in
+    let front = with-front old new (inner_row k) is l.below in
+    let stands = with-stands old new (inner_row k) is id at in
+    let own : unnamed new.rows (val.Id id) ≡ length old.rows ∷ [] = with-unnamed old new (inner_row k) is id at ∙ ap (λ (n : ℕ). n ∷ []) at in
+    record {
+      extends = record {
+        front = front-trans first old new l.extends.front front;
+        same = with-definitions old new (inner_row k) is ∙ append-nil (table_definitions old) ∙ l.extends.same;
+        postfix = λ before h. subst (λ (us : List ℕ). Leaves new.rows (before ++ us)) (sym own)
+            (subst (λ (ds : List Definition). Leaves ds (before ++ length old.rows ∷ [])) (sym (with-rows old new (inner_row k) is)) (inner old.rows before k isinner (l.extends.postfix before h)));
+      };
+      stands = record { below = stands.below; reads = stands.reads ∙ inner-reads (table_trees old) k tree isinner l.means };
+    }

@@ -1,0 +1,125 @@
+-- The interfaces of a file, and its package.
+use Rattle.std.proofs.Common.{◌≡◌, ◌⊎◌, inl, inr, ℕ, ◌+◌, ◌<◌, ◌≤◌, List, [], ◌∷◌, Result, Ok, Err, IfOk, IfErr, map, length, get_or, refl, ap, sym, ◌∙◌, subst, arith, Contains, Bor}
+use Rattle.std.specs.List.{filter_map}
+use Rattle.wit_text.specs.Syntax.{FileEntry, AnInterface, AWorld, WorldEntry, File}
+use Rattle.wit_text.specs.View.{version_view}
+use Rattle.wit_text.specs.declared.ast.Interface.{Interface as Syntax}
+use Rattle.wit_text.specs.declared.ast.PackageId.{PackageId}
+use Rattle.resolve.specs.Order.{IsPlacement}
+use Rattle.resolve.specs.Scope.{AreDistinct}
+use Rattle.resolve.specs.Package.{package_of, interface_names as names_in, world_names}
+use Rattle.resolve.specs.Declarations.{InterfaceTree, interface_of, interfaces, interface_at, interface_name, interface_names, file_name}
+use Rattle.resolve.specs.Resolves.{Table, Resolves, package_in, table_of, interface_uses, type_uses, interfaces_from, interfaces_in, type_entries, PassesLimit, IsOfInterfaces, HasNoFaults, HasDistinctNames, HasCycle, IsPackageOf, Refuses}
+use Rattle.resolve.specs.Building.{DefinesPackage, table_definitions}
+use Rattle.resolve.specs.Finished.{IsFinished}
+use Rattle.resolve.specs.Knowing.{RefusesUnknown}
+use Rattle.resolve.specs.Shape.{HasInterfaces}
+use Rattle.resolve.specs.Postfix.{IsPostfix}
+use Rattle.resolve.specs.Sources.{interface_entry, interface_syntax}
+use Rattle.resolve.specs.declared.error.ResolveError.{ResolveError}
+use Rattle.resolve.specs.declared.error.ResolveError.TheVariants as error
+use Rattle.resolve.specs.declared.tables.Interface.{Interface}
+use Rattle.resolve.specs.declared.tables.World.{World}
+use Rattle.resolve.specs.declared.tables.Definition.{Definition}
+use Rattle.resolve.specs.declared.tables.Resolve.{Resolve}
+use Rattle.resolve.proofs.Lists.{contains-unmap, contains-here, contains-later, all-head}
+
+no-world : (i : Bor Syntax) (n : List ℕ) (ws : List WorldEntry) → interface_entry i ≡ AWorld n ws → ⊥
+no-world i n ws e = absurd (cc)
+
+pub of-interfaces : (f : File) (is : List (Bor Syntax)) → map interface_entry is ≡ f.entries → 0 < length f.entries → HasInterfaces f (map interface_entry is)
+of-interfaces f is e l = record {
+  alone = record {
+    some = λ none. let z = ap length none in absurd (omega (arith, l, z));
+    alone = λ w.
+        let c = subst (λ (es : List FileEntry). Contains es (AWorld w.0 w.1)) (sym e) w.2 in
+        let i = contains-unmap interface_entry is (AWorld w.0 w.1) c in
+        no-world i.0 w.0 w.1 i.2;
+  };
+  entries = e;
+}
+
+pub file-interfaces : (is : List (Bor Syntax)) → filter_map interface_of (map interface_entry is) ≡ map interface_syntax is
+file-interfaces [] = refl
+file-interfaces (i ∷ is) = ap (λ (ts : List InterfaceTree). interface_syntax i ∷ ts) (file-interfaces is)
+
+names-of : (es : List FileEntry) → ((n : List ℕ) (ws : List WorldEntry) → Contains es (AWorld n ws) → ⊥) → map interface_name (filter_map interface_of es) ≡ map file_name es
+names-of [] h = refl
+names-of (AnInterface n xs ∷ es) h = ap (λ (ns : List (List ℕ)). n ∷ ns) (names-of es (λ m ws c. h m ws (contains-later (AnInterface n xs) (AWorld m ws) es c)))
+names-of (AWorld n ws ∷ es) h = absurd (h n ws (contains-here (AWorld n ws) es))
+
+pub distinct-interfaces : (f : File) → HasNoFaults f → AreDistinct (interface_names (interfaces f))
+distinct-interfaces f h =
+    subst AreDistinct (sym (names-of f.entries (λ n ws c. h.interfaces.alone (n, ws, c)))) (all-head AreDistinct _ _ h.distinct)
+
+pub refuses-unknown : (f : File) (is : List InterfaceTree) (e : ResolveError) → is ≡ interfaces f → IsOfInterfaces f → HasDistinctNames f → RefusesUnknown is e → Refuses f e
+refuses-unknown f is (error.Unknown n) same alone distinct h = (alone, distinct, subst (λ ts. RefusesUnknown ts (error.Unknown n)) same h)
+refuses-unknown f is error.NoMemory same alone distinct h = tt
+refuses-unknown f is _ same alone distinct h = absurd h
+
+pub refuses-cycle : (f : File) (e : ResolveError) → HasNoFaults f → (e ≡ error.NoMemory) ⊎ ((e ≡ error.Cycle) × HasCycle f) → Refuses f e
+refuses-cycle f e h (inl q) = subst (Refuses f) (sym q) tt
+refuses-cycle f e h (inr q) = subst (Refuses f) (sym q.0) (h, q.1)
+
+-- ---- the package
+
+module _ (is : List InterfaceTree) (order : List ℕ) (orders : List (List ℕ)) (t : Table) (placed : IsPlacement (interface_uses is) order)
+    (types : (k : ℕ) → k < length is → IsPlacement (type_uses (interface_at is k)) (get_or orders k [])) (d : DefinesPackage is order orders t) where
+  pub table-resolves : Resolves is (package_in t)
+  unfolding table_definitions
+  table-resolves = record {
+    order = order;
+    placed = placed;
+    types = λ k. get_or orders k [];
+    types_placed = types;
+    names = d.interfaces;
+    definitions = d.definitions;
+  }
+
+  pub refuses-limit : (f : File) (e : ResolveError) → is ≡ interfaces f → HasNoFaults f → (e ≡ error.NoMemory) ⊎ ((e ≡ error.Limit) × PassesLimit t) → Refuses f e
+  refuses-limit f e same h (inl q) = subst (Refuses f) (sym q) tt
+  refuses-limit f e same h (inr q) = subst (Refuses f) (sym q.0) (inr (
+    h,
+    record {
+      table = t;
+      resolves = subst (λ (ts : List InterfaceTree). Resolves ts (package_in t)) same table-resolves;
+      postfix = d.postfix;
+      passes = q.1;
+    },
+  ))
+
+names-kept : (rows : List Definition) (i : ℕ) (ns : List (List ℕ)) → map (λ (x : Interface). x.name) (interfaces_from rows i ns) ≡ ns
+names-kept rows i [] = refl
+names-kept rows i (n ∷ ns) = ap (λ (ms : List (List ℕ)). n ∷ ms) (names-kept rows (i + 1) ns)
+
+module _ (id : PackageId) (t : Table) (r : Resolve) (f : IsFinished id t r) where
+  names-same : names_in r ≡ t.interfaces
+  names-same = ap (λ (xs : List Interface). map (λ (x : Interface). x.name) xs) f.interfaces ∙ names-kept t.rows 0 t.interfaces
+
+  table-same : table_of r ≡ t
+  table-same = rw (names-same, f.definitions) refl
+
+  package-same : package_of r ≡ package_in t
+  package-same =
+      let worlds : world_names r ≡ [] = ap (λ (ws : List World). map (λ (w : World). w.name) ws) f.worlds in
+      rw (names-same, worlds, f.definitions) refl
+
+  pub is-package : (g : File) → g.namespace ≡ id.namespace → g.name ≡ id.name → g.version ≡ version_view id.version → Resolves (interfaces g) (package_in t) → IsPostfix t.rows → IsPackageOf g r
+  is-package g ens en ev resolves postfix = record {
+    namespace = f.namespace ∙ sym ens;
+    name = f.name ∙ sym en;
+    version = f.version ∙ sym ev;
+    worlds = f.worlds;
+    resolves = subst (Resolves (interfaces g)) (sym package-same) resolves;
+    postfix = subst IsPostfix (sym f.definitions) postfix;
+    ids = f.interfaces ∙ ap interfaces_in (sym table-same);
+    within = subst (λ (x : Table). type_entries x ≤ 65535) (sym table-same) f.within;
+  }
+
+pub ok-map : {T E : Type 0} (r : Result T E) (P Q : T → Type 0) → ((x : T) → P x → Q x) → IfOk r P → IfOk r Q
+ok-map (Ok x) P Q f h = f x h
+ok-map (Err e) P Q f h = tt
+
+pub err-map : {T E : Type 0} (r : Result T E) (P Q : E → Type 0) → ((x : E) → P x → Q x) → IfErr r P → IfErr r Q
+err-map (Ok x) P Q f h = tt
+err-map (Err e) P Q f h = f e h

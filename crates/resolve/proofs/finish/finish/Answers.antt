@@ -1,0 +1,25 @@
+use Rattle.std.proofs.Common.{◌≡◌, ◌∙◌, List, IsTrue, length, ap, sym, subst, arith}
+use Rattle.resolve.specs.Tables.{are_earlier, are_standard, are_placed}
+use Rattle.resolve.specs.Resolves.{interfaces_from}
+use Rattle.resolve.specs.declared.tables.Definition.{Definition}
+use Rattle.resolve.specs.declared.tables.Interface.{Interface}
+use Rattle.resolve.proofs.Finishing.{within-entries, few-rows, all-placed-ids}
+use Rattle.resolve.proofs.finish.finish.Goals as goal
+
+pub interfaces_in-requires : goal.interfaces_in-requires
+interfaces_in-requires c =
+    let same : c.deref-2.result.now ≡ c.deref.result.now = c.deref-2.ensures.value ∙ sym c.deref.ensures.value in
+    let few = few-rows c.deref.result.now c.len.result (within-entries c.deref.result.now c.len.result c.passes_entries.result c.passes_entries.ensures c.if-passes_entries.false) in
+    omega (arith, ap length same, few)
+
+pub invariant_of-result : goal.invariant_of-result
+invariant_of-result c =
+    let rows : c.new-3.result ≡ c.args.builder.rows = c.new-3.ensures ∙ c.into_parts-names.ensures.rows in
+    let tested : c.new-3.result ≡ c.deref-else-passes_entries.result.now = c.new-3.ensures ∙ sym c.deref-else-passes_entries.ensures.value in
+    let listed : c.new-3.result ≡ c.deref-2.result.now = c.new-3.ensures ∙ sym c.deref-2.ensures.value in
+    record {
+      earlier = subst (λ (ds : List Definition). IsTrue (are_earlier 0 ds)) (sym rows) c.requires;
+      standard = subst (λ (ds : List Definition). IsTrue (are_standard ds)) (sym tested) (sym c.are_standard.ensures ∙ c.if-not-are_standard.false);
+      placed = subst (λ (is : List Interface). IsTrue (are_placed c.new-3.result is)) (sym c.in_ok-interfaces_in.ensures)
+          (subst (λ (ds : List Definition). IsTrue (are_placed c.new-3.result (interfaces_from ds 0 c.deref-3.result.now))) listed (all-placed-ids c.new-3.result 0 c.deref-3.result.now));
+    }

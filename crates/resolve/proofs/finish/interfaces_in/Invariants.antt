@@ -1,0 +1,6 @@
+use Rattle.std.proofs.Common.{◌≡◌, take}
+use Rattle.resolve.specs.Resolves.{interfaces_from}
+use Rattle.resolve.proofs.finish.interfaces_in.Given as goal
+
+abbrev pub invariant-loop-place : goal.invariant-loop-place
+invariant-loop-place l = l.interfaces.items ≡ interfaces_from l.rows 0 (take l.place l.names)

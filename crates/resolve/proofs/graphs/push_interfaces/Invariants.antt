@@ -1,0 +1,7 @@
+use Rattle.std.proofs.Common.{◌≡◌, ◌++◌, map, take}
+use Rattle.resolve.specs.Declarations.{use_interface}
+use Rattle.resolve.specs.Lent.{lent, used_item_of}
+use Rattle.resolve.proofs.graphs.push_interfaces.Given as goal
+
+abbrev pub invariant-loop-used : goal.invariant-loop-used
+invariant-loop-used l = lent l.names.items ≡ lent l.initial.names.items ++ map use_interface (map used_item_of (take l.used-index l.uses))

@@ -1,0 +1,10 @@
+use Rattle.std.proofs.Common.{◌≡◌, ◌++◌, map, take}
+use Rattle.wit_text.specs.Syntax.{tys_of}
+use Rattle.wit_text.specs.View.{ty_view}
+use Rattle.resolve.specs.Declarations.{named_all}
+use Rattle.resolve.specs.Lent.{lent}
+use Rattle.resolve.proofs.named.+named.Given as goal
+
+abbrev pub invariant-push_named_all-loop-ty : goal.invariant-push_named_all-loop-ty
+invariant-push_named_all-loop-ty l =
+    lent l.names.items ≡ lent l.initial.names.items ++ named_all (tys_of (map ty_view (take l.ty-index l.ty-items)))

@@ -1,0 +1,190 @@
+-- What the building of a table keeps.
+use Rattle.std.specs.Prelude.{ℕ, ◌<◌, ◌≡◌, Bool, true, List, [], ◌∷◌, ◌++◌, map, flat_map, length, slice_index_or, All, Contains, take, Option, IsTrue}
+use Rattle.std.specs.List.{list_all}
+use Rattle.std.specs.Option.{option_map}
+use Rattle.resolve.specs.Tables.{is_below, option_below, kind_below, are_earlier}
+use Rattle.resolve.specs.Package.{Tree, Reference, NamedDefinition, Meaning, IsType, references, definitions_from, read_val, meaning_of}
+use Rattle.resolve.specs.Postfix.{Leaves, IsPostfix, unnamed, unnamed_if, unnamed_field, unnamed_case, unnamed_parameter, parts, aliased, is_inner}
+use Rattle.resolve.specs.Declarations.{UsedItem, TypeItem, InterfaceTree, interface_at, named_definition, named_function, used_names, type_names}
+use Rattle.resolve.specs.Resolved.{Labelled, Choice, interface_meaning, no_type}
+use Rattle.resolve.specs.Resolves.{Table, names_in_order}
+use Rattle.resolve.specs.declared.tables.ValType.{ValType}
+use Rattle.resolve.specs.declared.tables.ValType.TheVariants as val
+use Rattle.resolve.specs.declared.tables.InterfaceId.{InterfaceId}
+use Rattle.resolve.specs.declared.tables.Definition.{Definition}
+use Rattle.resolve.specs.declared.tables.Parameter.{Parameter}
+use Rattle.resolve.specs.declared.tables.Field.{Field}
+use Rattle.resolve.specs.declared.tables.Case.{Case}
+use Rattle.resolve.specs.declared.tables.TypeDefKind.{TypeDefKind}
+use Rattle.resolve.specs.declared.tables.TypeDefKind.TheVariants as kind
+use Rattle.resolve.specs.declared.known.Entry.{Entry}
+use Rattle.resolve.specs.declared.known.KnownTypes.{KnownTypes}
+
+-- what a reference to each row of a table stands for, and the definitions with names
+unfoldable pub table_trees : Table → List Tree
+table_trees t = references t.interfaces [] t.rows
+
+unfoldable pub table_definitions : Table → List NamedDefinition
+table_definitions t = definitions_from t.interfaces [] [] t.rows
+
+abbrev pub name_at : Table → ℕ → List ℕ
+name_at t i = slice_index_or t.interfaces i []
+
+-- new is old with more rows behind it
+pub record Front (old new : Table) : Type 0 where
+  pub interfaces : new.interfaces ≡ old.interfaces
+  pub rows : (more : List Definition) × (new.rows ≡ old.rows ++ more)
+  pub earlier : IsTrue (are_earlier 0 old.rows) → IsTrue (are_earlier 0 new.rows)
+
+-- .. with these definitions; no row is left to be used
+pub record Adds (old new : Table) (ds : List NamedDefinition) : Type 0 where
+  pub front : Front old new
+  pub definitions : table_definitions new ≡ table_definitions old ++ ds
+  pub postfix : Leaves old.rows [] → Leaves new.rows []
+
+-- .. with no definition that has a name; these rows are to be used
+pub record Extends (old new : Table) (unused : List ℕ) : Type 0 where
+  pub front : Front old new
+  pub same : table_definitions new ≡ table_definitions old
+  pub postfix : (before : List ℕ) → Leaves old.rows before → Leaves new.rows (before ++ unused)
+
+-- the type stands in the table and reads as the tree
+pub record Stands (t : Table) (v : ValType) (tree : Tree) : Type 0 where
+  pub below : is_below (length t.rows) v ≡ true
+  pub reads : read_val (table_trees t) v ≡ tree
+
+-- the table got the rows that the type needs
+pub record Lowers (old new : Table) (v : ValType) (tree : Tree) : Type 0 where
+  pub extends : Extends old new (unnamed new.rows v)
+  pub stands : Stands new v tree
+
+pub record LowersIf (old new : Table) (v : Option ValType) (tree : Option Tree) : Type 0 where
+  pub extends : Extends old new (unnamed_if new.rows v)
+  pub below : option_below (length new.rows) v ≡ true
+  pub reads : option_map (read_val (table_trees new)) v ≡ tree
+
+-- the table got the rows that these need, which stand in it and read so
+pub record LowersEach {A X : Type 0} (below : ℕ → A → Bool) (read : List Tree → A → X) (rest : List Definition → A → List ℕ) (old new : Table) (vs : List A) (xs : List X) : Type 0 where
+  pub extends : Extends old new (flat_map (rest new.rows) vs)
+  pub within : list_all (below (length new.rows)) vs ≡ true
+  pub reads : map (read (table_trees new)) vs ≡ xs
+
+abbrev pub read_field : List Tree → Field → Labelled
+read_field trees f = record { name = f.name; tree = read_val trees f.ty }
+
+abbrev pub read_parameter : List Tree → Parameter → Labelled
+read_parameter trees f = record { name = f.name; tree = read_val trees f.ty }
+
+abbrev pub read_case : List Tree → Case → Choice
+read_case trees c = record { name = c.name; payload = option_map (read_val trees) c.ty }
+
+abbrev pub field_below : ℕ → Field → Bool
+field_below n f = is_below n f.ty
+
+abbrev pub parameter_below : ℕ → Parameter → Bool
+parameter_below n f = is_below n f.ty
+
+abbrev pub case_below : ℕ → Case → Bool
+case_below n c = option_below n c.ty
+
+abbrev pub LowersAll : Table → Table → List ValType → List Tree → Type 0
+LowersAll = LowersEach is_below read_val unnamed
+
+abbrev pub LowersFields : Table → Table → List Field → List Labelled → Type 0
+LowersFields = LowersEach field_below read_field unnamed_field
+
+abbrev pub LowersParameters : Table → Table → List Parameter → List Labelled → Type 0
+LowersParameters = LowersEach parameter_below read_parameter unnamed_parameter
+
+abbrev pub LowersCases : Table → Table → List Case → List Choice → Type 0
+LowersCases = LowersEach case_below read_case unnamed_case
+
+-- the table got the rows that the kind needs
+pub record LowersKind (old new : Table) (k : TypeDefKind) (m : Meaning) : Type 0 where
+  pub extends : Extends old new (parts new.rows k)
+  pub below : kind_below (length new.rows) k ≡ true
+  pub means : meaning_of (table_trees new) k ≡ m
+  pub names : aliased new.rows k ≡ []
+
+abbrev pub is_expressed : TypeDefKind → Bool
+is_expressed (kind.Alias v) = true
+is_expressed k = is_inner k
+
+-- .. of a type that is written in an expression
+pub record LowersInner (old new : Table) (k : TypeDefKind) (tree : Tree) : Type 0 where
+  pub lowers : LowersKind old new k (IsType tree)
+  pub inner : IsTrue (is_expressed k)
+
+-- ---- scopes
+
+-- each name is that name of the interface, and a row with a name
+pub record IsEntry (t : Table) (i : List ℕ) (e : Entry) : Type 0 where
+  pub stands : Stands t (val.Id e.id) (Reference (record { interface = i; name = e.name }))
+  pub named : unnamed t.rows (val.Id e.id) ≡ []
+
+pub record IsScope (t : Table) (s : KnownTypes) : Type 0 where
+  pub place : s.interface.0 < length t.interfaces
+  pub each : All (IsEntry t (name_at t s.interface.0)) s.entries
+
+-- the name of a scope's interface
+abbrev pub scope_name : Table → KnownTypes → List ℕ
+scope_name t s = name_at t s.interface.0
+
+abbrev pub scope_names : KnownTypes → List (List ℕ)
+scope_names s = map (λ e. e.name) s.entries
+
+-- these names are known
+abbrev pub KnowsNames : KnownTypes → List (List ℕ) → Type 0
+KnowsNames s ns = All (Contains (scope_names s)) ns
+
+abbrev pub names_of : List NamedDefinition → List (List ℕ)
+names_of ds = map (λ d. d.key.name) ds
+
+-- the table and the scope of an interface grew by these definitions
+pub record Grows (old : Table) (before : KnownTypes) (new : Table) (after : KnownTypes) (ds : List NamedDefinition) : Type 0 where
+  pub adds : Adds old new ds
+  pub scoped : IsScope new after
+  pub interface : after.interface ≡ before.interface
+  pub names : scope_names after ≡ scope_names before ++ names_of ds
+
+-- the table and the scope grow by a definition of this kind, whatever it means
+abbrev pub DefinesNamed : Table → KnownTypes → Table → KnownTypes → List ℕ → TypeDefKind → Type 0
+DefinesNamed old before new after name k = (first : Table) (m : Meaning) → IsScope first before → LowersKind first old k m
+    → Grows first before new after (record { key = record { interface = scope_name first before; name = name }; meaning = m } ∷ [])
+
+-- each type names only what stands before it: these names, and those of the types before it in the order
+abbrev pub NamesEarlier : List (List ℕ) → List TypeItem → List ℕ → Type 0
+NamesEarlier names types order = (k : ℕ) → k < length order → (slice_index_or order k 0 < length types)
+    × All (Contains (names ++ map (λ j. (slice_index_or types j no_type).name) (take k order)))
+    (named_definition (slice_index_or types (slice_index_or order k 0) no_type).definition)
+
+-- an interface of the name stands before, and each of the name has the type
+pub record CanUse (t : Table) (scopes : List KnownTypes) (u : UsedItem) : Type 0 where
+  pub some : (s : KnownTypes) × Contains scopes s × (scope_name t s ≡ u.interface)
+  pub each : All (λ s. scope_name t s ≡ u.interface → Contains (scope_names s) u.name) scopes
+
+abbrev pub ordered_names : List TypeItem → List ℕ → List (List ℕ)
+ordered_names types order = map (λ j. (slice_index_or types j no_type).name) order
+
+abbrev pub TypesKnown : InterfaceTree → Type 0
+TypesKnown i = All (λ t. All (Contains (type_names i)) (named_definition t.definition)) i.types
+
+abbrev pub FunctionsKnown : InterfaceTree → Type 0
+FunctionsKnown i = All (λ f. All (Contains (type_names i)) (named_function f.function)) i.functions
+
+-- the table got the interface's definitions, and its scope has the names of its uses and types
+pub record DefinesInterface (old new : Table) (s : KnownTypes) (place : InterfaceId) (i : InterfaceTree) (order : List ℕ) : Type 0 where
+  pub adds : Adds old new (interface_meaning i order)
+  pub scoped : IsScope new s
+  pub interface : s.interface ≡ place
+  pub names : scope_names s ≡ used_names i ++ ordered_names i.types order
+
+-- the definitions of the interfaces in this order, the types of each in its own
+abbrev pub package_meaning : List InterfaceTree → List (List ℕ) → List ℕ → List NamedDefinition
+package_meaning is orders order = flat_map (λ k. interface_meaning (interface_at is k) (slice_index_or orders k [])) order
+
+pub record DefinesPackage (is : List InterfaceTree) (order : List ℕ) (orders : List (List ℕ)) (t : Table) : Type 0 where
+  pub interfaces : t.interfaces ≡ names_in_order is order
+  pub definitions : table_definitions t ≡ package_meaning is orders order
+  pub postfix : IsPostfix t.rows
+  pub earlier : IsTrue (are_earlier 0 t.rows)

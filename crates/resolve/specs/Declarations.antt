@@ -1,0 +1,179 @@
+-- What the interfaces of a syntax tree declare: used names, types and functions, each in source order; and what they name.
+use Rattle.std.specs.Prelude.{ℕ, List, [], ◌∷◌, ◌++◌, map, flat_map, filter_map, Option, None, Some, slice_index_or}
+use Rattle.wit_text.specs.Syntax.{Ty, Prim, Named, ListOf, OptionOf, TupleOf, ResultOf, Tys, none, more, MaybeTy, Absent, Present, Definition, Alias, Record, Variant, Enumeration, FlagSet, Function, Member, CaseOf, PathTo, Local, UsedAs, Entry, Uses, Defines, Declares, FileEntry, AnInterface, AWorld, File}
+
+-- `use interface.{name as local}`
+pub record UsedItem : Type 0 where
+  pub interface : List ℕ
+  pub name : List ℕ
+  pub local : List ℕ
+
+pub record TypeItem : Type 0 where
+  pub name : List ℕ
+  pub definition : Definition
+
+pub record FunctionItem : Type 0 where
+  pub name : List ℕ
+  pub function : Function
+
+pub record InterfaceTree : Type 0 where
+  pub name : List ℕ
+  pub uses : List UsedItem
+  pub types : List TypeItem
+  pub functions : List FunctionItem
+
+abbrev pub name_or : Option (List ℕ) → List ℕ → List ℕ
+name_or None n = n
+name_or (Some m) n = m
+
+abbrev pub local_name : UsedAs → List ℕ
+local_name u = name_or u.local u.name
+
+abbrev pub used_item : PathTo → UsedAs → UsedItem
+used_item (Local i) u = record { interface = i; name = u.name; local = local_name u }
+
+abbrev pub entry_uses : Entry → List UsedItem
+entry_uses (Uses p us) = map (used_item p) us
+entry_uses (Defines n d) = []
+entry_uses (Declares n f) = []
+
+abbrev pub entry_types : Entry → List TypeItem
+entry_types (Uses p us) = []
+entry_types (Defines n d) = record { name = n; definition = d } ∷ []
+entry_types (Declares n f) = []
+
+abbrev pub entry_functions : Entry → List FunctionItem
+entry_functions (Uses p us) = []
+entry_functions (Defines n d) = []
+entry_functions (Declares n f) = record { name = n; function = f } ∷ []
+
+abbrev pub interface_tree : List ℕ → List Entry → InterfaceTree
+interface_tree n es = record {
+  name = n;
+  uses = flat_map entry_uses es;
+  types = flat_map entry_types es;
+  functions = flat_map entry_functions es;
+}
+
+abbrev pub interface_of : FileEntry → Option InterfaceTree
+interface_of (AnInterface n es) = Some (interface_tree n es)
+interface_of (AWorld n es) = None
+
+-- the interfaces of a file
+abbrev pub interfaces : File → List InterfaceTree
+interfaces f = filter_map interface_of f.entries
+
+abbrev pub no_interface : InterfaceTree
+no_interface = record { name = []; uses = []; types = []; functions = [] }
+
+abbrev pub interface_at : List InterfaceTree → ℕ → InterfaceTree
+interface_at is k = slice_index_or is k no_interface
+
+-- ---- names
+
+-- the names that a type names, from the left
+abbrev mutual
+  pub named : Ty → List (List ℕ)
+  named (Prim p) = []
+  named (Named n) = n ∷ []
+  named (ListOf t) = named t
+  named (OptionOf t) = named t
+  named (TupleOf ts) = named_all ts
+  named (ResultOf ok error) = named_maybe ok ++ named_maybe error
+
+  pub named_all : Tys → List (List ℕ)
+  named_all none = []
+  named_all (more t ts) = named t ++ named_all ts
+
+  pub named_maybe : MaybeTy → List (List ℕ)
+  named_maybe Absent = []
+  named_maybe (Present t) = named t
+
+abbrev pub named_if : Option Ty → List (List ℕ)
+named_if None = []
+named_if (Some t) = named t
+
+abbrev pub named_member : Member → List (List ℕ)
+named_member m = named m.ty
+
+abbrev pub named_case : CaseOf → List (List ℕ)
+named_case c = named_if c.payload
+
+abbrev pub named_definition : Definition → List (List ℕ)
+named_definition (Alias t) = named t
+named_definition (Record ms) = flat_map named_member ms
+named_definition (Variant cs) = flat_map named_case cs
+named_definition (Enumeration ns) = []
+named_definition (FlagSet ns) = []
+
+abbrev pub named_function : Function → List (List ℕ)
+named_function f = flat_map named_member f.params ++ named_if f.result
+
+abbrev pub interface_name : InterfaceTree → List ℕ
+interface_name i = i.name
+
+abbrev pub interface_names : List InterfaceTree → List (List ℕ)
+interface_names is = map interface_name is
+
+abbrev pub use_interface : UsedItem → List ℕ
+use_interface u = u.interface
+
+abbrev pub use_local : UsedItem → List ℕ
+use_local u = u.local
+
+abbrev pub type_name : TypeItem → List ℕ
+type_name t = t.name
+
+abbrev pub used_names : InterfaceTree → List (List ℕ)
+used_names i = map use_local i.uses
+
+abbrev pub own_types : InterfaceTree → List (List ℕ)
+own_types i = map type_name i.types
+
+-- the names by which types stand in an interface
+abbrev pub type_names : InterfaceTree → List (List ℕ)
+type_names i = used_names i ++ own_types i
+
+-- ---- scopes, in which names differ in more than the case of their letters
+
+abbrev pub member_name : Member → List ℕ
+member_name m = m.name
+
+abbrev pub case_name : CaseOf → List ℕ
+case_name c = c.name
+
+abbrev pub definition_scopes : Definition → List (List (List ℕ))
+definition_scopes (Alias t) = []
+definition_scopes (Record ms) = map member_name ms ∷ []
+definition_scopes (Variant cs) = map case_name cs ∷ []
+definition_scopes (Enumeration ns) = ns ∷ []
+definition_scopes (FlagSet ns) = ns ∷ []
+
+abbrev pub entry_names : Entry → List (List ℕ)
+entry_names (Uses p us) = map local_name us
+entry_names (Defines n d) = n ∷ []
+entry_names (Declares n f) = n ∷ []
+
+abbrev pub entry_scopes : Entry → List (List (List ℕ))
+entry_scopes (Uses p us) = []
+entry_scopes (Defines n d) = definition_scopes d
+entry_scopes (Declares n f) = map member_name f.params ∷ []
+
+-- an interface's uses, types and functions share one scope
+abbrev pub item_scopes : List Entry → List (List (List ℕ))
+item_scopes es = flat_map entry_names es ∷ flat_map entry_scopes es
+
+abbrev pub interface_scopes : FileEntry → List (List (List ℕ))
+interface_scopes (AnInterface n es) = item_scopes es
+interface_scopes (AWorld n es) = []
+
+abbrev pub file_name : FileEntry → List ℕ
+file_name (AnInterface n es) = n
+file_name (AWorld n es) = n
+
+-- interfaces and worlds share one scope
+abbrev pub scopes_in : List FileEntry → List (List (List ℕ))
+scopes_in es = map file_name es ∷ flat_map interface_scopes es
+
+abbrev pub scopes : File → List (List (List ℕ))
+scopes f = scopes_in f.entries

@@ -1,0 +1,279 @@
+-- What a syntax tree stands for: the package that it resolves to, and when it is refused.
+use Rattle.std.specs.Prelude.{◌≡◌, ◌≢◌, ◌<◌, ◌≤◌, ◌+◌, ℕ, suc, Bool, true, false, List, [], ◌∷◌, map, flat_map, filter_map, sum, length, All, Contains, Option, None, Some, ◌⊎◌, if◌then◌else◌, ◌==◌, ◌&&◌, not, nat_le}
+use Rattle.std.specs.List.{list_all}
+use Rattle.std.specs.Option.{option_map}
+use Rattle.std.specs.Str.{bytes_eq}
+use Rattle.wit_text.specs.Syntax.{Ty, depth, Member, CaseOf, Definition as Body, Alias, Record, Variant, Enumeration, FlagSet, Function as Signature, Entry, Uses, Defines, Declares, WorldEntry, FileEntry, AnInterface, AWorld, File}
+use Rattle.wit_text.specs.View.{version_view}
+use Rattle.resolve.specs.Scope.{AreDistinct, IsDuplicate}
+use Rattle.resolve.specs.Order.{IsPlacement, IsCycle}
+use Rattle.resolve.specs.Tables.{are_standard}
+use Rattle.resolve.specs.Package.{Package, definitions_from, package_of, interface_names as names_in}
+use Rattle.resolve.specs.Postfix.{IsPostfix}
+use Rattle.resolve.specs.Declarations.{UsedItem, TypeItem, FunctionItem, InterfaceTree, interfaces, interface_at, interface_names, use_interface, type_names, own_types, named_definition, named_function, scopes}
+use Rattle.resolve.specs.Resolved.{interface_meaning}
+use Rattle.resolve.specs.declared.error.ResolveError.{ResolveError}
+use Rattle.resolve.specs.declared.error.ResolveError.TheVariants as error
+use Rattle.resolve.specs.declared.tables.ValType.TheVariants as val
+use Rattle.resolve.specs.declared.tables.TypeDefKind.{TypeDefKind}
+use Rattle.resolve.specs.declared.tables.TypeDefKind.TheVariants as kind
+use Rattle.resolve.specs.declared.tables.TypeName.{TypeName}
+use Rattle.resolve.specs.declared.tables.TypeId.{TypeId}
+use Rattle.resolve.specs.declared.tables.FunctionId.{FunctionId}
+use Rattle.resolve.specs.declared.tables.Owner.{Owner}
+use Rattle.resolve.specs.declared.tables.Owner.TheVariants as owner
+use Rattle.resolve.specs.declared.tables.Definition.{Definition}
+use Rattle.resolve.specs.declared.tables.Definition.TheVariants as row
+use Rattle.resolve.specs.declared.tables.Interface.{Interface}
+use Rattle.resolve.specs.declared.tables.Resolve.{Resolve}
+
+-- ---- order
+
+-- the first place of a name in a list of names
+abbrev pub place_of : List (List ℕ) → List ℕ → Option ℕ
+place_of [] n = None
+place_of (m ∷ ms) n = if bytes_eq m n then Some 0 else option_map suc (place_of ms n)
+
+-- the places of these names, without those that don't stand in the list
+abbrev pub places : List (List ℕ) → List (List ℕ) → List ℕ
+places ns wanted = filter_map (place_of ns) wanted
+
+abbrev pub uses_of_interface : List (List ℕ) → InterfaceTree → List ℕ
+uses_of_interface ns i = places ns (map use_interface i.uses)
+
+-- which interfaces each interface uses
+abbrev pub interface_uses : List InterfaceTree → List (List ℕ)
+interface_uses is = map (uses_of_interface (interface_names is)) is
+
+abbrev pub uses_of_type : List (List ℕ) → TypeItem → List ℕ
+uses_of_type ns t = places ns (named_definition t.definition)
+
+-- which types of the interface each of its types names
+abbrev pub type_uses : InterfaceTree → List (List ℕ)
+type_uses i = map (uses_of_type (own_types i)) i.types
+
+-- ---- the package
+
+abbrev pub names_in_order : List InterfaceTree → List ℕ → List (List ℕ)
+names_in_order is order = map (λ k. (interface_at is k).name) order
+
+-- The package has the interfaces in the order in which each is placed, and each one's uses, its types in the order in which each is
+-- placed, and its functions.
+pub record Resolves (is : List InterfaceTree) (p : Package) : Type 0 where
+  pub order : List ℕ
+  pub placed : IsPlacement (interface_uses is) order
+  pub types : ℕ → List ℕ
+  pub types_placed : (k : ℕ) → k < length is → IsPlacement (type_uses (interface_at is k)) (types k)
+  pub names : p.interfaces ≡ names_in_order is order
+  pub definitions : p.definitions ≡ flat_map (λ k. interface_meaning (interface_at is k) (types k)) order
+
+-- the names of interfaces and the definitions of a package without worlds
+pub record Table : Type 0 where
+  pub interfaces : List (List ℕ)
+  pub rows : List Definition
+
+abbrev pub package_in : Table → Package
+package_in t = record { interfaces = t.interfaces; definitions = definitions_from t.interfaces [] [] t.rows }
+
+abbrev pub table_of : Resolve → Table
+table_of r = record { interfaces = names_in r; rows = r.definitions }
+
+-- ---- the ids of an interface
+
+-- the places of the rows with this property, the first of which stands at place n
+abbrev pub places_where : (Definition → Bool) → ℕ → List Definition → List ℕ
+places_where is n [] = []
+places_where is n (d ∷ ds) = if is d then n ∷ places_where is (n + 1) ds else places_where is (n + 1) ds
+
+abbrev pub is_in : ℕ → Option TypeName → Bool
+is_in i None = false
+is_in i (Some n) = n.interface.0 == i
+
+abbrev pub is_use : TypeDefKind → Bool
+is_use (kind.Use t) = true
+is_use _ = false
+
+abbrev pub is_use_in : ℕ → Definition → Bool
+is_use_in i (row.Type d) = is_in i d.name && is_use d.kind
+is_use_in i (row.Function f) = false
+
+abbrev pub is_type_in : ℕ → Definition → Bool
+is_type_in i (row.Type d) = is_in i d.name && not (is_use d.kind)
+is_type_in i (row.Function f) = false
+
+abbrev pub is_owned_by : ℕ → Owner → Bool
+is_owned_by i (owner.Interface k) = k.0 == i
+is_owned_by i (owner.World w) = false
+
+abbrev pub is_function_in : ℕ → Definition → Bool
+is_function_in i (row.Type d) = false
+is_function_in i (row.Function f) = is_owned_by i f.owner
+
+abbrev pub type_id : ℕ → TypeId
+type_id n = record { 0 = n }
+
+abbrev pub function_id : ℕ → FunctionId
+function_id n = record { 0 = n }
+
+-- interface i of these rows: its used names, its types and its functions in table order
+abbrev pub interface_in : List Definition → ℕ → List ℕ → Interface
+interface_in rows i name = record {
+  name = name;
+  uses = map type_id (places_where (is_use_in i) 0 rows);
+  types = map type_id (places_where (is_type_in i) 0 rows);
+  functions = map function_id (places_where (is_function_in i) 0 rows);
+}
+
+abbrev pub interfaces_from : List Definition → ℕ → List (List ℕ) → List Interface
+interfaces_from rows i [] = []
+interfaces_from rows i (n ∷ ns) = interface_in rows i n ∷ interfaces_from rows (i + 1) ns
+
+abbrev pub interfaces_in : Table → List Interface
+interfaces_in t = interfaces_from t.rows 0 t.interfaces
+
+-- ---- limits: all that takes a type index in the package's binary
+
+-- a used name has an alias in the component type, an outer alias and an export; a new name of a named type its export alone
+abbrev pub entries_under : Option TypeName → TypeDefKind → ℕ
+entries_under None k = 1
+entries_under (Some n) (kind.Use t) = 3
+entries_under (Some n) (kind.Alias (val.Id t)) = 1
+entries_under (Some n) k = 2
+
+abbrev pub entries_of : Definition → ℕ
+entries_of (row.Type d) = entries_under d.name d.kind
+entries_of (row.Function f) = 1
+
+-- the component type, an instance type for each interface, and what each row takes
+abbrev pub type_entries : Table → ℕ
+type_entries t = 1 + length t.interfaces + sum (map entries_of t.rows)
+
+-- too many type entries, cases or labels; or a type without any, which no text has
+abbrev pub PassesLimit : Table → Type 0
+PassesLimit t = (65535 < type_entries t) ⊎ (are_standard t.rows ≡ false)
+
+-- ---- faults
+
+abbrev pub HasWorld : File → Type 0
+HasWorld f = (n : List ℕ) × (es : List WorldEntry) × Contains f.entries (AWorld n es)
+
+abbrev pub HasDuplicate : File → List ℕ → Type 0
+HasDuplicate f n = (ns : List (List ℕ)) × Contains (scopes f) ns × IsDuplicate ns n
+
+-- in no scope a name stands twice
+abbrev pub HasDistinctNames : File → Type 0
+HasDistinctNames f = All AreDistinct (scopes f)
+
+-- a used name stands in an interface of that name
+abbrev pub IsKnownUse : List InterfaceTree → UsedItem → Type 0
+IsKnownUse is u = (j : InterfaceTree) × Contains is j × (j.name ≡ u.interface) × Contains (type_names j) u.name
+
+-- the interface isn't there, or it lacks the name
+abbrev pub IsUnknownUse : List InterfaceTree → UsedItem → List ℕ → Type 0
+IsUnknownUse is u n =
+    ((n ≡ u.interface) × (¬ Contains (interface_names is) n))
+    ⊎ ((n ≡ u.name) × ((j : InterfaceTree) × Contains is j × (j.name ≡ u.interface) × (¬ Contains (type_names j) n)))
+
+-- a type is named by a name of its own interface
+abbrev pub IsUnknownName : InterfaceTree → List (List ℕ) → List ℕ → Type 0
+IsUnknownName i ns n = Contains ns n × (¬ Contains (type_names i) n)
+
+abbrev pub IsUnknownIn : List InterfaceTree → InterfaceTree → List ℕ → Type 0
+IsUnknownIn is i n =
+    ((u : UsedItem) × Contains i.uses u × IsUnknownUse is u n)
+    ⊎ (((t : TypeItem) × Contains i.types t × IsUnknownName i (named_definition t.definition) n)
+    ⊎ ((f : FunctionItem) × Contains i.functions f × IsUnknownName i (named_function f.function) n))
+
+abbrev pub HasUnknown : File → List ℕ → Type 0
+HasUnknown f n = (i : InterfaceTree) × Contains (interfaces f) i × IsUnknownIn (interfaces f) i n
+
+pub record HasKnownNames (is : List InterfaceTree) (i : InterfaceTree) : Type 0 where
+  pub uses : All (IsKnownUse is) i.uses
+  pub types : All (λ t. All (Contains (type_names i)) (named_definition t.definition)) i.types
+  pub functions : All (λ f. All (Contains (type_names i)) (named_function f.function)) i.functions
+
+-- each name stands for something
+abbrev pub KnowsAll : File → Type 0
+KnowsAll f = All (HasKnownNames (interfaces f)) (interfaces f)
+
+-- interfaces that use each other, or types of one interface that name each other
+abbrev pub HasCycle : File → Type 0
+HasCycle f =
+    ((group : ℕ → Bool) × IsCycle (interface_uses (interfaces f)) group)
+    ⊎ ((i : InterfaceTree) × Contains (interfaces f) i × ((group : ℕ → Bool) × IsCycle (type_uses i) group))
+
+-- a type is nested at most 64 deep, as in every text
+abbrev pub fits : Ty → Bool
+fits t = nat_le (depth t) 64
+
+abbrev pub fits_if : Option Ty → Bool
+fits_if None = true
+fits_if (Some t) = fits t
+
+abbrev pub member_fits : Member → Bool
+member_fits m = fits m.ty
+
+abbrev pub case_fits : CaseOf → Bool
+case_fits c = fits_if c.payload
+
+abbrev pub body_fits : Body → Bool
+body_fits (Alias t) = fits t
+body_fits (Record ms) = list_all member_fits ms
+body_fits (Variant cs) = list_all case_fits cs
+body_fits (Enumeration ns) = true
+body_fits (FlagSet ns) = true
+
+abbrev pub signature_fits : Signature → Bool
+signature_fits f = list_all member_fits f.params && fits_if f.result
+
+abbrev pub entry_fits : Entry → Bool
+entry_fits (Uses p us) = true
+entry_fits (Defines n d) = body_fits d
+entry_fits (Declares n f) = signature_fits f
+
+abbrev pub interface_fits : FileEntry → Bool
+interface_fits (AnInterface n es) = list_all entry_fits es
+interface_fits (AWorld n es) = true
+
+abbrev pub file_fits : File → Bool
+file_fits f = list_all interface_fits f.entries
+
+-- ---- what is answered
+
+-- The package of a tree. The rows without names and the ids of the interfaces are told as well, so that there is one answer alone.
+pub record IsPackageOf (f : File) (r : Resolve) : Type 0 where
+  pub namespace : r.namespace ≡ f.namespace
+  pub name : r.name ≡ f.name
+  pub version : version_view r.version ≡ f.version
+  pub worlds : r.worlds ≡ []
+  pub resolves : Resolves (interfaces f) (package_of r)
+  pub postfix : IsPostfix r.definitions
+  pub ids : r.interfaces ≡ interfaces_in (table_of r)
+  pub within : type_entries (table_of r) ≤ 65535
+
+-- the tree has an interface, and interfaces alone
+pub record IsOfInterfaces (f : File) : Type 0 where
+  pub some : f.entries ≢ []
+  pub alone : HasWorld f → ⊥
+
+pub record HasNoFaults (f : File) : Type 0 where
+  pub interfaces : IsOfInterfaces f
+  pub distinct : HasDistinctNames f
+  pub known : KnowsAll f
+
+-- a table that the tree resolves to passes a limit
+pub record IsTooLarge (f : File) : Type 0 where
+  pub table : Table
+  pub resolves : Resolves (interfaces f) (package_in table)
+  pub postfix : IsPostfix table.rows
+  pub passes : PassesLimit table
+
+-- a refusal: its cause stands, and no cause of an earlier class does
+abbrev pub Refuses : File → ResolveError → Type 0
+Refuses f error.EmptyPackage = f.entries ≡ []
+Refuses f error.NotThisShape = HasWorld f
+Refuses f (error.Duplicate n) = IsOfInterfaces f × HasDuplicate f n
+Refuses f (error.Unknown n) = IsOfInterfaces f × HasDistinctNames f × HasUnknown f n
+Refuses f error.Cycle = HasNoFaults f × HasCycle f
+Refuses f error.Limit = (IsOfInterfaces f × (file_fits f ≡ false)) ⊎ (HasNoFaults f × IsTooLarge f)
+Refuses f error.NoMemory = Unit {0}

@@ -1,0 +1,16 @@
+-- A tree of interfaces alone.
+use Rattle.std.specs.Prelude.{◌≡◌, List, []}
+use Rattle.wit_text.specs.Syntax.{FileEntry, File}
+use Rattle.resolve.specs.Resolves.{IsOfInterfaces, HasWorld}
+use Rattle.resolve.specs.declared.error.ResolveError.{ResolveError}
+use Rattle.resolve.specs.declared.error.ResolveError.TheVariants as error
+
+pub record HasInterfaces (f : File) (es : List FileEntry) : Type 0 where
+  pub alone : IsOfInterfaces f
+  pub entries : es ≡ f.entries
+
+abbrev pub RefusesShape : File → ResolveError → Type 0
+RefusesShape f error.EmptyPackage = f.entries ≡ []
+RefusesShape f error.NotThisShape = HasWorld f
+RefusesShape f error.NoMemory = Unit {0}
+RefusesShape f _ = ⊥

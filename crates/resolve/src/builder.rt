@@ -1,0 +1,80 @@
+//! The table of definitions while it is made.
+ghost use Rattle.std.specs.Prelude.{◌≡◌, ◌≢◌, ◌<◌, ◌++◌, ◌∷◌, [], length, IfOk};
+ghost use Rattle.std.specs.Bool.{OnTrue, OnFalse};
+ghost use Rattle.resolve.specs.Package.{Tree};
+ghost use Rattle.resolve.specs.Resolves.{Table};
+ghost use Rattle.resolve.specs.Building.{Lowers, LowersInner, name_at};
+
+use crate::tables::{Definition, InterfaceId, TypeDef, TypeDefKind, TypeId, ValType};
+use atoms::Label;
+use std::alloc::{AllocError, Global};
+use std::marker::Model;
+
+/// The names of the interfaces in package order, and the definitions so far.
+#[derive(Drop)]
+pub struct Builder {
+    interfaces: Vec<Label>,
+    rows: Vec<Definition>,
+}
+
+impl Model for Builder {
+    ghost use Rattle.resolve.specs.Resolves.{Table};
+
+    ghost Value = { Table };
+
+    ghost view = { λ b. record { interfaces = b.interfaces.items; rows = b.rows.items } };
+}
+
+impl Builder {
+    /// A table of no definitions.
+    pub fn new(alloc: Global, interfaces: Vec<Label>) -> Self
+        ensures { result ≡ record { interfaces = interfaces.items; rows = [] } }
+    {
+        Builder {
+            interfaces,
+            rows: Vec::new(alloc),
+        }
+    }
+
+    /// The names of the interfaces and the definitions.
+    pub fn into_parts(self) -> (Vec<Label>, Vec<Definition>)
+        ensures names { result.0.items ≡ self.interfaces }
+        ensures rows { result.1.items ≡ self.rows }
+    {
+        (self.interfaces, self.rows)
+    }
+
+    /// Whether the interface has this name.
+    pub fn is_named(&self, interface: InterfaceId, name: &Label) -> bool
+        requires { interface.0 < length self.now.interfaces }
+        ensures yes { OnTrue result (name_at self.now interface.0 ≡ name.now) }
+        ensures no { OnFalse result (name_at self.now interface.0 ≢ name.now) }
+    {
+        self.interfaces[interface.0 as usize].as_bytes() == name.as_bytes()
+    }
+
+    /// Puts a definition at the end of the table. No memory, too, where an id can't tell its place.
+    pub fn define(&mut self, definition: Definition) -> Result<TypeId, AllocError>
+        ensures { IfOk result (λ id. (id.0 ≡ length self.old.rows)
+            × (self.new ≡ record { interfaces = self.old.interfaces; rows = self.old.rows ++ definition ∷ [] })) }
+    {
+        let Ok(place) = u32::try_from(self.rows.len()) else {
+            return Err(AllocError);
+        };
+        self.rows.push(definition)?;
+        Ok(TypeId(place))
+    }
+
+    /// A type of this kind inside another: a row of its own, but for a name or a primitive.
+    pub fn inner(&mut self, kind: TypeDefKind) -> Result<ValType, AllocError>
+        ensures { IfOk result (λ v. (first : Table) (tree : Tree) → LowersInner first self.old kind tree → Lowers first self.new v tree) }
+    {
+        match kind {
+            TypeDefKind::Alias(target) => Ok(target),
+            kind => {
+                let id = self.define(Definition::Type(TypeDef { name: None, kind }))?;
+                Ok(ValType::Id(id))
+            }
+        }
+    }
+}

@@ -1,0 +1,82 @@
+//! The declarations of an interface of a syntax tree.
+ghost use Rattle.std.specs.Prelude.{◌≡◌, ◌++◌, map, OnOk, IfOk};
+ghost use Rattle.wit_text.specs.View.{entry_view, path_view, used_view};
+ghost use Rattle.resolve.specs.Declarations.{interface_tree, used_item, local_name, use_local, type_name};
+ghost use Rattle.resolve.specs.Lent.{declared_type, used_item_of, lent};
+ghost use Rattle.resolve.specs.Sources.{declared_tree};
+
+use crate::declared::{Declarations, UsedType};
+use atoms::Label;
+use std::alloc::{AllocError, Global};
+use wit_text::{Interface, InterfaceItem, TypeDef, Use, UsedName};
+
+/// The name that a used type gets.
+pub fn local_name(used: &UsedName) -> &Label
+    ensures { result.now ≡ local_name (used_view used.now) }
+{
+    match &used.local {
+        Some(local) => local,
+        None => &used.name,
+    }
+}
+
+/// Appends the names of a use.
+fn push_used<'a>(uses: &mut Vec<UsedType<'a>>, names: &'a Use) -> Result<(), AllocError>
+    ensures { OnOk result (map used_item_of uses.new.items ≡ map used_item_of uses.old.items ++ map (used_item (path_view names.now.interface)) (map used_view names.now.names.items)) }
+{
+    for used in &names.names {
+        uses.push(UsedType {
+            interface: &names.interface.name,
+            name: &used.name,
+            local: local_name(used),
+        })?;
+    }
+    Ok(())
+}
+
+fn push_locals<'a>(names: &mut Vec<&'a Label>, uses: &[UsedType<'a>]) -> Result<(), AllocError>
+    ensures { OnOk result (lent names.new.items ≡ lent names.old.items ++ map use_local (map used_item_of uses.now)) }
+{
+    for used in uses {
+        names.push(used.local)?;
+    }
+    Ok(())
+}
+
+/// Appends the names of types.
+pub fn push_types<'a>(names: &mut Vec<&'a Label>, types: &[&'a TypeDef]) -> Result<(), AllocError>
+    ensures { OnOk result (lent names.new.items ≡ lent names.old.items ++ map type_name (map declared_type types.now)) }
+{
+    for definition in types {
+        names.push(&definition.name)?;
+    }
+    Ok(())
+}
+
+impl<'a> Declarations<'a> {
+    /// What an interface declares.
+    pub fn of(alloc: Global, interface: &'a Interface) -> Result<Declarations<'a>, AllocError>
+        ensures { IfOk result (λ d. declared_tree d ≡ interface_tree interface.now.name (map entry_view interface.now.items.items)) }
+    {
+        let mut uses = Vec::new(alloc);
+        let mut types = Vec::new(alloc);
+        let mut functions = Vec::new(alloc);
+        for item in &interface.items {
+            match item {
+                InterfaceItem::Use(names) => push_used(&mut uses, names)?,
+                InterfaceItem::TypeDef(definition) => types.push(definition)?,
+                InterfaceItem::Func(function) => functions.push(function)?,
+            }
+        }
+        let mut names = Vec::new(alloc);
+        push_locals(&mut names, &uses)?;
+        push_types(&mut names, &types)?;
+        Ok(Declarations {
+            name: &interface.name,
+            uses,
+            types,
+            functions,
+            names,
+        })
+    }
+}

@@ -1,0 +1,27 @@
+//! What an interface of a syntax tree declares, by kind.
+ghost use Rattle.std.specs.Prelude.{◌≡◌, ◌++◌, map};
+ghost use Rattle.resolve.specs.Declarations.{use_local, type_name};
+ghost use Rattle.resolve.specs.Lent.{declared_type, used_item_of, lent};
+
+use atoms::Label;
+use wit_text::{Func, TypeDef};
+
+/// One used name: `use interface.{name as local};`
+#[derive(Drop)]
+pub struct UsedType<'a> {
+    pub interface: &'a Label,
+    pub name: &'a Label,
+    pub local: &'a Label,
+}
+
+/// What an interface declares, each kind in source order.
+#[derive(Drop)]
+pub struct Declarations<'a> {
+    pub name: &'a Label,
+    pub uses: Vec<UsedType<'a>>,
+    pub types: Vec<&'a TypeDef>,
+    pub functions: Vec<&'a Func>,
+    /// The names of the used names, then of the types.
+    pub names: Vec<&'a Label>,
+    ghost named: { lent names.items ≡ map use_local (map used_item_of uses.items) ++ map type_name (map declared_type types.items) },
+}
