@@ -3,11 +3,11 @@ use Rattle.std.proofs.Common.{◌≡◌, ◌≢◌, ℕ, zero, suc, ◌<◌, ◌
 use Rattle.std.specs.Option.{option_map}
 use Rattle.std.specs.Str.{bytes_eq}
 use Rattle.std.proofs.lemmas.Slice.Eq.{bytes_eq-Decides}
-use Rattle.wit_text.specs.Syntax.{Entry, Uses, Defines, Declares}
+use Rattle.wit_syntax.specs.Syntax.{Entry, Uses, Defines, Declares}
 use Rattle.resolve.specs.Declarations.{TypeItem, FunctionItem, InterfaceTree, interface_names, interface_tree, interface_at, no_interface, entry_uses, entry_types, entry_functions, used_item, type_names, named_definition, named_function}
 use Rattle.resolve.specs.Knowing.{KnowsEntry, LacksEntry, LacksAny}
 use Rattle.resolve.specs.Lent.{lent, lent_name}
-use Rattle.wit_text.specs.declared.ast.Interface.{Interface}
+use Rattle.wit_syntax.specs.declared.ast.Interface.{Interface}
 use Rattle.std.proofs.lemmas.List.{get_or-map}
 use Rattle.resolve.specs.Sources.{declared_tree, interface_syntax}
 use Rattle.resolve.specs.Resolves.{place_of, IsKnownUse, IsUnknownName, IsUnknownIn, HasKnownNames}
@@ -98,25 +98,25 @@ module _ (d : Declarations) (known : List (Bor (List ℕ))) (is : known ≡ d.na
 module _ (is : List InterfaceTree) (i : InterfaceTree) where
   uses-known : (es : List Entry) → All (KnowsEntry is i) es → All (IsKnownUse is) (flat_map entry_uses es)
   uses-known [] h = all-none (IsKnownUse is)
-  uses-known (Uses p us ∷ es) h = all-append (IsKnownUse is) (map (used_item p) us) (flat_map entry_uses es) (all-head (KnowsEntry is i) (Uses p us) es h) (uses-known es (all-tail (KnowsEntry is i) (Uses p us) es h))
-  uses-known (Defines n d ∷ es) h = uses-known es (all-tail (KnowsEntry is i) (Defines n d) es h)
-  uses-known (Declares n f ∷ es) h = uses-known es (all-tail (KnowsEntry is i) (Declares n f) es h)
+  uses-known (Uses at p us ∷ es) h = all-append (IsKnownUse is) (map (used_item p) us) (flat_map entry_uses es) (all-head (KnowsEntry is i) (Uses at p us) es h) (uses-known es (all-tail (KnowsEntry is i) (Uses at p us) es h))
+  uses-known (Defines at n d ∷ es) h = uses-known es (all-tail (KnowsEntry is i) (Defines at n d) es h)
+  uses-known (Declares at n f ∷ es) h = uses-known es (all-tail (KnowsEntry is i) (Declares at n f) es h)
 
   types-known : (es : List Entry) → All (KnowsEntry is i) es → All (λ t. All (Contains (type_names i)) (named_definition t.definition)) (flat_map entry_types es)
   types-known [] h = all-none (λ (t : TypeItem). All (Contains (type_names i)) (named_definition t.definition))
-  types-known (Uses p us ∷ es) h = types-known es (all-tail (KnowsEntry is i) (Uses p us) es h)
-  types-known (Defines n d ∷ es) h =
+  types-known (Uses at p us ∷ es) h = types-known es (all-tail (KnowsEntry is i) (Uses at p us) es h)
+  types-known (Defines at n d ∷ es) h =
       all-cons (λ (t : TypeItem). All (Contains (type_names i)) (named_definition t.definition)) (record { name = n; definition = d }) (flat_map entry_types es)
-      (all-head (KnowsEntry is i) (Defines n d) es h) (types-known es (all-tail (KnowsEntry is i) (Defines n d) es h))
-  types-known (Declares n f ∷ es) h = types-known es (all-tail (KnowsEntry is i) (Declares n f) es h)
+      (all-head (KnowsEntry is i) (Defines at n d) es h) (types-known es (all-tail (KnowsEntry is i) (Defines at n d) es h))
+  types-known (Declares at n f ∷ es) h = types-known es (all-tail (KnowsEntry is i) (Declares at n f) es h)
 
   functions-known : (es : List Entry) → All (KnowsEntry is i) es → All (λ f. All (Contains (type_names i)) (named_function f.function)) (flat_map entry_functions es)
   functions-known [] h = all-none (λ (f : FunctionItem). All (Contains (type_names i)) (named_function f.function))
-  functions-known (Uses p us ∷ es) h = functions-known es (all-tail (KnowsEntry is i) (Uses p us) es h)
-  functions-known (Defines n d ∷ es) h = functions-known es (all-tail (KnowsEntry is i) (Defines n d) es h)
-  functions-known (Declares n f ∷ es) h =
+  functions-known (Uses at p us ∷ es) h = functions-known es (all-tail (KnowsEntry is i) (Uses at p us) es h)
+  functions-known (Defines at n d ∷ es) h = functions-known es (all-tail (KnowsEntry is i) (Defines at n d) es h)
+  functions-known (Declares at n f ∷ es) h =
       all-cons (λ (g : FunctionItem). All (Contains (type_names i)) (named_function g.function)) (record { name = n; function = f }) (flat_map entry_functions es)
-      (all-head (KnowsEntry is i) (Declares n f) es h) (functions-known es (all-tail (KnowsEntry is i) (Declares n f) es h))
+      (all-head (KnowsEntry is i) (Declares at n f) es h) (functions-known es (all-tail (KnowsEntry is i) (Declares at n f) es h))
 
   pub interface-known : (n : List ℕ) (es : List Entry) → i ≡ interface_tree n es → All (KnowsEntry is i) es → HasKnownNames is i
   interface-known n es e h = record {
@@ -126,13 +126,13 @@ module _ (is : List InterfaceTree) (i : InterfaceTree) where
   }
 
   lacks-by : (n : List ℕ) (es : List Entry) (m : List ℕ) (e : Entry) → i ≡ interface_tree n es → Contains es e → LacksEntry is i e m → IsUnknownIn is i m
-  lacks-by n es m (Uses p us) same c l = inl (l.0, subst (λ (j : InterfaceTree). Contains j.uses l.0) (sym same) (contains-flat entry_uses es (Uses p us) l.0 c l.1), l.2)
-  lacks-by n es m (Defines k d) same c l =
+  lacks-by n es m (Uses at p us) same c l = inl (l.0, subst (λ (j : InterfaceTree). Contains j.uses l.0) (sym same) (contains-flat entry_uses es (Uses at p us) l.0 c l.1), l.2)
+  lacks-by n es m (Defines at k d) same c l =
       let t : TypeItem = record { name = k; definition = d } in
-      inr (inl (t, subst (λ (j : InterfaceTree). Contains j.types t) (sym same) (contains-flat entry_types es (Defines k d) t c (contains-here t [])), l))
-  lacks-by n es m (Declares k f) same c l =
+      inr (inl (t, subst (λ (j : InterfaceTree). Contains j.types t) (sym same) (contains-flat entry_types es (Defines at k d) t c (contains-here t [])), l))
+  lacks-by n es m (Declares at k f) same c l =
       let g : FunctionItem = record { name = k; function = f } in
-      inr (inr (g, subst (λ (j : InterfaceTree). Contains j.functions g) (sym same) (contains-flat entry_functions es (Declares k f) g c (contains-here g [])), l))
+      inr (inr (g, subst (λ (j : InterfaceTree). Contains j.functions g) (sym same) (contains-flat entry_functions es (Declares at k f) g c (contains-here g [])), l))
 
   pub interface-lacks : (n : List ℕ) (es : List Entry) (m : List ℕ) → i ≡ interface_tree n es → LacksAny is i es m → IsUnknownIn is i m
   interface-lacks n es m same l = lacks-by n es m l.0 same l.1 l.2

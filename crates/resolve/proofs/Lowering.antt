@@ -3,11 +3,11 @@ use Rattle.std.proofs.Common.{◌≡◌, ℕ, zero, suc, ◌+◌, ◌<◌, Bool,
 use Rattle.std.specs.List.{list_all}
 use Rattle.std.specs.Option.{option_map}
 use Rattle.std.proofs.lemmas.List.{map-append}
-use Rattle.wit_text.specs.Syntax.{Ty, Prim, Named, ListOf, OptionOf, TupleOf, ResultOf, tys_of}
-use Rattle.wit_text.specs.View.{ty_view, boxed_view}
-use Rattle.wit_text.specs.declared.ast.TypeExpression.{TypeExpression, Named as Name, List as Listed, Option as Optional, Tuple, Result as Either, the_lemmas}
-use Rattle.wit_text.specs.declared.ast.Primitive.{Primitive as Keyword}
-use Rattle.wit_text.specs.declared.ast.Primitive.TheVariants as keyword
+use Rattle.wit_syntax.specs.Syntax.{Ty, Prim, Named, ListOf, OptionOf, TupleOf, ResultOf, tys_of}
+use Rattle.wit_syntax.specs.View.{ty_view, boxed_view}
+use Rattle.wit_syntax.specs.declared.ast.TypeExpression.{TypeExpression, Named as Name, List as Listed, Option as Optional, Tuple, Result as Either, the_lemmas}
+use Rattle.wit_syntax.specs.declared.ast.Primitive.{Primitive as Keyword}
+use Rattle.wit_syntax.specs.declared.ast.Primitive.TheVariants as keyword
 use Rattle.resolve.specs.Tables.{is_below, option_below}
 use Rattle.resolve.specs.Package.{Tree, Reference, ListTree, IsType, read_val, read_tuple, read_fields, read_params, read_cases, read_choice, read_enum, read_kind, Fields, field, Choices, empty, RecordTree, VariantTree, FlagsTree, Plain, AsTuple, AsEnum}
 use Rattle.resolve.specs.Postfix.{unnamed, unnamed_if, unnamed_field, unnamed_case, unnamed_parameter}

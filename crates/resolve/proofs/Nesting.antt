@@ -2,9 +2,9 @@
 use Rattle.std.proofs.Common.{◌≡◌, ℕ, zero, suc, ◌+◌, ◌<◌, ◌≤◌, Bool, true, false, ◌&&◌, nat_le, List, [], ◌∷◌, ◌++◌, map, take, length, get_or, refl, ap, sym, ◌∙◌, arith}
 use Rattle.std.specs.List.{list_all}
 use Rattle.std.proofs.lemmas.Bool.Decides.{nat_tests}
-use Rattle.wit_text.specs.Syntax.{depth, depth_all, tys_of}
-use Rattle.wit_text.specs.View.{ty_view}
-use Rattle.wit_text.specs.declared.ast.TypeExpression.{TypeExpression}
+use Rattle.wit_syntax.specs.Syntax.{depth, depth_all, tys_of}
+use Rattle.wit_syntax.specs.View.{ty_view}
+use Rattle.wit_syntax.specs.declared.ast.TypeExpression.{TypeExpression}
 use Rattle.resolve.specs.Declarations.{named, named_all}
 
 depth-among : (xs : List TypeExpression) (k : ℕ) (x : TypeExpression) → k < length xs → x ≡ get_or xs k x → depth (ty_view x) ≤ depth_all (tys_of (map ty_view xs))

@@ -1,10 +1,11 @@
 -- The interfaces of a file, and its package.
 use Rattle.std.proofs.Common.{◌≡◌, ◌⊎◌, inl, inr, ℕ, ◌+◌, ◌<◌, ◌≤◌, List, [], ◌∷◌, Result, Ok, Err, IfOk, IfErr, map, length, get_or, refl, ap, sym, ◌∙◌, subst, arith, Contains, Bor}
 use Rattle.std.specs.List.{filter_map}
-use Rattle.wit_text.specs.Syntax.{FileEntry, AnInterface, AWorld, WorldEntry, File}
-use Rattle.wit_text.specs.View.{version_view}
-use Rattle.wit_text.specs.declared.ast.Interface.{Interface as Syntax}
-use Rattle.wit_text.specs.declared.ast.PackageId.{PackageId}
+use Rattle.wit_tokens.specs.declared.token.Span.{Span}
+use Rattle.wit_syntax.specs.Syntax.{FileEntry, AnInterface, AWorld, WorldEntry, File}
+use Rattle.wit_syntax.specs.View.{version_view}
+use Rattle.wit_syntax.specs.declared.ast.Interface.{Interface as Syntax}
+use Rattle.wit_syntax.specs.declared.ast.PackageId.{PackageId}
 use Rattle.resolve.specs.Order.{IsPlacement}
 use Rattle.resolve.specs.Scope.{AreDistinct}
 use Rattle.resolve.specs.Package.{package_of, interface_names as names_in, world_names}
@@ -24,17 +25,17 @@ use Rattle.resolve.specs.declared.tables.Definition.{Definition}
 use Rattle.resolve.specs.declared.tables.Resolve.{Resolve}
 use Rattle.resolve.proofs.Lists.{contains-unmap, contains-here, contains-later, all-head}
 
-no-world : (i : Bor Syntax) (n : List ℕ) (ws : List WorldEntry) → interface_entry i ≡ AWorld n ws → ⊥
-no-world i n ws e = absurd (cc)
+no-world : (i : Bor Syntax) (at : Span) (n : List ℕ) (ws : List WorldEntry) → interface_entry i ≡ AWorld at n ws → ⊥
+no-world i at n ws e = absurd (cc)
 
 pub of-interfaces : (f : File) (is : List (Bor Syntax)) → map interface_entry is ≡ f.entries → 0 < length f.entries → HasInterfaces f (map interface_entry is)
 of-interfaces f is e l = record {
   alone = record {
     some = λ none. let z = ap length none in absurd (omega (arith, l, z));
     alone = λ w.
-        let c = subst (λ (es : List FileEntry). Contains es (AWorld w.0 w.1)) (sym e) w.2 in
-        let i = contains-unmap interface_entry is (AWorld w.0 w.1) c in
-        no-world i.0 w.0 w.1 i.2;
+        let c = subst (λ (es : List FileEntry). Contains es (AWorld w.0 w.1 w.2)) (sym e) w.3 in
+        let i = contains-unmap interface_entry is (AWorld w.0 w.1 w.2) c in
+        no-world i.0 w.0 w.1 w.2 i.2;
   };
   entries = e;
 }
@@ -43,14 +44,14 @@ pub file-interfaces : (is : List (Bor Syntax)) → filter_map interface_of (map 
 file-interfaces [] = refl
 file-interfaces (i ∷ is) = ap (λ (ts : List InterfaceTree). interface_syntax i ∷ ts) (file-interfaces is)
 
-names-of : (es : List FileEntry) → ((n : List ℕ) (ws : List WorldEntry) → Contains es (AWorld n ws) → ⊥) → map interface_name (filter_map interface_of es) ≡ map file_name es
+names-of : (es : List FileEntry) → ((at : Span) (n : List ℕ) (ws : List WorldEntry) → Contains es (AWorld at n ws) → ⊥) → map interface_name (filter_map interface_of es) ≡ map file_name es
 names-of [] h = refl
-names-of (AnInterface n xs ∷ es) h = ap (λ (ns : List (List ℕ)). n ∷ ns) (names-of es (λ m ws c. h m ws (contains-later (AnInterface n xs) (AWorld m ws) es c)))
-names-of (AWorld n ws ∷ es) h = absurd (h n ws (contains-here (AWorld n ws) es))
+names-of (AnInterface n xs ∷ es) h = ap (λ (ns : List (List ℕ)). n ∷ ns) (names-of es (λ at m ws c. h at m ws (contains-later (AnInterface n xs) (AWorld at m ws) es c)))
+names-of (AWorld at n ws ∷ es) h = absurd (h at n ws (contains-here (AWorld at n ws) es))
 
 pub distinct-interfaces : (f : File) → HasNoFaults f → AreDistinct (interface_names (interfaces f))
 distinct-interfaces f h =
-    subst AreDistinct (sym (names-of f.entries (λ n ws c. h.interfaces.alone (n, ws, c)))) (all-head AreDistinct _ _ h.distinct)
+    subst AreDistinct (sym (names-of f.entries (λ at n ws c. h.interfaces.alone (at, n, ws, c)))) (all-head AreDistinct _ _ h.distinct)
 
 pub refuses-unknown : (f : File) (is : List InterfaceTree) (e : ResolveError) → is ≡ interfaces f → IsOfInterfaces f → HasDistinctNames f → RefusesUnknown is e → Refuses f e
 refuses-unknown f is (error.Unknown n) same alone distinct h = (alone, distinct, subst (λ ts. RefusesUnknown ts (error.Unknown n)) same h)

@@ -1,6 +1,6 @@
 -- What the interfaces of a syntax tree declare: used names, types and functions, each in source order; and what they name.
 use Rattle.std.specs.Prelude.{ℕ, List, [], ◌∷◌, ◌++◌, map, flat_map, filter_map, Option, None, Some, slice_index_or}
-use Rattle.wit_text.specs.Syntax.{Ty, Prim, Named, ListOf, OptionOf, TupleOf, ResultOf, Tys, none, more, MaybeTy, Absent, Present, Definition, Alias, Record, Variant, Enumeration, FlagSet, Function, Member, CaseOf, PathTo, Local, UsedAs, Entry, Uses, Defines, Declares, FileEntry, AnInterface, AWorld, File}
+use Rattle.wit_syntax.specs.Syntax.{Ty, Prim, Named, ListOf, OptionOf, TupleOf, ResultOf, Tys, none, more, MaybeTy, Absent, Present, Definition, Alias, Record, Variant, Enumeration, FlagSet, Function, Member, CaseOf, PathTo, Local, UsedAs, Entry, Uses, Defines, Declares, FileEntry, AnInterface, AWorld, File}
 
 -- `use interface.{name as local}`
 pub record UsedItem : Type 0 where
@@ -33,19 +33,19 @@ abbrev pub used_item : PathTo → UsedAs → UsedItem
 used_item (Local i) u = record { interface = i; name = u.name; local = local_name u }
 
 abbrev pub entry_uses : Entry → List UsedItem
-entry_uses (Uses p us) = map (used_item p) us
-entry_uses (Defines n d) = []
-entry_uses (Declares n f) = []
+entry_uses (Uses at p us) = map (used_item p) us
+entry_uses (Defines at n d) = []
+entry_uses (Declares at n f) = []
 
 abbrev pub entry_types : Entry → List TypeItem
-entry_types (Uses p us) = []
-entry_types (Defines n d) = record { name = n; definition = d } ∷ []
-entry_types (Declares n f) = []
+entry_types (Uses at p us) = []
+entry_types (Defines at n d) = record { name = n; definition = d } ∷ []
+entry_types (Declares at n f) = []
 
 abbrev pub entry_functions : Entry → List FunctionItem
-entry_functions (Uses p us) = []
-entry_functions (Defines n d) = []
-entry_functions (Declares n f) = record { name = n; function = f } ∷ []
+entry_functions (Uses at p us) = []
+entry_functions (Defines at n d) = []
+entry_functions (Declares at n f) = record { name = n; function = f } ∷ []
 
 abbrev pub interface_tree : List ℕ → List Entry → InterfaceTree
 interface_tree n es = record {
@@ -57,7 +57,7 @@ interface_tree n es = record {
 
 abbrev pub interface_of : FileEntry → Option InterfaceTree
 interface_of (AnInterface n es) = Some (interface_tree n es)
-interface_of (AWorld n es) = None
+interface_of (AWorld at n es) = None
 
 -- the interfaces of a file
 abbrev pub interfaces : File → List InterfaceTree
@@ -150,14 +150,14 @@ definition_scopes (Enumeration ns) = ns ∷ []
 definition_scopes (FlagSet ns) = ns ∷ []
 
 abbrev pub entry_names : Entry → List (List ℕ)
-entry_names (Uses p us) = map local_name us
-entry_names (Defines n d) = n ∷ []
-entry_names (Declares n f) = n ∷ []
+entry_names (Uses at p us) = map local_name us
+entry_names (Defines at n d) = n ∷ []
+entry_names (Declares at n f) = n ∷ []
 
 abbrev pub entry_scopes : Entry → List (List (List ℕ))
-entry_scopes (Uses p us) = []
-entry_scopes (Defines n d) = definition_scopes d
-entry_scopes (Declares n f) = map member_name f.params ∷ []
+entry_scopes (Uses at p us) = []
+entry_scopes (Defines at n d) = definition_scopes d
+entry_scopes (Declares at n f) = map member_name f.params ∷ []
 
 -- an interface's uses, types and functions share one scope
 abbrev pub item_scopes : List Entry → List (List (List ℕ))
@@ -165,11 +165,11 @@ item_scopes es = flat_map entry_names es ∷ flat_map entry_scopes es
 
 abbrev pub interface_scopes : FileEntry → List (List (List ℕ))
 interface_scopes (AnInterface n es) = item_scopes es
-interface_scopes (AWorld n es) = []
+interface_scopes (AWorld at n es) = []
 
 abbrev pub file_name : FileEntry → List ℕ
 file_name (AnInterface n es) = n
-file_name (AWorld n es) = n
+file_name (AWorld at n es) = n
 
 -- interfaces and worlds share one scope
 abbrev pub scopes_in : List FileEntry → List (List (List ℕ))

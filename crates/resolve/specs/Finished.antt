@@ -1,7 +1,7 @@
 -- A package that was made of a table.
 use Rattle.std.specs.Prelude.{◌≡◌, ◌≤◌, []}
-use Rattle.wit_text.specs.View.{version_view}
-use Rattle.wit_text.specs.declared.ast.PackageId.{PackageId}
+use Rattle.wit_syntax.specs.View.{version_view}
+use Rattle.wit_syntax.specs.declared.ast.PackageId.{PackageId}
 use Rattle.resolve.specs.Resolves.{Table, interfaces_in, type_entries}
 use Rattle.resolve.specs.declared.tables.Resolve.{Resolve}
 

@@ -1,8 +1,8 @@
 -- Parts of a syntax tree that are lent.
 use Rattle.std.specs.Prelude.{ℕ, List, map}
 use Rattle.std.specs.Borrow.{Bor}
-use Rattle.wit_text.specs.View.{definition_view}
-use Rattle.wit_text.specs.declared.ast.TypeDef.{TypeDef}
+use Rattle.wit_syntax.specs.View.{definition_view}
+use Rattle.wit_syntax.specs.declared.ast.TypeDef.{TypeDef}
 use Rattle.resolve.specs.Declarations.{UsedItem, TypeItem}
 use Rattle.resolve.specs.declared.declared.UsedType.{UsedType}
 

@@ -1,8 +1,8 @@
 -- What the syntax stands for in an interface: each name for that name of the interface's scope.
 use Rattle.std.specs.Prelude.{ℕ, List, [], ◌∷◌, ◌++◌, map, slice_index_or, Option, None, Some}
-use Rattle.wit_text.specs.Syntax.{Ty, Prim, Named, ListOf, OptionOf, TupleOf, ResultOf, Tys, none, more, MaybeTy, Absent, Present, Definition, Alias, Record, Variant, Enumeration, FlagSet, Member, CaseOf}
-use Rattle.wit_text.specs.declared.ast.Primitive.{Primitive as Keyword}
-use Rattle.wit_text.specs.declared.ast.Primitive.TheVariants as keyword
+use Rattle.wit_syntax.specs.Syntax.{Ty, Prim, Named, ListOf, OptionOf, TupleOf, ResultOf, Tys, none, more, MaybeTy, Absent, Present, Definition, Alias, Record, Variant, Enumeration, FlagSet, Member, CaseOf}
+use Rattle.wit_syntax.specs.declared.ast.Primitive.{Primitive as Keyword}
+use Rattle.wit_syntax.specs.declared.ast.Primitive.TheVariants as keyword
 use Rattle.resolve.specs.declared.tables.Primitive.TheVariants as primitive
 use Rattle.resolve.specs.declared.tables.ValType.{ValType}
 use Rattle.resolve.specs.declared.tables.ValType.TheVariants as val

@@ -3,8 +3,9 @@ use Rattle.std.specs.Prelude.{◌≡◌, ◌≢◌, ◌<◌, ◌≤◌, ◌+◌,
 use Rattle.std.specs.List.{list_all}
 use Rattle.std.specs.Option.{option_map}
 use Rattle.std.specs.Str.{bytes_eq}
-use Rattle.wit_text.specs.Syntax.{Ty, depth, Member, CaseOf, Definition as Body, Alias, Record, Variant, Enumeration, FlagSet, Function as Signature, Entry, Uses, Defines, Declares, WorldEntry, FileEntry, AnInterface, AWorld, File}
-use Rattle.wit_text.specs.View.{version_view}
+use Rattle.wit_tokens.specs.declared.token.Span.{Span}
+use Rattle.wit_syntax.specs.Syntax.{Ty, depth, Member, CaseOf, Definition as Body, Alias, Record, Variant, Enumeration, FlagSet, Function as Signature, Entry, Uses, Defines, Declares, WorldEntry, FileEntry, AnInterface, AWorld, File}
+use Rattle.wit_syntax.specs.View.{version_view}
 use Rattle.resolve.specs.Scope.{AreDistinct, IsDuplicate}
 use Rattle.resolve.specs.Order.{IsPlacement, IsCycle}
 use Rattle.resolve.specs.Tables.{are_standard}
@@ -155,7 +156,7 @@ PassesLimit t = (65535 < type_entries t) ⊎ (are_standard t.rows ≡ false)
 -- ---- faults
 
 abbrev pub HasWorld : File → Type 0
-HasWorld f = (n : List ℕ) × (es : List WorldEntry) × Contains f.entries (AWorld n es)
+HasWorld f = (at : Span) × (n : List ℕ) × (es : List WorldEntry) × Contains f.entries (AWorld at n es)
 
 abbrev pub HasDuplicate : File → List ℕ → Type 0
 HasDuplicate f n = (ns : List (List ℕ)) × Contains (scopes f) ns × IsDuplicate ns n
@@ -227,13 +228,13 @@ abbrev pub signature_fits : Signature → Bool
 signature_fits f = list_all member_fits f.params && fits_if f.result
 
 abbrev pub entry_fits : Entry → Bool
-entry_fits (Uses p us) = true
-entry_fits (Defines n d) = body_fits d
-entry_fits (Declares n f) = signature_fits f
+entry_fits (Uses at p us) = true
+entry_fits (Defines at n d) = body_fits d
+entry_fits (Declares at n f) = signature_fits f
 
 abbrev pub interface_fits : FileEntry → Bool
 interface_fits (AnInterface n es) = list_all entry_fits es
-interface_fits (AWorld n es) = true
+interface_fits (AWorld at n es) = true
 
 abbrev pub file_fits : File → Bool
 file_fits f = list_all interface_fits f.entries

@@ -1,6 +1,6 @@
 -- A tree of interfaces alone.
 use Rattle.std.specs.Prelude.{◌≡◌, List, []}
-use Rattle.wit_text.specs.Syntax.{FileEntry, File}
+use Rattle.wit_syntax.specs.Syntax.{FileEntry, File}
 use Rattle.resolve.specs.Resolves.{IsOfInterfaces, HasWorld}
 use Rattle.resolve.specs.declared.error.ResolveError.{ResolveError}
 use Rattle.resolve.specs.declared.error.ResolveError.TheVariants as error

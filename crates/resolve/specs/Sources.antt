@@ -1,10 +1,10 @@
 -- What is declared by parts of a syntax tree that are lent.
 use Rattle.std.specs.Prelude.{ℕ, List, map}
 use Rattle.std.specs.Borrow.{Bor}
-use Rattle.wit_text.specs.Syntax.{FileEntry, AnInterface}
-use Rattle.wit_text.specs.View.{function_view, entry_view}
-use Rattle.wit_text.specs.declared.ast.Interface.{Interface as InterfaceSyntax}
-use Rattle.wit_text.specs.declared.ast.Func.{Func}
+use Rattle.wit_syntax.specs.Syntax.{FileEntry, AnInterface}
+use Rattle.wit_syntax.specs.View.{function_view, entry_view}
+use Rattle.wit_syntax.specs.declared.ast.Interface.{Interface as InterfaceSyntax}
+use Rattle.wit_syntax.specs.declared.ast.Func.{Func}
 use Rattle.resolve.specs.Package.{Key}
 use Rattle.resolve.specs.Declarations.{UsedItem, FunctionItem, InterfaceTree, interface_tree}
 use Rattle.resolve.specs.Lent.{declared_type, used_item_of}

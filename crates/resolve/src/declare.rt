@@ -1,6 +1,6 @@
 //! The declarations of an interface of a syntax tree.
 ghost use Rattle.std.specs.Prelude.{◌≡◌, ◌++◌, map, OnOk, IfOk};
-ghost use Rattle.wit_text.specs.View.{entry_view, path_view, used_view};
+ghost use Rattle.wit_syntax.specs.View.{entry_view, path_view, used_view};
 ghost use Rattle.resolve.specs.Declarations.{interface_tree, used_item, local_name, use_local, type_name};
 ghost use Rattle.resolve.specs.Lent.{declared_type, used_item_of, lent};
 ghost use Rattle.resolve.specs.Sources.{declared_tree};
@@ -8,7 +8,7 @@ ghost use Rattle.resolve.specs.Sources.{declared_tree};
 use crate::declared::{Declarations, UsedType};
 use atoms::Label;
 use std::alloc::{AllocError, Global};
-use wit_text::{Interface, InterfaceItem, TypeDef, Use, UsedName};
+use wit_syntax::{Interface, InterfaceItem, TypeDef, Use, UsedName};
 
 /// The name that a used type gets.
 pub fn local_name(used: &UsedName) -> &Label

@@ -4,7 +4,7 @@ ghost use Rattle.resolve.specs.Declarations.{use_local, type_name};
 ghost use Rattle.resolve.specs.Lent.{declared_type, used_item_of, lent};
 
 use atoms::Label;
-use wit_text::{Func, TypeDef};
+use wit_syntax::{Func, TypeDef};
 
 /// One used name: `use interface.{name as local};`
 #[derive(Drop)]

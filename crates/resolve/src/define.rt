@@ -21,7 +21,7 @@ use crate::tables::{
 };
 use atoms::Label;
 use std::alloc::{AllocError, Global};
-use wit_text::Func;
+use wit_syntax::Func;
 
 /// Puts a type under a name at the end of the table; the scope then knows it.
 fn define_named(
@@ -51,7 +51,7 @@ fn define_type(
     alloc: Global,
     builder: &mut Builder,
     scope: &mut KnownTypes,
-    item: &wit_text::TypeDef,
+    item: &wit_syntax::TypeDef,
 ) -> Result<(), AllocError>
     requires known { KnowsNames scope.old (named_definition (type_item item.now).definition) }
     requires scoped { IsScope builder.old scope.old }
@@ -105,7 +105,7 @@ fn define_types(
     alloc: Global,
     builder: &mut Builder,
     scope: &mut KnownTypes,
-    types: &[&wit_text::TypeDef],
+    types: &[&wit_syntax::TypeDef],
     order: &[usize],
 ) -> Result<(), AllocError>
     requires earlier { NamesEarlier (scope_names scope.old) (map declared_type types.now) order.now }

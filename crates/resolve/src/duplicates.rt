@@ -1,6 +1,6 @@
 //! 40: names of one scope differ in more than the case of their letters.
 ghost use Rattle.std.specs.Prelude.{◌≡◌, ◌++◌, ◌⊎◌, List, ℕ, map, All, IfErr, OnOk};
-ghost use Rattle.wit_text.specs.View.{used_view, field_view, case_view, definition_view, entry_view};
+ghost use Rattle.wit_syntax.specs.View.{used_view, field_view, case_view, definition_view, entry_view};
 ghost use Rattle.resolve.specs.Declarations.{local_name, member_name, case_name, definition_scopes, entry_names, entry_scopes, item_scopes, scopes_in};
 ghost use Rattle.resolve.specs.Sources.{interface_entry};
 ghost use Rattle.resolve.specs.Distinct.{AreMet, RefusesNames, RefusesScopes};
@@ -11,7 +11,7 @@ use crate::error::ResolveError;
 use crate::scope::Scope;
 use atoms::Label;
 use std::alloc::Global;
-use wit_text::{Case, Field, Interface, InterfaceItem, TypeDefKind, UsedName};
+use wit_syntax::{Case, Field, Interface, InterfaceItem, TypeDefKind, UsedName};
 
 fn distinct_labels(alloc: Global, labels: &[Label]) -> Result<(), ResolveError>
     ensures ok { OnOk result (AreDistinct labels.now) }

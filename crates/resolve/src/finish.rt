@@ -13,7 +13,7 @@ use crate::tables::{
 };
 use atoms::Label;
 use std::alloc::{AllocError, Global};
-use wit_text::PackageId;
+use wit_syntax::PackageId;
 
 /// The most type entries of a package.
 const MAX_ENTRIES: usize = 65_535;

@@ -1,7 +1,7 @@
 //! The package of a syntax tree.
 ghost use Rattle.std.specs.Prelude.{◌≡◌, map, IfOk, IfErr};
 ghost use Rattle.std.specs.List.{list_all};
-ghost use Rattle.wit_text.specs.View.{file_view};
+ghost use Rattle.wit_syntax.specs.View.{file_view};
 ghost use Rattle.resolve.specs.Declarations.{interfaces};
 ghost use Rattle.resolve.specs.Resolves.{interface_fits, IsPackageOf, Refuses, HasNoFaults};
 ghost use Rattle.resolve.specs.Sources.{declared_tree, interface_entry, interface_syntax};
@@ -17,7 +17,7 @@ use crate::nested::are_items_nested;
 use crate::tables::Resolve;
 use crate::unknown::known_names;
 use std::alloc::{AllocError, Global};
-use wit_text::{Ast, Interface, Item};
+use wit_syntax::{Ast, Interface, Item};
 
 /// The interfaces of a tree that has no worlds. 43 where it has neither, 44 where it has a world.
 fn interfaces(alloc: Global, ast: &Ast) -> Result<Vec<&Interface>, ResolveError>

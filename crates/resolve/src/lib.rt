@@ -3,7 +3,7 @@
 //! `Resolve` holds a package's interfaces and worlds, and one table of definitions in which types and
 //! functions stand in order, each after those that it names. `Resolve::from_ast` makes one of a syntax
 //! tree. The closed types of a table are defined in `specs/Closed.antt`, in `canonical_abi`'s words; the
-//! crates above ask by them alone. It stands on `canonical_abi`, `atoms` and `wit_text`.
+//! crates above ask by them alone. It stands on `canonical_abi`, `atoms` and `wit_syntax`.
 #![tactic(auto)]
 
 mod assembly;

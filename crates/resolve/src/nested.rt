@@ -1,11 +1,11 @@
 //! How deep types are nested. No recursion here is deeper than the limit.
 ghost use Rattle.std.specs.Prelude.{◌≡◌, nat_le, map};
 ghost use Rattle.std.specs.List.{list_all};
-ghost use Rattle.wit_text.specs.Syntax.{depth, depth_all, depth_maybe, tys_of};
-ghost use Rattle.wit_text.specs.View.{ty_view, boxed_view, optional_view, field_view, case_view, definition_view, function_view, entry_view};
+ghost use Rattle.wit_syntax.specs.Syntax.{depth, depth_all, depth_maybe, tys_of};
+ghost use Rattle.wit_syntax.specs.View.{ty_view, boxed_view, optional_view, field_view, case_view, definition_view, function_view, entry_view};
 ghost use Rattle.resolve.specs.Resolves.{fits_if, member_fits, case_fits, body_fits, signature_fits, entry_fits};
 
-use wit_text::{Case, Field, FuncType, InterfaceItem, TypeDefKind, TypeExpression};
+use wit_syntax::{Case, Field, FuncType, InterfaceItem, TypeDefKind, TypeExpression};
 
 /// The deepest that a type is nested, a type by itself being 1.
 const MAX_NESTING: usize = 64;

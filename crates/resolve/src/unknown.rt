@@ -1,6 +1,6 @@
 //! 41: each name stands for something. Names are exact in case.
 ghost use Rattle.std.specs.Prelude.{◌≡◌, All, Contains, IfOk, IfErr, OnOk, IfSome, IfNone, MatchOption, map};
-ghost use Rattle.wit_text.specs.View.{entry_view, path_view, used_view};
+ghost use Rattle.wit_syntax.specs.View.{entry_view, path_view, used_view};
 ghost use Rattle.resolve.specs.Declarations.{used_item, interface_names};
 ghost use Rattle.resolve.specs.Resolves.{place_of, IsKnownUse, IsUnknownUse, HasKnownNames};
 ghost use Rattle.resolve.specs.Lent.{lent};
@@ -12,7 +12,7 @@ use crate::error::ResolveError;
 use crate::named::{definition_names, function_names};
 use atoms::Label;
 use std::alloc::{AllocError, Global};
-use wit_text::{Interface, InterfaceItem, Use};
+use wit_syntax::{Interface, InterfaceItem, Use};
 
 /// The first place of a name.
 pub fn place_of(names: &[&Label], name: &Label) -> Option<usize>

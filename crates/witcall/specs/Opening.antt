@@ -1,13 +1,14 @@
 -- Which bytes are opened as a package, and why others are refused.
-use Rattle.std.specs.Prelude.{◌≡◌, ◌⊎◌, ◌==◌, ℕ, true, List, [], ◌∷◌}
+use Rattle.std.specs.Prelude.{◌≡◌, ◌⊎◌, ◌==◌, ℕ, true, List, [], ◌∷◌, Option, None, Some}
 use Rattle.std.specs.List.{starts_with}
 use Rattle.std.specs.Str.{IsUtf8, IsValidUpTo}
-use Rattle.wit_text.specs.Reading.{IsRead, Faulty}
-use Rattle.wit_syntax.specs.View.{file_view}
-use Rattle.wit_syntax.specs.declared.ast.Ast.{Ast}
+use Rattle.wit_tokens.specs.declared.token.Span.{Span}
 use Rattle.wit_tokens.specs.declared.error.Feature.TheVariants.{LaterStage}
+use Rattle.wit_tokens.specs.declared.error.TextError.{TextError}
 use Rattle.wit_tokens.specs.declared.error.TextError.TheVariants.{Unsupported}
-use Rattle.resolve.specs.FromAst.{IsPackageOf, Refuses}
+use Rattle.wit_syntax.specs.Syntax.{File, FileEntry, AnInterface, AWorld}
+use Rattle.wit_text.specs.Reading.{IsRead, Faulty}
+use Rattle.resolve.specs.Resolves.{IsPackageOf, Refuses}
 use Rattle.resolve.specs.declared.tables.Resolve.{Resolve}
 use Rattle.layout.specs.Layout.{AreWithin, RefusesFirst}
 use Rattle.witcall.specs.declared.package.OpenError.{OpenError}
@@ -15,21 +16,34 @@ use Rattle.witcall.specs.declared.package.OpenError.TheVariants as error
 
 -- the bytes are a text that is read, and these are its tables, within the limits of layout
 pub record IsOpened (bytes : List ℕ) (r : Resolve) : Type 0 where
-  pub ast : Ast
-  pub read : IsRead bytes (file_view ast)
-  pub tables : IsPackageOf ast r
+  pub file : File
+  pub read : IsRead bytes file
+  pub tables : IsPackageOf file r
   pub within : AreWithin r
 
 -- they begin as a binary does
 abbrev pub IsBinary : List ℕ → Type 0
 IsBinary bytes = starts_with (λ a b. a == b) bytes (0x00 ∷ 0x61 ∷ 0x73 ∷ 0x6d ∷ []) ≡ true
 
+-- where the first world of a text begins
+abbrev pub first_world : List FileEntry → Option Span
+first_world [] = None
+first_world (AnInterface n es ∷ rest) = first_world rest
+first_world (AWorld at n es ∷ rest) = Some at
+
+-- they are a text that is read, and its first world begins there
+abbrev pub HasWorldAt : List ℕ → Span → Type 0
+HasWorldAt bytes s = (f : File) × IsRead bytes f × (first_world f.entries ≡ Some s)
+
+-- binaries and worlds are not opened yet
+abbrev pub IsLater : List ℕ → Span → Type 0
+IsLater bytes s = (IsBinary bytes × (s ≡ record { start = 0; end = 4 })) ⊎ HasWorldAt bytes s
+
 -- the cause of each refusal
 abbrev pub OpenRefuses : List ℕ → OpenError → Type 0
-OpenRefuses bytes (error.Text e) =
-    (IsBinary bytes × (e ≡ Unsupported LaterStage (record { start = 0; end = 4 }))) ⊎ Faulty bytes e
+OpenRefuses bytes (error.Text e) = Faulty bytes e ⊎ ((s : Span) × (e ≡ Unsupported LaterStage s) × IsLater bytes s)
 OpenRefuses bytes (error.NotUtf8 place) = ¬ (IsUtf8 bytes) × IsValidUpTo bytes place
-OpenRefuses bytes (error.Resolve e) = (ast : Ast) × IsRead bytes (file_view ast) × Refuses ast e
-OpenRefuses bytes (error.Layout e) = (ast : Ast) × (r : Resolve) × IsRead bytes (file_view ast) × IsPackageOf ast r × RefusesFirst e r
+OpenRefuses bytes (error.Resolve e) = (f : File) × IsRead bytes f × Refuses f e
+OpenRefuses bytes (error.Layout e) = (f : File) × (r : Resolve) × IsRead bytes f × IsPackageOf f r × RefusesFirst e r
 OpenRefuses bytes (error.Read place) = ⊥
 OpenRefuses bytes error.NoMemory = ⊥

@@ -1,15 +1,16 @@
 //! Packages, and how they are opened.
 
-ghost use Rattle.std.specs.Prelude.{◌≡◌, IfOk, IfErr};
+ghost use Rattle.std.specs.Prelude.{◌≡◌, map, IfOk, IfErr};
 ghost use Rattle.layout.specs.Layout.{layouts_of, AreWithin};
-ghost use Rattle.witcall.specs.Opening.{IsOpened, OpenRefuses};
+ghost use Rattle.wit_syntax.specs.View.{item_view};
+ghost use Rattle.witcall.specs.Opening.{IsOpened, OpenRefuses, first_world};
 ghost use Rattle.resolve.specs.Same.{IsSamePackage};
 
 use layout::{LayoutError, Layouts};
 use resolve::{Resolve, ResolveError};
 use std::alloc::{AllocError, Global};
 use thiserror::Error;
-use wit_text::{Feature, Span, TextError, parse};
+use wit_text::{Feature, Item, Span, TextError, parse};
 
 /// The greatest number of bytes that a text or a binary may have.
 pub const MAX_INPUT: usize = 1_048_576;
@@ -121,17 +122,32 @@ impl Package {
 }
 
 /// Opens a package. Bytes that begin `00 61 73 6d` are a binary, and refused for now (33); others are a
-/// text: its length comes first (36), then whether it is UTF-8 (60), then the text's own refusals,
-/// those of its names, and those of its layouts.
+/// text: its length comes first (36), then whether it is UTF-8 (60), then the text's own refusals, its
+/// first world (33, for now), the refusals of its names, and those of its layouts.
 pub fn open(alloc: Global, bytes: &[u8]) -> Result<Package, OpenError>
     ensures ok { IfOk result (λ p. IsOpened bytes.now p.resolve) }
     ensures err { IfErr result (OpenRefuses bytes.now) }
 {
     let text = text_of(bytes)?;
     let ast = parse(alloc, text)?;
+    if let Some(span) = first_world(&ast.items) {
+        return Err(OpenError::Text(TextError::Unsupported(Feature::LaterStage, span)));
+    }
     let resolve = Resolve::from_ast(alloc, &ast)?;
     let layouts = Layouts::of(alloc, &resolve)?;
     Ok(Package { resolve, layouts })
+}
+
+/// Where the first world of these begins.
+fn first_world(items: &[Item]) -> Option<Span>
+    ensures { result ≡ first_world (map item_view items.now) }
+{
+    for item in items {
+        if let Item::World(world) = item {
+            return Some(world.span);
+        }
+    }
+    None
 }
 
 /// The bytes as a text.

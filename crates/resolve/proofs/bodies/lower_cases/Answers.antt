@@ -1,5 +1,5 @@
 use Rattle.std.proofs.Common.{List, ℕ, subst, arith, Contains}
-use Rattle.wit_text.specs.View.{optional_view, case_view}
+use Rattle.wit_syntax.specs.View.{optional_view, case_view}
 use Rattle.resolve.specs.Postfix.{unnamed_case}
 use Rattle.resolve.specs.Declarations.{named_case}
 use Rattle.resolve.specs.Resolved.{resolved_if, case_meaning}

@@ -1,5 +1,5 @@
 use Rattle.std.proofs.Common.{map, take}
-use Rattle.wit_text.specs.View.{case_view}
+use Rattle.wit_syntax.specs.View.{case_view}
 use Rattle.resolve.specs.Resolved.{case_meaning}
 use Rattle.resolve.specs.Building.{LowersCases, scope_name}
 use Rattle.resolve.proofs.bodies.lower_cases.Given as goal

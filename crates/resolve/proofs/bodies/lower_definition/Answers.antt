@@ -1,8 +1,8 @@
 use Rattle.std.proofs.Common.{◌∙◌, List, map, ap, sym, subst}
-use Rattle.wit_text.specs.Syntax.{Definition, Record, Variant}
-use Rattle.wit_text.specs.View.{field_view, case_view, definition_view}
-use Rattle.wit_text.specs.declared.ast.Field.{Field}
-use Rattle.wit_text.specs.declared.ast.Case.{Case}
+use Rattle.wit_syntax.specs.Syntax.{Definition, Record, Variant}
+use Rattle.wit_syntax.specs.View.{field_view, case_view, definition_view}
+use Rattle.wit_syntax.specs.declared.ast.Field.{Field}
+use Rattle.wit_syntax.specs.declared.ast.Case.{Case}
 use Rattle.resolve.specs.Package.{IsType}
 use Rattle.resolve.specs.Declarations.{named_definition}
 use Rattle.resolve.specs.Resolved.{definition_meaning}

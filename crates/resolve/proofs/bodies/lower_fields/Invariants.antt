@@ -1,5 +1,5 @@
 use Rattle.std.proofs.Common.{map, take}
-use Rattle.wit_text.specs.View.{field_view}
+use Rattle.wit_syntax.specs.View.{field_view}
 use Rattle.resolve.specs.Resolved.{member_meaning}
 use Rattle.resolve.specs.Building.{LowersFields, scope_name}
 use Rattle.resolve.proofs.bodies.lower_fields.Given as goal

@@ -1,5 +1,5 @@
 use Rattle.std.proofs.Common.{List, ℕ, subst, arith, Contains}
-use Rattle.wit_text.specs.View.{ty_view, field_view}
+use Rattle.wit_syntax.specs.View.{ty_view, field_view}
 use Rattle.resolve.specs.Postfix.{unnamed_parameter}
 use Rattle.resolve.specs.Declarations.{named_member}
 use Rattle.resolve.specs.Resolved.{resolved, member_meaning}

@@ -1,5 +1,5 @@
 use Rattle.std.proofs.Common.{◌≡◌, ◌++◌, map, take}
-use Rattle.wit_text.specs.View.{path_view, used_view}
+use Rattle.wit_syntax.specs.View.{path_view, used_view}
 use Rattle.resolve.specs.Declarations.{used_item}
 use Rattle.resolve.specs.Lent.{used_item_of}
 use Rattle.resolve.proofs.declare.push_used.Given as goal

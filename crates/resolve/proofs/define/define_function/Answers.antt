@@ -1,6 +1,6 @@
 use Rattle.std.proofs.Common.{List, ℕ, map, flat_map, subst, sym, Contains}
-use Rattle.wit_text.specs.View.{field_view, optional_view}
-use Rattle.wit_text.specs.declared.ast.Field.{Field}
+use Rattle.wit_syntax.specs.View.{field_view, optional_view}
+use Rattle.wit_syntax.specs.declared.ast.Field.{Field}
 use Rattle.resolve.specs.Declarations.{named_member, named_if}
 use Rattle.resolve.specs.Resolved.{member_meaning, resolved_if}
 use Rattle.resolve.specs.Building.{LowersParameters, LowersIf, KnowsNames, scope_name, scope_names}

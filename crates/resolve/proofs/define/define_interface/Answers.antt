@@ -1,6 +1,6 @@
 use Rattle.std.proofs.Common.{◌≡◌, ◌++◌, ◌∙◌, List, ℕ, All, Contains, Bor, map, ap, sym, subst, refl}
-use Rattle.wit_text.specs.declared.ast.TypeDef.{TypeDef}
-use Rattle.wit_text.specs.declared.ast.Func.{Func}
+use Rattle.wit_syntax.specs.declared.ast.TypeDef.{TypeDef}
+use Rattle.wit_syntax.specs.declared.ast.Func.{Func}
 use Rattle.resolve.specs.Declarations.{FunctionItem, used_names, named_function}
 use Rattle.resolve.specs.Lent.{used_item_of, declared_type}
 use Rattle.resolve.specs.Sources.{declared_tree, declared_function}

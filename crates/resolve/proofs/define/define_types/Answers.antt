@@ -1,6 +1,6 @@
 use Rattle.std.proofs.Common.{◌≡◌, ◌++◌, ◌∙◌, ◌<◌, List, ℕ, All, Contains, map, take, get_or, length, ap, sym, subst, arith, Bor}
 use Rattle.std.proofs.lemmas.List.{get_or-map, length-map}
-use Rattle.wit_text.specs.declared.ast.TypeDef.{TypeDef}
+use Rattle.wit_syntax.specs.declared.ast.TypeDef.{TypeDef}
 use Rattle.resolve.specs.Declarations.{TypeItem, named_definition}
 use Rattle.resolve.specs.Resolved.{no_type}
 use Rattle.resolve.specs.Lent.{declared_type}

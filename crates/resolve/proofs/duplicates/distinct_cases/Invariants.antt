@@ -1,5 +1,5 @@
 use Rattle.std.proofs.Common.{map, take}
-use Rattle.wit_text.specs.View.{case_view}
+use Rattle.wit_syntax.specs.View.{case_view}
 use Rattle.resolve.specs.Declarations.{case_name}
 use Rattle.resolve.specs.Distinct.{AreMet}
 use Rattle.resolve.proofs.duplicates.distinct_cases.Given as goal

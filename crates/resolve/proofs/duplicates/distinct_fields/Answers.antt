@@ -1,7 +1,7 @@
 use Rattle.std.proofs.Common.{List, ℕ, map, subst, sym, arith}
 use Rattle.std.proofs.lemmas.Result.{err_from_is_err_and}
-use Rattle.wit_text.specs.View.{field_view}
-use Rattle.wit_text.specs.declared.ast.Field.{Field}
+use Rattle.wit_syntax.specs.View.{field_view}
+use Rattle.wit_syntax.specs.declared.ast.Field.{Field}
 use Rattle.resolve.specs.Declarations.{member_name}
 use Rattle.resolve.specs.Scope.{AreDistinct}
 use Rattle.resolve.specs.Distinct.{AreMet}

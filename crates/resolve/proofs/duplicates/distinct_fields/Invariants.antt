@@ -1,5 +1,5 @@
 use Rattle.std.proofs.Common.{map, take}
-use Rattle.wit_text.specs.View.{field_view}
+use Rattle.wit_syntax.specs.View.{field_view}
 use Rattle.resolve.specs.Declarations.{member_name}
 use Rattle.resolve.specs.Distinct.{AreMet}
 use Rattle.resolve.proofs.duplicates.distinct_fields.Given as goal

@@ -1,7 +1,7 @@
 use Rattle.std.proofs.Common.{List, ℕ, All, map, flat_map, take, subst, sym, arith}
 use Rattle.std.proofs.lemmas.Result.{err_from_is_err_and}
-use Rattle.wit_text.specs.View.{entry_view}
-use Rattle.wit_text.specs.declared.ast.InterfaceItem.{InterfaceItem}
+use Rattle.wit_syntax.specs.View.{entry_view}
+use Rattle.wit_syntax.specs.declared.ast.InterfaceItem.{InterfaceItem}
 use Rattle.resolve.specs.Declarations.{entry_names, entry_scopes, item_scopes}
 use Rattle.resolve.specs.Scope.{AreDistinct}
 use Rattle.resolve.specs.Distinct.{AreMet}

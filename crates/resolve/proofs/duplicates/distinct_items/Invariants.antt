@@ -1,5 +1,5 @@
 use Rattle.std.proofs.Common.{map, flat_map, take, All}
-use Rattle.wit_text.specs.View.{entry_view}
+use Rattle.wit_syntax.specs.View.{entry_view}
 use Rattle.resolve.specs.Declarations.{entry_names, entry_scopes}
 use Rattle.resolve.specs.Scope.{AreDistinct}
 use Rattle.resolve.specs.Distinct.{AreMet}

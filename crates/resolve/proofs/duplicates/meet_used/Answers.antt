@@ -1,6 +1,6 @@
 use Rattle.std.proofs.Common.{◌≡◌, ◌+◌, ◌++◌, ◌∷◌, ◌∙◌, List, ℕ, [], map, take, ap, subst, sym, arith, append_assoc}
 use Rattle.std.proofs.lemmas.Result.{err_from_is_err_and}
-use Rattle.wit_text.specs.View.{used_view}
+use Rattle.wit_syntax.specs.View.{used_view}
 use Rattle.resolve.specs.Declarations.{local_name}
 use Rattle.resolve.specs.Distinct.{AreMet}
 use Rattle.resolve.proofs.Lists.{map_map-more}

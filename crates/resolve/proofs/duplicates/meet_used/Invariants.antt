@@ -1,5 +1,5 @@
 use Rattle.std.proofs.Common.{◌++◌, List, ℕ, map, take}
-use Rattle.wit_text.specs.View.{used_view}
+use Rattle.wit_syntax.specs.View.{used_view}
 use Rattle.resolve.specs.Declarations.{local_name}
 use Rattle.resolve.specs.Distinct.{AreMet}
 use Rattle.resolve.proofs.duplicates.meet_used.Given as goal

@@ -1,7 +1,7 @@
 use Rattle.std.proofs.Common.{List, map, ap, sym, ◌∙◌, arith}
 use Rattle.std.specs.List.{list_all}
-use Rattle.wit_text.specs.View.{entry_view}
-use Rattle.wit_text.specs.declared.ast.InterfaceItem.{InterfaceItem}
+use Rattle.wit_syntax.specs.View.{entry_view}
+use Rattle.wit_syntax.specs.declared.ast.InterfaceItem.{InterfaceItem}
 use Rattle.resolve.specs.Resolves.{entry_fits, interface_fits}
 use Rattle.resolve.specs.Sources.{interface_entry}
 use Rattle.resolve.proofs.Nesting.{all_false-at}

@@ -1,8 +1,8 @@
 use Rattle.std.proofs.Common.{◌≡◌, ◌∙◌, List, All, map, ap, sym, subst}
 use Rattle.std.specs.List.{filter_map}
 use Rattle.std.proofs.lemmas.Result.{err_from_is_err_and}
-use Rattle.wit_text.specs.Syntax.{FileEntry}
-use Rattle.wit_text.specs.View.{file_view}
+use Rattle.wit_syntax.specs.Syntax.{FileEntry}
+use Rattle.wit_syntax.specs.View.{file_view}
 use Rattle.resolve.specs.Scope.{AreDistinct}
 use Rattle.resolve.specs.Declarations.{InterfaceTree, interface_of, interfaces, scopes_in}
 use Rattle.resolve.specs.Resolves.{HasKnownNames}

@@ -1,9 +1,9 @@
 use Rattle.std.proofs.Common.{◌≡◌, ◌<◌, ◌∙◌, List, Contains, length, map, ap, subst, arith}
 use Rattle.std.proofs.lemmas.List.{length-map}
 use Rattle.std.proofs.lemmas.Bool.Decides.{nat_tests}
-use Rattle.wit_text.specs.Syntax.{FileEntry}
-use Rattle.wit_text.specs.View.{item_view, file_view, world_entry_view}
-use Rattle.wit_text.specs.declared.ast.Item.{Item}
+use Rattle.wit_syntax.specs.Syntax.{FileEntry}
+use Rattle.wit_syntax.specs.View.{item_view, file_view, world_entry_view}
+use Rattle.wit_syntax.specs.declared.ast.Item.{Item}
 use Rattle.resolve.specs.Sources.{interface_entry}
 use Rattle.resolve.proofs.Lists.{contains-map, contains-at}
 use Rattle.resolve.proofs.Meeting.{all-taken}

@@ -1,5 +1,5 @@
 use Rattle.std.proofs.Common.{◌≡◌, map, take}
-use Rattle.wit_text.specs.View.{item_view}
+use Rattle.wit_syntax.specs.View.{item_view}
 use Rattle.resolve.specs.Sources.{interface_entry}
 use Rattle.resolve.proofs.from_ast.interfaces.Given as goal
 

@@ -1,7 +1,7 @@
-use Rattle.wit_text.specs.declared.ast.TypeExpression.{TypeExpression, the_lemmas}
+use Rattle.wit_syntax.specs.declared.ast.TypeExpression.{TypeExpression, the_lemmas}
 use Rattle.std.proofs.Common.{List, ℕ, [], Some, subst, ap, ◌∙◌, sym, arith, rules, Contains}
-use Rattle.wit_text.specs.Syntax.{MaybeTy, Named, ListOf, OptionOf, TupleOf, ResultOf, Present}
-use Rattle.wit_text.specs.View.{ty_view, boxed_view}
+use Rattle.wit_syntax.specs.Syntax.{MaybeTy, Named, ListOf, OptionOf, TupleOf, ResultOf, Present}
+use Rattle.wit_syntax.specs.View.{ty_view, boxed_view}
 use Rattle.resolve.specs.Package.{read_val}
 use Rattle.resolve.specs.Tables.{is_below}
 use Rattle.resolve.specs.Postfix.{unnamed}

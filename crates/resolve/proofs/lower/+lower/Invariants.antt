@@ -1,6 +1,6 @@
 use Rattle.std.proofs.Common.{map, take}
-use Rattle.wit_text.specs.Syntax.{tys_of}
-use Rattle.wit_text.specs.View.{ty_view}
+use Rattle.wit_syntax.specs.Syntax.{tys_of}
+use Rattle.wit_syntax.specs.View.{ty_view}
 use Rattle.resolve.specs.Resolved.{resolved_all}
 use Rattle.resolve.specs.Building.{LowersAll, scope_name}
 use Rattle.resolve.proofs.lower.+lower.Given as goal

@@ -1,7 +1,7 @@
 use Rattle.std.proofs.Common.{subst}
 use Rattle.std.specs.declared.option.Option.{Option}
-use Rattle.wit_text.specs.View.{optional_view}
-use Rattle.wit_text.specs.declared.ast.TypeExpression.{TypeExpression}
+use Rattle.wit_syntax.specs.View.{optional_view}
+use Rattle.wit_syntax.specs.declared.ast.TypeExpression.{TypeExpression}
 use Rattle.resolve.specs.Declarations.{named_if}
 use Rattle.resolve.specs.Building.{KnowsNames}
 use Rattle.resolve.proofs.lower.lower_optional.Goals as goal

@@ -1,6 +1,6 @@
 use Rattle.std.proofs.Common.{◌++◌, List, ℕ, map, take, ap, sym, ◌∙◌, arith, append_assoc}
-use Rattle.wit_text.specs.Syntax.{tys_of}
-use Rattle.wit_text.specs.View.{ty_view}
+use Rattle.wit_syntax.specs.Syntax.{tys_of}
+use Rattle.wit_syntax.specs.View.{ty_view}
 use Rattle.resolve.specs.Declarations.{named, named_all}
 use Rattle.resolve.specs.Lent.{lent}
 use Rattle.resolve.proofs.Nesting.{named_all-more}

@@ -1,6 +1,6 @@
 use Rattle.std.proofs.Common.{◌≡◌, ◌++◌, map, take}
-use Rattle.wit_text.specs.Syntax.{tys_of}
-use Rattle.wit_text.specs.View.{ty_view}
+use Rattle.wit_syntax.specs.Syntax.{tys_of}
+use Rattle.wit_syntax.specs.View.{ty_view}
 use Rattle.resolve.specs.Declarations.{named_all}
 use Rattle.resolve.specs.Lent.{lent}
 use Rattle.resolve.proofs.named.+named.Given as goal

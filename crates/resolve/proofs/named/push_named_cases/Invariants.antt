@@ -1,5 +1,5 @@
 use Rattle.std.proofs.Common.{◌≡◌, ◌++◌, map, flat_map, take}
-use Rattle.wit_text.specs.View.{case_view}
+use Rattle.wit_syntax.specs.View.{case_view}
 use Rattle.resolve.specs.Declarations.{named_case}
 use Rattle.resolve.specs.Lent.{lent}
 use Rattle.resolve.proofs.named.push_named_cases.Given as goal

@@ -1,5 +1,5 @@
 use Rattle.std.proofs.Common.{◌≡◌, ◌++◌, map, flat_map, take}
-use Rattle.wit_text.specs.View.{field_view}
+use Rattle.wit_syntax.specs.View.{field_view}
 use Rattle.resolve.specs.Declarations.{named_member}
 use Rattle.resolve.specs.Lent.{lent}
 use Rattle.resolve.proofs.named.push_named_fields.Given as goal

@@ -1,7 +1,7 @@
 use Rattle.std.proofs.Common.{nat_le, List, map, ap, sym, ◌∙◌, arith}
-use Rattle.wit_text.specs.Syntax.{depth_all, tys_of}
-use Rattle.wit_text.specs.View.{ty_view}
-use Rattle.wit_text.specs.declared.ast.TypeExpression.{TypeExpression}
+use Rattle.wit_syntax.specs.Syntax.{depth_all, tys_of}
+use Rattle.wit_syntax.specs.View.{ty_view}
+use Rattle.wit_syntax.specs.declared.ast.TypeExpression.{TypeExpression}
 use Rattle.resolve.proofs.Nesting.{deeper-at, within-more}
 use Rattle.resolve.proofs.nested.+nested.Goals as goal
 

@@ -1,5 +1,5 @@
 use Rattle.std.proofs.Common.{sym, ◌∙◌, arith}
-use Rattle.wit_text.specs.View.{case_view}
+use Rattle.wit_syntax.specs.View.{case_view}
 use Rattle.resolve.specs.Resolves.{case_fits}
 use Rattle.resolve.proofs.Nesting.{all_false-at}
 use Rattle.resolve.proofs.nested.are_cases_nested.Goals as goal

@@ -1,5 +1,5 @@
 use Rattle.std.proofs.Common.{sym, ◌∙◌, arith}
-use Rattle.wit_text.specs.View.{field_view}
+use Rattle.wit_syntax.specs.View.{field_view}
 use Rattle.resolve.specs.Resolves.{member_fits}
 use Rattle.resolve.proofs.Nesting.{all_false-at}
 use Rattle.resolve.proofs.nested.are_fields_nested.Goals as goal

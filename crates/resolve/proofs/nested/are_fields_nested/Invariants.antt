@@ -1,6 +1,6 @@
 use Rattle.std.proofs.Common.{◌≡◌, true, map, take}
 use Rattle.std.specs.List.{list_all}
-use Rattle.wit_text.specs.View.{field_view}
+use Rattle.wit_syntax.specs.View.{field_view}
 use Rattle.resolve.specs.Resolves.{member_fits}
 use Rattle.resolve.proofs.nested.are_fields_nested.Given as goal
 

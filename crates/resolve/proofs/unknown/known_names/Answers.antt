@@ -1,8 +1,8 @@
 use Rattle.std.proofs.Common.{◌<◌, List, ℕ, Bor, IfSome, inl, inr, map, length, ap, sym, subst, ◌∙◌, arith}
 use Rattle.std.specs.declared.option.Option.{Option}
 use Rattle.std.proofs.lemmas.List.{length-map, get_or_default}
-use Rattle.wit_text.specs.View.{entry_view}
-use Rattle.wit_text.specs.declared.ast.InterfaceItem.{InterfaceItem}
+use Rattle.wit_syntax.specs.View.{entry_view}
+use Rattle.wit_syntax.specs.declared.ast.InterfaceItem.{InterfaceItem}
 use Rattle.resolve.specs.Declarations.{interface_at, interface_tree, no_interface}
 use Rattle.resolve.specs.Resolves.{IsUnknownIn, HasKnownNames}
 use Rattle.resolve.specs.Sources.{declared_tree, interface_syntax}

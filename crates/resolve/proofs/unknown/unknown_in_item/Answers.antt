@@ -1,6 +1,6 @@
 use Rattle.std.proofs.Common.{List, ℕ, Bor, ap, sym, subst, ◌∙◌}
-use Rattle.wit_text.specs.View.{entry_view}
-use Rattle.wit_text.specs.declared.ast.InterfaceItem.{InterfaceItem}
+use Rattle.wit_syntax.specs.View.{entry_view}
+use Rattle.wit_syntax.specs.declared.ast.InterfaceItem.{InterfaceItem}
 use Rattle.resolve.specs.Lent.{lent}
 use Rattle.resolve.specs.Sources.{declared_tree}
 use Rattle.resolve.specs.Knowing.{KnowsEntry, LacksEntry}

@@ -1,5 +1,5 @@
 use Rattle.std.proofs.Common.{All, map, take}
-use Rattle.wit_text.specs.View.{entry_view}
+use Rattle.wit_syntax.specs.View.{entry_view}
 use Rattle.resolve.specs.Sources.{declared_tree}
 use Rattle.resolve.specs.Knowing.{KnowsEntry}
 use Rattle.resolve.proofs.unknown.unknown_in_items.Given as goal

@@ -1,6 +1,6 @@
 use Rattle.std.proofs.Common.{List, [], All, Contains, map, sym, subst, arith}
-use Rattle.wit_text.specs.View.{path_view, used_view}
-use Rattle.wit_text.specs.declared.ast.UsedName.{UsedName}
+use Rattle.wit_syntax.specs.View.{path_view, used_view}
+use Rattle.wit_syntax.specs.declared.ast.UsedName.{UsedName}
 use Rattle.resolve.specs.Declarations.{used_item}
 use Rattle.resolve.specs.Resolves.{IsKnownUse}
 use Rattle.resolve.specs.Sources.{declared_tree}

@@ -1,5 +1,5 @@
 use Rattle.std.proofs.Common.{All, map, take}
-use Rattle.wit_text.specs.View.{path_view, used_view}
+use Rattle.wit_syntax.specs.View.{path_view, used_view}
 use Rattle.resolve.specs.Declarations.{used_item}
 use Rattle.resolve.specs.Resolves.{IsKnownUse}
 use Rattle.resolve.specs.Sources.{declared_tree}

@@ -1,5 +1,5 @@
 use Rattle.std.proofs.Common.{◌≡◌, map, flat_map, take}
-use Rattle.wit_text.specs.View.{entry_view}
+use Rattle.wit_syntax.specs.View.{entry_view}
 use Rattle.resolve.specs.Declarations.{entry_uses, entry_types, entry_functions}
 use Rattle.resolve.specs.Lent.{used_item_of, declared_type}
 use Rattle.resolve.specs.Sources.{declared_function}

@@ -1,7 +1,7 @@
 use Rattle.std.proofs.Common.{◌<◌, ◌∙◌, List, ℕ, [], inl, inr, All, Contains, map, length, get_or, ap, sym, subst, refl, arith}
 use Rattle.std.proofs.lemmas.List.{length-map}
 use Rattle.std.proofs.lemmas.Result.{err_from_is_err_and}
-use Rattle.wit_text.specs.View.{file_view}
+use Rattle.wit_syntax.specs.View.{file_view}
 use Rattle.resolve.specs.Order.{IsPlacement}
 use Rattle.resolve.specs.Scope.{AreDistinct}
 use Rattle.resolve.specs.Declarations.{InterfaceTree, interface_names, interface_at}
