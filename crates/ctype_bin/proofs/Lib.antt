@@ -1,0 +1,10 @@
+pub mod Exact
+pub mod Numbers
+pub mod Choice
+pub mod Sized
+pub mod Grammar
+pub mod File
+pub mod FullNames
+pub mod Views
+pub mod Loop
+pub mod Runs

@@ -1,0 +1,9 @@
+pub mod Raw
+pub mod Names
+pub mod View
+pub mod FileView
+pub mod Opcodes
+pub mod Bytes
+pub mod Exactness
+pub mod Grammar
+pub mod File
