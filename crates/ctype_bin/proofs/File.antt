@@ -26,7 +26,7 @@ exact-exactly (b ∷ bs) = exact-then within (only byte (λ x. unless (x == b) N
 
 -- ---- custom sections
 
-exact-content : ExactToEnd f.custom_content
+pub exact-content : ExactToEnd f.custom_content
 unfolding f.custom_content
 exact-content = exact-then within utf8 (λ text. remaining) exact-utf8 (λ text. exact-remaining)
 

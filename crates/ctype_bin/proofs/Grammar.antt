@@ -5,13 +5,13 @@ use Rattle.std.specs.Str.{is_utf8}
 use Rattle.atoms.specs.Label.{is_label}
 use Rattle.atoms.specs.Leb128.{SpellsS33}
 use Rattle.productions.specs.Production.{give, ◌>>=◌, times, run, when}
-use Rattle.productions.proofs.Exact.{exact-then, exact-give, exact-when, exact-times, exact-run}
+use Rattle.productions.proofs.Exact.{exact-then, exact-give, exact-never, exact-when, exact-times, exact-run}
 use Rattle.ctype_bin.specs.declared.error.Fault.TheVariants.{UnknownOpcode, BadIndex, BadName}
 use Rattle.ctype_bin.specs.declared.opcode.Opcode.{Opcode}
 use Rattle.ctype_bin.specs.declared.opcode.Opcode.TheVariants as op
 use Rattle.ctype_bin.specs.declared.scope.Scope.{Scope}
 use Rattle.ctype_bin.specs.Exactness.{Exact, within}
-use Rattle.ctype_bin.specs.Bytes.{Bytes, byte, several, only, unless, u32, s33, choose}
+use Rattle.ctype_bin.specs.Bytes.{Bytes, byte, several, only, unless, u32, s33, choose, ended}
 use Rattle.ctype_bin.specs.Opcodes.{opcode_of}
 use Rattle.ctype_bin.specs.Names.{is_extern_name}
 use Rattle.ctype_bin.specs.Grammar as g
@@ -145,8 +145,8 @@ exact-plain types op.Enum = exact-enum
 exact-plain types op.Option = exact-option types
 exact-plain types op.Result = exact-result types
 exact-plain types op.Function = exact-function types
-exact-plain types op.Component = exact-function types
-exact-plain types op.Instance = exact-function types
+exact-plain types op.Component = exact-never within ended (λ bytes. tt)
+exact-plain types op.Instance = exact-never within ended (λ bytes. tt)
 
 exact-plain_type : (scope : Scope) (o : Opcode) → Exact (g.plain_type scope o)
 exact-plain_type scope o = gives (g.plain scope.types o) _ (exact-plain scope.types o)

@@ -8,3 +8,5 @@ pub mod FullNames
 pub mod Views
 pub mod Loop
 pub mod Runs
+pub mod ByOpcode
+pub mod Heads

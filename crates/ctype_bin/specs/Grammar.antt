@@ -2,7 +2,7 @@
 use Rattle.std.specs.Prelude.{◌≡◌, ◌≤◌, ◌<◌, ℕ, zero, suc, ◌+◌, ◌-◌, List, [], ◌∷◌, ◌++◌, length, slice_index, Bool, true, false, ◌&&◌, ◌||◌, not, Option, Some, None, nat_le, nat_lt, ◌==◌, is_some, unwrap_or, if◌then◌else◌}
 use Rattle.std.specs.Str.{is_utf8}
 use Rattle.atoms.specs.Label.{is_label}
-use Rattle.productions.specs.Production.{give, ◌>>=◌, times, run, when}
+use Rattle.productions.specs.Production.{give, never, ◌>>=◌, times, run, when}
 use Rattle.ctype_bin.specs.declared.error.Feature.TheVariants.{Float, Resource}
 use Rattle.ctype_bin.specs.declared.error.Fault.{Fault}
 use Rattle.ctype_bin.specs.declared.error.Fault.TheVariants.{UnknownOpcode, Unsupported, BadIndex, EmptyType, Limit, BadName}
@@ -23,7 +23,7 @@ use Rattle.ctype_bin.specs.Opcodes.{primitive_of, opcode_of}
 use Rattle.ctype_bin.specs.Names.{is_extern_name}
 use Rattle.ctype_bin.specs.Raw.{Defined, Prim, Record, Variant, ListOf, Tuple, FlagSet, Enumeration, OptionOf, ResultOf, Function, Definition, Define, Func, Component, Instance, Decl, Entry, Alias, Import, Export}
 use Rattle.ctype_bin.specs.View.{decls_of}
-use Rattle.ctype_bin.specs.Bytes.{Bytes, byte, several, only, unless, u32, s33, choose}
+use Rattle.ctype_bin.specs.Bytes.{Bytes, byte, several, only, unless, u32, s33, choose, ended}
 
 -- an index below the count of its space
 abbrev pub index : ℕ → Bytes ℕ
@@ -202,8 +202,8 @@ plain types op.Enum = enum_type
 plain types op.Option = option_type types
 plain types op.Result = result_type types
 plain types op.Function = function_type types
-plain types op.Component = function_type types
-plain types op.Instance = function_type types
+plain types op.Component = never ended
+plain types op.Instance = never ended
 
 -- ---- scopes
 

@@ -1,6 +1,7 @@
 //! The bytes that types begin with.
 ghost use Rattle.std.specs.Prelude.{◌≡◌};
 ghost use Rattle.ctype_bin.specs.Opcodes.{primitive_of, opcode_of};
+ghost use Rattle.ctype_bin.specs.Grammar.{is_nested};
 
 use crate::raw::Primitive;
 
@@ -19,6 +20,13 @@ pub(crate) enum Opcode {
     Function,
     Component,
     Instance,
+}
+
+/// Whether a type has declarations.
+pub(crate) fn is_nested(opcode: Opcode) -> bool
+    ensures { result ≡ is_nested opcode }
+{
+    matches!(opcode, Opcode::Component | Opcode::Instance)
 }
 
 /// The primitive with an opcode.

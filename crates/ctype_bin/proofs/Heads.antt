@@ -1,0 +1,54 @@
+-- Custom sections before a section, and to the end.
+use Rattle.std.proofs.Common.{◌≡◌, ℕ, zero, suc, ◌+◌, ◌-◌, ◌<◌, ◌≤◌, List, [], ◌∷◌, length, Option, Some, None, Result, Ok, Err, refl, sym, ◌∙◌, arith, eqb, false}
+use Rattle.ctype_bin.specs.declared.error.Stuck.{Stuck}
+use Rattle.ctype_bin.specs.declared.error.Stuck.TheVariants.{End, At}
+use Rattle.ctype_bin.specs.declared.error.ItemError.{ItemError}
+use Rattle.ctype_bin.specs.declared.error.ItemError.TheVariants as errors
+use Rattle.ctype_bin.specs.Bytes.{Stops}
+use Rattle.ctype_bin.specs.File.{head, section, custom, trailing, trailing_byte}
+
+one_less : (n i : ℕ) → i < n → n - i ≡ suc (n - (i + 1))
+one_less n i lt = omega arith
+
+none_left : (n i : ℕ) → n ≤ i → n - i ≡ 0
+none_left n i le = omega arith
+
+module _ (id n i : ℕ) (bytes : List ℕ) (total : Result (ℕ × List ℕ) Stuck) (so_far : (section id (n - i)).read bytes ≡ total) where
+  pub head_skips : (rest : List ℕ) → i < n → (head id).read bytes ≡ Ok (None, rest) → (section id (n - (i + 1))).read rest ≡ total
+  unfolding section
+  head_skips rest lt h = let one : (section id (n - i)).read bytes ≡ (section id (n - (i + 1))).read rest = rw (one_less n i lt, h) refl in sym one ∙ so_far
+
+  pub head_found : (size : ℕ) (rest : List ℕ) → i < n → (head id).read bytes ≡ Ok (Some size, rest) → total ≡ Ok (size, rest)
+  unfolding section
+  head_found size rest lt h = let one : (section id (n - i)).read bytes ≡ Ok (size, rest) = rw (one_less n i lt, h) refl in sym so_far ∙ one
+
+  pub head_stops : (e : ItemError) → i < n → Stops e ((head id).read bytes) → Stops e total
+  unfolding section
+  head_stops errors.Memory lt h = tt
+  head_stops (errors.Stuck f) lt h = let one : (section id (n - i)).read bytes ≡ Err f = rw (one_less n i lt, h) refl in sym so_far ∙ one
+
+  pub none_found : n ≤ i → total ≡ Err End
+  unfolding section
+  none_found le = let one : (section id (n - i)).read bytes ≡ Err End = rw (none_left n i le) refl in sym so_far ∙ one
+
+module _ (n i : ℕ) (bytes : List ℕ) (total : Result (ℕ × List ℕ) Stuck) (so_far : (trailing (n - i)).read bytes ≡ total) where
+  pub trailing_ends : i < n → bytes ≡ [] → total ≡ Ok (0, [])
+  unfolding trailing
+  trailing_ends lt e = let one : (trailing (n - i)).read bytes ≡ Ok (0, []) = rw (one_less n i lt, e) refl in sym so_far ∙ one
+
+  pub trailing_skips : (more rest : List ℕ) → i < n → bytes ≡ 0 ∷ more → custom.read more ≡ Ok (0, rest) → (trailing (n - (i + 1))).read rest ≡ total
+  unfolding trailing
+  trailing_skips more rest lt e h = let one : (trailing (n - i)).read bytes ≡ (trailing (n - (i + 1))).read rest = rw (one_less n i lt, e, h) refl in sym one ∙ so_far
+
+  pub trailing_stops : (more : List ℕ) (e : ItemError) → i < n → bytes ≡ 0 ∷ more → Stops e (custom.read more) → Stops e total
+  unfolding trailing
+  trailing_stops more errors.Memory lt e h = tt
+  trailing_stops more (errors.Stuck f) lt e h = let one : (trailing (n - i)).read bytes ≡ Err f = rw (one_less n i lt, e, h) refl in sym so_far ∙ one
+
+  pub trailing_other : (b : ℕ) (more : List ℕ) → i < n → bytes ≡ b ∷ more → eqb b 0 ≡ false → total ≡ Err (At (trailing_byte b) (length bytes))
+  unfolding trailing
+  trailing_other b more lt e other = let one : (trailing (n - i)).read bytes ≡ Err (At (trailing_byte b) (length bytes)) = rw (one_less n i lt, e, other) refl in sym so_far ∙ one
+
+  pub none_trails : n ≤ i → total ≡ Err End
+  unfolding trailing
+  none_trails le = let one : (trailing (n - i)).read bytes ≡ Err End = rw (none_left n i le) refl in sym so_far ∙ one
