@@ -1,5 +1,5 @@
 -- A type, by its opcode.
-use Rattle.std.proofs.Common.{◌≡◌, ℕ, zero, suc, ◌+◌, ◌-◌, ◌<◌, Bool, true, false, List, [], ◌∷◌, ◌++◌, Result, Ok, Err, refl, arith}
+use Rattle.std.proofs.Common.{◌≡◌, ℕ, zero, suc, ◌+◌, ◌-◌, ◌<◌, true, false, List, [], ◌∷◌, ◌++◌, Ok, refl, arith}
 use Rattle.ctype_bin.specs.declared.error.ItemError.{ItemError}
 use Rattle.ctype_bin.specs.declared.error.ItemError.TheVariants as errors
 use Rattle.ctype_bin.specs.declared.opcode.Opcode.{Opcode}

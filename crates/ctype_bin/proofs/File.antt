@@ -1,14 +1,12 @@
 -- Sections and the file are read exactly.
-use Rattle.std.proofs.Common.{◌≡◌, ℕ, zero, suc, ◌+◌, ◌-◌, Bool, true, false, List, [], ◌∷◌, ◌++◌, length, Option, Some, None, refl, sym, ap, subst, arith}
+use Rattle.std.proofs.Common.{◌≡◌, ℕ, zero, suc, false, List, [], ◌∷◌, ◌++◌, Option, Some, None, refl, subst, arith}
 use Rattle.std.specs.Prelude.{◌||◌, ◌==◌}
-use Rattle.productions.specs.Production.{give, never, ◌>>=◌, times, run, when, by_option, unless_some, at_end, next, passes}
-use Rattle.productions.specs.Production as general
-use Rattle.productions.specs.Exactness.{Anything, AtEnd, Unless}
+use Rattle.productions.specs.Production.{give, by_option, unless_some, at_end, next, passes}
+use Rattle.productions.specs.Exactness.{Anything, Unless}
 use Rattle.productions.proofs.Exact as laws
 use Rattle.productions.proofs.Exact.{exact-then, exact-bind, exact-last, exact-give, exact-never, exact-when, exact-times, exact-run, exact-end}
 use Rattle.ctype_bin.specs.declared.error.Fault.TheVariants.{UnknownOpcode, BadSection, NotComponent}
-use Rattle.ctype_bin.specs.declared.error.Stuck.{Stuck}
-use Rattle.ctype_bin.specs.declared.error.Stuck.TheVariants.{End, At, Past}
+use Rattle.ctype_bin.specs.declared.error.Stuck.TheVariants.{End, Past}
 use Rattle.ctype_bin.specs.declared.scope.Scope.{Scope}
 use Rattle.ctype_bin.specs.Exactness.{Exact, ExactToEnd, Inside, within}
 use Rattle.ctype_bin.specs.Bytes.{Bytes, byte, only, unless, u32, sized, remaining, ended}
@@ -62,7 +60,7 @@ exact-unless p ep None = exact-ended
 exact-trailing : (n : ℕ) → ExactToEnd (f.trailing n)
 unfolding f.trailing
 exact-trailing zero = exact-never within ended (λ bytes. tt)
-exact-trailing (suc n) = exact-bind within (general.optional (λ b. b == 0) (λ b. f.custom)) (λ more. unless_some more (f.trailing n) (at_end f.trailing_fault))
+exact-trailing (suc n) = exact-bind within f.custom_next (λ more. unless_some more (f.trailing n) (at_end f.trailing_fault))
     (laws.exact-optional within (λ b. b == 0) (λ b. f.custom) (λ b. exact-custom)) (exact-unless (f.trailing n) (exact-trailing n)) off
   where
     off : (c : Option ℕ) (y : ℕ) (text rest : List ℕ) → (unless_some c (f.trailing n) (at_end f.trailing_fault)).spells text y → next rest ≡ None → Unless (λ b. b == 0) Anything c (next (text ++ rest))

@@ -1,13 +1,12 @@
 -- The test of a full name tells whether a text has the parts of one.
-use Rattle.std.proofs.Common.{◌≡◌, ◌⊎◌, inl, inr, IsTrue, ℕ, zero, suc, ◌<◌, Bool, true, false, ◌&&◌, List, [], ◌∷◌, ◌++◌, Option, None, Some, Result, Ok, Err, refl, sym, ap, subst, ◌∙◌, arith, eqb, cond}
-use Rattle.std.specs.Prelude.{MatchResult, IsUtf8, is_ok, ◌||◌}
+use Rattle.std.proofs.Common.{◌≡◌, IsTrue, ℕ, suc, Bool, true, false, ◌&&◌, List, [], ◌∷◌, ◌++◌, Option, None, Some, Result, Ok, Err, refl, sym, ap, subst, ◌∙◌, arith, eqb, cond}
+use Rattle.std.specs.Prelude.{MatchResult, IsUtf8, is_ok}
 use Rattle.std.specs.Str.{is_utf8}
 use Rattle.std.proofs.lemmas.Str.{is_utf8-from_IsUtf8, IsUtf8-from_is_utf8}
 use Rattle.std.proofs.lemmas.Bool.{eq-eqb, ne_eqb, eqb-true}
 use Rattle.std.proofs.lemmas.List.{append-nil}
 use Rattle.atoms.specs.Label.{is_label}
-use Rattle.atoms.specs.FullName.{NameParts, Lacks, IsName, IsFullName, is_package_label, is_version, is_version_or_none, version_suffix, name_text, package_text, full_name_text}
-use Rattle.atoms.specs.declared.error.AtomError.{AtomError}
+use Rattle.atoms.specs.FullName.{NameParts, Lacks, IsName, IsFullName, is_package_label, is_version, version_suffix, name_text, package_text}
 use Rattle.atoms.specs.declared.error.AtomError.TheVariants as error
 use Rattle.atoms.proofs.FullNames.{label_lacks, package_lacks}
 use Rattle.ctype_bin.specs.Names.{cut_at, behind_first, is_versioned, is_name, is_packaged, is_spaced, is_full_name, is_extern_name}

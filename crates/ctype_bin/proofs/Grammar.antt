@@ -1,19 +1,16 @@
 -- Each production of types is read exactly.
-use Rattle.std.proofs.Common.{◌≡◌, ℕ, zero, suc, ◌+◌, ◌-◌, Bool, true, false, List, [], ◌∷◌, ◌++◌, length, Option, Some, None, refl, sym, ap}
-use Rattle.std.specs.Prelude.{◌||◌, ◌&&◌, nat_lt, nat_le, ◌==◌, if◌then◌else◌}
-use Rattle.std.specs.Str.{is_utf8}
-use Rattle.atoms.specs.Label.{is_label}
+use Rattle.std.proofs.Common.{◌≡◌, ℕ, zero, suc, ◌+◌, Bool, List, [], ◌∷◌, ◌++◌, length, None}
+use Rattle.std.specs.Prelude.{◌||◌, nat_lt, nat_le, ◌==◌}
 use Rattle.atoms.specs.Leb128.{SpellsS33}
 use Rattle.productions.specs.Production.{give, ◌>>=◌, times, run, when}
 use Rattle.productions.proofs.Exact.{exact-then, exact-give, exact-never, exact-when, exact-times, exact-run}
-use Rattle.ctype_bin.specs.declared.error.Fault.TheVariants.{UnknownOpcode, BadIndex, BadName}
+use Rattle.ctype_bin.specs.declared.error.Fault.TheVariants.{UnknownOpcode, BadIndex}
 use Rattle.ctype_bin.specs.declared.opcode.Opcode.{Opcode}
 use Rattle.ctype_bin.specs.declared.opcode.Opcode.TheVariants as op
 use Rattle.ctype_bin.specs.declared.scope.Scope.{Scope}
 use Rattle.ctype_bin.specs.Exactness.{Exact, within}
-use Rattle.ctype_bin.specs.Bytes.{Bytes, byte, several, only, unless, u32, s33, choose, ended}
+use Rattle.ctype_bin.specs.Bytes.{Bytes, byte, several, only, unless, u32, s33, ended}
 use Rattle.ctype_bin.specs.Opcodes.{opcode_of}
-use Rattle.ctype_bin.specs.Names.{is_extern_name}
 use Rattle.ctype_bin.specs.Grammar as g
 use Rattle.ctype_bin.proofs.Exact.{exact-byte, exact-several, exact-only}
 use Rattle.ctype_bin.proofs.Numbers.{exact-u32, exact-s33}

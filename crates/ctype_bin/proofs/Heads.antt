@@ -1,11 +1,12 @@
 -- Custom sections before a section, and to the end.
-use Rattle.std.proofs.Common.{◌≡◌, ℕ, zero, suc, ◌+◌, ◌-◌, ◌<◌, ◌≤◌, List, [], ◌∷◌, length, Option, Some, None, Result, Ok, Err, refl, sym, ◌∙◌, arith, eqb, false}
+use Rattle.std.proofs.Common.{◌≡◌, ℕ, suc, ◌+◌, ◌-◌, ◌<◌, ◌≤◌, List, Some, None, Result, Ok, Err, refl, sym, ◌∙◌, arith}
+use Rattle.productions.specs.Production.{at_end}
 use Rattle.ctype_bin.specs.declared.error.Stuck.{Stuck}
-use Rattle.ctype_bin.specs.declared.error.Stuck.TheVariants.{End, At}
+use Rattle.ctype_bin.specs.declared.error.Stuck.TheVariants.{End}
 use Rattle.ctype_bin.specs.declared.error.ItemError.{ItemError}
 use Rattle.ctype_bin.specs.declared.error.ItemError.TheVariants as errors
 use Rattle.ctype_bin.specs.Bytes.{Stops}
-use Rattle.ctype_bin.specs.File.{head, section, custom, trailing, trailing_byte}
+use Rattle.ctype_bin.specs.File.{head, section, custom_next, trailing, trailing_fault}
 
 one_less : (n i : ℕ) → i < n → n - i ≡ suc (n - (i + 1))
 one_less n i lt = omega arith
@@ -32,22 +33,18 @@ module _ (id n i : ℕ) (bytes : List ℕ) (total : Result (ℕ × List ℕ) Stu
   none_found le = let one : (section id (n - i)).read bytes ≡ Err End = rw (none_left n i le) refl in sym so_far ∙ one
 
 module _ (n i : ℕ) (bytes : List ℕ) (total : Result (ℕ × List ℕ) Stuck) (so_far : (trailing (n - i)).read bytes ≡ total) where
-  pub trailing_ends : i < n → bytes ≡ [] → total ≡ Ok (0, [])
+  pub trailing_ends : (rest : List ℕ) → i < n → custom_next.read bytes ≡ Ok (None, rest) → total ≡ (at_end trailing_fault).read rest
   unfolding trailing
-  trailing_ends lt e = let one : (trailing (n - i)).read bytes ≡ Ok (0, []) = rw (one_less n i lt, e) refl in sym so_far ∙ one
+  trailing_ends rest lt h = let one : (trailing (n - i)).read bytes ≡ (at_end trailing_fault).read rest = rw (one_less n i lt, h) refl in sym so_far ∙ one
 
-  pub trailing_skips : (more rest : List ℕ) → i < n → bytes ≡ 0 ∷ more → custom.read more ≡ Ok (0, rest) → (trailing (n - (i + 1))).read rest ≡ total
+  pub trailing_skips : (x : ℕ) (rest : List ℕ) → i < n → custom_next.read bytes ≡ Ok (Some x, rest) → (trailing (n - (i + 1))).read rest ≡ total
   unfolding trailing
-  trailing_skips more rest lt e h = let one : (trailing (n - i)).read bytes ≡ (trailing (n - (i + 1))).read rest = rw (one_less n i lt, e, h) refl in sym one ∙ so_far
+  trailing_skips x rest lt h = let one : (trailing (n - i)).read bytes ≡ (trailing (n - (i + 1))).read rest = rw (one_less n i lt, h) refl in sym one ∙ so_far
 
-  pub trailing_stops : (more : List ℕ) (e : ItemError) → i < n → bytes ≡ 0 ∷ more → Stops e (custom.read more) → Stops e total
+  pub trailing_stops : (e : ItemError) → i < n → Stops e (custom_next.read bytes) → Stops e total
   unfolding trailing
-  trailing_stops more errors.Memory lt e h = tt
-  trailing_stops more (errors.Stuck f) lt e h = let one : (trailing (n - i)).read bytes ≡ Err f = rw (one_less n i lt, e, h) refl in sym so_far ∙ one
-
-  pub trailing_other : (b : ℕ) (more : List ℕ) → i < n → bytes ≡ b ∷ more → eqb b 0 ≡ false → total ≡ Err (At (trailing_byte b) (length bytes))
-  unfolding trailing
-  trailing_other b more lt e other = let one : (trailing (n - i)).read bytes ≡ Err (At (trailing_byte b) (length bytes)) = rw (one_less n i lt, e, other) refl in sym so_far ∙ one
+  trailing_stops errors.Memory lt h = tt
+  trailing_stops (errors.Stuck f) lt h = let one : (trailing (n - i)).read bytes ≡ Err f = rw (one_less n i lt, h) refl in sym so_far ∙ one
 
   pub none_trails : n ≤ i → total ≡ Err End
   unfolding trailing

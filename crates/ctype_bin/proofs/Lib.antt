@@ -10,3 +10,5 @@ pub mod Loop
 pub mod Runs
 pub mod ByOpcode
 pub mod Heads
+pub mod Decoded
+pub mod Cut

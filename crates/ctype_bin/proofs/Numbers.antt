@@ -1,10 +1,10 @@
 -- Numbers are read exactly, from what `atoms` tells of them.
-use Rattle.std.proofs.Common.{◌≡◌, ℕ, ◌+◌, ◌<◌, ◌≤◌, List, length, ◌++◌, take, drop, Result, Ok, Err, refl, sym, ap, subst, ◌∙◌, arith, inl, inr}
+use Rattle.std.proofs.Common.{◌≡◌, ℕ, ◌≤◌, List, length, ◌++◌, take, drop, Result, Ok, Err, refl, sym, ap, subst, ◌∙◌, arith, inl, inr}
 use Rattle.std.specs.Prelude.{◌⊎◌, IfErr}
 use Rattle.std.proofs.lemmas.List.{drop_at, take-append-drop}
 use Rattle.atoms.specs.declared.error.AtomError.{AtomError}
 use Rattle.atoms.specs.declared.error.AtomError.TheVariants as atoms
-use Rattle.atoms.specs.Leb128.{Spells, EndsEarly, groups_at}
+use Rattle.atoms.specs.Leb128.{Spells, groups_at}
 use Rattle.atoms.proofs.Laws.{is_found, is_truncated, groups_again, only_errors}
 use Rattle.atoms.proofs.Groups.{spells-groups}
 use Rattle.ctype_bin.specs.declared.error.Fault.{Fault}

@@ -1,9 +1,8 @@
 -- A production in so many bytes is read exactly.
-use Rattle.std.proofs.Common.{◌≡◌, ℕ, zero, suc, ◌+◌, ◌-◌, ◌<◌, ◌≤◌, Bool, true, false, cond, leb, eqb, List, [], ◌∷◌, ◌++◌, length, take, drop, Option, Some, None, Result, Ok, Err, refl, sym, ap, subst, ◌∙◌, arith, inl, inr}
-use Rattle.std.specs.Prelude.{◌⊎◌, ◌==◌, if◌then◌else◌}
+use Rattle.std.proofs.Common.{◌≡◌, ℕ, ◌+◌, ◌-◌, ◌<◌, ◌≤◌, false, eqb, List, [], ◌∷◌, ◌++◌, length, take, drop, Option, None, Result, Ok, Err, refl, sym, ap, subst, ◌∙◌, arith, inl, inr}
+use Rattle.std.specs.Prelude.{◌⊎◌}
 use Rattle.std.proofs.lemmas.Bool.{cases_lt, le-leb, lt-leb, ne_eqb}
-use Rattle.std.proofs.lemmas.List.{take_at, drop_at, take-append-drop, length-append, length-take, length-drop, append-nil}
-use Rattle.productions.specs.Production.{next}
+use Rattle.std.proofs.lemmas.List.{take_at, drop_at, take-append-drop, length-append, length-take, append-nil}
 use Rattle.productions.specs.Exactness as general
 use Rattle.productions.specs.Exactness.{Took}
 use Rattle.productions.proofs.Exact.{no_err, no_ok}
@@ -12,7 +11,7 @@ use Rattle.ctype_bin.specs.declared.error.Stuck.{Stuck}
 use Rattle.ctype_bin.specs.declared.error.Stuck.TheVariants.{End, At, Past}
 use Rattle.ctype_bin.specs.Exactness.{IsBytes, Inside, Exact, within}
 use Rattle.ctype_bin.specs.Bytes.{Bytes, in_section, section_from, cut_section_from, Begins, FailsInSection, sized}
-use Rattle.ctype_bin.proofs.Exact.{done, stopped, ok_is, took, IsBytes-take}
+use Rattle.ctype_bin.proofs.Exact.{stopped, ok_is, took, IsBytes-take}
 
 -- bytes are left
 goes_on : {X : Type 0} (left : ℕ) (rest : List ℕ) (x : X) (b : ℕ) (bs : List ℕ) → section_from left rest (Ok (x, b ∷ bs)) ≡ Err (At SizeMismatch left)

@@ -1,7 +1,7 @@
 -- What a type with declarations is seen as.
-use Rattle.std.proofs.Common.{◌≡◌, ℕ, List, [], ◌∷◌, map, refl, sym, ap, ◌∙◌}
+use Rattle.std.proofs.Common.{◌≡◌, List, map, refl, ap, ◌∙◌}
 use Rattle.std.specs.Global.{Vec}
-use Rattle.ctype_bin.specs.Raw.{Component, Instance, Decl, Decls, then}
+use Rattle.ctype_bin.specs.Raw.{Component, Instance, then}
 use Rattle.ctype_bin.specs.View.{type_view, decl_view, row_view, decls_of}
 use Rattle.ctype_bin.specs.declared.raw.RawDecl.{RawDecl}
 use Rattle.ctype_bin.specs.declared.raw.RawType.{RawType}

@@ -1,5 +1,5 @@
 -- Binary.md: a file of a type section and an export section, with custom sections among them.
-use Rattle.std.specs.Prelude.{◌≡◌, ◌≤◌, ℕ, zero, suc, ◌+◌, ◌-◌, List, [], ◌∷◌, ◌++◌, length, Bool, true, false, ◌||◌, Option, Some, None, Result, Ok, Err, nat_le, nat_lt, ◌==◌, if◌then◌else◌}
+use Rattle.std.specs.Prelude.{◌≡◌, ◌⊎◌, ◌<◌, ◌≤◌, ℕ, zero, suc, ◌+◌, ◌-◌, List, [], ◌∷◌, length, ◌||◌, Option, Some, None, Result, Ok, Err, nat_lt, ◌==◌, if◌then◌else◌}
 use Rattle.productions.specs.Production.{give, never, ◌>>=◌, times, run, when, by_option, unless_some, at_end}
 use Rattle.productions.specs.Production as general
 use Rattle.ctype_bin.specs.declared.error.Fault.{Fault}
@@ -75,11 +75,15 @@ abbrev pub trailing_fault : List ℕ → Stuck
 trailing_fault [] = End
 trailing_fault (b ∷ bs) = At (trailing_byte b) (length (b ∷ bs))
 
+-- a custom section, if one stands there
+abbrev pub custom_next : Bytes (Option ℕ)
+custom_next = general.optional (λ b. b == 0) (λ b. custom)
+
 -- less than n custom sections, to the end
 unfoldable pub trailing : ℕ → Bytes ℕ
 trailing zero = never ended
 trailing (suc n) = do
-  more ← general.optional (λ b. b == 0) (λ b. custom)
+  more ← custom_next
   unless_some more (trailing n) (at_end trailing_fault)
 
 -- ---- the two sections and the file
@@ -133,6 +137,14 @@ at_place n (Err f) = Err (placed n f)
 -- the component that all of the bytes spell, or the first fault
 unfoldable pub decoded : List ℕ → Result File BinError
 decoded bytes = if nat_lt max_length (length bytes) then Err (errors.At Limit max_length) else at_place (length bytes) (file.read bytes)
+
+-- Why bytes are refused: there are too many, or the fault is the first that stands in them.
+abbrev pub Faulty : List ℕ → BinError → Type 0
+Faulty bytes (errors.At fault place) =
+    ((max_length < length bytes) × (fault ≡ Limit) × (place ≡ max_length))
+    ⊎ ((length bytes ≤ max_length) × ((stuck : Stuck) × file.fails bytes stuck × (placed (length bytes) stuck ≡ errors.At fault place)))
+Faulty bytes (errors.Read place) = ⊥
+Faulty bytes errors.NoMemory = Unit {0}
 
 -- What decoding returned, unless memory ran out
 abbrev pub Decodes : {X : Type 0} → (X → File) → Result X BinError → List ℕ → Type 0

@@ -1,5 +1,5 @@
 -- Binary.md, the component types: type by type, as productions.
-use Rattle.std.specs.Prelude.{◌≡◌, ◌≤◌, ◌<◌, ℕ, zero, suc, ◌+◌, ◌-◌, List, [], ◌∷◌, ◌++◌, length, slice_index, Bool, true, false, ◌&&◌, ◌||◌, not, Option, Some, None, nat_le, nat_lt, ◌==◌, is_some, unwrap_or, if◌then◌else◌}
+use Rattle.std.specs.Prelude.{◌≤◌, ℕ, zero, suc, ◌+◌, ◌-◌, List, [], ◌∷◌, ◌++◌, length, slice_index, Bool, true, false, ◌&&◌, ◌||◌, not, Option, Some, None, nat_le, nat_lt, ◌==◌, is_some, unwrap_or, if◌then◌else◌}
 use Rattle.std.specs.Str.{is_utf8}
 use Rattle.atoms.specs.Label.{is_label}
 use Rattle.productions.specs.Production.{give, never, ◌>>=◌, times, run, when}
@@ -21,7 +21,7 @@ use Rattle.ctype_bin.specs.declared.opcode.Opcode.TheVariants as op
 use Rattle.ctype_bin.specs.declared.scope.Scope.{Scope}
 use Rattle.ctype_bin.specs.Opcodes.{primitive_of, opcode_of}
 use Rattle.ctype_bin.specs.Names.{is_extern_name}
-use Rattle.ctype_bin.specs.Raw.{Defined, Prim, Record, Variant, ListOf, Tuple, FlagSet, Enumeration, OptionOf, ResultOf, Function, Definition, Define, Func, Component, Instance, Decl, Entry, Alias, Import, Export}
+use Rattle.ctype_bin.specs.Raw.{Prim, Record, Variant, ListOf, Tuple, FlagSet, Enumeration, OptionOf, ResultOf, Definition, Define, Func, Component, Instance, Decl, Entry, Alias, Import, Export}
 use Rattle.ctype_bin.specs.View.{decls_of}
 use Rattle.ctype_bin.specs.Bytes.{Bytes, byte, several, only, unless, u32, s33, choose, ended}
 

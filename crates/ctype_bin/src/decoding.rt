@@ -1,7 +1,8 @@
 //! Decoding a whole input.
-ghost use Rattle.std.specs.Prelude.{◌≡◌, ◌≤◌, ℕ, true, false, length, IfOk, IfSome, Err};
+ghost use Rattle.std.specs.Prelude.{◌≡◌, ◌≤◌, ℕ, true, false, length, IfOk, IfErr, IfSome, MatchResult, Err};
 ghost use Rattle.atoms.specs.Streams.{ConsumesMany};
-ghost use Rattle.ctype_bin.specs.File.{file, placed, Decodes, DecodesOrReads};
+ghost use Rattle.ctype_bin.specs.File.{file, placed, Faulty, Decodes, DecodesOrReads};
+ghost use Rattle.ctype_bin.specs.Raw.{File};
 ghost use Rattle.ctype_bin.specs.FileView.{file_view};
 
 use crate::component::RawComponent;
@@ -22,12 +23,9 @@ fn placed(len: usize, stuck: Stuck) -> BinError
     }
 }
 
-/// The component that the bytes spell, all of them, or the first fault from left to right with its place: 10 to 19, 22
-/// and 23, among them 17 at 1,048,576 for more bytes than that. 21 where memory is wanting. (Binary.md)
 #[tactic(auto, unfolding(crate::specs::File::decoded))]
-pub fn decode(alloc: Global, bytes: &[u8]) -> Result<RawComponent, BinError>
-    ensures decodes { Decodes file_view result bytes.now }
-    ensures spelt { IfOk result (λ c. (length bytes.now ≤ 1048576) × file.spells bytes.now (file_view c)) }
+fn decode_bytes(alloc: Global, bytes: &[u8]) -> Result<RawComponent, BinError>
+    ensures { Decodes file_view result bytes.now }
 {
     let len = bytes.len();
     if len > MAX_LENGTH {
@@ -38,6 +36,19 @@ pub fn decode(alloc: Global, bytes: &[u8]) -> Result<RawComponent, BinError>
         Err(ItemError::Stuck(stuck)) => Err(placed(len, stuck)),
         Err(ItemError::Memory) => Err(BinError::NoMemory),
     }
+}
+
+/// The component that the bytes spell, all of them, or the first fault from left to right with its place: 10 to 19, 22
+/// and 23, among them 17 at 1,048,576 for more bytes than that; 21 where memory is wanting. (Binary.md)
+pub fn decode(alloc: Global, bytes: &[u8]) -> Result<RawComponent, BinError>
+    ensures spelt { IfOk result (λ c. (length bytes.now ≤ 1048576) × file.spells bytes.now (file_view c)) }
+    ensures only { (f : File) → length bytes.now ≤ 1048576 → file.spells bytes.now f
+        → MatchResult result (λ c. file_view c ≡ f) (λ e. e ≡ BinError.NoMemory) }
+    ensures first { IfErr result (λ e. Faulty bytes.now e) }
+    // The same as one function of the bytes.
+    ensures exact { Decodes file_view result bytes.now }
+{
+    decode_bytes(alloc, bytes)
 }
 
 /// Reads to the end, or to the first byte past the limit of 1,048,576, and decodes that: the same answer however the

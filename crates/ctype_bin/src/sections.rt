@@ -1,10 +1,10 @@
 //! Reading sections and the file.
-ghost use Rattle.std.specs.Prelude.{◌≡◌, ◌≤◌, ◌∷◌, [], map, length, IfOk};
-ghost use Rattle.productions.specs.Production.{run, times};
+ghost use Rattle.std.specs.Prelude.{◌≡◌, ◌≤◌, ◌∷◌, [], map, length, IfOk, Some, None, if◌then◌else◌};
+ghost use Rattle.productions.specs.Production.{run, times, at_end};
 ghost use Rattle.ctype_bin.specs.declared.error.Stuck.TheVariants.{Past, End};
 ghost use Rattle.ctype_bin.specs.Bytes.{Gives, sized, in_section, StaysSmall};
 ghost use Rattle.ctype_bin.specs.Grammar.{new_scope, IsWithin};
-ghost use Rattle.ctype_bin.specs.File.{exactly, preamble, custom_content, custom, head, section, trailing, trailing_byte, max_length, entry, type_section, exported, export_section, file};
+ghost use Rattle.ctype_bin.specs.File.{exactly, preamble, custom_content, custom, head, section, custom_next, trailing, trailing_byte, trailing_fault, max_length, entry, type_section, exported, export_section, file};
 ghost use Rattle.ctype_bin.specs.View.{type_view, export_view};
 ghost use Rattle.ctype_bin.specs.FileView.{file_view};
 
@@ -139,17 +139,40 @@ fn trailing_byte(first: u8) -> Fault
     }
 }
 
+/// Whether a custom section stands there, and what stands behind it.
+fn skipped(bytes: &[u8]) -> Result<(bool, &[u8]), ItemError>
+    ensures { Gives (λ x. (if x.0 then Some 0 else None, x.1.now)) result (custom_next.read bytes.now) }
+{
+    match bytes {
+        [0, behind @ ..] => {
+            let rest = custom_of(behind)?;
+            Ok((true, rest))
+        }
+        _ => Ok((false, bytes)),
+    }
+}
+
+/// Nothing more stands there.
+fn ended(bytes: &[u8]) -> Result<(), ItemError>
+    ensures { Gives (λ _. (0, [])) result ((at_end trailing_fault).read bytes.now) }
+{
+    match bytes {
+        [] => Ok(()),
+        [first, ..] => Err(at(trailing_byte(*first), bytes)),
+    }
+}
+
 /// Custom sections to the end.
 fn trailing_of(bytes: &[u8]) -> Result<(), ItemError>
     ensures { Gives (λ _. (0, [])) result ((trailing max_length).read bytes.now) }
 {
     let mut rest = bytes;
     for _ in 0..MAX_LENGTH {
-        rest = match rest {
-            [] => return Ok(()),
-            [0, behind @ ..] => custom_of(behind)?,
-            [first, ..] => return Err(at(trailing_byte(*first), rest)),
-        };
+        let (more, behind) = skipped(rest)?;
+        if !more {
+            return ended(behind);
+        }
+        rest = behind;
     }
     Err(ItemError::Stuck(Stuck::End))
 }

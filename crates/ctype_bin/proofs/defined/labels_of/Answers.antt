@@ -1,4 +1,3 @@
-use Rattle.std.proofs.Common.{◌≡◌, ◌++◌, ◌∷◌, []}
 use Rattle.std.proofs.lemmas.Result.{err_from_is_err_and}
 use Rattle.ctype_bin.specs.Grammar.{label}
 use Rattle.ctype_bin.proofs.Loop.{goes_on, ends, is_done}
