@@ -12,3 +12,6 @@ pub mod ByOpcode
 pub mod Heads
 pub mod Decoded
 pub mod Cut
+pub mod Least
+pub mod Written
+pub mod Rows

@@ -41,3 +41,8 @@ Exact p = general.Exact within Anything p
 -- to the end
 abbrev pub ExactToEnd : {X : Type 0} → Bytes X → Type 0
 ExactToEnd p = general.Exact within AtEnd p
+
+-- What is spelled is spelled by what is written of it too, which is no longer.
+pub record Written {X : Type 0} (p : Bytes X) (write : X → List ℕ) : Type 0 where
+  pub spelt : (bytes : List ℕ) (x : X) → p.spells bytes x → p.spells (write x) x
+  pub short : (bytes : List ℕ) (x : X) → p.spells bytes x → length (write x) ≤ length bytes

@@ -7,3 +7,5 @@ pub mod Bytes
 pub mod Exactness
 pub mod Grammar
 pub mod File
+pub mod Shortest
+pub mod Writing

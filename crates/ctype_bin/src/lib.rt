@@ -15,6 +15,7 @@ mod raw;
 mod scope;
 mod sections;
 mod types;
+mod writing;
 
 pub use component::RawComponent;
 pub use decoding::{decode, decode_from};

@@ -1,0 +1,40 @@
+-- What is written of declarations, seen as a list.
+use Rattle.std.proofs.Common.{◌≡◌, ℕ, suc, List, [], ◌∷◌, ◌++◌, length, map, refl, ap, ◌∙◌}
+use Rattle.std.specs.Global.{Vec}
+use Rattle.ctype_bin.specs.declared.raw.RawDecl.{RawDecl}
+use Rattle.ctype_bin.specs.declared.raw.RawType as t
+use Rattle.ctype_bin.specs.Raw.{Decl}
+use Rattle.ctype_bin.specs.View.{type_view, decl_view, decls_of}
+use Rattle.ctype_bin.specs.Writing.{u32_bytes, each, counted, decl_count, type_bytes, decl_bytes, decls_bytes}
+use Rattle.ctype_bin.proofs.Views.{view-Component, view-Instance}
+
+pub count_is : (ds : List Decl) → decl_count (decls_of ds) ≡ length ds
+count_is [] = refl
+count_is (d ∷ ds) = ap suc (count_is ds)
+
+pub bytes_are : (ds : List Decl) → decls_bytes (decls_of ds) ≡ each decl_bytes ds
+unfolding decls_bytes
+bytes_are [] = refl
+bytes_are (d ∷ ds) = ap (λ (l : List ℕ). decl_bytes d ++ l) (bytes_are ds)
+
+pub each-map : {X Y : Type 0} (w : Y → List ℕ) (f : X → Y) (xs : List X) → each w (map f xs) ≡ each (λ x. w (f x)) xs
+each-map w f [] = refl
+each-map w f (x ∷ xs) = ap (λ (l : List ℕ). w (f x) ++ l) (each-map w f xs)
+
+length-map : {X Y : Type 0} (f : X → Y) (xs : List X) → length (map f xs) ≡ length xs
+length-map f [] = refl
+length-map f (x ∷ xs) = ap suc (length-map f xs)
+
+pub counted-map : {X Y : Type 0} (w : Y → List ℕ) (f : X → Y) (xs : List X) → counted w (map f xs) ≡ counted (λ x. w (f x)) xs
+counted-map w f xs = rw (length-map f xs, each-map w f xs) refl
+
+pub decls_are : (ds : List Decl) → u32_bytes (decl_count (decls_of ds)) ++ decls_bytes (decls_of ds) ≡ counted decl_bytes ds
+decls_are ds = rw (count_is ds, bytes_are ds) refl
+
+pub bytes-Component : (decls : Vec RawDecl) → type_bytes (type_view (t.Component decls)) ≡ 0x41 ∷ counted (λ d. decl_bytes (decl_view d)) decls.items
+unfolding type_bytes
+bytes-Component decls = ap type_bytes (view-Component decls) ∙ ap (λ (l : List ℕ). 0x41 ∷ l) (decls_are (map decl_view decls.items) ∙ counted-map decl_bytes decl_view decls.items)
+
+pub bytes-Instance : (decls : Vec RawDecl) → type_bytes (type_view (t.Instance decls)) ≡ 0x42 ∷ counted (λ d. decl_bytes (decl_view d)) decls.items
+unfolding type_bytes
+bytes-Instance decls = ap type_bytes (view-Instance decls) ∙ ap (λ (l : List ℕ). 0x42 ∷ l) (decls_are (map decl_view decls.items) ∙ counted-map decl_bytes decl_view decls.items)
