@@ -15,7 +15,11 @@ use Rattle.ctype_bin.specs.declared.error.BinError.TheVariants as errors
 use Rattle.ctype_bin.specs.Raw.{File}
 use Rattle.ctype_bin.specs.Exactness.{IsBytes}
 use Rattle.ctype_bin.specs.File.{file, exactly, preamble, section, type_section, export_section, trailing, trailing_fault, custom_next, decoded, max_length, placed, at_place, Faulty, Decodes}
+use Rattle.ctype_bin.specs.Writing.{file_bytes}
+use Rattle.ctype_bin.specs.Spellable.{IsSpellable}
+use Rattle.ctype_bin.specs.Encoding.{AppendsSpelling}
 use Rattle.ctype_bin.proofs.File.{exact-file}
+use Rattle.ctype_bin.proofs.RewrittenFile.{file_rewritten}
 
 abbrev done : File → Result File BinError
 done f = Ok f
@@ -82,6 +86,9 @@ spelt_all bytes f rest fits e =
 read_all : (bytes : List ℕ) (f : File) → file.spells bytes f → file.read bytes ≡ Ok (f, [])
 read_all bytes f s = ap (λ (t : List ℕ). file.read t) (sym (append-nil bytes)) ∙ exact-file.complete bytes [] f s refl
 
+pub spellable : (bytes : List ℕ) (f : File) → IsBytes bytes → file.read bytes ≡ Ok (f, []) → IsSpellable f
+spellable bytes f fits e = (bytes, spelt_all bytes f [] fits e)
+
 decoded_spelt : (bytes : List ℕ) (f : File) → IsBytes bytes → decoded bytes ≡ Ok f → (length bytes ≤ max_length) × file.spells bytes f
 decoded_spelt bytes f fits e =
     elim (cases_lt max_length (length bytes)) [
@@ -130,3 +137,10 @@ module _ {X : Type 0} (view : X → File) (bytes : List ℕ) where
   all_faulty fits (Err (errors.At fault place)) h = decoded_faulty bytes fault place fits h
   all_faulty fits (Err (errors.Read place)) h = absurd h
   all_faulty fits (Err errors.NoMemory) h = tt
+
+-- ---- what is written of what is spellable
+
+pub written_bytes : (f : File) → IsSpellable f → (old new : List ℕ) → new ≡ old ++ file_bytes f → AppendsSpelling old new f
+written_bytes f s old new h =
+    let spelt = file_rewritten s.0 f s.1 in
+    record { bytes = file_bytes f; appended = h; spelt = spelt; decodes = λ le. spelt_decoded (file_bytes f) f le spelt }

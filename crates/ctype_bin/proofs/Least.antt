@@ -1,16 +1,16 @@
 -- The shortest spelling of a number, as a function.
-use Rattle.std.proofs.Common.{◌≡◌, ℕ, zero, suc, ◌+◌, ◌-◌, ◌*◌, ◌/◌, ◌%◌, ◌^◌, ◌<◌, ◌≤◌, true, false, ltb, List, [], ◌∷◌, ◌++◌, length, refl, sym, ap, subst, ◌∙◌, arith, inl, inr}
+use Rattle.std.proofs.Common.{◌≡◌, ℕ, zero, suc, ◌+◌, ◌*◌, ◌/◌, ◌%◌, ◌^◌, ◌<◌, ◌≤◌, List, [], ◌∷◌, ◌++◌, length, refl, ap, subst, ◌∙◌, arith, inl, inr}
 use Rattle.std.proofs.Math.Nat.{pow-suc, mod-add-div}
 use Rattle.std.proofs.lemmas.Bool.{cases_lt, le-ltb, lt-ltb}
 use Rattle.atoms.specs.Leb128.{Spells, AppendsLeast}
 use Rattle.atoms.proofs.Groups.{Groups, spells-groups, spells-of_groups}
 use Rattle.ctype_bin.specs.Shortest.{groups}
 
-one_group : (limit room n : ℕ) → n < limit → groups limit (suc room) n ≡ n ∷ []
+pub one_group : (limit room n : ℕ) → n < limit → groups limit (suc room) n ≡ n ∷ []
 unfolding groups
 one_group limit room n lt = rw (lt-ltb n limit lt) refl
 
-more_groups : (limit room n : ℕ) → limit ≤ n → groups limit (suc room) n ≡ (n % 128 + 128) ∷ groups limit room (n / 128)
+pub more_groups : (limit room n : ℕ) → limit ≤ n → groups limit (suc room) n ≡ (n % 128 + 128) ∷ groups limit room (n / 128)
 unfolding groups
 more_groups limit room n le = rw (le-ltb n limit le) refl
 
@@ -111,3 +111,9 @@ pub least_spells : (limit : ℕ) (bytes : List ℕ) (n : ℕ) → 16 ≤ limit �
 least_spells limit bytes n low high s =
     let g = spells-groups limit 4 bytes n high s.ends s.short s.fifth s.value in
     (spells-of_groups limit (groups limit 4 n) n high (groups_are limit 4 n low (bounded limit 4 bytes n high g)), shortest limit 4 bytes n low g)
+
+pub small : (bytes : List ℕ) (n : ℕ) → Spells 128 bytes n → n < 2 ^ 32
+small bytes n s = let h = bounded 128 4 bytes n (omega arith) (spells-groups 128 4 bytes n (omega arith) s.ends s.short s.fifth s.value) in omega (arith, h)
+
+pub least_of : (limit n : ℕ) → 16 ≤ limit → limit ≤ 128 → n < 2 ^ 32 → Spells limit (groups limit 4 n) n
+least_of limit n low high lt = spells-of_groups limit (groups limit 4 n) n high (groups_are limit 4 n low (omega (arith, lt)))

@@ -15,3 +15,7 @@ pub mod Cut
 pub mod Least
 pub mod Written
 pub mod Rows
+pub mod Rewritten
+pub mod RewrittenTypes
+pub mod RewrittenDecls
+pub mod RewrittenFile

@@ -9,3 +9,5 @@ pub mod Grammar
 pub mod File
 pub mod Shortest
 pub mod Writing
+pub mod Spellable
+pub mod Encoding

@@ -6,6 +6,7 @@
 mod component;
 mod decoding;
 mod defined;
+mod encoding;
 mod error;
 mod items;
 mod laws;
@@ -19,6 +20,7 @@ mod writing;
 
 pub use component::RawComponent;
 pub use decoding::{decode, decode_from};
+pub use encoding::encode;
 pub use error::{BinError, Fault, Feature};
 pub use laws::{files_are_read_exactly, types_are_read_exactly};
 pub use name::ExternName;

@@ -5,7 +5,7 @@ ghost use Rattle.ctype_bin.specs.declared.error.Stuck.TheVariants.{Past, End};
 ghost use Rattle.ctype_bin.specs.Bytes.{Gives, sized, in_section, StaysSmall};
 ghost use Rattle.ctype_bin.specs.Grammar.{new_scope, IsWithin};
 ghost use Rattle.ctype_bin.specs.File.{exactly, preamble, custom_content, custom, head, section, custom_next, trailing, trailing_byte, trailing_fault, max_length, entry, type_section, exported, export_section, file};
-ghost use Rattle.ctype_bin.specs.View.{type_view, export_view};
+ghost use Rattle.ctype_bin.specs.View.{type_view, export_view, file_of};
 ghost use Rattle.ctype_bin.specs.FileView.{file_view};
 
 use crate::component::RawComponent;
@@ -22,11 +22,14 @@ pub(crate) const MAX_LENGTH: usize = 1_048_576;
 /// How many scopes may stand within one another.
 const MAX_DEPTH: u32 = 4;
 
+/// The magic number, the version and the layer.
+pub(crate) const PREAMBLE: [u8; 8] = [0x00, 0x61, 0x73, 0x6d, 0x0d, 0x00, 0x01, 0x00];
+
 /// The number of the type section.
-const TYPE_SECTION: u8 = 7;
+pub(crate) const TYPE_SECTION: u8 = 7;
 
 /// The number of the export section.
-const EXPORT_SECTION: u8 = 11;
+pub(crate) const EXPORT_SECTION: u8 = 11;
 
 #[tactic(auto, unfolding(crate::specs::File::exactly))]
 fn same_of(expected: u8, bytes: &[u8]) -> Result<&[u8], ItemError>
@@ -307,10 +310,10 @@ fn exports_within(
     }
 }
 
-/// A whole file.
+/// The parts of a whole file.
 #[tactic(auto, unfolding(crate::specs::File::file))]
-pub(crate) fn file_of(alloc: Global, bytes: &[u8]) -> Result<RawComponent, ItemError>
-    ensures { Gives (λ x. (file_view x, [])) result (file.read bytes.now) }
+fn parts_of(alloc: Global, bytes: &[u8]) -> Result<(Vec<RawType>, Vec<RawExport>), ItemError>
+    ensures { Gives (λ x. (file_of x.0 x.1, [])) result (file.read bytes.now) }
 {
     let rest = preamble_of(bytes)?;
     let (size, rest) = section_of(TYPE_SECTION, rest)?;
@@ -318,5 +321,13 @@ pub(crate) fn file_of(alloc: Global, bytes: &[u8]) -> Result<RawComponent, ItemE
     let (size, rest) = section_of(EXPORT_SECTION, rest)?;
     let (exports, rest) = exports_within(alloc, scope.types, size, rest)?;
     trailing_of(rest)?;
-    Ok(RawComponent { types, exports })
+    Ok((types, exports))
+}
+
+/// A whole file.
+pub(crate) fn file_of(alloc: Global, bytes: &[u8]) -> Result<RawComponent, ItemError>
+    ensures { Gives (λ x. (file_view x, [])) result (file.read bytes.now) }
+{
+    let (types, exports) = parts_of(alloc, bytes)?;
+    Ok(RawComponent::of(types, exports))
 }

@@ -1,6 +1,5 @@
 use Rattle.std.proofs.Common.{◌≡◌, ◌++◌, drop}
-use Rattle.ctype_bin.specs.Writing.{each, counted, field_bytes, case_bytes, valtype_bytes, name_bytes, decl_bytes, type_bytes, exported_bytes}
-use Rattle.ctype_bin.specs.View.{decl_view, type_view, export_view}
+use Rattle.ctype_bin.specs.Writing.{each, counted, valtype_bytes}
 use Rattle.ctype_bin.proofs.writing.put_members.Given as goal
 
 abbrev pub invariant-loop-member : goal.invariant-loop-member
