@@ -1,0 +1,146 @@
+-- What decoding answers, in the terms of the productions.
+use Rattle.std.proofs.Common.{◌≡◌, inl, inr, ℕ, zero, suc, ◌<◌, ◌≤◌, List, [], ◌∷◌, ◌++◌, Option, Some, None, length, Result, Ok, Err, refl, sym, ap, subst, ◌∙◌}
+use Rattle.std.specs.Prelude.{IfOk, IfErr, MatchResult}
+use Rattle.std.proofs.lemmas.Bool.{cases_lt, lt-ltb, le-ltb}
+use Rattle.std.proofs.lemmas.List.{append-nil}
+use Rattle.productions.specs.Production.{at_end, read_end, unless_some}
+use Rattle.productions.proofs.Exact.{after_ok, no_ok}
+use Rattle.ctype_bin.specs.declared.error.Fault.{Fault}
+use Rattle.ctype_bin.specs.declared.error.Fault.TheVariants.{Limit}
+use Rattle.ctype_bin.specs.declared.error.Stuck.{Stuck}
+use Rattle.ctype_bin.specs.declared.error.Stuck.TheVariants.{Past}
+use Rattle.ctype_bin.specs.Bytes.{sized, ended}
+use Rattle.ctype_bin.specs.declared.error.BinError.{BinError}
+use Rattle.ctype_bin.specs.declared.error.BinError.TheVariants as errors
+use Rattle.ctype_bin.specs.Raw.{File}
+use Rattle.ctype_bin.specs.Exactness.{IsBytes}
+use Rattle.ctype_bin.specs.File.{file, exactly, preamble, section, type_section, export_section, trailing, trailing_fault, custom_next, decoded, max_length, placed, at_place, Faulty, Decodes}
+use Rattle.ctype_bin.specs.Writing.{file_bytes}
+use Rattle.ctype_bin.specs.Spellable.{IsSpellable}
+use Rattle.ctype_bin.specs.Encoding.{AppendsSpelling}
+use Rattle.ctype_bin.proofs.File.{exact-file}
+use Rattle.ctype_bin.proofs.RewrittenFile.{file_rewritten}
+
+abbrev done : File → Result File BinError
+done f = Ok f
+
+abbrev failed : BinError → Result File BinError
+failed e = Err e
+
+abbrev stuck_ok : {X : Type 0} → X × List ℕ → Result (X × List ℕ) Stuck
+stuck_ok x = Ok x
+
+ok_is : (f g : File) → done f ≡ done g → f ≡ g
+ok_is f g e = cc
+
+err_is : (d e : BinError) → failed d ≡ failed e → d ≡ e
+err_is d e h = cc
+
+long_is : (bytes : List ℕ) → max_length < length bytes → decoded bytes ≡ Err (errors.At Limit max_length)
+unfolding decoded
+long_is bytes lt = rw (lt-ltb max_length (length bytes) lt) refl
+
+short_is : (bytes : List ℕ) → length bytes ≤ max_length → decoded bytes ≡ at_place (length bytes) (file.read bytes)
+unfolding decoded
+short_is bytes le = rw (le-ltb max_length (length bytes) le) refl
+
+-- ---- a file is read to the end
+
+same_rest : {X : Type 0} (x y : X × List ℕ) → stuck_ok x ≡ stuck_ok y → x.1 ≡ y.1
+same_rest x y e = cc
+
+end_all : (bytes : List ℕ) (x : ℕ) (rest : List ℕ) → read_end trailing_fault bytes ≡ Ok (x, rest) → rest ≡ []
+end_all [] x rest e = sym (same_rest (0, []) (x, rest) e)
+end_all (b ∷ bs) x rest e = absurd (no_ok (x, rest) (trailing_fault (b ∷ bs)) e)
+
+trailing_all : (n : ℕ) (bytes : List ℕ) (x : ℕ) (rest : List ℕ) → (trailing n).read bytes ≡ Ok (x, rest) → rest ≡ []
+unfolding trailing
+trailing_all zero bytes x rest e = absurd (no_ok (x, rest) (ended bytes) e)
+trailing_all (suc n) bytes x rest e =
+    let a = after_ok (custom_next.read bytes) (λ y. (unless_some y.0 (trailing n) (at_end trailing_fault)).read y.1) (x, rest) e in
+    by a.0.0 a.0.1 a.2 (trailing_all n a.0.1 x rest)
+  where
+    by : (o : Option ℕ) (more : List ℕ) → (unless_some o (trailing n) (at_end trailing_fault)).read more ≡ Ok (x, rest) → ((trailing n).read more ≡ Ok (x, rest) → rest ≡ []) → rest ≡ []
+    by None more h again = end_all more x rest h
+    by (Some y) more h again = again h
+
+file_all : (bytes : List ℕ) (f : File) (rest : List ℕ) → file.read bytes ≡ Ok (f, rest) → rest ≡ []
+unfolding file
+file_all bytes f rest e =
+    let a = after_ok ((exactly preamble).read bytes) _ (f, rest) e in
+    let b = after_ok ((section 7 max_length).read a.0.1) _ (f, rest) a.2 in
+    let c = after_ok ((sized Past b.0.0 type_section).read b.0.1) _ (f, rest) b.2 in
+    let d = after_ok ((section 11 max_length).read c.0.1) _ (f, rest) c.2 in
+    let g = after_ok ((sized Past d.0.0 (export_section c.0.0.1.types)).read d.0.1) _ (f, rest) d.2 in
+    let h = after_ok ((trailing max_length).read g.0.1) _ (f, rest) g.2 in
+    sym (same_rest (record { types = c.0.0.0; exports = g.0.0 }, h.0.1) (f, rest) h.2) ∙ trailing_all max_length g.0.1 h.0.0 h.0.1 h.1
+
+-- ---- a component
+
+spelt_all : (bytes : List ℕ) (f : File) (rest : List ℕ) → IsBytes bytes → file.read bytes ≡ Ok (f, rest) → file.spells bytes f
+spelt_all bytes f rest fits e =
+    let t = exact-file.sound bytes f rest fits e in
+    let none : rest ≡ [] = file_all bytes f rest e in
+    subst (λ (u : List ℕ). file.spells u f) (sym (t.parts ∙ ap (λ (r : List ℕ). t.text ++ r) none ∙ append-nil t.text)) t.spelt
+
+read_all : (bytes : List ℕ) (f : File) → file.spells bytes f → file.read bytes ≡ Ok (f, [])
+read_all bytes f s = ap (λ (t : List ℕ). file.read t) (sym (append-nil bytes)) ∙ exact-file.complete bytes [] f s refl
+
+pub spellable : (bytes : List ℕ) (f : File) → IsBytes bytes → file.read bytes ≡ Ok (f, []) → IsSpellable f
+spellable bytes f fits e = (bytes, spelt_all bytes f [] fits e)
+
+decoded_spelt : (bytes : List ℕ) (f : File) → IsBytes bytes → decoded bytes ≡ Ok f → (length bytes ≤ max_length) × file.spells bytes f
+decoded_spelt bytes f fits e =
+    elim (cases_lt max_length (length bytes)) [
+      | inl lt ↦ absurd (let h : failed (errors.At Limit max_length) ≡ done f = sym (long_is bytes lt) ∙ e in cc)
+      | inr le ↦ (le, by (file.read bytes) refl (sym (short_is bytes le) ∙ e))
+    ]
+  where
+    by : (r : Result (File × List ℕ) Stuck) → file.read bytes ≡ r → at_place (length bytes) r ≡ Ok f → file.spells bytes f
+    by (Ok x) is h = spelt_all bytes f x.1 fits (is ∙ ap (λ (g : File). stuck_ok (g, x.1)) (ok_is x.0 f h))
+    by (Err d) is h = absurd (let k : failed (placed (length bytes) d) ≡ done f = h in cc)
+
+pub spelt_decoded : (bytes : List ℕ) (f : File) → length bytes ≤ max_length → file.spells bytes f → decoded bytes ≡ Ok f
+spelt_decoded bytes f le s = short_is bytes le ∙ ap (at_place (length bytes)) (read_all bytes f s)
+
+-- ---- a fault
+
+decoded_faulty : (bytes : List ℕ) (fault : Fault) (place : ℕ) → IsBytes bytes → decoded bytes ≡ Err (errors.At fault place) → Faulty bytes (errors.At fault place)
+decoded_faulty bytes fault place fits e =
+    elim (cases_lt max_length (length bytes)) [
+      | inl lt ↦ let is = limit_is fault place (err_is (errors.At Limit max_length) (errors.At fault place) (sym (long_is bytes lt) ∙ e)) in inl (lt, is.0, is.1)
+      | inr le ↦ inr (le, by (file.read bytes) refl (sym (short_is bytes le) ∙ e))
+    ]
+  where
+    limit_is : (fault : Fault) (place : ℕ) → errors.At Limit max_length ≡ errors.At fault place → (fault ≡ Limit) × (place ≡ max_length)
+    limit_is fault place h = (let k : Limit ≡ fault = cc in sym k, let k : max_length ≡ place = cc in sym k)
+
+    by : (r : Result (File × List ℕ) Stuck) → file.read bytes ≡ r → at_place (length bytes) r ≡ Err (errors.At fault place) → (stuck : Stuck) × file.fails bytes stuck × (placed (length bytes) stuck ≡ errors.At fault place)
+    by (Ok x) is h = absurd (let k : done x.0 ≡ failed (errors.At fault place) = h in cc)
+    by (Err d) is h = (d, exact-file.faulty bytes d fits is, err_is (placed (length bytes) d) (errors.At fault place) h)
+
+-- ---- what `Decodes` says
+
+module _ {X : Type 0} (view : X → File) (bytes : List ℕ) where
+  pub all_spelt : IsBytes bytes → (r : Result X BinError) → Decodes view r bytes → IfOk r (λ c. (length bytes ≤ max_length) × file.spells bytes (view c))
+  all_spelt fits (Ok c) h = decoded_spelt bytes (view c) fits h
+  all_spelt fits (Err e) h = tt
+
+  pub only_those : (r : Result X BinError) → Decodes view r bytes → (f : File) → length bytes ≤ max_length → file.spells bytes f → MatchResult r (λ c. view c ≡ f) (λ e. e ≡ errors.NoMemory)
+  only_those (Ok c) h f le s = ok_is (view c) f (sym h ∙ spelt_decoded bytes f le s)
+  only_those (Err (errors.At fault place)) h f le s = absurd (let k : failed (errors.At fault place) ≡ done f = sym h ∙ spelt_decoded bytes f le s in cc)
+  only_those (Err (errors.Read place)) h f le s = absurd h
+  only_those (Err errors.NoMemory) h f le s = refl
+
+  pub all_faulty : IsBytes bytes → (r : Result X BinError) → Decodes view r bytes → IfErr r (λ e. Faulty bytes e)
+  all_faulty fits (Ok c) h = tt
+  all_faulty fits (Err (errors.At fault place)) h = decoded_faulty bytes fault place fits h
+  all_faulty fits (Err (errors.Read place)) h = absurd h
+  all_faulty fits (Err errors.NoMemory) h = tt
+
+-- ---- what is written of what is spellable
+
+pub written_bytes : (f : File) → IsSpellable f → (old new : List ℕ) → new ≡ old ++ file_bytes f → AppendsSpelling old new f
+written_bytes f s old new h =
+    let spelt = file_rewritten s.0 f s.1 in
+    record { bytes = file_bytes f; appended = h; spelt = spelt; decodes = λ le. spelt_decoded (file_bytes f) f le spelt }

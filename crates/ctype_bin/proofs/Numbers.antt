@@ -1,0 +1,89 @@
+-- Numbers are read exactly, from what `atoms` tells of them.
+use Rattle.std.proofs.Common.{◌≡◌, ℕ, ◌≤◌, List, length, ◌++◌, take, drop, Result, Ok, Err, refl, sym, ap, subst, ◌∙◌, arith, inl, inr}
+use Rattle.std.specs.Prelude.{◌⊎◌, IfErr}
+use Rattle.std.proofs.lemmas.List.{drop_at, take-append-drop}
+use Rattle.atoms.specs.declared.error.AtomError.{AtomError}
+use Rattle.atoms.specs.declared.error.AtomError.TheVariants as atoms
+use Rattle.atoms.specs.Leb128.{Spells, groups_at}
+use Rattle.atoms.proofs.Laws.{is_found, is_truncated, groups_again, only_errors}
+use Rattle.atoms.proofs.Groups.{spells-groups}
+use Rattle.ctype_bin.specs.declared.error.Fault.{Fault}
+use Rattle.ctype_bin.specs.declared.error.Fault.TheVariants.{Overlong}
+use Rattle.ctype_bin.specs.declared.error.Stuck.{Stuck}
+use Rattle.ctype_bin.specs.declared.error.Stuck.TheVariants.{End, At}
+use Rattle.productions.specs.Exactness.{Took}
+use Rattle.productions.proofs.Exact.{no_err}
+use Rattle.ctype_bin.specs.Exactness.{IsBytes, Inside, Exact}
+use Rattle.ctype_bin.specs.Bytes.{Bytes, NoNumber, number, number_from, u32, s33, signed_fault}
+use Rattle.ctype_bin.proofs.Exact.{ok_is, took}
+
+number_ok : (fault : List ℕ → Fault) (bytes : List ℕ) (r : Result (ℕ × ℕ) AtomError) (y : ℕ × List ℕ) → number_from fault bytes r ≡ Ok y → (x : ℕ × ℕ) × (r ≡ Ok x) × ((x.0, drop x.1 bytes) ≡ y)
+number_ok fault bytes (Ok x) y e = (x, refl, ok_is (x.0, drop x.1 bytes) y e)
+number_ok fault bytes (Err atoms.Truncated) y e = absurd cc
+number_ok fault bytes (Err atoms.Overlong) y e = absurd cc
+number_ok fault bytes (Err atoms.BadLabel) y e = absurd cc
+number_ok fault bytes (Err atoms.BadName) y e = absurd cc
+number_ok fault bytes (Err atoms.NoMemory) y e = absurd cc
+
+number_err : (fault : List ℕ → Fault) (bytes : List ℕ) (r : Result (ℕ × ℕ) AtomError) (f : Stuck) → IfErr r (λ e. (e ≡ atoms.Truncated) ⊎ (e ≡ atoms.Overlong)) → number_from fault bytes r ≡ Err f → ((r ≡ Err atoms.Truncated) × (f ≡ End)) ⊎ ((r ≡ Err atoms.Overlong) × (f ≡ At (fault bytes) (length bytes)))
+number_err fault bytes (Ok x) f h e = absurd (no_err (x.0, drop x.1 bytes) f e)
+number_err fault bytes (Err atoms.Truncated) f h e = inl (refl, cc)
+number_err fault bytes (Err atoms.Overlong) f h e = inr (refl, cc)
+number_err fault bytes (Err atoms.BadLabel) f h e = absurd (elim h [ inl k ↦ cc | inr k ↦ cc ])
+number_err fault bytes (Err atoms.BadName) f h e = absurd (elim h [ inl k ↦ cc | inr k ↦ cc ])
+number_err fault bytes (Err atoms.NoMemory) f h e = absurd (elim h [ inl k ↦ cc | inr k ↦ cc ])
+
+both_ways : (x : ℕ × ℕ) (d : AtomError) → Ok x ≡ Err d → ⊥
+both_ways x d h = cc
+
+abbrev refused : AtomError → Result (ℕ × ℕ) AtomError
+refused e = Err e
+
+overlong_early : (r : Result (ℕ × ℕ) AtomError) → r ≡ Err atoms.Truncated → r ≡ Err atoms.Overlong → ⊥
+overlong_early r e h = let k : refused atoms.Truncated ≡ refused atoms.Overlong = sym e ∙ h in cc
+
+module _ (limit : ℕ) (low : 16 ≤ limit) (high : limit ≤ 128) (fault : List ℕ → Fault) where
+  abbrev p : Bytes ℕ
+  p = number (Spells limit) limit fault
+
+  number_complete : (text rest : List ℕ) (x : ℕ) → Spells limit text x → p.read (text ++ rest) ≡ Ok (x, rest)
+  number_complete text rest x s =
+      let g = groups_again limit 4 text rest x high (spells-groups limit 4 text x high s.ends s.short s.fifth s.value) in
+      rw (g, drop_at text rest (length text) refl) refl
+
+  number_sound : (bytes : List ℕ) (x : ℕ) (rest : List ℕ) → IsBytes bytes → p.read bytes ≡ Ok (x, rest) → Took p bytes x rest
+  number_sound bytes x rest fits e =
+      let h = number_ok fault bytes (groups_at limit 4 bytes) (x, rest) e in
+      let found = is_found limit low high bytes fits (Ok h.0) (sym h.1) in
+      subst (λ (z : ℕ × List ℕ). Took p bytes z.0 z.1) h.2 (took p number_complete bytes (take h.0.1 bytes) (drop h.0.1 bytes) h.0.0 (sym (take-append-drop h.0.1 bytes)) found.1)
+
+  none_spelt : (bytes : List ℕ) → groups_at limit 4 bytes ≡ Err atoms.Overlong → (n k : ℕ) → Spells limit (take k bytes) n → ⊥
+  none_spelt bytes e n k s =
+      let g = groups_again limit 4 (take k bytes) (drop k bytes) n high (spells-groups limit 4 (take k bytes) n high s.ends s.short s.fifth s.value) in
+      let whole : groups_at limit 4 bytes ≡ Ok (n, length (take k bytes)) = ap (groups_at limit 4) (sym (take-append-drop k bytes)) ∙ g in
+      both_ways (n, length (take k bytes)) atoms.Overlong (sym whole ∙ e)
+
+  no_number : (bytes : List ℕ) → IsBytes bytes → groups_at limit 4 bytes ≡ Err atoms.Overlong → NoNumber (Spells limit) bytes
+  no_number bytes fits e = (none_spelt bytes e, λ early. overlong_early (groups_at limit 4 bytes) ((is_truncated limit low high bytes fits (groups_at limit 4 bytes) refl).1 early) e)
+
+  pub exact-number : Exact p
+  exact-number = record {
+    sound = number_sound;
+    complete = λ text rest x s end. number_complete text rest x s;
+    faulty = λ bytes f fits e.
+        elim (number_err fault bytes (groups_at limit 4 bytes) f (only_errors limit 4 bytes) e) [
+          | inl h ↦ inl ((is_truncated limit low high bytes fits (groups_at limit 4 bytes) refl).0 h.0, h.1)
+          | inr h ↦ inr (no_number bytes fits h.0, h.1)
+        ];
+    stays = λ bytes f fits e.
+        elim (number_err fault bytes (groups_at limit 4 bytes) f (only_errors limit 4 bytes) e) [
+          | inl h ↦ subst (λ (g : Stuck). Inside g bytes) (sym h.1) tt
+          | inr h ↦ subst (λ (g : Stuck). Inside g bytes) (sym h.1) (omega arith)
+        ];
+  }
+
+pub exact-u32 : Exact u32
+exact-u32 = exact-number 128 (omega arith) (omega arith) (λ bytes. Overlong)
+
+pub exact-s33 : Exact s33
+exact-s33 = exact-number 64 (omega arith) (omega arith) signed_fault

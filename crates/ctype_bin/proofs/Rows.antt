@@ -1,0 +1,51 @@
+-- What is written of declarations, seen as a list.
+use Rattle.std.proofs.Common.{◌≡◌, ℕ, suc, List, [], ◌∷◌, ◌++◌, length, map, refl, ap, ◌∙◌, append_assoc}
+use Rattle.std.specs.Global.{Vec}
+use Rattle.ctype_bin.specs.declared.raw.RawDecl.{RawDecl}
+use Rattle.ctype_bin.specs.declared.raw.RawType as t
+use Rattle.ctype_bin.specs.declared.raw.RawType.{RawType}
+use Rattle.ctype_bin.specs.declared.raw.RawExport.{RawExport}
+use Rattle.ctype_bin.specs.File.{preamble}
+use Rattle.ctype_bin.specs.Raw.{Decl}
+use Rattle.ctype_bin.specs.View.{type_view, decl_view, export_view, decls_of}
+use Rattle.ctype_bin.specs.Writing.{u32_bytes, each, counted, decl_count, type_bytes, decl_bytes, decls_bytes, exported_bytes, section_bytes, file_bytes}
+use Rattle.ctype_bin.proofs.Views.{view-Component, view-Instance}
+
+pub count_is : (ds : List Decl) → decl_count (decls_of ds) ≡ length ds
+count_is [] = refl
+count_is (d ∷ ds) = ap suc (count_is ds)
+
+pub bytes_are : (ds : List Decl) → decls_bytes (decls_of ds) ≡ each decl_bytes ds
+unfolding decls_bytes
+bytes_are [] = refl
+bytes_are (d ∷ ds) = ap (λ (l : List ℕ). decl_bytes d ++ l) (bytes_are ds)
+
+pub each-map : {X Y : Type 0} (w : Y → List ℕ) (f : X → Y) (xs : List X) → each w (map f xs) ≡ each (λ x. w (f x)) xs
+each-map w f [] = refl
+each-map w f (x ∷ xs) = ap (λ (l : List ℕ). w (f x) ++ l) (each-map w f xs)
+
+length-map : {X Y : Type 0} (f : X → Y) (xs : List X) → length (map f xs) ≡ length xs
+length-map f [] = refl
+length-map f (x ∷ xs) = ap suc (length-map f xs)
+
+pub counted_map : {X Y : Type 0} (w : Y → List ℕ) (f : X → Y) (xs : List X) → counted w (map f xs) ≡ counted (λ x. w (f x)) xs
+counted_map w f xs = rw (length-map f xs, each-map w f xs) refl
+
+pub decls_are : (ds : List Decl) → u32_bytes (decl_count (decls_of ds)) ++ decls_bytes (decls_of ds) ≡ counted decl_bytes ds
+decls_are ds = rw (count_is ds, bytes_are ds) refl
+
+pub bytes-Component : (decls : Vec RawDecl) → type_bytes (type_view (t.Component decls)) ≡ 0x41 ∷ counted (λ d. decl_bytes (decl_view d)) decls.items
+unfolding type_bytes
+bytes-Component decls = ap type_bytes (view-Component decls) ∙ ap (λ (l : List ℕ). 0x41 ∷ l) (decls_are (map decl_view decls.items) ∙ counted_map decl_bytes decl_view decls.items)
+
+pub bytes-Instance : (decls : Vec RawDecl) → type_bytes (type_view (t.Instance decls)) ≡ 0x42 ∷ counted (λ d. decl_bytes (decl_view d)) decls.items
+unfolding type_bytes
+bytes-Instance decls = ap type_bytes (view-Instance decls) ∙ ap (λ (l : List ℕ). 0x42 ∷ l) (decls_are (map decl_view decls.items) ∙ counted_map decl_bytes decl_view decls.items)
+
+-- the parts of a file in turn
+pub file_is : (types : List RawType) (exports : List RawExport) (a b c d e : List ℕ) → a ≡ counted (λ t. type_bytes (type_view t)) types → b ≡ counted (λ x. exported_bytes (export_view x)) exports → c ≡ preamble → d ≡ c ++ section_bytes 7 a → e ≡ d ++ section_bytes 11 b
+    → e ≡ file_bytes (record { types = map type_view types; exports = map export_view exports })
+unfolding file_bytes
+file_is types exports a b c d e ha hb hc hd he =
+    he ∙ rw (hd, hc, ha, hb, counted_map type_bytes type_view types, counted_map exported_bytes export_view exports)
+    (append_assoc preamble (section_bytes 7 (counted (λ t. type_bytes (type_view t)) types)) (section_bytes 11 (counted (λ x. exported_bytes (export_view x)) exports)))

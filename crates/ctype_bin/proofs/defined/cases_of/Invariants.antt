@@ -1,0 +1,8 @@
+use Rattle.std.proofs.Common.{◌≡◌, ◌-◌}
+use Rattle.productions.specs.Production.{times}
+use Rattle.ctype_bin.specs.Grammar.{case}
+use Rattle.ctype_bin.proofs.Loop.{with_front}
+use Rattle.ctype_bin.proofs.defined.cases_of.Given as goal
+
+abbrev pub invariant-loop : goal.invariant-loop
+invariant-loop l = with_front l.cases.items ((times (l.count - l.counter) (case l.types)).read l.rest) ≡ (times l.count (case l.types)).read l.bytes

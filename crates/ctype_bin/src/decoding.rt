@@ -1,0 +1,67 @@
+//! Decoding a whole input.
+ghost use Rattle.std.specs.Prelude.{◌≡◌, ◌≤◌, ℕ, true, false, length, IfOk, IfErr, IfSome, MatchResult, Err};
+ghost use Rattle.atoms.specs.Streams.{ConsumesMany};
+ghost use Rattle.ctype_bin.specs.File.{file, placed, Faulty, Decodes, DecodesOrReads};
+ghost use Rattle.ctype_bin.specs.Raw.{File};
+ghost use Rattle.ctype_bin.specs.FileView.{file_view};
+
+use crate::component::RawComponent;
+use crate::error::{BinError, Fault, ItemError, Stuck};
+use crate::sections::{MAX_LENGTH, file_of};
+use atoms::{ReadUpToError, Source, read_up_to};
+use std::alloc::Global;
+
+/// A fault with its place.
+fn placed(len: usize, stuck: Stuck) -> BinError
+    requires { len ≤ 1048576 }
+    ensures { result ≡ placed len stuck }
+{
+    match stuck {
+        Stuck::End => BinError::At(Fault::Truncated, len),
+        Stuck::At(fault, left) => BinError::At(fault, len.saturating_sub(left)),
+        Stuck::Past(more) => BinError::At(Fault::SizeMismatch, len + more as usize),
+    }
+}
+
+#[tactic(auto, unfolding(crate::specs::File::decoded))]
+fn decode_bytes(alloc: Global, bytes: &[u8]) -> Result<RawComponent, BinError>
+    ensures { Decodes file_view result bytes.now }
+{
+    let len = bytes.len();
+    if len > MAX_LENGTH {
+        return Err(BinError::At(Fault::Limit, MAX_LENGTH));
+    }
+    match file_of(alloc, bytes) {
+        Ok(component) => Ok(component),
+        Err(ItemError::Stuck(stuck)) => Err(placed(len, stuck)),
+        Err(ItemError::Memory) => Err(BinError::NoMemory),
+    }
+}
+
+/// The component that the bytes spell, all of them, or the first fault from left to right with its place: 10 to 19, 22
+/// and 23, among them 17 at 1,048,576 for more bytes than that; 21 where memory is wanting. (Binary.md)
+pub fn decode(alloc: Global, bytes: &[u8]) -> Result<RawComponent, BinError>
+    ensures spelt { IfOk result (λ c. (length bytes.now ≤ 1048576) × file.spells bytes.now (file_view c)) }
+    ensures only { (f : File) → length bytes.now ≤ 1048576 → file.spells bytes.now f
+        → MatchResult result (λ c. file_view c ≡ f) (λ e. e ≡ BinError.NoMemory) }
+    ensures first { IfErr result (λ e. Faulty bytes.now e) }
+    // The same as one function of the bytes.
+    ensures exact { Decodes file_view result bytes.now }
+{
+    decode_bytes(alloc, bytes)
+}
+
+/// Reads to the end, or to the first byte past the limit of 1,048,576, and decodes that: the same answer however the
+/// reader cuts the bytes. 20 at the number of bytes got where the reader fails.
+pub fn decode_from<R: Source>(alloc: Global, reader: &mut R) -> Result<RawComponent, BinError>
+    requires { R.has_failed reader.old ≡ false }
+    ensures decoded { IfSome (R.remaining reader.old) (λ bytes. DecodesOrReads file_view result bytes) }
+    ensures read { (n : ℕ) → result ≡ Err (BinError.Read n) →
+        ((R.has_failed reader.new ≡ true) × ConsumesMany (R.remaining reader.old) (R.remaining reader.new) n) }
+{
+    match read_up_to(alloc, reader, MAX_LENGTH) {
+        Ok(bytes) => decode(alloc, &bytes),
+        Err(ReadUpToError::Failed(count)) => Err(BinError::Read(count)),
+        Err(ReadUpToError::NoMemory) => Err(BinError::NoMemory),
+    }
+}

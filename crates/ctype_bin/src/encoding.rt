@@ -1,0 +1,44 @@
+//! Encoding a component.
+ghost use Rattle.std.specs.Prelude.{◌≡◌, ◌++◌, IfOk, IfErr, OnOk, OnErr};
+ghost use Rattle.ctype_bin.specs.FileView.{file_view};
+ghost use Rattle.ctype_bin.specs.Writing.{file_bytes};
+ghost use Rattle.ctype_bin.specs.Encoding.{AppendsSpelling};
+
+use crate::component::RawComponent;
+use crate::error::BinError;
+use crate::sections::{EXPORT_SECTION, PREAMBLE, TYPE_SECTION};
+use crate::writing::{put_exports, put_section, put_types};
+use std::alloc::{AllocError, Global};
+
+/// The component's shortest spelling.
+fn spelling(alloc: Global, component: &RawComponent) -> Result<Vec<u8>, AllocError>
+    ensures { IfOk result (λ v. v.items ≡ file_bytes (file_view component.now)) }
+{
+    let mut types = Vec::new(alloc);
+    put_types(alloc, &mut types, component.types())?;
+    let mut exports = Vec::new(alloc);
+    put_exports(alloc, &mut exports, component.exports())?;
+    let mut bytes = Vec::from_slice(alloc, &PREAMBLE)?;
+    put_section(&mut bytes, TYPE_SECTION, types.as_slice())?;
+    put_section(&mut bytes, EXPORT_SECTION, exports.as_slice())?;
+    Ok(bytes)
+}
+
+/// Appends bytes that spell the component, and that `decode` reads as it where there are no more than 1,048,576: each
+/// number in its shortest spelling, and no custom section. 21 where memory is wanting; then what was there is as
+/// before. (Binary.md)
+pub fn encode(alloc: Global, component: &RawComponent, out: &mut Vec<u8>) -> Result<(), BinError>
+    ensures ok { OnOk result ∥ AppendsSpelling out.old.items out.new.items (file_view component.now) ∥₁ }
+    ensures err { OnErr result (out.new.items ≡ out.old.items) }
+    ensures memory { IfErr result (λ e. e ≡ BinError.NoMemory) }
+    // The same as one function of the component.
+    ensures exact { OnOk result (out.new.items ≡ out.old.items ++ file_bytes (file_view component.now)) }
+{
+    let Ok(bytes) = spelling(alloc, component) else {
+        return Err(BinError::NoMemory);
+    };
+    match out.extend_from_slice(bytes.as_slice()) {
+        Ok(()) => Ok(()),
+        Err(_) => Err(BinError::NoMemory),
+    }
+}

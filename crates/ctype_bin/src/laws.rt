@@ -1,0 +1,25 @@
+//! What holds of the format, whatever the bytes.
+ghost use Rattle.std.specs.Prelude.{ℕ, List};
+ghost use Rattle.ctype_bin.specs.declared.scope.Scope.{Scope};
+ghost use Rattle.ctype_bin.specs.Exactness.{Exact, ExactToEnd, Written};
+ghost use Rattle.ctype_bin.specs.Writing.{type_bytes, file_bytes};
+ghost use Rattle.ctype_bin.specs.Raw.{File};
+ghost use Rattle.ctype_bin.specs.Grammar.{type};
+ghost use Rattle.ctype_bin.specs.File.{file};
+
+/// Reading a type finds just what its productions spell, or the first fault, which stands within the bytes.
+pub fn types_are_read_exactly()
+    ensures { (depth : ℕ) (around : List ℕ) (scope : Scope) → Exact (type depth around scope) }
+{}
+
+/// The same of a whole file.
+pub fn files_are_read_exactly()
+    ensures { ExactToEnd file }
+{}
+
+/// What is written of a type spells it where any bytes do, and is no longer; and what is written of a file spells it
+/// where any bytes do.
+pub fn spellings_are_rewritten()
+    ensures types { (depth : ℕ) (around : List ℕ) (scope : Scope) → Written (type depth around scope) (λ y. type_bytes y.0) }
+    ensures files { (bytes : List ℕ) (f : File) → file.spells bytes f → file.spells (file_bytes f) f }
+{}

@@ -1,0 +1,211 @@
+//! Component type binaries: each fault at its place, every cut and every changed byte, and readers that cut the bytes.
+ghost use Rattle.std.specs.Prelude.{◌≡◌, false};
+
+use atoms::{Failed, Source};
+use ctype_bin::{BinError, RawComponent, decode, decode_from};
+use std::alloc::{AllocError, Global};
+use std::test::*;
+
+/// `package a:b; interface c { f: func(x: u32) -> u32; }`
+const P1: [u8; 55] = [
+    0x00, 0x61, 0x73, 0x6d, 0x0d, 0x00, 0x01, 0x00, 0x07, 0x1e, 0x01, 0x41, 0x02, 0x01, 0x42, 0x02,
+    0x01, 0x40, 0x01, 0x01, 0x78, 0x79, 0x00, 0x79, 0x04, 0x00, 0x01, 0x66, 0x01, 0x00, 0x04, 0x00,
+    0x05, 0x61, 0x3a, 0x62, 0x2f, 0x63, 0x05, 0x00, 0x0b, 0x0d, 0x01, 0x00, 0x07, 0x70, 0x61, 0x63,
+    0x6b, 0x61, 0x67, 0x65, 0x03, 0x00, 0x00,
+];
+
+/// A reader that gives a byte at a time, and fails after so many where it is told to; or one that never ends.
+#[derive(Drop)]
+struct Drip<'a> {
+    bytes: &'a [u8],
+    given: usize,
+    fails_at: Option<usize>,
+    endless: bool,
+    failed: bool,
+}
+
+impl<'a> Source for Drip<'a> {
+    ghost use Rattle.std.specs.Prelude.{None};
+
+    ghost remaining = { λ _. None };
+
+    ghost has_failed = { λ reader. reader.failed };
+
+    fn read(&mut self, buffer: &mut [u8]) -> Result<usize, Failed> {
+        if self.fails_at == Some(self.given) {
+            self.failed = true;
+            return Err(Failed);
+        }
+        if buffer.is_empty() {
+            return Ok(0);
+        }
+        if self.endless {
+            buffer.fill(0);
+            return Ok(buffer.len());
+        }
+        match self.bytes.get(self.given) {
+            Some(byte) => {
+                buffer[0] = *byte;
+                self.given += 1;
+                Ok(1)
+            }
+            None => Ok(0),
+        }
+    }
+
+    fn failed(&self) -> bool {
+        self.failed
+    }
+}
+
+fn dripping<'a>(bytes: &'a [u8], fails_at: Option<usize>) -> Drip<'a>
+    ensures { result.failed ≡ false }
+{
+    Drip {
+        bytes,
+        given: 0,
+        fails_at,
+        endless: false,
+        failed: false,
+    }
+}
+
+/// What decoding answers, as a line.
+fn line(alloc: Global, answer: Result<RawComponent, BinError>) -> Result<String, AllocError> {
+    match answer {
+        Ok(_component) => format!(in alloc; "component"),
+        Err(error) => format!(in alloc; "{error}"),
+    }
+}
+
+/// The same at once and byte by byte.
+fn answer(alloc: Global, bytes: &[u8]) -> Result<String, AllocError> {
+    let slow = line(alloc, decode_from(alloc, &mut dripping(bytes, None)))?;
+    let fast = line(alloc, decode(alloc, bytes))?;
+    if slow.as_str() != fast.as_str() {
+        return format!(in alloc; "{fast}, by bytes {slow}");
+    }
+    Ok(fast)
+}
+
+/// The bytes with one changed.
+fn changed(alloc: Global, place: usize, byte: u8) -> Result<Vec<u8>, AllocError> {
+    let mut bytes = Vec::from_slice(alloc, &P1)?;
+    if let Some(old) = bytes.as_mut_slice().get_mut(place) {
+        *old = byte;
+    }
+    Ok(bytes)
+}
+
+#[test]
+fn whole_and_cut(rt: HostRuntime) -> Result<(), Fail> {
+    let alloc = rt.alloc();
+    assert_eq!(rt; answer(alloc, &P1)?.as_str(), "component");
+    for n in 0..55 {
+        let wanted = format!(in alloc; "error 11 truncated at {n}")?;
+        let found = answer(alloc, &P1[..n])?;
+        assert!(rt; found.as_str() == wanted.as_str(), "{n}: {found}");
+    }
+    Ok(())
+}
+
+#[test]
+fn one_byte_changed(rt: HostRuntime) -> Result<(), Fail> {
+    let alloc = rt.alloc();
+    let rows = [
+        (4, 0x0e, "error 10 not a component at 4"),
+        (9, 0x1d, "error 18 size mismatch at 39"),
+        (9, 0x1f, "error 18 size mismatch at 41"),
+        (8, 0x0b, "error 12 bad section 11 at 8"),
+        (8, 0x05, "error 12 bad section 5 at 8"),
+        (12, 0x03, "error 18 size mismatch at 40"),
+        (11, 0x69, "error 14 unsupported resource at 11"),
+        (13, 0x05, "error 13 unknown opcode 05 at 13"),
+        (15, 0x03, "error 18 size mismatch at 40"),
+        (16, 0x03, "error 13 unknown opcode 03 at 16"),
+        (17, 0x72, "error 13 unknown opcode 00 at 22"),
+        (19, 0x05, "error 22 bad name at 19"),
+        (20, 0x2d, "error 22 bad name at 19"),
+        (21, 0x00, "error 15 bad index at 21"),
+        (21, 0x76, "error 14 unsupported float at 21"),
+        (21, 0x69, "error 13 unknown opcode 69 at 21"),
+        (22, 0x02, "error 13 unknown opcode 02 at 22"),
+        (29, 0x01, "error 15 bad index at 29"),
+        (34, 0x2f, "error 22 bad name at 32"),
+        (38, 0x06, "error 13 unknown opcode 06 at 38"),
+        (52, 0x04, "error 13 unknown opcode 04 at 52"),
+        (53, 0x01, "error 15 bad index at 53"),
+        (54, 0x01, "error 13 unknown opcode 01 at 54"),
+    ];
+    for (place, byte, wanted) in rows {
+        let found = answer(alloc, changed(alloc, place, byte)?.as_slice())?;
+        assert!(rt; found.as_str() == wanted, "{place}: {found}");
+    }
+    Ok(())
+}
+
+#[test]
+fn more_or_other_bytes(rt: HostRuntime) -> Result<(), Fail> {
+    let alloc = rt.alloc();
+    let mut custom = Vec::from_slice(alloc, &P1)?;
+    custom.extend_from_slice(&[0, 2, 1, 0x78])?;
+    assert_eq!(rt; answer(alloc, custom.as_slice())?.as_str(), "component");
+    let mut trailing = Vec::from_slice(alloc, &P1)?;
+    trailing.push(7)?;
+    assert_eq!(rt; answer(alloc, trailing.as_slice())?.as_str(), "error 19 trailing at 55");
+    let mut negative = changed(alloc, 21, 0xf9)?;
+    negative.as_mut_slice()[22] = 0x7f;
+    assert_eq!(rt; answer(alloc, negative.as_slice())?.as_str(), "error 13 unknown opcode f9 at 21");
+    let mut spelled = Vec::from_slice(alloc, &P1[..9])?;
+    spelled.extend_from_slice(&[0x9e, 0])?;
+    spelled.extend_from_slice(&P1[10..])?;
+    assert_eq!(rt; answer(alloc, spelled.as_slice())?.as_str(), "component");
+    let mut growing = Vec::from_slice(alloc, &P1[..8])?;
+    growing.extend_from_slice(&[7, 8, 1, 0x72, 0xff, 0xff, 0xff, 0xff, 0x0f])?;
+    assert_eq!(rt; answer(alloc, growing.as_slice())?.as_str(), "error 11 truncated at 17");
+    let mut deep = Vec::from_slice(alloc, &P1[..8])?;
+    deep.extend_from_slice(&[7, 15, 1])?;
+    for _ in 0..4 {
+        deep.extend_from_slice(&[0x41, 1, 1])?;
+    }
+    deep.extend_from_slice(&[0x41, 0])?;
+    assert_eq!(rt; answer(alloc, deep.as_slice())?.as_str(), "error 17 limit at 23");
+    Ok(())
+}
+
+#[test]
+fn readers(rt: HostRuntime) -> Result<(), Fail> {
+    let alloc = rt.alloc();
+    for n in 0..56 {
+        let found = line(alloc, decode_from(alloc, &mut dripping(&P1, Some(n))))?;
+        let wanted = format!(in alloc; "error 20 read at {n}")?;
+        assert!(rt; found.as_str() == wanted.as_str(), "{n}: {found}");
+    }
+    let mut reader = dripping(&P1, None);
+    reader.endless = true;
+    let found = line(alloc, decode_from(alloc, &mut reader))?;
+    assert_eq!(rt; found.as_str(), "error 17 limit at 1048576");
+    Ok(())
+}
+
+/// 65 types and one more of a last type, in a component type of 66 declarations.
+fn many(alloc: Global, head: &[u8], last: &[u8]) -> Result<Vec<u8>, AllocError> {
+    let mut bytes = Vec::from_slice(alloc, &P1[..8])?;
+    bytes.extend_from_slice(head)?;
+    for _ in 0..65 {
+        bytes.extend_from_slice(&[1, 0x79])?;
+    }
+    bytes.extend_from_slice(last)?;
+    bytes.extend_from_slice(&P1[40..])?;
+    Ok(bytes)
+}
+
+#[test]
+fn index_64(rt: HostRuntime) -> Result<(), Fail> {
+    let alloc = rt.alloc();
+    let good = many(alloc, &[7, 0x89, 1, 1, 0x41, 0x42], &[1, 0x70, 0xc0, 0])?;
+    assert_eq!(rt; answer(alloc, good.as_slice())?.as_str(), "component");
+    let bad = many(alloc, &[7, 0x88, 1, 1, 0x41, 0x42], &[1, 0x70, 0x40])?;
+    assert_eq!(rt; answer(alloc, bad.as_slice())?.as_str(), "error 13 unknown opcode 40 at 146");
+    Ok(())
+}
