@@ -11,6 +11,8 @@ mod hosts;
 #[cfg(test)]
 mod lines;
 #[cfg(test)]
+mod names;
+#[cfg(test)]
 mod sessions;
 #[cfg(test)]
 mod streaming;

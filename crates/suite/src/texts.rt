@@ -5,7 +5,7 @@ use std::process::Abort;
 use std::test::Fail;
 use witcall::open;
 
-fn assert_rows(rt: &impl Abort, alloc: Global, rows: &[(&str, &str)]) -> Result<(), Fail> {
+pub fn assert_rows(rt: &impl Abort, alloc: Global, rows: &[(&str, &str)]) -> Result<(), Fail> {
     for row in rows {
         let (text, answer) = *row;
         assert_row(rt, alloc, text, answer)?;

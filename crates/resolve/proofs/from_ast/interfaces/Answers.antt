@@ -15,6 +15,7 @@ returns-in-World-clause-err c =
     let x = c.item-item.result in
     let w = c.in-World.field-0 in
     let there = contains-map item_view c.deref-item-items.result.now x (contains-at c.deref-item-items.result.now c.loop-item.item-index x (omega arith) c.item-item.is) in (
+      w.span,
       w.name,
       map world_entry_view w.items.items,
       subst (λ (e : FileEntry). Contains (map item_view c.args.ast.now.items.items) e) (ap item_view c.in-World.is)
