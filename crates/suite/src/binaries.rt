@@ -2,7 +2,7 @@
 ghost use Rattle.std.specs.Prelude.{◌≡◌, false};
 
 use atoms::{Failed, Source};
-use ctype_bin::{BinError, RawComponent, decode, decode_from};
+use ctype_bin::{BinError, Fault, RawComponent, decode, decode_from, encode};
 use std::alloc::{AllocError, Global};
 use std::test::*;
 
@@ -152,24 +152,38 @@ fn more_or_other_bytes(rt: HostRuntime) -> Result<(), Fail> {
     assert_eq!(rt; answer(alloc, custom.as_slice())?.as_str(), "component");
     let mut trailing = Vec::from_slice(alloc, &P1)?;
     trailing.push(7)?;
-    assert_eq!(rt; answer(alloc, trailing.as_slice())?.as_str(), "error 19 trailing at 55");
+    assert_eq!(rt;
+        answer(alloc, trailing.as_slice())?.as_str(),
+        "error 19 trailing at 55"
+    );
     let mut negative = changed(alloc, 21, 0xf9)?;
-    negative.as_mut_slice()[22] = 0x7f;
-    assert_eq!(rt; answer(alloc, negative.as_slice())?.as_str(), "error 13 unknown opcode f9 at 21");
+    if let Some(byte) = negative.as_mut_slice().get_mut(22) {
+        *byte = 0x7f;
+    }
+    assert_eq!(rt;
+        answer(alloc, negative.as_slice())?.as_str(),
+        "error 13 unknown opcode f9 at 21"
+    );
     let mut spelled = Vec::from_slice(alloc, &P1[..9])?;
     spelled.extend_from_slice(&[0x9e, 0])?;
     spelled.extend_from_slice(&P1[10..])?;
     assert_eq!(rt; answer(alloc, spelled.as_slice())?.as_str(), "component");
     let mut growing = Vec::from_slice(alloc, &P1[..8])?;
     growing.extend_from_slice(&[7, 8, 1, 0x72, 0xff, 0xff, 0xff, 0xff, 0x0f])?;
-    assert_eq!(rt; answer(alloc, growing.as_slice())?.as_str(), "error 11 truncated at 17");
+    assert_eq!(rt;
+        answer(alloc, growing.as_slice())?.as_str(),
+        "error 11 truncated at 17"
+    );
     let mut deep = Vec::from_slice(alloc, &P1[..8])?;
     deep.extend_from_slice(&[7, 15, 1])?;
     for _ in 0..4 {
         deep.extend_from_slice(&[0x41, 1, 1])?;
     }
     deep.extend_from_slice(&[0x41, 0])?;
-    assert_eq!(rt; answer(alloc, deep.as_slice())?.as_str(), "error 17 limit at 23");
+    assert_eq!(rt;
+        answer(alloc, deep.as_slice())?.as_str(),
+        "error 17 limit at 23"
+    );
     Ok(())
 }
 
@@ -206,6 +220,60 @@ fn index_64(rt: HostRuntime) -> Result<(), Fail> {
     let good = many(alloc, &[7, 0x89, 1, 1, 0x41, 0x42], &[1, 0x70, 0xc0, 0])?;
     assert_eq!(rt; answer(alloc, good.as_slice())?.as_str(), "component");
     let bad = many(alloc, &[7, 0x88, 1, 1, 0x41, 0x42], &[1, 0x70, 0x40])?;
-    assert_eq!(rt; answer(alloc, bad.as_slice())?.as_str(), "error 13 unknown opcode 40 at 146");
+    assert_eq!(rt;
+        answer(alloc, bad.as_slice())?.as_str(),
+        "error 13 unknown opcode 40 at 146"
+    );
+    Ok(())
+}
+
+/// What a component is written as.
+fn written(alloc: Global, component: &RawComponent) -> Result<Vec<u8>, BinError> {
+    let mut out = Vec::new(alloc);
+    encode(alloc, component, &mut out)?;
+    Ok(out)
+}
+
+#[test]
+fn written_again(rt: HostRuntime) -> Result<(), Fail> {
+    let alloc = rt.alloc();
+    let mut spelled = Vec::from_slice(alloc, &P1[..9])?;
+    spelled.extend_from_slice(&[0x9e, 0])?;
+    spelled.extend_from_slice(&P1[10..])?;
+    spelled.extend_from_slice(&[0, 2, 1, 0x78])?;
+    let component = decode(alloc, spelled.as_slice())?;
+    assert_eq!(rt; component.types().len(), 1);
+    assert_eq!(rt; component.exports().len(), 1);
+    let mut out = Vec::from_slice(alloc, &[1, 2])?;
+    encode(alloc, &component, &mut out)?;
+    assert!(rt; out.as_slice().strip_prefix(&[1, 2]) == Some(P1.as_slice()));
+    Ok(())
+}
+
+/// Whether the bytes are refused with a fault within them, or at the end of a section that is too long for them, or
+/// accepted and written as what decodes to the same.
+fn stands(alloc: Global, bytes: &[u8]) -> Result<bool, BinError> {
+    match decode(alloc, bytes) {
+        Ok(component) => {
+            let first = written(alloc, &component)?;
+            let second = written(alloc, &decode(alloc, first.as_slice())?)?;
+            Ok(first.as_slice() == second.as_slice())
+        }
+        Err(BinError::At(fault, place)) => {
+            Ok(place <= bytes.len() || fault == Fault::SizeMismatch)
+        }
+        Err(error) => Err(error),
+    }
+}
+
+#[test]
+fn every_byte_changed(rt: HostRuntime) -> Result<(), Fail> {
+    let alloc = rt.alloc();
+    for place in 0..55 {
+        for byte in 0..=255 {
+            let bytes = changed(alloc, place, byte)?;
+            assert!(rt; stands(alloc, bytes.as_slice())?, "{place}, {byte}");
+        }
+    }
     Ok(())
 }
