@@ -15,4 +15,6 @@ mod streaming;
 #[cfg(test)]
 mod texts;
 #[cfg(test)]
+mod values;
+#[cfg(test)]
 mod wording;
