@@ -1,21 +1,21 @@
 -- How the core values of a value, and what stands in memory for it, are made of those of its parts.
-use Rattle.std.proofs.Common.{◌≡◌, ℕ, zero, suc, ◌+◌, ◌-◌, ◌*◌, ◌^◌, ◌<◌, ◌≤◌, true, false, inl, inr, List, [], ◌∷◌, ◌++◌, length, map, take, drop, get_or, Some, None, refl, sym, ap, ◌∙◌, subst, append_assoc, append-nil, arith}
+use Rattle.std.proofs.Common.{◌≡◌, ℕ, zero, suc, ◌+◌, ◌-◌, ◌*◌, ◌^◌, ◌<◌, ◌≤◌, true, List, [], ◌∷◌, ◌++◌, length, take, drop, get_or, Some, None, refl, sym, ap, ◌∙◌, subst, append_assoc, append-nil, arith}
 use Rattle.std.proofs.lemmas.List.{length-map, length-append, take_all}
 use Rattle.std.specs.List.{AllByRecursion}
 use Rattle.std.specs.Str.{is_utf8}
 use Rattle.canonical_abi.specs.Guest.{Memory, Allocation}
-use Rattle.canonical_abi.specs.Types.{Prim, ClosedType, prim_type, string_type, list_type, record_type, variant_type, flags_type, Fields, no_field, field, Cases, no_case, plain_case, case_with, nth_field, nth_case, field_count}
+use Rattle.canonical_abi.specs.Types.{Prim, ClosedType, prim_type, string_type, list_type, record_type, variant_type, flags_type, Fields, Cases, no_case, plain_case, case_with, nth_field, nth_case, field_count}
 use Rattle.canonical_abi.specs.Values.{Value, HasPrimType, HasType, HaveTypes, values_of, string_value, list_value, record_value, plain_value, payload_value, flags_value}
-use Rattle.canonical_abi.specs.Layout.{align, size, prim_kind, flat_kinds, field_kinds, payload_kinds, fits_flat}
+use Rattle.canonical_abi.specs.Layout.{align, size, prim_kind, flat_kinds, field_kinds, payload_kinds}
 use Rattle.canonical_abi.specs.Reading.{kind_of}
-use Rattle.canonical_abi.specs.Trace.{Event, node, grant, write}
+use Rattle.canonical_abi.specs.Trace.{Event, node}
 use Rattle.canonical_abi.specs.Storing.{EachStores, Stores, FieldsStore}
-use Rattle.canonical_abi.specs.Lowering.{core_of, joined_flats, Lowers, FieldsLower, CaseLowers, SpilledLower, PassesParams}
+use Rattle.canonical_abi.specs.Lowering.{core_of, joined_flats, Lowers, FieldsLower, CaseLowers, SpilledLower}
 use Rattle.canonical_abi.specs.declared.flat.Flat.{Flat}
 use Rattle.canonical_abi.specs.declared.flat.Flat.TheVariants.{I32}
 use Rattle.canonical_abi.specs.declared.trap.TrapKind.{TrapKind}
 use Rattle.canonical_abi.proofs.Lifted.{lowers-kinds}
-use Rattle.lift_lower.specs.Lowered.{LowersInto, LowersBy, FieldsLowerInto, FieldsLowerBy, SpilledLowerBy, PassesParamsBy}
+use Rattle.lift_lower.specs.Lowered.{LowersInto, LowersBy, FieldsLowerInto, FieldsLowerBy, SpilledLowerBy}
 use Rattle.lift_lower.specs.Scripts.{IsDone, HasEnded, IsBegun, AsksBlock, GrantsBlock, PutsText, PutsTextAt}
 use Rattle.lift_lower.proofs.Scripted.{each-script, stores-script, fields-script, fields-lower-script}
 use Rattle.lift_lower.proofs.Scripting.{begun, begun-then, begun-done, begun-ended, begun-last, ended-last, ended-as, done-as, node-done, node-ended, node-alone}
@@ -247,26 +247,3 @@ module _ (limit : ℕ) (allocates : Allocation) (ts : Fields) (vs : List Value) 
         begun-last limit allocates S F F old mid new
         (begun-then limit allocates S S (GrantsBlock (align (record_type ts)) (size (record_type ts)) start) F old old mid (begun limit allocates S old) granted (λ first rest p r.
         (p.0, rest, p.1, ap (λ es. es ++ rest) p.3, subst (λ a. FieldsStore ts a 0 vs rest) (sym p.2) r, told ∙ ap (λ a. I32 a ∷ []) (sym p.2)))) d (λ es h. h)
-
--- ---- whole lists of values
-
-module _ (limit most : ℕ) (allocates : Allocation) (ts : Fields) (vs : List Value) where
-  pub flat-passed : (before flats : List Flat) (old new : Memory) → fits_flat most ts ≡ true → before ≡ [] → IsDone limit allocates (FieldsLowerInto ts vs before flats) old new
-      → IsDone limit allocates (λ es. PassesParams most ts vs es flats) old new
-  flat-passed before flats old new fits none d =
-      done-as limit allocates (FieldsLowerInto ts vs before flats) (λ es. PassesParams most ts vs es flats) old new (λ es h.
-      inl (fits, subst (λ l. FieldsLower ts vs es l) (sym (h.2 ∙ ap (λ l. l ++ h.0) none)) h.1)) d
-
-  pub flat-ended : (old : Memory) (k : TrapKind) (new : Memory) → fits_flat most ts ≡ true → HasEnded limit allocates (FieldsLowerBy ts vs) old k new → HasEnded limit allocates (PassesParamsBy most ts vs) old k new
-  flat-ended old k new fits e =
-      ended-as limit allocates (FieldsLowerBy ts vs) (PassesParamsBy most ts vs) old k new (λ es h. (h.0, inl (fits, h.1))) e
-
-  pub spilled-passed : (flats : List Flat) (old new : Memory) → fits_flat most ts ≡ false → IsDone limit allocates (λ es. SpilledLower ts vs es flats) old new
-      → IsDone limit allocates (λ es. PassesParams most ts vs es flats) old new
-  spilled-passed flats old new spills d =
-      done-as limit allocates (λ es. SpilledLower ts vs es flats) (λ es. PassesParams most ts vs es flats) old new (λ es h. inr (spills, h)) d
-
-  pub spilled-passing-ended : (old : Memory) (k : TrapKind) (new : Memory) → fits_flat most ts ≡ false → HasEnded limit allocates (SpilledLowerBy ts vs) old k new
-      → HasEnded limit allocates (PassesParamsBy most ts vs) old k new
-  spilled-passing-ended old k new spills e =
-      ended-as limit allocates (SpilledLowerBy ts vs) (PassesParamsBy most ts vs) old k new (λ es h. (h.0, inr (spills, h.1))) e

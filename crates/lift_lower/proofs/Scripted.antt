@@ -1,13 +1,12 @@
 -- Each value of a type has events by which it is stored and lowered.
-use Rattle.std.proofs.Common.{◌≡◌, ℕ, zero, suc, ◌+◌, ◌*◌, List, [], ◌∷◌, ◌++◌, length, refl}
-use Rattle.std.specs.Int.{next_multiple_of, to_le_bytes}
+use Rattle.std.proofs.Common.{ℕ, zero, suc, ◌+◌, ◌*◌, List, [], ◌∷◌, ◌++◌, length, refl}
+use Rattle.std.specs.Int.{next_multiple_of}
 use Rattle.std.specs.List.{AllByRecursion}
-use Rattle.canonical_abi.specs.Types.{ClosedType, prim_type, string_type, list_type, record_type, variant_type, flags_type, Fields, no_field, field, Cases, no_case, plain_case, case_with, case_count}
+use Rattle.canonical_abi.specs.Types.{ClosedType, prim_type, string_type, list_type, record_type, variant_type, flags_type, Fields, no_field, field, Cases, no_case, plain_case, case_with}
 use Rattle.canonical_abi.specs.Values.{Value, HasType, HaveTypes, IsOfCase}
-use Rattle.canonical_abi.specs.Layout.{align, size, discriminant_size, payload_place}
-use Rattle.canonical_abi.specs.Reading.{byte_width}
-use Rattle.canonical_abi.specs.Trace.{Grant, Event, node, grant, write}
-use Rattle.canonical_abi.specs.Storing.{header, EachStores, Stores, FieldsStore, CaseStores}
+use Rattle.canonical_abi.specs.Layout.{align, size, payload_place}
+use Rattle.canonical_abi.specs.Trace.{Grant, Event}
+use Rattle.canonical_abi.specs.Storing.{EachStores, Stores, FieldsStore, CaseStores}
 use Rattle.canonical_abi.specs.Lowering.{Lowers, FieldsLower, CaseLowers}
 use Rattle.canonical_abi.specs.declared.flat.Flat.{Flat}
 

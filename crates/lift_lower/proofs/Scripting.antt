@@ -4,8 +4,7 @@ use Rattle.canonical_abi.specs.Guest.{Memory, Allocation}
 use Rattle.std.specs.Prelude.{slice_range}
 use Rattle.canonical_abi.specs.Trace.{Grant, Event, node, grant, write, EventLeads, TraceLeads, LeavesOutWrites}
 use Rattle.canonical_abi.specs.declared.trap.TrapKind.{TrapKind}
-use Rattle.canonical_abi.proofs.Stopped.{leaves-none}
-use Rattle.lift_lower.specs.Scripts.{AreWithin, RequestEnds, TraceEnds, IsDone, HasEnded, IsBegun, AsksBlock, GrantsBlock, PutsText, PutsTextAt}
+use Rattle.lift_lower.specs.Scripts.{AreWithin, RequestEnds, IsDone, HasEnded, IsBegun, AsksBlock, GrantsBlock, PutsText, PutsTextAt}
 
 within-both : (limit : ℕ) (es fs : List Event) → AreWithin limit es → AreWithin limit fs → AreWithin limit (es ++ fs)
 within-both limit [] fs p q = q

@@ -5,7 +5,7 @@ use Rattle.std.specs.List.{AllByRecursion}
 use Rattle.std.proofs.lemmas.Nat.{mul-le}
 use Rattle.std.specs.Str.{is_utf8}
 use Rattle.canonical_abi.specs.Guest.{Memory, Allocation}
-use Rattle.canonical_abi.specs.Types.{Prim, ClosedType, prim_type, string_type, list_type, record_type, variant_type, flags_type, Fields, no_field, field, Cases, no_case, plain_case, case_with, case_count, nth_field, nth_case, field_count}
+use Rattle.canonical_abi.specs.Types.{Prim, ClosedType, prim_type, string_type, list_type, record_type, variant_type, flags_type, Fields, Cases, no_case, plain_case, case_with, case_count, nth_field, nth_case, field_count}
 use Rattle.canonical_abi.specs.Values.{Value, HasPrimType, HasType, HaveTypes, values_of, string_value, list_value, record_value, plain_value, payload_value, flags_value}
 use Rattle.canonical_abi.specs.Layout.{align, size, prim_width, flags_size, discriminant_size, payload_place}
 use Rattle.canonical_abi.specs.Reading.{byte_width}

@@ -23,4 +23,6 @@ mod texts;
 #[cfg(test)]
 mod type_syntax;
 #[cfg(test)]
+mod values;
+#[cfg(test)]
 mod wording;

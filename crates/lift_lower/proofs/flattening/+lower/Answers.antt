@@ -1,21 +1,21 @@
-use Rattle.std.proofs.Common.{◌≡◌, ℕ, suc, ◌+◌, ◌-◌, ◌<◌, ◌≤◌, List, [], ◌∷◌, ◌++◌, length, map, take, drop, get_or, Some, None, option_map, refl, sym, ap, ◌∙◌, subst, arith}
+use Rattle.std.proofs.Common.{◌≡◌, suc, ◌-◌, ◌<◌, List, [], length, map, take, drop, Some, None, option_map, sym, ap, ◌∙◌, subst, arith}
 use Rattle.std.proofs.lemmas.List.{length-map, get_or-map, drop_all}
 use Rattle.std.proofs.lemmas.Result.{err_from_is_err_and}
 use Rattle.std.specs.List.{AllByRecursion}
-use Rattle.canonical_abi.specs.Types.{ClosedType, IsStandard, string_type, prim_type, list_type, record_type, variant_type, flags_type, record_fields, variant_cases, nth_case, depth}
-use Rattle.canonical_abi.specs.Values.{Value, HasType, HaveTypes, values_of, list_value, record_value, plain_value, payload_value, flags_value}
+use Rattle.canonical_abi.specs.Types.{ClosedType, IsStandard, list_type, record_type, record_fields, variant_cases, nth_case, depth}
+use Rattle.canonical_abi.specs.Values.{Value, HasType, HaveTypes, values_of, list_value, record_value}
 use Rattle.canonical_abi.specs.Layout.{flat_kinds, payload_kinds}
 use Rattle.canonical_abi.specs.declared.flat.CoreKind.TheVariants.{I32}
 use Rattle.resolve.specs.Closed.{closed_type, closed_types}
 use Rattle.lift_lower.specs.Members.{members_fields}
-use Rattle.lift_lower.specs.Scalar.{prim_in, value_in, core_in}
-use Rattle.lift_lower.specs.Val.{value_of, variant_value}
+use Rattle.lift_lower.specs.Scalar.{prim_in, value_in}
+use Rattle.lift_lower.specs.Val.{value_of}
 use Rattle.lift_lower.proofs.Extents.{member-depth, case-depth}
 use Rattle.lift_lower.proofs.FlatSteps.{kinds-next, payload-kinds}
 use Rattle.lift_lower.proofs.Lowerings.{lowering-begun, lowering-next, lowering-ended, lowering-done, lowering-room, joined-told, behind-first, record-lowered, record-lowering-ended, case-lowered, plain-case-lowered, case-lowering-ended, scalar-lowered, flags-lowered}
 use Rattle.lift_lower.proofs.Scripting.{if-err-as, on-ok-as}
 use Rattle.lift_lower.proofs.Steps.{nth_field-some}
-use Rattle.lift_lower.proofs.Typings.{not-list, is-list, is-record, type-of-scalar, type-of-text, type-of-record, type-of-flags, typed-flags, is-plain, is-payload, no-payload, no-case, typed-count, have-first, have-rest, field-standard, case-standard}
+use Rattle.lift_lower.proofs.Typings.{not-list, is-list, is-record, type-of-scalar, type-of-text, type-of-record, type-of-flags, is-plain, is-payload, no-payload, no-case, typed-count, have-first, have-rest, field-standard, case-standard}
 use Rattle.lift_lower.proofs.Views.{value_of-List, value_of-Record, value_of-String, value_of-Flags}
 use Rattle.lift_lower.proofs.flattening.+lower.Goals as goal
 

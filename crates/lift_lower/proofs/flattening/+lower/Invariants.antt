@@ -1,9 +1,7 @@
-use Rattle.std.proofs.Common.{◌≡◌, ◌+◌, ◌*◌, ◌≤◌, List, ◌++◌, map, drop, length}
+use Rattle.std.proofs.Common.{◌+◌, ◌*◌, ◌≤◌, map, drop, length}
 use Rattle.canonical_abi.specs.Types.{depth, fields_depth}
 use Rattle.canonical_abi.specs.Values.{HaveTypes}
 use Rattle.canonical_abi.specs.Layout.{field_kinds}
-use Rattle.canonical_abi.specs.Lowering.{FieldsLower}
-use Rattle.canonical_abi.specs.declared.flat.Flat.{Flat}
 use Rattle.resolve.specs.Closed.{closed_type}
 use Rattle.lift_lower.specs.Members.{members_fields}
 use Rattle.lift_lower.specs.Val.{value_of}

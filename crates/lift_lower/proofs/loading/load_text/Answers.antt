@@ -1,4 +1,3 @@
-use Rattle.std.proofs.Common.{◌∙◌, ap}
 use Rattle.canonical_abi.specs.Values.{string_value}
 use Rattle.lift_lower.proofs.Views.{value_of-String}
 use Rattle.lift_lower.proofs.Texts.{text-stands, text-fault}

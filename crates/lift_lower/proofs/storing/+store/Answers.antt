@@ -1,24 +1,22 @@
-use Rattle.std.proofs.Common.{◌≡◌, ℕ, suc, ◌+◌, ◌*◌, ◌<◌, ◌≤◌, List, [], length, map, drop, get_or, Some, None, Option, option_map, refl, sym, ap, ◌∙◌, subst, arith}
+use Rattle.std.proofs.Common.{◌≡◌, ℕ, suc, ◌+◌, ◌*◌, ◌<◌, ◌≤◌, List, [], length, map, Some, None, option_map, refl, sym, ap, ◌∙◌, subst, arith}
 use Rattle.std.proofs.lemmas.List.{length-map, get_or-map, drop_all}
 use Rattle.std.proofs.lemmas.Result.{err_from_is_err_and}
-use Rattle.std.specs.Int.{next_multiple_of, to_le_bytes, byte_len}
+use Rattle.std.specs.Int.{next_multiple_of, byte_len}
 use Rattle.std.specs.List.{AllByRecursion}
-use Rattle.canonical_abi.specs.Types.{ClosedType, IsStandard, AreStandardFields, string_type, prim_type, list_type, record_type, variant_type, flags_type, record_fields, variant_cases, nth_case, case_count, depth}
-use Rattle.canonical_abi.specs.Values.{Value, HasType, HaveTypes, values_of, string_value, list_value, record_value, plain_value, payload_value, flags_value}
+use Rattle.canonical_abi.specs.Types.{ClosedType, IsStandard, list_type, record_type, variant_type, flags_type, record_fields, variant_cases, nth_case, case_count, depth}
+use Rattle.canonical_abi.specs.Values.{Value, HasType, HaveTypes, values_of, list_value, record_value, plain_value, payload_value, flags_value}
 use Rattle.canonical_abi.specs.Layout.{size, align, prim_width, discriminant_size, payload_place}
-use Rattle.canonical_abi.specs.Reading.{byte_width, reading_fields}
+use Rattle.canonical_abi.specs.Reading.{reading_fields}
 use Rattle.canonical_abi.specs.Storing.{EachStores, Stores, FieldsStore, CaseStores}
-use Rattle.canonical_abi.specs.Trace.{Event, EventLeads, write}
 use Rattle.resolve.specs.Closed.{closed_type, closed_types}
 use Rattle.lift_lower.specs.Members.{members_fields}
 use Rattle.lift_lower.specs.Scalar.{prim_in, value_in}
-use Rattle.lift_lower.specs.Scripts.{IsDone, HasEnded}
-use Rattle.lift_lower.specs.Val.{value_of, variant_value}
+use Rattle.lift_lower.specs.Val.{value_of}
 use Rattle.lift_lower.proofs.Extents.{member-depth, case-depth, payload-place, payload-fits, fields-fit}
-use Rattle.lift_lower.proofs.Scripting.{begun, begun-as, begun-done, done-as, ended-as, if-err-as, on-ok-as, asked}
+use Rattle.lift_lower.proofs.Scripting.{begun, begun-as, begun-done, done-as, ended-as, if-err-as, on-ok-as}
 use Rattle.lift_lower.proofs.Steps.{fields-inside, fields-end, nth_field-some}
 use Rattle.lift_lower.proofs.Storings.{ItemsFrom, items-first, items-none, item-inside, item-done, item-ended, FieldsFrom, stored-none, field-done, field-ended, list-done, list-ended, list-refused, record-done, record-ended, plain-stored, payload-stored, case-done, case-ended, plain-done, scalar-done, flags-done}
-use Rattle.lift_lower.proofs.Typings.{not-list, not-flags, not-variant, is-list, is-record, type-of-scalar, type-of-text, type-of-record, typed-flags, is-plain, is-payload, no-payload, no-case, typed-count, all-at, have-first, have-rest, field-standard, case-standard}
+use Rattle.lift_lower.proofs.Typings.{not-list, not-flags, is-list, is-record, type-of-scalar, type-of-text, type-of-record, typed-flags, is-plain, is-payload, no-payload, no-case, typed-count, all-at, have-first, have-rest, field-standard, case-standard}
 use Rattle.lift_lower.proofs.Views.{value_of-List, value_of-Record, value_of-String, value_of-Flags}
 use Rattle.lift_lower.proofs.storing.+store.Goals as goal
 

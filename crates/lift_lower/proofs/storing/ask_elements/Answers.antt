@@ -1,5 +1,5 @@
 use Rattle.std.proofs.Common.{◌≡◌, ◌*◌, ◌<◌, ◌≤◌, ◌^◌, min, ap, ◌∙◌, arith}
-use Rattle.canonical_abi.specs.Layout.{size, align}
+use Rattle.canonical_abi.specs.Layout.{size}
 use Rattle.canonical_abi.proofs.Sizes.{is-alignment, one-size, le-times}
 use Rattle.resolve.specs.Closed.{closed_type}
 use Rattle.lift_lower.specs.Scripts.{RequestEnds, HasEnded, AsksBlock}

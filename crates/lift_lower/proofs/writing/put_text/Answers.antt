@@ -1,7 +1,4 @@
-use Rattle.std.proofs.Common.{◌≡◌, List, ◌∷◌, ◌++◌, refl, sym, ap, ◌∙◌}
 use Rattle.std.proofs.lemmas.Result.{err_from_is_err_and}
-use Rattle.canonical_abi.specs.Trace.{Event, grant, write}
-use Rattle.lift_lower.specs.Scripts.{AsksBlock, PutsText}
 use Rattle.lift_lower.proofs.Scripting.{asked, text-refused, text-put}
 use Rattle.lift_lower.proofs.writing.put_text.Goals as goal
 
