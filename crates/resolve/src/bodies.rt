@@ -108,6 +108,8 @@ pub fn lower_definition(
             Ok(TypeDefKind::Variant(cases))
         }
         wit_syntax::TypeDefKind::Enum(names) => Ok(TypeDefKind::Enum(copy_labels(alloc, names)?)),
-        wit_syntax::TypeDefKind::Flags(labels) => Ok(TypeDefKind::Flags(copy_labels(alloc, labels)?)),
+        wit_syntax::TypeDefKind::Flags(labels) => Ok(TypeDefKind::Flags(copy_labels(
+            alloc, labels,
+        )?)),
     }
 }

@@ -17,17 +17,35 @@ static NAMES: [(&str, &str); 30] = [
         "error 42 cycle",
     ),
     ("package a:b;", "error 43 empty package"),
-    ("package a:b; world w { }", "error 33 unsupported later-stage at 13..18"),
+    (
+        "package a:b; world w { }",
+        "error 33 unsupported later-stage at 13..18",
+    ),
     (
         "package a:b; interface c { type t = q; type t = u8; } world w { }",
         "error 33 unsupported later-stage at 54..59",
     ),
-    ("package a:b; interface c { type t = q; type t = u8; }", "error 40 duplicate t"),
-    ("package a:b; interface c { type t = list<t>; }", "error 42 cycle"),
+    (
+        "package a:b; interface c { type t = q; type t = u8; }",
+        "error 40 duplicate t",
+    ),
+    (
+        "package a:b; interface c { type t = list<t>; }",
+        "error 42 cycle",
+    ),
     ("package a:b; interface c { type t = t; }", "error 42 cycle"),
-    ("package a:b; interface c { record r { a-b: u8, A-b: u8 } }", "error 40 duplicate A-b"),
-    ("package a:b; interface c { f: func(x: u8); F: func(); }", "error 40 duplicate F"),
-    ("package a:b; interface c { } interface C { }", "error 40 duplicate C"),
+    (
+        "package a:b; interface c { record r { a-b: u8, A-b: u8 } }",
+        "error 40 duplicate A-b",
+    ),
+    (
+        "package a:b; interface c { f: func(x: u8); F: func(); }",
+        "error 40 duplicate F",
+    ),
+    (
+        "package a:b; interface c { } interface C { }",
+        "error 40 duplicate C",
+    ),
     (
         "package a:b; interface c { record r { a: u8, a: u8 } } interface c { }",
         "error 40 duplicate a",
@@ -40,20 +58,62 @@ static NAMES: [(&str, &str); 30] = [
         "package a:b; interface c { use d.{t as u}; type u = u8; } interface d { type t = u8; }",
         "error 40 duplicate u",
     ),
-    ("package a:b; interface c { use c.{t}; type t = u8; }", "error 40 duplicate t"),
-    ("package a:b; interface c { variant v { x, x(u8) } }", "error 40 duplicate x"),
-    ("package a:b; interface c { enum e { x, y, X } }", "error 40 duplicate X"),
-    ("package a:b; interface c { flags g { x, %x } }", "error 40 duplicate x"),
-    ("package a:b; interface c { f: func(x: u8, X: u8); }", "error 40 duplicate X"),
-    ("package a:b; interface c { use d.{t}; }", "error 41 unknown d"),
-    ("package a:b; interface c { use d.{t}; } interface d { }", "error 41 unknown t"),
-    ("package a:b; interface c { use d.{f}; } interface d { f: func(); }", "error 41 unknown f"),
-    ("package a:b; interface c { type t = T; type u = u8; }", "error 41 unknown T"),
-    ("package a:b; interface c { g: func(x: f); f: func(); }", "error 41 unknown f"),
-    ("package a:b; interface c { f: func(x: q); use d.{t}; }", "error 41 unknown q"),
-    ("package a:b; interface c { use c.{t as u}; type t = u8; }", "error 42 cycle"),
-    ("package a:b; interface c { type t = u; type u = option<t>; }", "error 42 cycle"),
-    ("package a:b; interface c { f: func(x: t); type t = u; type u = u8; }", "ok"),
+    (
+        "package a:b; interface c { use c.{t}; type t = u8; }",
+        "error 40 duplicate t",
+    ),
+    (
+        "package a:b; interface c { variant v { x, x(u8) } }",
+        "error 40 duplicate x",
+    ),
+    (
+        "package a:b; interface c { enum e { x, y, X } }",
+        "error 40 duplicate X",
+    ),
+    (
+        "package a:b; interface c { flags g { x, %x } }",
+        "error 40 duplicate x",
+    ),
+    (
+        "package a:b; interface c { f: func(x: u8, X: u8); }",
+        "error 40 duplicate X",
+    ),
+    (
+        "package a:b; interface c { use d.{t}; }",
+        "error 41 unknown d",
+    ),
+    (
+        "package a:b; interface c { use d.{t}; } interface d { }",
+        "error 41 unknown t",
+    ),
+    (
+        "package a:b; interface c { use d.{f}; } interface d { f: func(); }",
+        "error 41 unknown f",
+    ),
+    (
+        "package a:b; interface c { type t = T; type u = u8; }",
+        "error 41 unknown T",
+    ),
+    (
+        "package a:b; interface c { g: func(x: f); f: func(); }",
+        "error 41 unknown f",
+    ),
+    (
+        "package a:b; interface c { f: func(x: q); use d.{t}; }",
+        "error 41 unknown q",
+    ),
+    (
+        "package a:b; interface c { use c.{t as u}; type t = u8; }",
+        "error 42 cycle",
+    ),
+    (
+        "package a:b; interface c { type t = u; type u = option<t>; }",
+        "error 42 cycle",
+    ),
+    (
+        "package a:b; interface c { f: func(x: t); type t = u; type u = u8; }",
+        "ok",
+    ),
     (
         "package a:b; interface c { type t = result<list<u8>, option<string>>; f: func() -> result; }",
         "ok",
@@ -72,7 +132,8 @@ fn names(rt: HostRuntime) -> Result<(), Fail> {
 #[test]
 fn interfaces_stand_after_those_that_they_use(rt: HostRuntime) -> Result<(), Fail> {
     let alloc = rt.alloc();
-    let text = "package a:b; interface x { use y.{t as u}; f: func(p: u) -> u; } interface y { type t = u16; } interface z { use x.{u}; g: func(q: u) -> u; }";
+    let text =
+        "package a:b; interface x { use y.{t as u}; f: func(p: u) -> u; } interface y { type t = u16; } interface z { use x.{u}; g: func(q: u) -> u; }";
     let package = open(alloc, text.as_bytes())?;
     let mut order = String::new(alloc);
     for interface in package.resolve().interfaces.as_slice() {
@@ -84,7 +145,12 @@ fn interfaces_stand_after_those_that_they_use(rt: HostRuntime) -> Result<(), Fai
 }
 
 /// The first kind in which a function of the package is lifted.
-fn first_kind(rt: &impl Abort, package: &Package, iface: &str, name: &str) -> Result<CoreKind, Fail> {
+fn first_kind(
+    rt: &impl Abort,
+    package: &Package,
+    iface: &str,
+    name: &str,
+) -> Result<CoreKind, Fail> {
     let Some(func) = package.resolve().function(iface, name) else {
         return Err(Fail::from("no function"));
     };
@@ -96,7 +162,8 @@ fn first_kind(rt: &impl Abort, package: &Package, iface: &str, name: &str) -> Re
 #[test]
 fn a_use_names_the_type_of_its_interface(rt: HostRuntime) -> Result<(), Fail> {
     let alloc = rt.alloc();
-    let text = "package a:b; interface x { type t = u8; } interface y { type t = u64; } interface z { use y.{t as k}; f: func(p: k); }";
+    let text =
+        "package a:b; interface x { type t = u8; } interface y { type t = u64; } interface z { use y.{t as k}; f: func(p: k); }";
     let package = open(alloc, text.as_bytes())?;
     assert_eq!(&rt; first_kind(&rt, &package, "a:b/z", "f")?, CoreKind::I64);
     Ok(())

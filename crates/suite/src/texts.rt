@@ -199,18 +199,9 @@ fn marks(rt: HostRuntime) -> Result<(), Fail> {
 
 // Versions.
 static VERSIONS: [(&str, &str); 16] = [
-    (
-        "package a:b@1.0.0;",
-        "error 43 empty package",
-    ),
-    (
-        "package a:b@1.0.0-rc.1+b.2;",
-        "error 43 empty package",
-    ),
-    (
-        "package a:b @1.0.0...;",
-        "error 32 expected ; at 18..19",
-    ),
+    ("package a:b@1.0.0;", "error 43 empty package"),
+    ("package a:b@1.0.0-rc.1+b.2;", "error 43 empty package"),
+    ("package a:b @1.0.0...;", "error 32 expected ; at 18..19"),
     ("package a:b@1.0;", "error 32 expected version at 11..15"),
     ("package a:b@1.0.0-;", "error 32 expected version at 11..18"),
     (
@@ -287,10 +278,7 @@ static FILES: [(&str, &str); 20] = [
         "package a:b; world w { }",
         "error 33 unsupported later-stage at 13..18",
     ),
-    (
-        "package a:b; interface c { } interface d { }",
-        "ok",
-    ),
+    ("package a:b; interface c { } interface d { }", "ok"),
     (
         "package a:b; interface c { } world d { }",
         "error 33 unsupported later-stage at 29..34",
@@ -527,50 +515,20 @@ fn items(rt: HostRuntime) -> Result<(), Fail> {
 
 // Types, and which of several faults is told.
 static TYPES: [(&str, &str); 21] = [
-    (
-        "package a:b; interface c { g: func(x: string); }",
-        "ok",
-    ),
-    (
-        "package a:b; interface c { g: func() -> string; }",
-        "ok",
-    ),
-    (
-        "package a:b; interface c { g: func(x: list<u8>); }",
-        "ok",
-    ),
-    (
-        "package a:b; interface c { g: func() -> list<u8>; }",
-        "ok",
-    ),
-    (
-        "package a:b; interface c { g: func(x: option<u8>); }",
-        "ok",
-    ),
+    ("package a:b; interface c { g: func(x: string); }", "ok"),
+    ("package a:b; interface c { g: func() -> string; }", "ok"),
+    ("package a:b; interface c { g: func(x: list<u8>); }", "ok"),
+    ("package a:b; interface c { g: func() -> list<u8>; }", "ok"),
+    ("package a:b; interface c { g: func(x: option<u8>); }", "ok"),
     (
         "package a:b; interface c { g: func() -> option<u8>; }",
         "ok",
     ),
-    (
-        "package a:b; interface c { g: func(x: tuple<u8>); }",
-        "ok",
-    ),
-    (
-        "package a:b; interface c { g: func() -> tuple<u8>; }",
-        "ok",
-    ),
-    (
-        "package a:b; interface c { g: func(x: result); }",
-        "ok",
-    ),
-    (
-        "package a:b; interface c { g: func() -> result; }",
-        "ok",
-    ),
-    (
-        "package a:b; interface c { g: func(x: result<u8>); }",
-        "ok",
-    ),
+    ("package a:b; interface c { g: func(x: tuple<u8>); }", "ok"),
+    ("package a:b; interface c { g: func() -> tuple<u8>; }", "ok"),
+    ("package a:b; interface c { g: func(x: result); }", "ok"),
+    ("package a:b; interface c { g: func() -> result; }", "ok"),
+    ("package a:b; interface c { g: func(x: result<u8>); }", "ok"),
     (
         "package a:b; interface c { g: func() -> result<u8>; }",
         "ok",

@@ -8,16 +8,18 @@ use Rattle.wit_tokens.specs.declared.error.TextError.{TextError}
 use Rattle.wit_tokens.specs.declared.error.TextError.TheVariants.{Unsupported}
 use Rattle.wit_syntax.specs.Syntax.{File, FileEntry, AnInterface, AWorld}
 use Rattle.wit_text.specs.Reading.{IsRead, Faulty}
-use Rattle.resolve.specs.Resolves.{IsPackageOf, Refuses}
+use Rattle.resolve.specs.Resolves.{HasNoFaults, IsPackageOf, Refuses}
 use Rattle.resolve.specs.declared.tables.Resolve.{Resolve}
 use Rattle.layout.specs.Layout.{AreWithin, RefusesFirst}
 use Rattle.witcall.specs.declared.package.OpenError.{OpenError}
 use Rattle.witcall.specs.declared.package.OpenError.TheVariants as error
 
--- the bytes are a text that is read, and these are its tables, within the limits of layout
+-- The bytes are a text that is read, whose names differ in each scope and each stand for something; these are its tables, within the
+-- limits of layout.
 pub record IsOpened (bytes : List ℕ) (r : Resolve) : Type 0 where
   pub file : File
   pub read : IsRead bytes file
+  pub named : HasNoFaults file
   pub tables : IsPackageOf file r
   pub within : AreWithin r
 

@@ -20,6 +20,7 @@ pub returns-clause-ok : goal.returns-clause-ok
 returns-clause-ok c = record {
   file = file_view c.in_ok-ast.ast;
   read = subst (λ t. IsRead t (file_view c.in_ok-ast.ast)) c.in_ok-text.ensures.ok c.in_ok-ast.ensures.found;
+  named = c.in_ok-resolve.ensures.faults;
   tables = c.in_ok-resolve.ensures.ok;
   within = c.in_ok-layouts.ensures.within;
 }
