@@ -1,10 +1,9 @@
 //! Names, uses and the order of packages.
 
 use crate::texts::assert_rows;
-use canonical_abi::CoreKind;
 use std::process::Abort;
 use std::test::Fail;
-use witcall::{Package, open};
+use witcall::open;
 
 // What opening answers, and which of several faults is told.
 static NAMES: [(&str, &str); 30] = [
@@ -141,30 +140,5 @@ fn interfaces_stand_after_those_that_they_use(rt: HostRuntime) -> Result<(), Fai
     }
     assert_eq!(&rt; order.as_str(), "yxz");
     assert_eq!(&rt; package.resolve().definitions.as_slice().len(), 5);
-    Ok(())
-}
-
-/// The first kind in which a function of the package is lifted.
-fn first_kind(
-    rt: &impl Abort,
-    package: &Package,
-    iface: &str,
-    name: &str,
-) -> Result<CoreKind, Fail> {
-    let Some(func) = package.resolve().function(iface, name) else {
-        return Err(Fail::from("no function"));
-    };
-    let lifted = package.layouts().lifted(func);
-    assert_eq!(rt; lifted.params.len(), 1);
-    Ok(lifted.params.as_slice()[0])
-}
-
-#[test]
-fn a_use_names_the_type_of_its_interface(rt: HostRuntime) -> Result<(), Fail> {
-    let alloc = rt.alloc();
-    let text =
-        "package a:b; interface x { type t = u8; } interface y { type t = u64; } interface z { use y.{t as k}; f: func(p: k); }";
-    let package = open(alloc, text.as_bytes())?;
-    assert_eq!(&rt; first_kind(&rt, &package, "a:b/z", "f")?, CoreKind::I64);
     Ok(())
 }
