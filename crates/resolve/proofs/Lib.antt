@@ -1,5 +1,6 @@
 pub mod MetNames
 pub mod OrderSteps
+pub mod Settling
 pub mod Lists
 pub mod Reading
 pub mod Lowering

@@ -1,5 +1,6 @@
 pub mod Scope
 pub mod Order
+pub mod Waiting
 pub mod Declarations
 pub mod Resolved
 pub mod Postfix

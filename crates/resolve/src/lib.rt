@@ -19,6 +19,7 @@ mod lower;
 mod named;
 mod nested;
 mod order;
+mod queue;
 mod scope;
 mod tree;
 mod unknown;

@@ -3,6 +3,7 @@ ghost use Rattle.std.specs.Prelude.{◌≡◌, ◌<◌, ℕ, Bool, true, false, 
 ghost use Rattle.std.specs.List.{list_all};
 ghost use Rattle.resolve.specs.Order.{is_ready, IsNext, IsPlacement, IsCycle};
 
+use crate::queue::Queue;
 use std::alloc::{AllocError, AllocFailed, Global};
 use tables::Sequence;
 
@@ -36,47 +37,20 @@ impl<T: Drop> From<AllocFailed<T>> for OrderError {
     }
 }
 
-/// Whether all that are used are placed.
-fn all_placed(used: &[usize], placed: &[bool]) -> bool
-    ensures { result ≡ list_all (λ u. slice_index_or placed.now u false) used.now }
-{
-    for node in used {
-        if !placed.get(*node).copied().unwrap_or(false) {
-            return false;
-        }
-    }
-    true
-}
-
-/// The first node that isn't placed and whose uses all are.
-fn first_ready(uses: &[Sequence<usize>], placed: &[bool]) -> Option<usize>
-    requires { length placed.now ≡ length uses.now }
-    ensures found { IfSome result (IsNext uses.now (λ i. slice_index_or placed.now i false)) }
-    ensures stuck { IfNone result ((i : ℕ) → i < length uses.now
-        → is_ready uses.now (λ i. slice_index_or placed.now i false) i ≡ false) }
-{
-    for (i, used) in uses.iter().enumerate() {
-        if !placed[i] && all_placed(used.as_slice(), placed) {
-            return Some(i);
-        }
-    }
-    None
-}
-
 /// The order in which the nodes are placed: again and again the first that isn't placed yet and whose uses all are.
 pub fn placement(alloc: Global, uses: &[Sequence<usize>]) -> Result<Sequence<usize>, OrderError>
     requires { All (λ used. All (λ u. u < length uses.now) used) uses.now }
     ensures ok { IfOk result (IsPlacement uses.now) }
     ensures cycle { result ≡ Err OrderError.Cycle → (group : ℕ → Bool) × IsCycle uses.now group }
 {
-    let mut placed = vec![in alloc; false; uses.len()]?;
+    let mut queue = Queue::new(alloc, uses)?;
     let mut order = Vec::new(alloc);
     let mut left = uses.len();
     while left > 0 {
-        let Some(node) = first_ready(uses, placed.as_slice()) else {
+        let Some((node, waiting)) = queue.place_next(alloc) else {
             return Err(OrderError::Cycle);
         };
-        placed[node] = true;
+        queue.settle_all(waiting.as_slice())?;
         order.push(node)?;
         left -= 1;
     }
