@@ -1,42 +1,20 @@
 -- Names that are looked for in a list.
-use Rattle.std.proofs.Common.{◌≡◌, ◌≢◌, ℕ, zero, suc, ◌<◌, ◌≤◌, Bool, true, false, cond, List, [], ◌∷◌, Option, None, Some, IfNone, IfSome, map, flat_map, length, get_or, refl, ap, sym, ◌∙◌, subst, arith, Contains, All, Bor, inl, inr}
+use Rattle.std.proofs.Common.{◌≡◌, ℕ, suc, ◌<◌, Bool, true, false, cond, List, [], ◌∷◌, Option, None, Some, IfNone, IfSome, map, flat_map, length, get_or, refl, ap, sym, ◌∙◌, subst, arith, Contains, All, Bor, inl, inr}
 use Rattle.std.specs.Option.{option_map}
 use Rattle.std.specs.Str.{bytes_eq}
 use Rattle.std.proofs.lemmas.Slice.Eq.{bytes_eq-Decides}
 use Rattle.wit_syntax.specs.Syntax.{Entry, Uses, Defines, Declares}
-use Rattle.resolve.specs.Declarations.{TypeItem, FunctionItem, InterfaceTree, interface_names, interface_tree, interface_at, no_interface, entry_uses, entry_types, entry_functions, used_item, type_names, named_definition, named_function}
+use Rattle.resolve.specs.Declarations.{TypeItem, FunctionItem, InterfaceTree, interface_names, interface_name, interface_tree, interface_at, no_interface, entry_uses, entry_types, entry_functions, used_item, type_names, named_definition, named_function}
 use Rattle.resolve.specs.Knowing.{KnowsEntry, LacksEntry, LacksAny}
-use Rattle.resolve.specs.Lent.{lent, lent_name}
+use Rattle.resolve.specs.Lent.{lent}
 use Rattle.wit_syntax.specs.declared.ast.Interface.{Interface}
-use Rattle.std.proofs.lemmas.List.{get_or-map}
+use Rattle.std.proofs.lemmas.List.{get_or-map, length-map}
+use Rattle.resolve.proofs.Using.{place-below}
 use Rattle.resolve.specs.Sources.{declared_tree, interface_syntax}
 use Rattle.resolve.specs.Resolves.{place_of, IsKnownUse, IsUnknownName, IsUnknownIn, HasKnownNames}
 use Rattle.resolve.specs.declared.declared.Declarations.{Declarations}
-use Rattle.resolve.proofs.Lists.{contains-here, contains-later, contains-unmap, contains-flat, all-none, all-cons, all-head, all-tail, all-append}
+use Rattle.resolve.proofs.Lists.{contains-here, contains-later, contains-flat, all-none, all-cons, all-head, all-tail, all-append}
 use Rattle.resolve.proofs.Placing.{place-found}
-
-some-other : (m : List ℕ) (ms : List (List ℕ)) (n : List ℕ) (b : Bool) → bytes_eq m n ≡ b → m ≢ n → cond b (Some 0) (option_map suc (place_of ms n)) ≡ option_map suc (place_of ms n)
-some-other m ms n true e h = absurd (h ((bytes_eq-Decides m n).0 e))
-some-other m ms n false e h = refl
-
-some-here : (m : List ℕ) (ms : List (List ℕ)) (n : List ℕ) (b : Bool) → bytes_eq m n ≡ b → m ≡ n → cond b (Some 0) (option_map suc (place_of ms n)) ≡ Some 0
-some-here m ms n true e h = refl
-some-here m ms n false e h = absurd (cc (e, (bytes_eq-Decides m n).1 h))
-
-pub place-first : (ns : List (Bor (List ℕ))) (n : List ℕ) (k : ℕ) (x : Bor (List ℕ)) → ((j : ℕ) (d : Bor (List ℕ)) → j < k → (get_or ns j d).now ≢ n) → k < length ns
-    → x ≡ get_or ns k x → x.now ≡ n → place_of (lent ns) n ≡ Some k
-place-first [] n k x h l is e = absurd (omega arith)
-place-first (m ∷ ns) n zero x h l is e = some-here m.now (lent ns) n (bytes_eq m.now n) refl (ap lent_name (sym is) ∙ e)
-place-first (m ∷ ns) n (suc k) x h l is e =
-    some-other m.now (lent ns) n (bytes_eq m.now n) refl (h 0 m (omega arith))
-    ∙ ap (λ (o : Option ℕ). option_map suc o) (place-first ns n k x (λ j d q. h (suc j) d (omega arith)) (omega arith) is e)
-
-pub place-none : (ns : List (Bor (List ℕ))) (n : List ℕ) (k : ℕ) → length ns ≤ k → ((j : ℕ) (d : Bor (List ℕ)) → j < k → (get_or ns j d).now ≢ n) → place_of (lent ns) n ≡ None
-place-none [] n k l h = refl
-place-none (m ∷ ns) n zero l h = absurd (omega arith)
-place-none (m ∷ ns) n (suc k) l h =
-    some-other m.now (lent ns) n (bytes_eq m.now n) refl (h 0 m (omega arith))
-    ∙ ap (λ (o : Option ℕ). option_map suc o) (place-none ns n k (omega arith) (λ j d q. h (suc j) d (omega arith)))
 
 pub place-lacks : (ns : List (List ℕ)) (n : List ℕ) → place_of ns n ≡ None → ¬ Contains ns n
 place-lacks ns n e c = let f = place-found ns n c in absurd (cc (e, f.1))
@@ -54,12 +32,33 @@ pub place-has : (ns : List (List ℕ)) (n : List ℕ) (j : ℕ) → place_of ns 
 place-has [] n j e = absurd (cc)
 place-has (m ∷ ms) n j e = has-here m ms n j (bytes_eq m n) refl e (λ i q. place-has ms n i q)
 
-pub no-interface : (all : List Declarations) (n : List ℕ) (k : ℕ) → length all ≤ k → ((j : ℕ) (d : Declarations) → j < k → (get_or all j d).name.now ≢ n)
-    → ¬ Contains (interface_names (map declared_tree all)) n
-no-interface all n k l h c =
-    let t = contains-unmap (λ i. i.name) (map declared_tree all) n c in
-    let d = contains-unmap declared_tree all t.0 t.1 in
-    h d.1.0 d.0 (omega (arith, d.1.1)) (ap (λ (x : Declarations). x.name.now) d.1.2 ∙ ap (λ i. i.name) d.2 ∙ t.2)
+-- the name at the place that is found
+pub place-at : (ns : List (List ℕ)) (n : List ℕ) (j : ℕ) (d : List ℕ) → place_of ns n ≡ Some j → get_or ns j d ≡ n
+place-at [] n j d e = absurd (cc)
+place-at (m ∷ ns) n j d e = by (bytes_eq m n) refl e (λ i q. place-at ns n i d q)
+  where
+    after : (o : Option ℕ) → place_of ns n ≡ o → option_map suc o ≡ Some j → ((i : ℕ) → place_of ns n ≡ Some i → get_or ns i d ≡ n) → get_or (m ∷ ns) j d ≡ n
+    after None q r rest = absurd (cc)
+    after (Some i) q r rest = let s : suc i ≡ j = cc in subst (λ (k : ℕ). get_or (m ∷ ns) k d ≡ n) s (rest i q)
+
+    by : (b : Bool) → bytes_eq m n ≡ b → cond b (Some 0) (option_map suc (place_of ns n)) ≡ Some j → ((i : ℕ) → place_of ns n ≡ Some i → get_or ns i d ≡ n) → get_or (m ∷ ns) j d ≡ n
+    by true q r rest = let z : 0 ≡ j = cc in subst (λ (k : ℕ). get_or (m ∷ ns) k d ≡ n) z ((bytes_eq-Decides m n).0 q)
+    by false q r rest = after (place_of ns n) refl r rest
+
+-- .. where they are the names of interfaces
+pub place-in : (all : List Declarations) (names : List (List ℕ)) (n : List ℕ) (j : ℕ) → names ≡ interface_names (map declared_tree all) → place_of names n ≡ Some j → j < length all
+place-in all names n j same e =
+    omega (arith, place-below names n j e, ap length same, length-map (map declared_tree all) interface_name, length-map all declared_tree)
+
+pub interface-there : (all : List Declarations) (names : List (List ℕ)) (n : List ℕ) (j : ℕ) (d : Declarations) → names ≡ interface_names (map declared_tree all)
+    → place_of names n ≡ Some j → d ≡ get_or all j d → d.name.now ≡ n
+interface-there all names n j d same e is =
+    let l = place-in all names n j same e in
+    let here : j < length (map declared_tree all) = omega (arith, l, length-map all declared_tree) in
+    ap (λ (x : Declarations). x.name.now) is
+    ∙ sym (ap (λ (i : InterfaceTree). i.name) (get_or-map declared_tree all j d no_interface l))
+    ∙ sym (get_or-map interface_name (map declared_tree all) j no_interface [] here)
+    ∙ ap (λ (ns : List (List ℕ)). get_or ns j []) (sym same) ∙ place-at names n j [] e
 
 pub none-of : {A : Type 0} (o : Option A) → ((x : A) → o ≡ Some x → ⊥) → o ≡ None
 none-of None h = refl
@@ -79,17 +78,14 @@ some-map (Some x) P Q f p = f x p
 
 -- ---- the names of an interface's types
 
-module _ (d : Declarations) (known : List (Bor (List ℕ))) (is : known ≡ d.names.items) where
-  pub names-known : lent known ≡ type_names (declared_tree d)
-  names-known = ap lent is ∙ d.named
+module _ (d : Declarations) where
+  pub knows-all : (names : List (Bor (List ℕ))) (ns : List (List ℕ)) → lent names ≡ ns → All (Contains d.names) (lent names) → All (Contains (type_names (declared_tree d))) ns
+  knows-all names ns e h = subst (λ zs. All (Contains zs) ns) d.named (subst (λ zs. All (Contains d.names) zs) e h)
 
-  pub knows-all : (names : List (Bor (List ℕ))) (ns : List (List ℕ)) → lent names ≡ ns → All (Contains (lent known)) (lent names) → All (Contains (type_names (declared_tree d))) ns
-  knows-all names ns e h = subst (λ zs. All (Contains zs) ns) names-known (subst (λ zs. All (Contains (lent known)) zs) e h)
+  pub lacks-one : (n : List ℕ) → (¬ Contains d.names n) → ¬ Contains (type_names (declared_tree d)) n
+  lacks-one n h c = h (subst (λ zs. Contains zs n) (sym d.named) c)
 
-  pub lacks-one : (n : List ℕ) → (¬ Contains (lent known) n) → ¬ Contains (type_names (declared_tree d)) n
-  lacks-one n h c = h (subst (λ zs. Contains zs n) (sym names-known) c)
-
-  pub lacks-name : (names : List (Bor (List ℕ))) (ns : List (List ℕ)) (n : List ℕ) → lent names ≡ ns → Contains (lent names) n × (¬ Contains (lent known) n)
+  pub lacks-name : (names : List (Bor (List ℕ))) (ns : List (List ℕ)) (n : List ℕ) → lent names ≡ ns → Contains (lent names) n × (¬ Contains d.names n)
       → IsUnknownName (declared_tree d) ns n
   lacks-name names ns n e h = (subst (λ zs. Contains zs n) e h.0, lacks-one n h.1)
 

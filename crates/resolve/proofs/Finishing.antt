@@ -1,8 +1,8 @@
 -- The ids of interfaces, and type entries.
-use Rattle.std.proofs.Common.{◌≡◌, ℕ, zero, suc, ◌+◌, ◌<◌, ◌≤◌, Bool, true, false, cond, ◌&&◌, IsTrue, List, [], ◌∷◌, ◌++◌, Option, None, Some, nat_lt, map, sum, take, length, get_or, slice_get, refl, ap, sym, ◌∙◌, arith, append_assoc, append-nil}
+use Rattle.std.proofs.Common.{◌≡◌, ℕ, zero, suc, ◌+◌, ◌<◌, ◌≤◌, Bool, true, false, cond, ◌&&◌, IsTrue, List, [], ◌∷◌, ◌++◌, Option, None, Some, nat_lt, map, sum, take, set, not, length, get_or, slice_get, refl, ap, sym, ◌∙◌, arith, append_assoc, append-nil}
 use Rattle.std.specs.List.{list_all}
 use Rattle.std.proofs.lemmas.List.{length-append, length-take, map-append}
-use Rattle.std.proofs.lemmas.Bool.{lt-ltb}
+use Rattle.std.proofs.lemmas.Bool.{lt-ltb, eq-eqb, ne_eqb}
 use Rattle.std.proofs.lemmas.List.Sums.{sum_by-cons}
 use Rattle.std.proofs.lemmas.Bool.Decides.{nat_tests}
 use Rattle.tables.specs.declared.tables.TypeName.{TypeName}
@@ -10,7 +10,11 @@ use Rattle.tables.specs.declared.tables.ValType.TheVariants as val
 use Rattle.tables.specs.declared.tables.TypeDefKind.{TypeDefKind}
 use Rattle.tables.specs.declared.tables.TypeDefKind.TheVariants as kind
 use Rattle.tables.specs.Tables.{is_type_id, is_function_id, is_placed, are_placed, is_there, type_of, function_of}
-use Rattle.resolve.specs.Resolves.{places_where, is_use_in, is_type_in, is_function_in, type_id, function_id, interface_in, interfaces_from, entries_of, entries_under}
+use Rattle.resolve.specs.Resolves.{places_where, is_in, is_use, is_owned_by, is_use_in, is_type_in, is_function_in, type_id, function_id, interface_in, interfaces_from, entries_of, entries_under}
+use Rattle.resolve.specs.Finished.{named_in, owned_in, interface_of, with_type, with_row}
+use Rattle.tables.specs.declared.tables.TypeDef.{TypeDef}
+use Rattle.tables.specs.declared.tables.Owner.{Owner}
+use Rattle.tables.specs.declared.tables.Owner.TheVariants as owner
 use Rattle.tables.specs.declared.tables.Interface.{Interface}
 use Rattle.tables.specs.declared.tables.Definition.{Definition}
 use Rattle.tables.specs.declared.tables.Definition.TheVariants as row
@@ -51,12 +55,6 @@ module _ (is : Definition → Bool) where
         ∙ map-append id (places_where is 0 (take k rows)) (cond (is d) ((0 + length (take k rows)) ∷ []) [])
         ∙ ap (λ (m : ℕ). map id (places_where is 0 (take k rows)) ++ map id (cond (is d) (m ∷ []) [])) len
 
-    pub ids-with : is d ≡ true → map id (places_where is 0 (take (k + 1) rows)) ≡ map id (places_where is 0 (take k rows)) ++ id k ∷ []
-    ids-with e = ids-more ∙ ap (λ (b : Bool). map id (places_where is 0 (take k rows)) ++ map id (cond b (k ∷ []) [])) e
-
-    pub ids-without : is d ≡ false → map id (places_where is 0 (take (k + 1) rows)) ≡ map id (places_where is 0 (take k rows))
-    ids-without e = ids-more ∙ ap (λ (b : Bool). map id (places_where is 0 (take k rows)) ++ map id (cond b (k ∷ []) [])) e ∙ append-nil (map id (places_where is 0 (take k rows)))
-
 interfaces-end : (rows : List Definition) (i : ℕ) (ns : List (List ℕ)) (n : List ℕ) → interfaces_from rows i (ns ++ n ∷ []) ≡ interfaces_from rows i ns ++ interface_in rows (i + length ns) n ∷ []
 interfaces-end rows i [] n = let e : i ≡ i + 0 = omega arith in ap (λ (j : ℕ). interface_in rows j n ∷ []) e
 interfaces-end rows i (m ∷ ns) n =
@@ -68,6 +66,104 @@ pub interfaces-more : (rows : List Definition) (ns : List (List ℕ)) (k : ℕ) 
 interfaces-more rows ns k n l is =
     let len : 0 + length (take k ns) ≡ k = omega (arith, length-take k ns) in
     ap (interfaces_from rows 0) (take-more ns k n l is) ∙ interfaces-end rows 0 (take k ns) n ∙ ap (λ (j : ℕ). interfaces_from rows 0 (take k ns) ++ interface_in rows j n ∷ []) len
+
+-- ---- a row more
+
+pub some-inj : {A : Type 0} {x y : A} → Some x ≡ Some y → x ≡ y
+some-inj e = cc
+
+-- the interface with the id of this row, where the row stands in it
+abbrev added : ℕ → Definition → ℕ → Interface → Interface
+added k d i x = record {
+  name = x.name;
+  uses = x.uses ++ map type_id (cond (is_use_in i d) (k ∷ []) []);
+  types = x.types ++ map type_id (cond (is_type_in i d) (k ∷ []) []);
+  functions = x.functions ++ map function_id (cond (is_function_in i d) (k ∷ []) []);
+}
+
+type-there : (k : ℕ) (d : TypeDef) (i : ℕ) (x : Interface) → is_in i d.name ≡ true → added k (row.Type d) i x ≡ with_row k (row.Type d) x
+type-there k d i x e = rw e (by d.kind)
+  where
+    by : (t : TypeDefKind) → record {
+      name = x.name;
+      uses = x.uses ++ map type_id (cond (is_use t) (k ∷ []) []);
+      types = x.types ++ map type_id (cond (not (is_use t)) (k ∷ []) []);
+      functions = x.functions ++ [];
+    } ≡ with_type k t x
+    by (kind.Use t) = rw (append-nil x.types, append-nil x.functions) refl
+    by (kind.Alias v) = rw (append-nil x.uses, append-nil x.functions) refl
+    by (kind.List v) = rw (append-nil x.uses, append-nil x.functions) refl
+    by (kind.Option v) = rw (append-nil x.uses, append-nil x.functions) refl
+    by (kind.Result v w) = rw (append-nil x.uses, append-nil x.functions) refl
+    by (kind.Tuple vs) = rw (append-nil x.uses, append-nil x.functions) refl
+    by (kind.Record fs) = rw (append-nil x.uses, append-nil x.functions) refl
+    by (kind.Variant cs) = rw (append-nil x.uses, append-nil x.functions) refl
+    by (kind.Enum ns) = rw (append-nil x.uses, append-nil x.functions) refl
+    by (kind.Flags ns) = rw (append-nil x.uses, append-nil x.functions) refl
+
+nothing-added : (x : Interface) → record { name = x.name; uses = x.uses ++ []; types = x.types ++ []; functions = x.functions ++ [] } ≡ x
+nothing-added x = rw (append-nil x.uses, append-nil x.types, append-nil x.functions) refl
+
+named-there : (n : Option TypeName) (i : ℕ) → named_in n ≡ Some i → is_in i n ≡ true
+named-there None i e = absurd (cc)
+named-there (Some n) i e = eq-eqb n.interface.0 i (some-inj e)
+
+named-elsewhere : (n : Option TypeName) (i : ℕ) → (named_in n ≡ Some i → ⊥) → is_in i n ≡ false
+named-elsewhere None i h = refl
+named-elsewhere (Some n) i h = ne_eqb n.interface.0 i (λ e. h (ap (λ (m : ℕ). Some m) e))
+
+owned-there : (o : Owner) (i : ℕ) → owned_in o ≡ Some i → is_owned_by i o ≡ true
+owned-there (owner.Interface j) i e = eq-eqb j.0 i (some-inj e)
+owned-there (owner.World w) i e = absurd (cc)
+
+owned-elsewhere : (o : Owner) (i : ℕ) → (owned_in o ≡ Some i → ⊥) → is_owned_by i o ≡ false
+owned-elsewhere (owner.Interface j) i h = ne_eqb j.0 i (λ e. h (ap (λ (m : ℕ). Some m) e))
+owned-elsewhere (owner.World w) i h = refl
+
+added-there : (k : ℕ) (d : Definition) (i : ℕ) (x : Interface) → interface_of d ≡ Some i → added k d i x ≡ with_row k d x
+added-there k (row.Type d) i x e = type-there k d i x (named-there d.name i e)
+added-there k (row.Function f) i x e = rw (owned-there f.owner i e, append-nil x.uses, append-nil x.types) refl
+
+added-elsewhere : (k : ℕ) (d : Definition) (i : ℕ) (x : Interface) → (interface_of d ≡ Some i → ⊥) → added k d i x ≡ x
+added-elsewhere k (row.Type d) i x h = rw (named-elsewhere d.name i h) (nothing-added x)
+added-elsewhere k (row.Function f) i x h = rw (owned-elsewhere f.owner i h) (nothing-added x)
+
+module _ (rows : List Definition) (k : ℕ) (d : Definition) (l : k < length rows) (at : d ≡ get_or rows k d) where
+  one-more : (i : ℕ) (n : List ℕ) → interface_in (take (k + 1) rows) i n ≡ added k d i (interface_in (take k rows) i n)
+  one-more i n =
+      rw (ids-more (is_use_in i) type_id rows k d l at, ids-more (is_type_in i) type_id rows k d l at, ids-more (is_function_in i) function_id rows k d l at) refl
+
+  -- the row stands in none of these interfaces
+  pub rows-elsewhere : (i : ℕ) (ns : List (List ℕ)) → ((j : ℕ) → i ≤ j → j < i + length ns → interface_of d ≡ Some j → ⊥)
+      → interfaces_from (take (k + 1) rows) i ns ≡ interfaces_from (take k rows) i ns
+  rows-elsewhere i [] h = refl
+  rows-elsewhere i (n ∷ ns) h =
+      rw (
+        one-more i n ∙ added-elsewhere k d i (interface_in (take k rows) i n) (h i (omega arith) (omega arith)),
+        rows-elsewhere (i + 1) ns (λ j p q. h j (omega (arith, p)) (omega (arith, q))),
+      ) refl
+
+  -- .. or in the one at place m
+  pub rows-there : (i m : ℕ) (ns : List (List ℕ)) (e : Interface) → m < length ns → interface_of d ≡ Some (i + m)
+      → interfaces_from (take (k + 1) rows) i ns ≡ set (interfaces_from (take k rows) i ns) m (with_row k d (get_or (interfaces_from (take k rows) i ns) m e))
+  rows-there i m [] e q h = absurd (omega arith)
+  rows-there i zero (n ∷ ns) e q h =
+      let same : i + 0 ≡ i = omega arith in
+      let here : interface_of d ≡ Some i = h ∙ ap (λ (j : ℕ). Some j) same in
+      rw (
+        one-more i n ∙ added-there k d i (interface_in (take k rows) i n) here,
+        rows-elsewhere (i + 1) ns (λ j p r g. let z : i ≡ j = some-inj (sym here ∙ g) in absurd (omega (arith, p, z))),
+      ) refl
+  rows-there i (suc m) (n ∷ ns) e q h =
+      let same : i + suc m ≡ i + 1 + m = omega arith in
+      rw (
+        one-more i n ∙ added-elsewhere k d i (interface_in (take k rows) i n) (λ g. let z : i + suc m ≡ i = some-inj (sym h ∙ g) in absurd (omega (arith, z))),
+        rows-there (i + 1) m ns e (omega (arith, q)) (h ∙ ap (λ (j : ℕ). Some j) same),
+      ) refl
+
+pub interfaces-length : (rows : List Definition) (i : ℕ) (ns : List (List ℕ)) → length (interfaces_from rows i ns) ≡ length ns
+interfaces-length rows i [] = refl
+interfaces-length rows i (n ∷ ns) = ap suc (interfaces-length rows (i + 1) ns)
 
 -- ---- ids are of their kind
 

@@ -1,3 +1,5 @@
+pub mod Places
+pub mod Typing
 pub mod MetNames
 pub mod OrderSteps
 pub mod Settling

@@ -36,7 +36,7 @@ below-here : (b : Bool) (o : Option ℕ) (n j : ℕ) → ((i : ℕ) → o ≡ So
 below-here true o n j h e = let z : 0 ≡ j = cc in omega (arith, z)
 below-here false o n j h e = below-later o n j h e
 
-place-below : (ns : List (List ℕ)) (n : List ℕ) (j : ℕ) → place_of ns n ≡ Some j → j < length ns
+pub place-below : (ns : List (List ℕ)) (n : List ℕ) (j : ℕ) → place_of ns n ≡ Some j → j < length ns
 place-below [] n j e = absurd (cc)
 place-below (m ∷ ms) n j e = below-here (bytes_eq m n) (place_of ms n) (length ms) j (λ i q. place-below ms n i q) e
 

@@ -1,8 +1,10 @@
 -- Names that stand for something, item by item.
-use Rattle.std.specs.Prelude.{ℕ, List, map, All, Contains}
+use Rattle.std.specs.Prelude.{◌≡◌, ℕ, List, map, All, Contains}
+use Rattle.std.specs.Map.{lookup}
+use Rattle.std.specs.Str.{bytes_eq}
 use Rattle.wit_syntax.specs.Syntax.{Entry, Uses, Defines, Declares}
 use Rattle.resolve.specs.Declarations.{UsedItem, InterfaceTree, used_item, type_names, named_definition, named_function}
-use Rattle.resolve.specs.Resolves.{IsKnownUse, IsUnknownUse, IsUnknownName, IsUnknownIn}
+use Rattle.resolve.specs.Resolves.{place_of, IsKnownUse, IsUnknownUse, IsUnknownName, IsUnknownIn}
 use Rattle.tables.specs.declared.error.ResolveError.{ResolveError}
 use Rattle.tables.specs.declared.error.ResolveError.TheVariants as error
 
@@ -26,3 +28,7 @@ abbrev pub RefusesUnknown : List InterfaceTree → ResolveError → Type 0
 RefusesUnknown is (error.Unknown n) = (i : InterfaceTree) × Contains is i × IsUnknownIn is i n
 RefusesUnknown is error.NoMemory = Unit {0}
 RefusesUnknown is _ = ⊥
+
+-- the entries give each name its first place
+abbrev pub TellsPlaces : {V : Type 0} → (V → List ℕ) → List (V × ℕ) → List (List ℕ) → Type 0
+TellsPlaces items entries names = (n : List ℕ) → lookup (λ v. bytes_eq n (items v)) entries ≡ place_of names n

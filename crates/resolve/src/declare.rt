@@ -1,11 +1,12 @@
 //! The declarations of an interface of a syntax tree.
 ghost use Rattle.std.specs.Prelude.{◌≡◌, ◌++◌, map, OnOk, IfOk};
 ghost use Rattle.wit_syntax.specs.View.{entry_view, path_view, used_view};
-ghost use Rattle.resolve.specs.Declarations.{interface_tree, used_item, local_name, use_local, type_name};
+ghost use Rattle.resolve.specs.Declarations.{interface_tree, interface_name, interface_names, used_item, local_name, use_local, type_name};
 ghost use Rattle.resolve.specs.Lent.{declared_type, used_item_of, lent};
 ghost use Rattle.resolve.specs.Sources.{declared_tree};
 
 use crate::declared::{Declarations, UsedType};
+use crate::names::Names;
 use atoms::Label;
 use std::alloc::{AllocError, Global};
 use wit_syntax::{Interface, InterfaceItem, TypeDef, Use, UsedName};
@@ -53,6 +54,25 @@ pub fn push_types<'a>(names: &mut Vec<&'a Label>, types: &[&'a TypeDef]) -> Resu
     Ok(())
 }
 
+/// Appends the names of interfaces.
+fn push_names<'a>(names: &mut Vec<&'a Label>, all: &[Declarations<'a>]) -> Result<(), AllocError>
+    ensures { OnOk result (lent names.new.items ≡ lent names.old.items ++ map interface_name (map declared_tree all.now)) }
+{
+    for declared in all {
+        names.push(declared.name)?;
+    }
+    Ok(())
+}
+
+/// The names of the interfaces.
+pub fn interface_names<'a>(alloc: Global, all: &[Declarations<'a>]) -> Result<Names<'a>, AllocError>
+    ensures { IfOk result (λ ns. ns ≡ interface_names (map declared_tree all.now)) }
+{
+    let mut names = Vec::new(alloc);
+    push_names(&mut names, all)?;
+    Names::of(alloc, names)
+}
+
 impl<'a> Declarations<'a> {
     /// What an interface declares.
     pub fn of(alloc: Global, interface: &'a Interface) -> Result<Declarations<'a>, AllocError>
@@ -76,7 +96,7 @@ impl<'a> Declarations<'a> {
             uses,
             types,
             functions,
-            names,
+            names: Names::of(alloc, names)?,
         })
     }
 }

@@ -1,8 +1,9 @@
 //! What an interface of a syntax tree declares, by kind.
 ghost use Rattle.std.specs.Prelude.{◌≡◌, ◌++◌, map};
 ghost use Rattle.resolve.specs.Declarations.{use_local, type_name};
-ghost use Rattle.resolve.specs.Lent.{declared_type, used_item_of, lent};
+ghost use Rattle.resolve.specs.Lent.{declared_type, used_item_of};
 
+use crate::names::Names;
 use atoms::Label;
 use wit_syntax::{Func, TypeDef};
 
@@ -22,6 +23,6 @@ pub struct Declarations<'a> {
     pub types: Vec<&'a TypeDef>,
     pub functions: Vec<&'a Func>,
     /// The names of the used names, then of the types.
-    pub names: Vec<&'a Label>,
-    ghost named: { lent names.items ≡ map use_local (map used_item_of uses.items) ++ map type_name (map declared_type types.items) },
+    pub names: Names<'a>,
+    ghost named: { names ≡ map use_local (map used_item_of uses.items) ++ map type_name (map declared_type types.items) },
 }

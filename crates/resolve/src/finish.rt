@@ -1,8 +1,8 @@
 //! A package of a table of definitions: the ids of its interfaces, and its limits.
-ghost use Rattle.std.specs.Prelude.{◌≡◌, ◌≤◌, ◌+◌, ◌⊎◌, [], length, map, sum, nat_lt, IsTrue, IfOk, IfErr};
-ghost use Rattle.tables.specs.Tables.{are_earlier};
-ghost use Rattle.resolve.specs.Resolves.{PassesLimit, entries_of, places_where, is_in, is_use, is_use_in, is_type_in, is_function_in, type_id, function_id, interface_in, interfaces_from};
-ghost use Rattle.resolve.specs.Finished.{IsFinished};
+ghost use Rattle.std.specs.Prelude.{◌≡◌, ◌≤◌, ◌+◌, ◌⊎◌, [], length, map, sum, nat_lt, IsTrue, IfOk, IfErr, OnOk};
+ghost use Rattle.tables.specs.Tables.{are_earlier, name_types};
+ghost use Rattle.resolve.specs.Resolves.{PassesLimit, entries_of, interfaces_from};
+ghost use Rattle.resolve.specs.Finished.{IsFinished, interface_of, with_row};
 
 use crate::builder::Builder;
 use atoms::Label;
@@ -16,121 +16,51 @@ use wit_syntax::PackageId;
 /// The most type entries of a package.
 const MAX_ENTRIES: usize = 65_535;
 
-fn is_in(interface: usize, name: &Option<TypeName>) -> bool
-    ensures { result ≡ is_in interface name.now }
-{
-    match name {
-        Some(name) => name.interface.0 as usize == interface,
-        None => false,
-    }
-}
-
-fn is_use(kind: &TypeDefKind) -> bool
-    ensures { result ≡ is_use kind.now }
-{
-    matches!(kind, TypeDefKind::Use(_))
-}
-
-fn is_use_in(interface: usize, row: &Definition) -> bool
-    ensures { result ≡ is_use_in interface row.now }
+/// The interface that a row has a name in.
+fn interface_of(row: &Definition) -> Option<usize>
+    ensures { result ≡ interface_of row.now }
 {
     match row {
-        Definition::Type(definition) => {
-            is_in(interface, &definition.name) && is_use(&definition.kind)
-        }
-        Definition::Function(_) => false,
-    }
-}
-
-fn is_type_in(interface: usize, row: &Definition) -> bool
-    ensures { result ≡ is_type_in interface row.now }
-{
-    match row {
-        Definition::Type(definition) => {
-            is_in(interface, &definition.name) && !is_use(&definition.kind)
-        }
-        Definition::Function(_) => false,
-    }
-}
-
-fn is_function_in(interface: usize, row: &Definition) -> bool
-    ensures { result ≡ is_function_in interface row.now }
-{
-    match row {
-        Definition::Type(_) => false,
+        Definition::Type(definition) => match &definition.name {
+            Some(name) => Some(name.interface.0 as usize),
+            None => None,
+        },
         Definition::Function(function) => match function.owner {
-            Owner::Interface(owner) => owner.0 as usize == interface,
-            Owner::World(_) => false,
+            Owner::Interface(owner) => Some(owner.0 as usize),
+            Owner::World(_) => None,
         },
     }
 }
 
-fn use_ids(
-    alloc: Global,
-    rows: &[Definition],
-    interface: usize,
-) -> Result<Sequence<TypeId>, AllocError>
-    requires { length rows.now ≤ 65535 }
-    ensures { IfOk result (λ ids. ids ≡ map type_id (places_where (is_use_in interface) 0 rows.now)) }
+/// Puts the id of the row at this place behind the interface's ids of its kind.
+fn push_id(interface: &mut Interface, place: usize, row: &Definition) -> Result<(), AllocError>
+    requires { place ≤ 65535 }
+    ensures { OnOk result (interface.new ≡ with_row place row.now interface.old) }
 {
-    let mut ids = Vec::new(alloc);
-    for (place, row) in rows.iter().enumerate() {
-        if is_use_in(interface, row) {
-            ids.push(TypeId(place as u32))?;
-        }
+    match row {
+        Definition::Type(definition) => match definition.kind {
+            TypeDefKind::Use(_) => interface.uses.push(TypeId(place as u32))?,
+            _ => interface.types.push(TypeId(place as u32))?,
+        },
+        Definition::Function(_) => interface.functions.push(FunctionId(place as u32))?,
     }
-    Ok(Sequence::new(ids))
+    Ok(())
 }
 
-fn type_ids(
-    alloc: Global,
-    rows: &[Definition],
-    interface: usize,
-) -> Result<Sequence<TypeId>, AllocError>
-    requires { length rows.now ≤ 65535 }
-    ensures { IfOk result (λ ids. ids ≡ map type_id (places_where (is_type_in interface) 0 rows.now)) }
+/// Interfaces of these names, without definitions.
+fn empty_interfaces(alloc: Global, names: &[Label]) -> Result<Vec<Interface>, AllocError>
+    ensures { IfOk result (λ is. is.items ≡ interfaces_from [] 0 names.now) }
 {
-    let mut ids = Vec::new(alloc);
-    for (place, row) in rows.iter().enumerate() {
-        if is_type_in(interface, row) {
-            ids.push(TypeId(place as u32))?;
-        }
+    let mut interfaces = Vec::new(alloc);
+    for name in names {
+        interfaces.push(Interface {
+            name: name.copy(alloc)?,
+            uses: Sequence::new(Vec::new(alloc)),
+            types: Sequence::new(Vec::new(alloc)),
+            functions: Sequence::new(Vec::new(alloc)),
+        })?;
     }
-    Ok(Sequence::new(ids))
-}
-
-fn function_ids(
-    alloc: Global,
-    rows: &[Definition],
-    interface: usize,
-) -> Result<Sequence<FunctionId>, AllocError>
-    requires { length rows.now ≤ 65535 }
-    ensures { IfOk result (λ ids. ids ≡ map function_id (places_where (is_function_in interface) 0 rows.now)) }
-{
-    let mut ids = Vec::new(alloc);
-    for (place, row) in rows.iter().enumerate() {
-        if is_function_in(interface, row) {
-            ids.push(FunctionId(place as u32))?;
-        }
-    }
-    Ok(Sequence::new(ids))
-}
-
-fn interface_in(
-    alloc: Global,
-    rows: &[Definition],
-    place: usize,
-    name: &Label,
-) -> Result<Interface, AllocError>
-    requires { length rows.now ≤ 65535 }
-    ensures { IfOk result (λ i. i ≡ interface_in rows.now place name.now) }
-{
-    Ok(Interface {
-        name: name.copy(alloc)?,
-        uses: use_ids(alloc, rows, place)?,
-        types: type_ids(alloc, rows, place)?,
-        functions: function_ids(alloc, rows, place)?,
-    })
+    Ok(interfaces)
 }
 
 /// The interfaces of these names, with the ids of their definitions.
@@ -142,9 +72,13 @@ fn interfaces_in(
     requires { length rows.now ≤ 65535 }
     ensures { IfOk result (λ is. is ≡ interfaces_from rows.now 0 names.now) }
 {
-    let mut interfaces = Vec::new(alloc);
-    for (place, name) in names.iter().enumerate() {
-        interfaces.push(interface_in(alloc, rows, place, name)?)?;
+    let mut interfaces = empty_interfaces(alloc, names)?;
+    for (place, row) in rows.iter().enumerate() {
+        if let Some(index) = interface_of(row) {
+            if index < interfaces.len() {
+                push_id(&mut interfaces[index], place, row)?;
+            }
+        }
     }
     Ok(Sequence::new(interfaces))
 }
@@ -181,7 +115,8 @@ fn passes_entries(interfaces: usize, rows: &[Definition]) -> bool
 
 /// The package of this table, under this name.
 pub fn finish(alloc: Global, builder: Builder, id: &PackageId) -> Result<Resolve, ResolveError>
-    requires { IsTrue (are_earlier 0 builder.rows) }
+    requires earlier { IsTrue (are_earlier 0 builder.rows) }
+    requires typed { IsTrue (name_types builder.rows) }
     ensures ok { IfOk result (IsFinished id.now builder) }
     ensures err { IfErr result (λ e. (e ≡ ResolveError.NoMemory) ⊎ ((e ≡ ResolveError.Limit) × PassesLimit builder)) }
 {

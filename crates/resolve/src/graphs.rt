@@ -1,27 +1,27 @@
 //! Which interfaces use each other, which types of an interface name each other, and their orders.
 ghost use Rattle.std.specs.Prelude.{◌≡◌, ◌++◌, ◌<◌, ◌⊎◌, ℕ, Bool, [], length, map, All, Contains, IfOk, IfErr, OnOk, slice_index_or};
-ghost use Rattle.resolve.specs.Declarations.{InterfaceTree, interface_at, use_interface, interface_name};
+ghost use Rattle.resolve.specs.Declarations.{InterfaceTree, interface_at, use_interface};
 ghost use Rattle.resolve.specs.Order.{IsPlacement, IsCycle};
 ghost use Rattle.resolve.specs.Resolves.{places, interface_uses, type_uses};
 ghost use Rattle.resolve.specs.Lent.{lent, used_item_of};
 ghost use Rattle.resolve.specs.Sources.{declared_tree};
 
-use crate::declare::push_types;
+use crate::declare::{interface_names, push_types};
 use crate::declared::{Declarations, UsedType};
 use crate::named::definition_names;
+use crate::names::Names;
 use crate::order::{OrderError, placement};
-use crate::unknown::place_of;
 use atoms::Label;
 use std::alloc::{AllocError, Global};
 use tables::{ResolveError, Sequence};
 
 /// The places of these names, without those that don't stand there.
-fn places(alloc: Global, names: &[&Label], wanted: &[&Label]) -> Result<Sequence<usize>, AllocError>
-    ensures { IfOk result (λ ps. ps ≡ places (lent names.now) (lent wanted.now)) }
+fn places(alloc: Global, names: &Names, wanted: &[&Label]) -> Result<Sequence<usize>, AllocError>
+    ensures { IfOk result (λ ps. ps ≡ places names.now (lent wanted.now)) }
 {
     let mut found = Vec::new(alloc);
     for name in wanted {
-        if let Some(place) = place_of(names, name) {
+        if let Some(place) = names.place_of(name) {
             found.push(place)?;
         }
     }
@@ -37,21 +37,11 @@ fn push_interfaces<'a>(names: &mut Vec<&'a Label>, uses: &[UsedType<'a>]) -> Res
     Ok(())
 }
 
-fn push_names<'a>(names: &mut Vec<&'a Label>, all: &[Declarations<'a>]) -> Result<(), AllocError>
-    ensures { OnOk result (lent names.new.items ≡ lent names.old.items ++ map interface_name (map declared_tree all.now)) }
-{
-    for declared in all {
-        names.push(declared.name)?;
-    }
-    Ok(())
-}
-
 /// Which interfaces each interface uses.
 fn interface_graph(alloc: Global, all: &[Declarations]) -> Result<Vec<Sequence<usize>>, AllocError>
     ensures { IfOk result (λ g. g.items ≡ interface_uses (map declared_tree all.now)) }
 {
-    let mut names = Vec::new(alloc);
-    push_names(&mut names, all)?;
+    let names = interface_names(alloc, all)?;
     let mut graph = Vec::new(alloc);
     for declared in all {
         let mut used = Vec::new(alloc);
@@ -67,6 +57,7 @@ fn type_graph(alloc: Global, declared: &Declarations) -> Result<Vec<Sequence<usi
 {
     let mut own = Vec::new(alloc);
     push_types(&mut own, &declared.types)?;
+    let own = Names::of(alloc, own)?;
     let mut graph = Vec::new(alloc);
     for definition in &declared.types {
         let names = definition_names(alloc, &definition.kind)?;

@@ -17,6 +17,7 @@ mod graphs;
 mod known;
 mod lower;
 mod named;
+mod names;
 mod nested;
 mod order;
 mod queue;

@@ -3,4 +3,4 @@ use Rattle.resolve.specs.Resolves.{interfaces_from}
 use Rattle.resolve.proofs.finish.interfaces_in.Given as goal
 
 abbrev pub invariant-loop-place : goal.invariant-loop-place
-invariant-loop-place l = l.interfaces.items ≡ interfaces_from l.rows 0 (take l.place l.names)
+invariant-loop-place l = l.interfaces.items ≡ interfaces_from (take l.place l.rows) 0 l.names

@@ -4,4 +4,4 @@ use Rattle.resolve.specs.Lent.{lent}
 use Rattle.resolve.proofs.graphs.places.Given as goal
 
 abbrev pub invariant-loop-name : goal.invariant-loop-name
-invariant-loop-name l = l.found.items ≡ places (lent l.names) (lent (take l.name-index l.wanted))
+invariant-loop-name l = l.found.items ≡ places l.names (lent (take l.name-index l.wanted))

@@ -3,4 +3,4 @@ use Rattle.resolve.specs.Lent.{lent}
 use Rattle.resolve.proofs.unknown.first_unknown.Given as goal
 
 abbrev pub invariant-loop-name : goal.invariant-loop-name
-invariant-loop-name l = All (Contains (lent l.known)) (lent (take l.name-index l.names))
+invariant-loop-name l = All (Contains l.known) (lent (take l.name-index l.names))

@@ -1,0 +1,81 @@
+-- The places of names, as a map tells them.
+use Rattle.std.proofs.Common.{◌≡◌, ℕ, suc, Bool, true, false, cond, List, [], ◌∷◌, ◌++◌, length, Option, Some, None, is_some, refl, ap, sym, ◌∙◌, true≢false}
+use Rattle.std.specs.Map.{lookup}
+use Rattle.std.specs.Option.{option_map}
+use Rattle.std.specs.Str.{bytes_eq}
+use Rattle.std.proofs.lemmas.Slice.Eq.{bytes_eq-Decides}
+use Rattle.resolve.specs.Resolves.{place_of}
+use Rattle.resolve.specs.Knowing.{TellsPlaces}
+
+abbrev first_of : {A : Type 0} → Option A → Option A → Option A
+first_of None o = o
+first_of (Some x) o = Some x
+
+first-none : {A : Type 0} (o : Option A) → first_of o None ≡ o
+first-none None = refl
+first-none (Some x) = refl
+
+lookup-end : {K : Type 0} (test : K → Bool) (es : List (K × ℕ)) (k : K) (p : ℕ) → lookup test (es ++ (k, p) ∷ []) ≡ first_of (lookup test es) (cond (test k) (Some p) None)
+lookup-end test [] k p = refl
+lookup-end test (e ∷ es) k p = by (test e.0) (lookup-end test es k p)
+  where
+    by : (b : Bool) → lookup test (es ++ (k, p) ∷ []) ≡ first_of (lookup test es) (cond (test k) (Some p) None)
+        → cond b (Some e.1) (lookup test (es ++ (k, p) ∷ [])) ≡ first_of (cond b (Some e.1) (lookup test es)) (cond (test k) (Some p) None)
+    by true h = refl
+    by false h = h
+
+later : (o : Option ℕ) (b : Bool) (k : ℕ) → option_map suc (first_of o (cond b (Some k) None)) ≡ first_of (option_map suc o) (cond b (Some (suc k)) None)
+later None true k = refl
+later None false k = refl
+later (Some j) b k = refl
+
+place-end : (ns : List (List ℕ)) (x n : List ℕ) → place_of (ns ++ x ∷ []) n ≡ first_of (place_of ns n) (cond (bytes_eq x n) (Some (length ns)) None)
+place-end [] x n = refl
+place-end (m ∷ ns) x n = by (bytes_eq m n) (ap (option_map suc) (place-end ns x n) ∙ later (place_of ns n) (bytes_eq x n) (length ns))
+  where
+    by : (b : Bool) → option_map suc (place_of (ns ++ x ∷ []) n) ≡ first_of (option_map suc (place_of ns n)) (cond (bytes_eq x n) (Some (suc (length ns))) None)
+        → cond b (Some 0) (option_map suc (place_of (ns ++ x ∷ []) n)) ≡ first_of (cond b (Some 0) (option_map suc (place_of ns n))) (cond (bytes_eq x n) (Some (suc (length ns))) None)
+    by true h = refl
+    by false h = h
+
+same-bytes : (x y : List ℕ) → bytes_eq x y ≡ true → x ≡ y
+same-bytes x y e = (bytes_eq-Decides x y).0 e
+
+bytes-same : (x : List ℕ) → bytes_eq x x ≡ true
+bytes-same x = (bytes_eq-Decides x x).1 refl
+
+bytes_eq-sym : (x y : List ℕ) → bytes_eq x y ≡ bytes_eq y x
+bytes_eq-sym x y = by (bytes_eq x y) (bytes_eq y x) refl refl
+  where
+    by : (a b : Bool) → bytes_eq x y ≡ a → bytes_eq y x ≡ b → a ≡ b
+    by true true e f = refl
+    by false false e f = refl
+    by true false e f = sym (ap (λ z. bytes_eq y z) (same-bytes x y e) ∙ bytes-same y) ∙ f
+    by false true e f = sym e ∙ ap (λ z. bytes_eq x z) (same-bytes y x f) ∙ bytes-same x
+
+module _ {V : Type 0} (items : V → List ℕ) where
+  pub tells-none : (es : List (V × ℕ)) → es ≡ [] → TellsPlaces items es []
+  tells-none es e = λ n. rw e refl
+
+  -- a name that the entries lack
+  pub tells-more : (es all : List (V × ℕ)) (ns : List (List ℕ)) (k : V) (p : ℕ) (x : List ℕ) → TellsPlaces items es ns → all ≡ es ++ (k, p) ∷ [] → items k ≡ x → p ≡ length ns
+      → TellsPlaces items all (ns ++ x ∷ [])
+  tells-more es all ns k p x h made same at = λ n.
+      rw (made, lookup-end (λ v. bytes_eq n (items v)) es k p, place-end ns x n, h n, same, at, bytes_eq-sym n x) refl
+
+  -- .. and one that they have
+  pub tells-same : (es : List (V × ℕ)) (ns : List (List ℕ)) (x : List ℕ) → TellsPlaces items es ns → is_some (lookup (λ v. bytes_eq x (items v)) es) ≡ true
+      → TellsPlaces items es (ns ++ x ∷ [])
+  tells-same es ns x h there = λ n. h n ∙ sym (place-end ns x n ∙ by n (bytes_eq x n) refl)
+    where
+      kept : (o : Option ℕ) (b : Bool) → is_some o ≡ true → first_of o (cond b (Some (length ns)) None) ≡ o
+      kept None b e = absurd (true≢false (sym e))
+      kept (Some j) b e = refl
+
+      by : (n : List ℕ) (b : Bool) → bytes_eq x n ≡ b → first_of (place_of ns n) (cond b (Some (length ns)) None) ≡ place_of ns n
+      by n false e = first-none (place_of ns n)
+      by n true e = kept (place_of ns n) true (ap (λ (m : List ℕ). is_some (place_of ns m)) (sym (same-bytes x n e)) ∙ ap is_some (sym (h x)) ∙ there)
+
+pub none-there : {A : Type 0} (o : Option A) → is_some o ≡ false → o ≡ None
+none-there None e = refl
+none-there (Some x) e = absurd (true≢false e)

@@ -1,0 +1,60 @@
+#!/usr/bin/env python3
+"""How the time of making and laying out a table grows with its definitions.
+
+usage: tools/table_times.py COMMAND ..
+
+COMMAND is run on each text, with {} in its words as the text's path, as in
+
+    tools/table_times.py crates/program/out/program call {} a:b/c none '[]' '[]'
+
+Each text is a package without the function that is asked for, so it is read, its table is made and laid out, and nothing
+after that is timed. For each shape, at 4,095 to 65,520 definitions, the least processor time of several runs is printed,
+without that of an empty text, and by how much it grew. The exit status is 1 where twice as many definitions take more
+than 2.3 times as long.
+"""
+import sys
+
+from growth import measure
+
+# a package has at most 65,535 type entries
+COUNTS = [4095 << step for step in range(5)]
+
+
+def interface(body):
+    return "package a:b;\ninterface c {\n" + body + "}\n"
+
+
+def members(entry):
+    """One tuple of types without names, each a row of its own."""
+    return lambda count: interface("type t = tuple<" + entry * (count - 1) + ">;\n")
+
+
+def nested(count):
+    """Lists that stand 60 deep in one another, side by side in one tuple."""
+    whole, rest = divmod(count - 1, 60)
+    entries = ("list<" * 60 + "u8" + ">" * 60 + ",") * whole
+    return interface("type t = tuple<" + entries + ("list<" * rest + "u8" + ">" * rest if rest else "") + ">;\n")
+
+
+def functions(count):
+    return interface("".join(f"g{number}:func();\n" for number in range(count)))
+
+
+SHAPES = {
+    "lists": members("list<u8>,"),
+    "options": members("option<u64>,"),
+    "results": members("result,"),
+    "tuples": members("tuple<u8,u16>,"),
+    "nested": nested,
+    "functions": functions,
+}
+
+
+def main():
+    command = sys.argv[1:]
+    if not command:
+        sys.exit(__doc__)
+    measure(command, SHAPES, COUNTS, "definitions")
+
+
+main()
