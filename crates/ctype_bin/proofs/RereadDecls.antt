@@ -53,7 +53,7 @@ targets around scope (aliases.InstanceExport i text) formed = aliased around sco
     (reread-gives g.label (λ text. aliases.InstanceExport i text) (name_bytes text) (λ y. y ≡ text) (λ y. y ≡ aliases.InstanceExport i text) (reread-label text (λ w. (formed w).1)) (λ y e. rw e refl)))
 targets around scope (aliases.Outer n i) formed = aliased around scope 2 (u32_bytes n ++ u32_bytes i) (aliases.Outer n i) refl
     (reread-next (only u32 (λ n. unless (nat_le n (length around)) BadIndex)) _ (u32_bytes n) (u32_bytes i) n (λ y. y ≡ aliases.Outer n i) (reread-tested u32 (λ n. unless (nat_le n (length around)) BadIndex) (u32_bytes n) n (reread-u32 n (λ w. (formed w).0)) (of_index _ (nat_le n (length around))))
-    (reread-gives (g.index (g.types_at around scope n)) (λ i. aliases.Outer n i) (u32_bytes i) (λ y. y ≡ i) (λ y. y ≡ aliases.Outer n i) (reread-index (g.types_at around scope n) i (λ w. (formed w).1)) (λ y e. rw e refl)))
+    (reread-gives (g.index (g.types_at around scope.types n)) (λ i. aliases.Outer n i) (u32_bytes i) (λ y. y ≡ i) (λ y. y ≡ aliases.Outer n i) (reread-index (g.types_at around scope.types n) i (λ w. (formed w).1)) (λ y e. rw e refl)))
 
 reread-alias : {W : Type 0} (around : List ℕ) (scope : Scope) (a : RawAlias) → (W → FormedAlias a) → Rereads W (g.alias around scope) (alias_bytes a) (λ y. y.0 ≡ Alias a)
 unfolding g.alias
