@@ -273,6 +273,11 @@ fn every_byte_changed(rt: HostRuntime) -> Result<(), Fail> {
         for byte in 0..=255 {
             let bytes = changed(alloc, place, byte)?;
             assert!(rt; stands(alloc, bytes.as_slice())?, "{place}, {byte}");
+            let told = answer(alloc, bytes.as_slice())?;
+            assert!(rt;
+                !told.as_str().contains("by bytes"),
+                "{place}, {byte}: {told}"
+            );
         }
     }
     Ok(())
