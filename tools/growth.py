@@ -1,10 +1,12 @@
-"""How the time of a command grows with what it is given: what read_times.py and table_times.py share."""
+"""How the time of a command grows with what it is given: what the scripts of this folder share."""
 import resource
 import subprocess
 import sys
 import tempfile
 
-RUNS = 15
+# bytes, from 64 KiB to 1 MiB
+LENGTHS = [65536 << step for step in range(5)]
+RUNS = 20
 # how many times as long twice as much may take
 MOST = 2.3
 # seconds: what takes less is no measure
@@ -19,15 +21,15 @@ def time_of(words):
     return after.ru_utime + after.ru_stime - before.ru_utime - before.ru_stime
 
 
-def times_of(command, texts):
-    """The least time of each text, taken in turn so that a busy moment of the machine meets them all."""
-    best = [float("inf")] * len(texts)
+def times_of(command, inputs):
+    """The least time of each input, taken in turn so that a busy moment of the machine meets them all."""
+    best = [float("inf")] * len(inputs)
     with tempfile.TemporaryDirectory() as folder:
         paths = []
-        for number, text in enumerate(texts):
-            paths.append(f"{folder}/{number}.wit")
-            with open(paths[-1], "w", encoding="utf-8") as file:
-                file.write(text)
+        for number, content in enumerate(inputs):
+            paths.append(f"{folder}/{number}")
+            with open(paths[-1], "wb") as file:
+                file.write(content)
         for _ in range(RUNS):
             for number, path in enumerate(paths):
                 words = [word.replace("{}", path) for word in command]
@@ -35,21 +37,25 @@ def times_of(command, texts):
     return best
 
 
-def measure(command, shapes, sizes, unit):
-    """Runs the command on a text of each shape and size, and prints the times; ends with status 1 where one grew too much.
+def main(usage, shapes, sizes=LENGTHS, unit="bytes"):
+    """Runs the command of the script's words on an input of each shape and size, and prints the times.
 
-    `shapes` has a function for each name, from a size to its text; each size is twice the one before.
+    `shapes` has a function for each name, from a size to an input in bytes; each size is twice the one before. The exit
+    status is 1 where twice as much takes more than 2.3 times as long.
     """
+    command = sys.argv[1:]
+    if not command:
+        sys.exit(usage)
     worst = 0.0
-    for name, text_of in shapes.items():
-        empty, *times = times_of(command, [""] + [text_of(size) for size in sizes])
+    for name, made in shapes.items():
+        empty, *times = times_of(command, [b""] + [made(size) for size in sizes])
         before = None
         for size, time in zip(sizes, times):
             took = time - empty
             grew = took / before if before and before > LEAST else None
             worst = max(worst, grew or 0.0)
             told = f"{grew:.2f} times" if grew else ""
-            print(f"{name:10} {size:8} {unit} {took * 1000:8.2f} ms {told}")
+            print(f"{name:12} {size:8} {unit} {took * 1000:8.2f} ms {told}", flush=True)
             before = took
     print(f"at most {worst:.2f} times as long for twice as many {unit}")
     sys.exit(1 if worst > MOST else 0)

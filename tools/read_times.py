@@ -11,27 +11,26 @@ Each text ends with a `}` too many, so that it is read to its end and then refus
 For each shape of text, at 64 KB to 1 MB, the least processor time of several runs is printed, without that of an empty
 text, and by how much it grew. The exit status is 1 where a text of twice the length takes more than 2.3 times as long.
 """
-import functools
-import sys
-
-from growth import measure
-
-LENGTHS = [65536 << step for step in range(5)]
+import growth
 
 
-def filled(head, entry, tail, length):
-    """A text of this length: as many entries as fit, each with its number."""
-    parts = [head]
-    size = len(head)
-    number = 0
-    while True:
-        line = entry.format(number)
-        if size + len(line) + len(tail) > length:
-            break
-        parts.append(line)
-        size += len(line)
-        number += 1
-    return "".join(parts) + " " * (length - size - len(tail)) + tail
+def filled(head, entry, tail):
+    """Texts of any length: as many entries as fit, each with its number."""
+
+    def made(length):
+        parts = [head]
+        size = len(head)
+        number = 0
+        while True:
+            line = entry.format(number)
+            if size + len(line) + len(tail) > length:
+                break
+            parts.append(line)
+            size += len(line)
+            number += 1
+        return ("".join(parts) + " " * (length - size - len(tail)) + tail).encode()
+
+    return made
 
 
 PACKAGE = "package a:b;\n"
@@ -49,13 +48,4 @@ SHAPES = {
     "comments": (PACKAGE, "/* /* {} */ */ // x\n", "}"),
 }
 
-
-def main():
-    command = sys.argv[1:]
-    if not command:
-        sys.exit(__doc__)
-    texts = {name: functools.partial(filled, *parts) for name, parts in SHAPES.items()}
-    measure(command, texts, LENGTHS, "bytes")
-
-
-main()
+growth.main(__doc__, {name: filled(*parts) for name, parts in SHAPES.items()})

@@ -12,16 +12,14 @@ after that is timed. For each shape, at 4,095 to 65,520 definitions, the least p
 without that of an empty text, and by how much it grew. The exit status is 1 where twice as many definitions take more
 than 2.3 times as long.
 """
-import sys
-
-from growth import measure
+import growth
 
 # a package has at most 65,535 type entries
 COUNTS = [4095 << step for step in range(5)]
 
 
 def interface(body):
-    return "package a:b;\ninterface c {\n" + body + "}\n"
+    return ("package a:b;\ninterface c {\n" + body + "}\n").encode()
 
 
 def members(entry):
@@ -50,11 +48,4 @@ SHAPES = {
 }
 
 
-def main():
-    command = sys.argv[1:]
-    if not command:
-        sys.exit(__doc__)
-    measure(command, SHAPES, COUNTS, "definitions")
-
-
-main()
+growth.main(__doc__, SHAPES, COUNTS, "definitions")

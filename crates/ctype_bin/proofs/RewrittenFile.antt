@@ -75,7 +75,7 @@ section_spelt : (id n size : ℕ) → (id == 0) ≡ false → size < 2 ^ 32 → 
 unfolding f.section
 section_spelt id n size other lt = (id ∷ u32_bytes size, [], Some size, sym (append-nil (id ∷ u32_bytes size)), head_spelt id size other lt, (refl, refl))
 
-exactly_spelt : (bytes : List ℕ) → (f.exactly bytes).spells bytes 0
+pub exactly_spelt : (bytes : List ℕ) → (f.exactly bytes).spells bytes 0
 unfolding f.exactly
 exactly_spelt [] = (refl, refl)
 exactly_spelt (b ∷ bs) = (b ∷ [], bs, b, refl, ((refl, refl), λ all. fits (length all)), exactly_spelt bs)
@@ -87,7 +87,7 @@ nothing_trails : (n : ℕ) → (f.trailing (suc n)).spells [] 0
 unfolding f.trailing
 nothing_trails n = ([], [], None, refl, refl, (refl, refl))
 
-sized_both : {X : Type 0} (short : ℕ → Stuck) (size : ℕ) (p : Bytes X) (bytes : List ℕ) (x : X) → (sized short size p).spells bytes x → (length bytes ≡ size) × p.spells bytes x
+pub sized_both : {X : Type 0} (short : ℕ → Stuck) (size : ℕ) (p : Bytes X) (bytes : List ℕ) (x : X) → (sized short size p).spells bytes x → (length bytes ≡ size) × p.spells bytes x
 unfolding sized
 sized_both short size p bytes x s = s
 

@@ -128,7 +128,7 @@ opcode_byte op.Function = 0x40
 opcode_byte op.Component = 0x41
 opcode_byte op.Instance = 0x42
 
-opcode_back : (o : Opcode) → opcode_of (opcode_byte o) ≡ Some o
+pub opcode_back : (o : Opcode) → opcode_of (opcode_byte o) ≡ Some o
 unfolding opcode_of primitive_of
 opcode_back (op.Primitive prim.Bool) = refl
 opcode_back (op.Primitive prim.S8) = refl
@@ -209,7 +209,7 @@ written-instance_export scope = written-then (g.index scope.instances) _ u32_byt
 written-outer : (around : List ℕ) (scope : Scope) → Written (g.outer_type around scope) alias_body
 unfolding g.outer_type alias_index
 written-outer around scope = written-then (only u32 (λ n. unless (nat_le n (length around)) BadIndex)) _ u32_bytes (λ n a. u32_bytes (alias_index a)) alias_body (written-only u32 _ u32_bytes written-u32)
-    (λ n. written-gives (g.index (g.types_at around scope n)) (λ i. aliases.Outer n i) u32_bytes (λ a. u32_bytes (alias_index a)) (written-index (g.types_at around scope n)) (λ i. refl))
+    (λ n. written-gives (g.index (g.types_at around scope.types n)) (λ i. aliases.Outer n i) u32_bytes (λ a. u32_bytes (alias_index a)) (written-index (g.types_at around scope.types n)) (λ i. refl))
     (λ n a front back sp sq. rw sq.5.1 refl)
 
 -- a byte that is a or b, and b where it isn't a
