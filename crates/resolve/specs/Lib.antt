@@ -11,3 +11,4 @@ pub mod Knowing
 pub mod Lent
 pub mod Finished
 pub mod Shape
+pub mod Scoped
