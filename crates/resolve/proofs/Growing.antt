@@ -9,7 +9,7 @@ use Rattle.resolve.specs.Declarations.{UsedItem, TypeItem, FunctionItem, Interfa
 use Rattle.resolve.specs.Resolved.{Labelled, use_meaning, function_meaning, in_order, interface_meaning, no_type, fields_of}
 use Rattle.resolve.specs.Resolves.{Table}
 use Rattle.resolve.specs.Building.{table_trees, table_definitions, name_at, Front, Extends, Adds, Grows, Stands, LowersKind, LowersIf, LowersParameters, IsEntry, IsScope, scope_name, scope_names, names_of, ordered_names, KnowsNames, CanUse, DefinesInterface, parameter_typed, read_parameter}
-use Rattle.resolve.specs.declared.known.Entry.{Entry}
+use Rattle.resolve.specs.Scoped.{Entry}
 use Rattle.resolve.specs.declared.known.KnownTypes.{KnownTypes}
 use Rattle.tables.specs.declared.tables.Function.{Function}
 use Rattle.tables.specs.declared.tables.Parameter.{Parameter}

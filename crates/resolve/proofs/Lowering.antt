@@ -15,7 +15,7 @@ use Rattle.resolve.specs.Declarations.{named, named_all}
 use Rattle.resolve.specs.Resolved.{Labelled, Choice, resolved, resolved_all, option_tree, tuple_tree, result_tree, fields_of, unlabelled, choices_of, choice, enumerated, primitive_tree, val_of_primitive}
 use Rattle.resolve.specs.Resolves.{Table}
 use Rattle.resolve.specs.Building.{table_trees, Front, Extends, Stands, Lowers, LowersIf, LowersEach, LowersKind, LowersInner, IsEntry, IsScope, KnowsNames, scope_name, read_field, read_parameter, read_case, field_typed, parameter_typed, case_typed}
-use Rattle.resolve.specs.declared.known.Entry.{Entry}
+use Rattle.resolve.specs.Scoped.{Entry}
 use Rattle.resolve.specs.declared.known.KnownTypes.{KnownTypes}
 use Rattle.tables.specs.declared.tables.ValType.{ValType}
 use Rattle.tables.specs.declared.tables.ValType.TheVariants as val

@@ -1,11 +1,14 @@
 -- The places of names, as a map tells them.
-use Rattle.std.proofs.Common.{◌≡◌, ℕ, suc, Bool, true, false, cond, List, [], ◌∷◌, ◌++◌, length, Option, Some, None, is_some, refl, ap, sym, ◌∙◌, true≢false}
+use Rattle.std.proofs.Common.{◌≡◌, ℕ, zero, suc, ◌<◌, Bool, true, false, cond, List, [], ◌∷◌, ◌++◌, map, length, get_or, Contains, Option, Some, None, is_some, refl, ap, sym, subst, arith, ◌∙◌, true≢false}
 use Rattle.std.specs.Map.{lookup}
 use Rattle.std.specs.Option.{option_map}
 use Rattle.std.specs.Str.{bytes_eq}
 use Rattle.std.proofs.lemmas.Slice.Eq.{bytes_eq-Decides}
 use Rattle.resolve.specs.Resolves.{place_of}
 use Rattle.resolve.specs.Knowing.{TellsPlaces}
+use Rattle.resolve.specs.Scoped.{Entry, entry_of}
+use Rattle.tables.specs.declared.tables.TypeId.{TypeId}
+use Rattle.resolve.proofs.Lists.{contains-here, contains-later}
 
 abbrev first_of : {A : Type 0} → Option A → Option A → Option A
 first_of None o = o
@@ -79,3 +82,33 @@ module _ {V : Type 0} (items : V → List ℕ) where
 pub none-there : {A : Type 0} (o : Option A) → is_some o ≡ false → o ≡ None
 none-there None e = refl
 none-there (Some x) e = absurd (true≢false e)
+
+-- ---- types by their names
+
+module _ {V : Type 0} (items : V → List ℕ) where
+  found-at : (e : V × TypeId) (es : List (V × TypeId)) (n : List ℕ) (id : TypeId) (b : Bool) → bytes_eq n (items e.0) ≡ b → cond b (Some e.1) (lookup (λ v. bytes_eq n (items v)) es) ≡ Some id
+      → (lookup (λ v. bytes_eq n (items v)) es ≡ Some id → Contains (map (entry_of items) es) (record { name = n; id = id }))
+      → Contains (entry_of items e ∷ map (entry_of items) es) (record { name = n; id = id })
+  found-at e es n id true q h rest =
+      let same : e.1 ≡ id = cc in
+      let is : entry_of items e ≡ record { name = n; id = id } = rw (sym (same-bytes n (items e.0) q), same) refl in
+      subst (Contains (entry_of items e ∷ map (entry_of items) es)) is (contains-here (entry_of items e) (map (entry_of items) es))
+  found-at e es n id false q h rest = contains-later (entry_of items e) (record { name = n; id = id }) (map (entry_of items) es) (rest h)
+
+  pub entry-found : (es : List (V × TypeId)) (n : List ℕ) (id : TypeId) → lookup (λ v. bytes_eq n (items v)) es ≡ Some id → Contains (map (entry_of items) es) (record { name = n; id = id })
+  entry-found [] n id h = absurd (cc)
+  entry-found (e ∷ es) n id h = found-at e es n id (bytes_eq n (items e.0)) refl h (λ q. entry-found es n id q)
+
+  pub entry-missed : (es : List (V × TypeId)) (n : List ℕ) (k : ℕ) → k < length (map (λ (e : Entry). e.name) (map (entry_of items) es))
+      → get_or (map (λ (e : Entry). e.name) (map (entry_of items) es)) k n ≡ n → lookup (λ v. bytes_eq n (items v)) es ≡ None → ⊥
+  entry-missed [] n k l h q = omega arith
+  entry-missed (e ∷ es) n zero l h q = by (bytes_eq n (items e.0)) (ap (λ z. bytes_eq n z) h ∙ bytes-same n) q
+    where
+      by : (b : Bool) → b ≡ true → cond b (Some e.1) (lookup (λ v. bytes_eq n (items v)) es) ≡ None → ⊥
+      by true r s = cc
+      by false r s = true≢false (sym r)
+  entry-missed (e ∷ es) n (suc k) l h q = by (bytes_eq n (items e.0)) q (entry-missed es n k (omega (arith, l)) h)
+    where
+      by : (b : Bool) → cond b (Some e.1) (lookup (λ v. bytes_eq n (items v)) es) ≡ None → (lookup (λ v. bytes_eq n (items v)) es ≡ None → ⊥) → ⊥
+      by true s rest = cc
+      by false s rest = rest s

@@ -12,3 +12,4 @@ pub mod Knowing
 pub mod Lent
 pub mod Finished
 pub mod Shape
+pub mod Scoped

@@ -13,13 +13,11 @@ ghost use Rattle.tables.specs.declared.tables.ValType.TheVariants.{Id};
 use crate::bodies::{lower_definition, lower_parameters};
 use crate::builder::Builder;
 use crate::declared::{Declarations, UsedType};
-use crate::known::{Entry, KnownTypes};
+use crate::known::{KnownTypes, TypeIds};
 use crate::lower::lower_optional;
 use atoms::Label;
 use std::alloc::{AllocError, Global};
-use tables::{
-    Definition, Function, InterfaceId, Owner, Sequence, TypeDef, TypeDefKind, TypeId, TypeName,
-};
+use tables::{Definition, Function, InterfaceId, Owner, TypeDef, TypeDefKind, TypeId, TypeName};
 use wit_syntax::Func;
 
 /// Puts a type under a name at the end of the table; the scope then knows it.
@@ -39,10 +37,7 @@ fn define_named(
         }),
         kind,
     }))?;
-    scope.entries.push(Entry {
-        name: name.copy(alloc)?,
-        id,
-    })?;
+    scope.entries.push(alloc, name, id)?;
     Ok(())
 }
 
@@ -143,7 +138,7 @@ fn target(builder: &Builder, scopes: &[KnownTypes], used: &UsedType) -> TypeId
 {
     for scope in scopes {
         if builder.is_named(scope.interface, used.interface) {
-            return scope.get(used.name);
+            return scope.entries.get(used.name);
         }
     }
     unreachable!()
@@ -190,7 +185,7 @@ pub fn define_interface(
 {
     let mut scope = KnownTypes {
         interface: place,
-        entries: Sequence::new(Vec::new(alloc)),
+        entries: TypeIds::new(alloc),
     };
     define_uses(alloc, builder, scopes, &mut scope, &interface.uses)?;
     define_types(alloc, builder, &mut scope, &interface.types, order)?;

@@ -1,35 +1,66 @@
 //! The types that an interface's names stand for while its table is made.
-ghost use Rattle.std.specs.Prelude.{Contains};
-ghost use Rattle.resolve.specs.Building.{scope_names};
+ghost use Rattle.std.specs.Prelude.{◌≡◌, ◌++◌, ◌∷◌, [], map, Contains, OnOk};
 
 use atoms::Label;
-use tables::{InterfaceId, Sequence, TypeId};
+use indexmap::IndexMap;
+use std::alloc::{AllocError, Global};
+use std::marker::Model;
+use tables::{InterfaceId, TypeId};
 
-/// A name, and the type that it stands for.
+/// Types by their names, in the order in which they were defined.
 #[derive(Drop)]
-pub struct Entry {
-    pub name: Label,
-    pub id: TypeId,
+pub struct TypeIds {
+    ids: IndexMap<Vec<u8>, TypeId>,
+}
+
+impl Model for TypeIds {
+    ghost use Rattle.std.specs.Prelude.{List, map};
+    ghost use Rattle.resolve.specs.Scoped.{Entry, entry_of};
+
+    ghost Value = { List Entry };
+
+    ghost view = { λ t. map (entry_of (λ v. v.items)) t.ids.entries };
+}
+
+impl TypeIds {
+    /// No types.
+    pub fn new(alloc: Global) -> Self
+        ensures { result ≡ [] }
+    {
+        TypeIds {
+            ids: IndexMap::new(alloc),
+        }
+    }
+
+    /// Puts a type at the end, under a name. No memory, too, where the name is there already, as no name of a
+    /// scope is.
+    pub fn push(&mut self, alloc: Global, name: &Label, id: TypeId) -> Result<(), AllocError>
+        ensures { OnOk result (self.new ≡ self.old ++ record { name = name.now; id = id } ∷ []) }
+    {
+        match self
+            .ids
+            .insert(Vec::from_slice(alloc, name.as_bytes())?, id)?
+        {
+            None => Ok(()),
+            Some(_) => Err(AllocError),
+        }
+    }
+
+    /// The type that a name stands for.
+    pub fn get(&self, name: &Label) -> TypeId
+        requires { Contains (map (λ e. e.name) self.now) name.now }
+        ensures { Contains self.now (record { name = name.now; id = result }) }
+    {
+        match self.ids.get(name.as_bytes()) {
+            Some(id) => *id,
+            None => unreachable!(),
+        }
+    }
 }
 
 /// The types by their names in one interface.
 #[derive(Drop)]
 pub struct KnownTypes {
     pub interface: InterfaceId,
-    pub entries: Sequence<Entry>,
-}
-
-impl KnownTypes {
-    /// The type that a name stands for.
-    pub fn get(&self, name: &Label) -> TypeId
-        requires { Contains (scope_names self.now) name.now }
-        ensures { Contains self.now.entries (record { name = name.now; id = result }) }
-    {
-        for entry in self.entries.as_slice() {
-            if entry.name.as_bytes() == name.as_bytes() {
-                return entry.id;
-            }
-        }
-        unreachable!()
-    }
+    pub entries: TypeIds,
 }

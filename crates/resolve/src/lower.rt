@@ -45,7 +45,7 @@ pub fn lower_kind(
 {
     match expression {
         TypeExpression::Primitive(primitive) => Ok(TypeDefKind::Alias(lower_primitive(*primitive))),
-        TypeExpression::Named(name) => Ok(TypeDefKind::Alias(ValType::Id(scope.get(name)))),
+        TypeExpression::Named(name) => Ok(TypeDefKind::Alias(ValType::Id(scope.entries.get(name)))),
         TypeExpression::List(element) => {
             let element = lower_kind(alloc, builder, scope, element)?;
             Ok(TypeDefKind::List(builder.inner(element)?))

@@ -1,4 +1,4 @@
-use Rattle.std.proofs.Common.{◌≡◌, ◌++◌, ◌∙◌, List, ℕ, All, Contains, Bor, map, ap, sym, subst, refl}
+use Rattle.std.proofs.Common.{◌≡◌, ◌++◌, List, ℕ, All, Contains, Bor, map, ap, sym, subst, refl}
 use Rattle.wit_syntax.specs.declared.ast.TypeDef.{TypeDef}
 use Rattle.wit_syntax.specs.declared.ast.Func.{Func}
 use Rattle.resolve.specs.Declarations.{FunctionItem, used_names, named_function}
@@ -18,10 +18,10 @@ define_uses-requires-clause-known c =
 pub define_types-requires-clause-earlier : goal.define_types-requires-clause-earlier
 define_types-requires-clause-earlier c =
     let i = declared_tree c.args.interface.now in
-    let s0 : KnownTypes = record { interface = c.args.place; entries = c.new-2.result } in
+    let s0 : KnownTypes = record { interface = c.args.place; entries = c.new.result } in
     let names : scope_names c.define_uses.new.scope ≡ used_names i =
     first_names c.args.builder.now c.define_uses.new.builder s0 c.define_uses.new.scope _ (map used_item_of c.deref.result.now) i.uses
-    (ap (map used_item_of) c.deref.ensures.value) (c.new-2.ensures ∙ c.new.ensures.items) c.in_ok-define_uses.ensures in
+    (ap (map used_item_of) c.deref.ensures.value) c.new.ensures c.in_ok-define_uses.ensures in
     let placed = placed-earlier i c.args.order.now c.requires.placed c.requires.types in
     subst (λ (ns : List (List ℕ)). NamesEarlier ns (map declared_type c.deref-2.result.now) c.args.order.now) (sym names)
     (subst (λ (ts : List (Bor TypeDef)). NamesEarlier (used_names i) (map declared_type ts) c.args.order.now) (sym c.deref-2.ensures.value) placed)
@@ -29,10 +29,10 @@ define_types-requires-clause-earlier c =
 pub define_functions-requires-clause-known : goal.define_functions-requires-clause-known
 define_functions-requires-clause-known c =
     let i = declared_tree c.args.interface.now in
-    let s0 : KnownTypes = record { interface = c.args.place; entries = c.new-2.result } in
+    let s0 : KnownTypes = record { interface = c.args.place; entries = c.new.result } in
     let names : scope_names c.define_uses.new.scope ≡ used_names i =
     first_names c.args.builder.now c.define_uses.new.builder s0 c.define_uses.new.scope _ (map used_item_of c.deref.result.now) i.uses
-    (ap (map used_item_of) c.deref.ensures.value) (c.new-2.ensures ∙ c.new.ensures.items) c.in_ok-define_uses.ensures in
+    (ap (map used_item_of) c.deref.ensures.value) c.new.ensures c.in_ok-define_uses.ensures in
     let all : scope_names c.define_types.new.scope ≡ used_names i ++ ordered_names i.types c.args.order.now =
     both_names c.define_uses.new.builder c.define_types.new.builder c.define_uses.new.scope c.define_types.new.scope _ (used_names i) (map declared_type c.deref-2.result.now) i.types c.args.order.now
     (ap (map declared_type) c.deref-2.ensures.value) names c.in_ok-define_types.ensures in
@@ -43,8 +43,8 @@ define_functions-requires-clause-known c =
 pub returns : goal.returns
 returns c =
     let i = declared_tree c.args.interface.now in
-    let s0 : KnownTypes = record { interface = c.args.place; entries = c.new-2.result } in
+    let s0 : KnownTypes = record { interface = c.args.place; entries = c.new.result } in
     defines-interface c.args.builder.now c.define_uses.new.builder c.define_types.new.builder c.define_functions.new.builder s0 c.define_uses.new.scope c.define_types.new.scope
     c.args.place i c.args.order.now (map used_item_of c.deref.result.now) (map declared_type c.deref-2.result.now) (map declared_function c.deref-3.result.now)
     (ap (map used_item_of) c.deref.ensures.value) (ap (map declared_type) c.deref-2.ensures.value) (ap (map declared_function) c.deref-3.ensures.value)
-    refl (c.new-2.ensures ∙ c.new.ensures.items) c.requires.named c.in_ok-define_uses.ensures c.in_ok-define_types.ensures c.in_ok-define_functions.ensures
+    refl c.new.ensures c.requires.named c.in_ok-define_uses.ensures c.in_ok-define_types.ensures c.in_ok-define_functions.ensures
