@@ -50,6 +50,18 @@ agrees_more placed order node h agrees i =
       | inr ne ↦ rw (both, get_or-set_other placed node i true false ne, agrees i) (other_or (is_among order i) node i ne)
     ]
 
+stays : (placed : List Bool) (node : ℕ) → get_or placed node false ≡ true → get_or (set placed node true) node false ≡ true
+stays [] node h = h
+stays (b ∷ bs) zero h = refl
+stays (b ∷ bs) (suc n) h = stays bs n h
+
+-- what is placed stays so
+pub kept_more : (placed : List Bool) (node n : ℕ) → ((j : ℕ) → j < n → get_or placed j false ≡ true) → (j : ℕ) → j < n → get_or (set placed node true) j false ≡ true
+kept_more placed node n h j l = elim (cases_eq j node) [
+  | inl e ↦ rw e (stays placed node (rw (sym e) (h j l)))
+  | inr ne ↦ get_or-set_other placed node j true false ne ∙ h j l
+]
+
 next_more : (uses : List (List ℕ)) (order : List ℕ) (node : ℕ) → ((k : ℕ) → k < length order → IsNext uses (is_among (take k order)) (get_or order k 0))
     → IsNext uses (is_among order) node
     → (k : ℕ) → k < length (order ++ node ∷ []) → IsNext uses (is_among (take k (order ++ node ∷ []))) (get_or (order ++ node ∷ []) k 0)

@@ -48,15 +48,28 @@ fn all_placed(used: &[usize], placed: &[bool]) -> bool
     true
 }
 
-/// The first node that isn't placed and whose uses all are.
-fn first_ready(uses: &[Sequence<usize>], placed: &[bool]) -> Option<usize>
-    requires { length placed.now ≡ length uses.now }
+/// The first place, at this one or behind it, that isn't placed yet.
+fn first_free(placed: &[bool], from: usize) -> usize
+    requires { (j : ℕ) → j < from → slice_index_or placed.now j false ≡ true }
+    ensures { (j : ℕ) → j < result → slice_index_or placed.now j false ≡ true }
+{
+    let mut free = from;
+    while free < placed.len() && placed[free] {
+        free += 1;
+    }
+    free
+}
+
+/// The first node that isn't placed and whose uses all are. All before `free` are placed.
+fn first_ready(uses: &[Sequence<usize>], placed: &[bool], free: usize) -> Option<usize>
+    requires count { length placed.now ≡ length uses.now }
+    requires front { (j : ℕ) → j < free → slice_index_or placed.now j false ≡ true }
     ensures found { IfSome result (IsNext uses.now (λ i. slice_index_or placed.now i false)) }
     ensures stuck { IfNone result ((i : ℕ) → i < length uses.now
         → is_ready uses.now (λ i. slice_index_or placed.now i false) i ≡ false) }
 {
-    for (i, used) in uses.iter().enumerate() {
-        if !placed[i] && all_placed(used.as_slice(), placed) {
+    for i in free..uses.len() {
+        if !placed[i] && all_placed(uses[i].as_slice(), placed) {
             return Some(i);
         }
     }
@@ -72,8 +85,10 @@ pub fn placement(alloc: Global, uses: &[Sequence<usize>]) -> Result<Sequence<usi
     let mut placed = vec![in alloc; false; uses.len()]?;
     let mut order = Vec::new(alloc);
     let mut left = uses.len();
+    let mut free = 0;
     while left > 0 {
-        let Some(node) = first_ready(uses, placed.as_slice()) else {
+        free = first_free(placed.as_slice(), free);
+        let Some(node) = first_ready(uses, placed.as_slice(), free) else {
             return Err(OrderError::Cycle);
         };
         placed[node] = true;
