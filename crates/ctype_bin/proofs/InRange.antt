@@ -1,11 +1,11 @@
 -- What is spelled has its indices in range.
-use Rattle.std.proofs.Common.{◌≡◌, ℕ, zero, suc, ◌+◌, ◌<◌, ◌≤◌, Bool, true, false, List, [], ◌∷◌, ◌++◌, length, Option, Some, None, refl, sym, ap, subst, ◌∙◌, arith}
+use Rattle.std.proofs.Common.{◌≡◌, ℕ, zero, suc, ◌+◌, ◌<◌, Bool, true, false, List, [], ◌∷◌, ◌++◌, length, Option, Some, None, refl, sym, subst, arith}
 use Rattle.std.specs.Prelude.{MatchBool, ◌||◌, ◌==◌, nat_le, nat_lt, if◌then◌else◌}
 use Rattle.std.proofs.lemmas.Bool.{ltb-true, leb-true}
 use Rattle.std.proofs.Math.Bridge.{le_prop}
 use Rattle.productions.specs.Production.{give, ◌>>=◌, when, times, run}
 use Rattle.ctype_bin.specs.declared.error.Fault.{Fault}
-use Rattle.ctype_bin.specs.declared.error.Fault.TheVariants.{UnknownOpcode, BadIndex, BadName}
+use Rattle.ctype_bin.specs.declared.error.Fault.TheVariants.{UnknownOpcode, BadIndex}
 use Rattle.ctype_bin.specs.declared.raw.RawValType.{RawValType}
 use Rattle.ctype_bin.specs.declared.raw.RawValType.TheVariants as valtypes
 use Rattle.ctype_bin.specs.declared.raw.RawAlias.{RawAlias}
@@ -15,14 +15,14 @@ use Rattle.ctype_bin.specs.declared.raw.RawDescription.TheVariants as descriptio
 use Rattle.ctype_bin.specs.declared.opcode.Opcode.{Opcode}
 use Rattle.ctype_bin.specs.declared.opcode.Opcode.TheVariants as op
 use Rattle.ctype_bin.specs.declared.scope.Scope.{Scope}
-use Rattle.ctype_bin.specs.Bytes.{Bytes, byte, only, unless, placed_at, u32, s33, sized, choose, spells_by}
+use Rattle.ctype_bin.specs.Bytes.{Bytes, byte, only, unless, u32, s33, choose, spells_by}
 use Rattle.ctype_bin.specs.Grammar as g
 use Rattle.ctype_bin.specs.File as f
 use Rattle.ctype_bin.specs.View.{decls_of}
 use Rattle.ctype_bin.specs.Raw as raw
 use Rattle.ctype_bin.specs.Raw.{Definition, Define, Func, Component, Instance, Decl, Entry, Alias, Import, Export, Decls, Exported, File}
 use Rattle.ctype_bin.specs.Formed.{All}
-use Rattle.ctype_bin.specs.InRange.{ValTypeInRange, OptionInRange, FieldInRange, CaseInRange, DefinedInRange, FunctionInRange, DescriptionInRange, AliasInRange, types_with, instances_with, types_behind, instances_behind, TypeInRange, DeclInRange, DeclsInRange, TypesInRange, FileInRange}
+use Rattle.ctype_bin.specs.InRange.{ValTypeInRange, OptionInRange, FieldInRange, CaseInRange, DefinedInRange, DescriptionInRange, AliasInRange, types_with, instances_with, types_behind, instances_behind, TypeInRange, DeclInRange, DeclsInRange, TypesInRange, FileInRange}
 use Rattle.ctype_bin.proofs.Rewritten.{passes}
 use Rattle.ctype_bin.proofs.RewrittenFile.{sized_both}
 

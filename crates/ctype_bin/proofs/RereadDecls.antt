@@ -1,6 +1,6 @@
 -- What is written of a type is read as that type, or a fault of it is met: imports, exports, declarations and scopes.
-use Rattle.std.proofs.Common.{◌≡◌, ℕ, zero, suc, ◌+◌, Bool, true, false, List, [], ◌∷◌, ◌++◌, length, Option, Some, None, refl, sym, ap, subst, ◌∙◌}
-use Rattle.std.specs.Prelude.{◌||◌, ◌&&◌, not, ◌==◌, nat_le, nat_lt, if◌then◌else◌}
+use Rattle.std.proofs.Common.{◌≡◌, ℕ, zero, suc, ◌+◌, Bool, true, false, List, [], ◌∷◌, ◌++◌, length, Option, None, refl, sym, ap, subst, ◌∙◌}
+use Rattle.std.specs.Prelude.{◌||◌, ◌&&◌, not, ◌==◌, nat_le, if◌then◌else◌}
 use Rattle.productions.specs.Production.{give, ◌>>=◌, when, run}
 use Rattle.ctype_bin.specs.declared.error.Fault.{Fault}
 use Rattle.ctype_bin.specs.declared.error.Fault.TheVariants.{UnknownOpcode, BadIndex, Limit}
@@ -20,7 +20,7 @@ use Rattle.ctype_bin.specs.Raw as raw
 use Rattle.ctype_bin.specs.Writing.{u32_bytes, name_bytes, extern_bytes, description_bytes, alias_bytes, decl_count, type_bytes, decl_bytes, decls_bytes}
 use Rattle.ctype_bin.specs.Formed.{Fits, FormedAlias, FormedDescription, FormedName, FormedType, FormedDecl, FormedDecls}
 use Rattle.ctype_bin.proofs.RewrittenTypes.{opcode_byte, opcode_back}
-use Rattle.ctype_bin.proofs.Reread.{OfFault, Rereads, reread-then, reread-next, reread-give, reread-gives, reread-only, weaker, reread-tested, reread-byte, reread-u32}
+use Rattle.ctype_bin.proofs.Reread.{OfFault, Rereads, reread-then, reread-next, reread-give, reread-gives, reread-only, reread-tested, reread-byte, reread-u32}
 use Rattle.ctype_bin.proofs.RereadTypes.{of_index, of_limit, reread-index, reread-zero, reread-label, reread-extern, OpensPlain, opens_defined, opens_function}
 
 -- ---- aliases
