@@ -8,6 +8,7 @@ pub mod Reading
 pub mod Lowering
 pub mod Growing
 pub mod Placing
+pub mod Scoping
 pub mod Nesting
 pub mod Meeting
 pub mod Finding

@@ -1,5 +1,5 @@
 -- In the order of their placement, types name what stands before them.
-use Rattle.std.proofs.Common.{◌≡◌, ℕ, zero, suc, ◌<◌, Bool, true, false, not, cond, ◌||◌, ◌==◌, List, [], ◌∷◌, ◌++◌, Option, None, Some, map, take, length, get_or, refl, ap, ◌∙◌, subst, arith, Contains, All, inl, inr}
+use Rattle.std.proofs.Common.{◌≡◌, ℕ, zero, suc, ◌≤◌, ◌<◌, Bool, true, false, not, cond, ◌||◌, ◌==◌, List, [], ◌∷◌, ◌++◌, Option, None, Some, map, take, length, get_or, refl, ap, ◌∙◌, subst, arith, Contains, All, inl, inr}
 use Rattle.std.specs.List.{list_all, filter_map, cons_option}
 use Rattle.std.specs.Option.{option_map}
 use Rattle.std.specs.Str.{bytes_eq}
@@ -30,6 +30,21 @@ place-found (m ∷ ms) n (zero, l, e) = place-here m ms n (bytes_eq m n) refl (�
     (λ f. absurd (cc (f, (bytes_eq-Decides m n).1 e)))
 place-found (m ∷ ms) n (suc k, l, e) = place-here m ms n (bytes_eq m n) refl (λ t. (bytes_eq-Decides m n).0 t)
     (λ f. place-found ms n (k, omega (arith, l), e))
+
+-- .. and its first place is no later than any other
+first-here : (m : List ℕ) (ms : List (List ℕ)) (n : List ℕ) (k : ℕ) (b : Bool) → bytes_eq m n ≡ b → (b ≡ true → m ≡ n)
+    → (b ≡ false → (j : ℕ) × (place_of ms n ≡ Some j) × (get_or ms j [] ≡ n) × (suc j ≤ k))
+    → (j : ℕ) × (cond b (Some 0) (option_map suc (place_of ms n)) ≡ Some j) × (get_or (m ∷ ms) j [] ≡ n) × (j ≤ k)
+first-here m ms n k true e here later = (0, refl, here refl, omega arith)
+first-here m ms n k false e here later = let r = later refl in (suc r.0, ap (λ (o : Option ℕ). option_map suc o) r.1, r.2, r.3)
+
+pub place-first : (ns : List (List ℕ)) (n : List ℕ) (k : ℕ) → k < length ns → get_or ns k [] ≡ n
+    → (j : ℕ) × (place_of ns n ≡ Some j) × (get_or ns j [] ≡ n) × (j ≤ k)
+place-first [] n k l e = absurd (omega (arith, l))
+place-first (m ∷ ms) n zero l e = first-here m ms n zero (bytes_eq m n) refl (λ t. (bytes_eq-Decides m n).0 t)
+    (λ f. absurd (cc (f, (bytes_eq-Decides m n).1 e)))
+place-first (m ∷ ms) n (suc k) l e = first-here m ms n (suc k) (bytes_eq m n) refl (λ t. (bytes_eq-Decides m n).0 t)
+    (λ f. let r = place-first ms n k (omega (arith, l)) e in (r.0, r.1, r.2, omega (arith, r.3)))
 
 rest-all : (p : ℕ → Bool) (o : Option ℕ) (xs : List ℕ) → list_all p (cons_option o xs) ≡ true → list_all p xs ≡ true
 rest-all p None xs h = h

@@ -159,6 +159,10 @@ NamesEarlier names types order = (k : ℕ) → k < length order → (slice_index
     × All (Contains (names ++ map (λ j. (slice_index_or types j no_type).name) (take k order)))
     (named_definition (slice_index_or types (slice_index_or order k 0) no_type).definition)
 
+-- the scope at each place is that of the interface of this place
+abbrev pub ArePlaced : List KnownTypes → Type 0
+ArePlaced scopes = (m : ℕ) (d : KnownTypes) → m < length scopes → (slice_index_or scopes m d).interface.0 ≡ m
+
 -- an interface of the name stands before, and each of the name has the type
 pub record CanUse (t : Table) (scopes : List KnownTypes) (u : UsedItem) : Type 0 where
   pub some : (s : KnownTypes) × Contains scopes s × (scope_name t s ≡ u.interface)

@@ -1,17 +1,41 @@
-use Rattle.std.proofs.Common.{◌≡◌, ◌∙◌, ap, sym, subst, arith, rules, Contains}
+use Rattle.std.proofs.Common.{slice_index_or, sym, subst, ◌∙◌, arith, Contains}
+use Rattle.std.proofs.lemmas.List.Elements.{All-contains, All-get_or}
+use Rattle.resolve.specs.Lent.{used_item_of}
+use Rattle.resolve.specs.Building.{IsScope, IsEntry, scope_name}
 use Rattle.resolve.specs.declared.known.KnownTypes.{KnownTypes}
-use Rattle.resolve.specs.Building.{scope_name, scope_names}
+use Rattle.resolve.proofs.Scoping.{scope-at, scope-there}
 use Rattle.resolve.proofs.define.target.Goals as goal
+
+pub bounds-scopes-place : goal.bounds-scopes-place
+bounds-scopes-place c =
+    (scope-at c.args.builder.now c.args.scopes.now (used_item_of c.args.used.now) c.args.names.now c.requires.names c.requires.known c.requires.scoped c.requires.placed
+    c.in-Some.place (sym c.place_of.ensures ∙ c.in-Some.is)).0
+
+pub offset_bounds-scopes-place : goal.offset_bounds-scopes-place
+offset_bounds-scopes-place c =
+    omega (
+      arith,
+      (scope-at c.args.builder.now c.args.scopes.now (used_item_of c.args.used.now) c.args.names.now c.requires.names c.requires.known c.requires.scoped c.requires.placed
+          c.in-Some.place (sym c.place_of.ensures ∙ c.in-Some.is)).0,
+    )
 
 pub get-requires : goal.get-requires
 get-requires c =
-    let s : KnownTypes = c.scope-item.result in
-    let named : scope_name c.args.builder.now s ≡ c.args.used.now.interface.now = search rules in
-    let at = ap (scope_name c.args.builder.now) c.scope-item.is in
-    subst (λ (x : KnownTypes). Contains (scope_names x) c.args.used.now.name.now) (sym c.scope-item.is)
-    (c.requires.known.each c.loop-scope.scope-index s (omega arith) (sym at ∙ named))
+    let s : KnownTypes = c.index-scopes-place.result in
+    let at = scope-at c.args.builder.now c.args.scopes.now (used_item_of c.args.used.now) c.args.names.now c.requires.names c.requires.known c.requires.scoped c.requires.placed
+    c.in-Some.place (sym c.place_of.ensures ∙ c.in-Some.is) in
+    c.requires.known.each c.in-Some.place s at.0 (at.1 s)
 
 pub unreachable-requires : goal.unreachable-requires
 unreachable-requires c =
-    let h = c.requires.known.some in
-    c.loop-scope.invariant h.1.0 h.0 (omega (arith, h.1.1)) (ap (scope_name c.args.builder.now) h.1.2 ∙ h.2)
+    scope-there c.args.builder.now c.args.scopes.now (used_item_of c.args.used.now) c.args.names.now c.requires.names c.requires.known c.requires.scoped c.requires.placed
+    (sym c.place_of.ensures ∙ c.in-None.is)
+
+pub returns : goal.returns
+returns c =
+    let s : KnownTypes = c.index-scopes-place.result in
+    let at = scope-at c.args.builder.now c.args.scopes.now (used_item_of c.args.used.now) c.args.names.now c.requires.names c.requires.known c.requires.scoped c.requires.placed
+    c.in-Some.place (sym c.place_of.ensures ∙ c.in-Some.is) in
+    let scope = All-get_or (IsScope c.args.builder.now) c.args.scopes.now c.in-Some.place s at.0 c.requires.scoped in
+    let entry = All-contains (IsEntry c.args.builder.now (scope_name c.args.builder.now (slice_index_or c.args.scopes.now c.in-Some.place s))) _ _ scope.each c.get.ensures in
+    rw (at.1 s) at entry.stands
