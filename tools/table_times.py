@@ -38,6 +38,19 @@ def functions(count):
     return interface("".join(f"g{number}:func();\n" for number in range(count)))
 
 
+def label(number):
+    """The name of this number, in four letters and digits; none is a keyword."""
+    digits = "0123456789abcdefghijklmnopqrstuvwxyz"
+    last = digits[number // 1296 % 36] + digits[number // 36 % 36] + digits[number % 36]
+    return "xyz"[number // 46656] + last
+
+
+def named(count):
+    """Types each of which names the one before."""
+    rest = "".join(f"type {label(number)}={label(number - 1)};" for number in range(1, count))
+    return interface(f"type {label(0)}=u8;" + rest + "\n")
+
+
 SHAPES = {
     "lists": members("list<u8>,"),
     "options": members("option<u64>,"),
@@ -45,6 +58,7 @@ SHAPES = {
     "tuples": members("tuple<u8,u16>,"),
     "nested": nested,
     "functions": functions,
+    "named": named,
 }
 
 

@@ -301,3 +301,19 @@ fn depths(rt: HostRuntime) -> Result<(), Fail> {
     assert!(rt; matches!(refused, Err(LayoutError::TooDeep)));
     Ok(())
 }
+
+/// A list of a function's row is no type.
+#[test]
+fn functions_are_no_types(rt: HostRuntime) -> Result<(), Fail> {
+    let mut definitions = Vec::new(rt.alloc());
+    definitions.push(Definition::Function(Function {
+        owner: Owner::Interface(InterfaceId(0)),
+        name: label(rt.alloc())?,
+        params: Sequence::new(Vec::new(rt.alloc())),
+        result: None,
+    }))?;
+    definitions.push(unnamed(TypeDefKind::List(FIRST)))?;
+    let refused = package(rt.alloc(), definitions);
+    assert!(rt; matches!(refused, Err(ResolveError::NotThisShape)));
+    Ok(())
+}

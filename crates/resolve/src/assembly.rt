@@ -10,6 +10,7 @@ ghost use Rattle.resolve.specs.Building.{DefinesPackage};
 use crate::builder::Builder;
 use crate::declared::Declarations;
 use crate::define::define_interface;
+use crate::names::Names;
 use atoms::Label;
 use std::alloc::{AllocError, Global};
 use tables::{InterfaceId, Sequence};
@@ -28,6 +29,22 @@ fn ordered_names(
         names.push(all[*place].name.copy(alloc)?)?;
     }
     Ok(names)
+}
+
+/// The same names, each found at its place.
+fn ordered_index<'a>(
+    alloc: Global,
+    all: &[Declarations<'a>],
+    order: &[usize],
+) -> Result<Names<'a>, AllocError>
+    requires { All (λ k. k < length all.now) order.now }
+    ensures { IfOk result (λ ns. ns ≡ names_in_order (map declared_tree all.now) order.now) }
+{
+    let mut names = Vec::new(alloc);
+    for place in order {
+        names.push(all[*place].name)?;
+    }
+    Names::of(alloc, names)
 }
 
 /// The id of this place. No memory where an id can't tell it.
@@ -54,12 +71,21 @@ pub fn define_package(
     requires distinct { AreDistinct (interface_names (map declared_tree all.now)) }
     ensures { IfOk result (DefinesPackage (map declared_tree all.now) order.now type_orders.now) }
 {
+    let names = ordered_index(alloc, all, order)?;
     let mut builder = Builder::new(alloc, ordered_names(alloc, all, order)?);
     let mut scopes = Vec::new(alloc);
     for (place, index) in order.iter().enumerate() {
         let id = interface_id(place)?;
         let types = type_orders[*index].as_slice();
-        let scope = define_interface(alloc, &mut builder, &scopes, id, &all[*index], types)?;
+        let scope = define_interface(
+            alloc,
+            &mut builder,
+            &names,
+            &scopes,
+            id,
+            &all[*index],
+            types,
+        )?;
         scopes.push(scope)?;
     }
     Ok(builder)

@@ -44,15 +44,6 @@ impl Builder {
         (self.interfaces, self.rows)
     }
 
-    /// Whether the interface has this name.
-    pub fn is_named(&self, interface: InterfaceId, name: &Label) -> bool
-        requires { interface.0 < length self.now.interfaces }
-        ensures yes { OnTrue result (name_at self.now interface.0 ≡ name.now) }
-        ensures no { OnFalse result (name_at self.now interface.0 ≢ name.now) }
-    {
-        self.interfaces[interface.0 as usize].as_bytes() == name.as_bytes()
-    }
-
     /// Puts a definition at the end of the table. No memory, too, where an id can't tell its place.
     pub fn define(&mut self, definition: Definition) -> Result<TypeId, AllocError>
         ensures { IfOk result (λ id. (id.0 ≡ length self.old.rows)

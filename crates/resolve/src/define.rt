@@ -7,7 +7,7 @@ ghost use Rattle.resolve.specs.Order.{IsPlacement};
 ghost use Rattle.resolve.specs.Resolves.{type_uses};
 ghost use Rattle.resolve.specs.Lent.{used_item_of, type_item, declared_type};
 ghost use Rattle.resolve.specs.Sources.{declared_tree, used_key, function_item, declared_function};
-ghost use Rattle.resolve.specs.Building.{Adds, Grows, Stands, IsScope, KnowsNames, NamesEarlier, CanUse, DefinesInterface, DefinesNamed, TypesKnown, FunctionsKnown, name_at, scope_name, scope_names};
+ghost use Rattle.resolve.specs.Building.{Adds, Grows, Stands, IsScope, ArePlaced, KnowsNames, NamesEarlier, CanUse, DefinesInterface, DefinesNamed, TypesKnown, FunctionsKnown, name_at, scope_name, scope_names};
 ghost use Rattle.tables.specs.declared.tables.ValType.TheVariants.{Id};
 
 use crate::bodies::{lower_definition, lower_parameters};
@@ -15,6 +15,7 @@ use crate::builder::Builder;
 use crate::declared::{Declarations, UsedType};
 use crate::known::{KnownTypes, TypeIds};
 use crate::lower::lower_optional;
+use crate::names::Names;
 use atoms::Label;
 use std::alloc::{AllocError, Global};
 use tables::{Definition, Function, InterfaceId, Owner, TypeDef, TypeDefKind, TypeId, TypeName};
@@ -131,35 +132,38 @@ fn define_functions(
 }
 
 /// The type that a used name is in the used interface.
-fn target(builder: &Builder, scopes: &[KnownTypes], used: &UsedType) -> TypeId
+fn target(builder: &Builder, names: &Names, scopes: &[KnownTypes], used: &UsedType) -> TypeId
     requires known { CanUse builder.now scopes.now (used_item_of used.now) }
     requires scoped { All (IsScope builder.now) scopes.now }
+    requires names { names.now ≡ builder.now.interfaces }
+    requires placed { ArePlaced scopes.now }
     ensures { Stands builder.now (Id result) (Reference (used_key (used_item_of used.now))) }
 {
-    for scope in scopes {
-        if builder.is_named(scope.interface, used.interface) {
-            return scope.entries.get(used.name);
-        }
+    match names.place_of(used.interface) {
+        Some(place) => scopes[place].entries.get(used.name),
+        None => unreachable!(),
     }
-    unreachable!()
 }
 
 /// Defines the names that an interface uses.
 fn define_uses(
     alloc: Global,
     builder: &mut Builder,
+    names: &Names,
     scopes: &[KnownTypes],
     scope: &mut KnownTypes,
     uses: &[UsedType],
 ) -> Result<(), AllocError>
     requires known { All (CanUse builder.old scopes.now) (map used_item_of uses.now) }
     requires others { All (IsScope builder.old) scopes.now }
+    requires names { names.now ≡ builder.old.interfaces }
+    requires placed { ArePlaced scopes.now }
     requires scoped { IsScope builder.old scope.old }
     ensures { OnOk result (Grows builder.old scope.old builder.new scope.new
         (map (use_meaning (scope_name builder.old scope.old)) (map used_item_of uses.now))) }
 {
     for used in uses {
-        let target = target(builder, scopes, used);
+        let target = target(builder, names, scopes, used);
         define_use(alloc, builder, scope, used, target)?;
     }
     Ok(())
@@ -169,6 +173,7 @@ fn define_uses(
 pub fn define_interface(
     alloc: Global,
     builder: &mut Builder,
+    names: &Names,
     scopes: &[KnownTypes],
     place: InterfaceId,
     interface: &Declarations,
@@ -177,6 +182,8 @@ pub fn define_interface(
     requires place { place.0 < length builder.old.interfaces }
     requires named { name_at builder.old place.0 ≡ interface.now.name.now }
     requires others { All (IsScope builder.old) scopes.now }
+    requires names { names.now ≡ builder.old.interfaces }
+    requires ids { ArePlaced scopes.now }
     requires uses { All (CanUse builder.old scopes.now) (declared_tree interface.now).uses }
     requires placed { IsPlacement (type_uses (declared_tree interface.now)) order.now }
     requires types { TypesKnown (declared_tree interface.now) }
@@ -187,7 +194,7 @@ pub fn define_interface(
         interface: place,
         entries: TypeIds::new(alloc),
     };
-    define_uses(alloc, builder, scopes, &mut scope, &interface.uses)?;
+    define_uses(alloc, builder, names, scopes, &mut scope, &interface.uses)?;
     define_types(alloc, builder, &mut scope, &interface.types, order)?;
     define_functions(alloc, builder, &scope, &interface.functions)?;
     Ok(scope)
