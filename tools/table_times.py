@@ -51,6 +51,19 @@ def named(count):
     return interface(f"type {label(0)}=u8;" + rest + "\n")
 
 
+def reversed_types(count):
+    """Types each of which names the one behind it, so that the last is placed first."""
+    before = "".join(f"type {label(number)}={label(number + 1)};" for number in range(count - 1))
+    return interface(before + f"type {label(count - 1)}=u8;\n")
+
+
+def reversed_interfaces(count):
+    """Interfaces each of which uses the one behind it. Each takes six type entries, and has two definitions."""
+    last = count // 8
+    before = "".join(f"interface {label(n)}{{use {label(n + 1)}.{{t as u}};type t=u8;}}\n" for n in range(last))
+    return ("package a:b;\n" + before + f"interface {label(last)}{{type t=u8;}}\n").encode()
+
+
 SHAPES = {
     "lists": members("list<u8>,"),
     "options": members("option<u64>,"),
@@ -59,7 +72,8 @@ SHAPES = {
     "nested": nested,
     "functions": functions,
     "named": named,
+    "reversed": reversed_types,
+    "interfaces": reversed_interfaces,
 }
-
 
 growth.main(__doc__, SHAPES, COUNTS, "definitions")
