@@ -9,7 +9,7 @@ ghost use Rattle.canonical_abi.specs.Session.{as_list};
 ghost use Rattle.canonical_abi.specs.Values.{HaveTypes};
 ghost use Rattle.canonical_abi.specs.declared.trap.Step.TheVariants.{Take};
 ghost use Rattle.layout.specs.Layout.{layouts_of};
-ghost use Rattle.resolve.specs.Closed.{closed_type};
+ghost use Rattle.tables.specs.Closed.{closed_type};
 ghost use Rattle.lift_lower.specs.Crossing.{fields_of_types, LiftFails};
 ghost use Rattle.lift_lower.specs.Gives.{Gives, AnswerStands};
 ghost use Rattle.lift_lower.specs.Loading.{reading_members, AreBytes};
@@ -26,8 +26,8 @@ use crate::shape::Members;
 use crate::val::Val;
 use canonical_abi::{CoreKind, Fault, Flat, Guest, Step, TrapKind};
 use layout::Layouts;
-use resolve::{Resolve, ValType};
 use std::alloc::Global;
+use tables::{Resolve, ValType};
 
 /// The values that flat values denote over a memory, or the first fault, in step `take`. `NoMemory` where
 /// the host has none for the values.

@@ -7,7 +7,7 @@ use Rattle.canonical_abi.specs.Session.{as_list}
 use Rattle.canonical_abi.specs.declared.trap.Step.TheVariants.{Take}
 use Rattle.canonical_abi.proofs.Tells.{denoting-tells}
 use Rattle.std.specs.Option.{option_map}
-use Rattle.resolve.specs.Closed.{closed_type}
+use Rattle.tables.specs.Closed.{closed_type}
 use Rattle.lift_lower.specs.Gives.{AnswerStands}
 use Rattle.lift_lower.specs.Val.{value_of}
 use Rattle.lift_lower.specs.declared.val.Val.{Val}
