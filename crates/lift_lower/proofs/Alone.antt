@@ -54,7 +54,7 @@ first-place t = next-same 0 (align t) (is-alignment t) (by (align t) (is-alignme
 alone-align : (t : ClosedType) → align (record_type (field t no_field)) ≡ align t
 alone-align t = omega (arith, align-pos t)
 
-alone-size : (t : ClosedType) → size (record_type (field t no_field)) ≡ size t
+pub alone-size : (t : ClosedType) → size (record_type (field t no_field)) ≡ size t
 alone-size t =
     ap (next_multiple_of (next_multiple_of 0 (align t) + size t)) (alone-align t)
     ∙ ap (λ e. next_multiple_of (e + size t) (align t)) (first-place t)

@@ -9,6 +9,7 @@ pub mod FlatSteps
 pub mod Denoting
 pub mod Alone
 pub mod Denoted
+pub mod Known
 pub mod Typings
 pub mod ScalarTypes
 pub mod Scripting

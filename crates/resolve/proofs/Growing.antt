@@ -2,13 +2,13 @@
 use Rattle.std.proofs.Common.{◌≡◌, ℕ, true, List, [], ◌∷◌, ◌++◌, Option, Some, map, length, get_or, refl, ap, sym, ◌∙◌, subst, All, Contains, append_assoc, append-nil}
 use Rattle.std.proofs.lemmas.List.{map-append}
 use Rattle.std.specs.List.{list_all}
-use Rattle.tables.specs.Tables.{option_below, function_below}
+use Rattle.tables.specs.Tables.{is_type, option_all, function_all}
 use Rattle.tables.specs.Package.{Tree, Reference, NamedDefinition, Meaning, IsUse, IsFunction, definition_of, read_params}
 use Rattle.resolve.specs.Postfix.{Leaves, whole, unnamed_if, unnamed_parameter}
 use Rattle.resolve.specs.Declarations.{UsedItem, TypeItem, FunctionItem, InterfaceTree, used_names}
 use Rattle.resolve.specs.Resolved.{Labelled, use_meaning, function_meaning, in_order, interface_meaning, no_type, fields_of}
 use Rattle.resolve.specs.Resolves.{Table}
-use Rattle.resolve.specs.Building.{table_trees, table_definitions, name_at, Front, Extends, Adds, Grows, Stands, LowersKind, LowersIf, LowersParameters, IsEntry, IsScope, scope_name, scope_names, names_of, ordered_names, KnowsNames, CanUse, DefinesInterface, parameter_below, read_parameter}
+use Rattle.resolve.specs.Building.{table_trees, table_definitions, name_at, Front, Extends, Adds, Grows, Stands, LowersKind, LowersIf, LowersParameters, IsEntry, IsScope, scope_name, scope_names, names_of, ordered_names, KnowsNames, CanUse, DefinesInterface, parameter_typed, read_parameter}
 use Rattle.resolve.specs.declared.known.Entry.{Entry}
 use Rattle.resolve.specs.declared.known.KnownTypes.{KnownTypes}
 use Rattle.tables.specs.declared.tables.Function.{Function}
@@ -49,10 +49,10 @@ pub define-grows : (first mid new : Table) (before after : KnownTypes) (k : Type
     → Grows first before new after (one (scope_name first before) name meaning)
 define-grows first mid new before after k n m name id meaning en em at with is scope l =
     let d = row.Type (record { name = Some (record { interface = before.interface; name = n }); kind = k }) in
-    let front = with-front mid new d with l.below in
+    let front = with-front mid new d with l.typed in
     let all = front-trans first mid new l.extends.front front in
     let defined : definition_of mid.interfaces [] (table_trees mid) d ≡ one (scope_name first before) name meaning = rw (l.means, en, l.extends.front.interfaces) refl in
-    let stands = with-stands mid new d with id at in
+    let stands = with-stands mid new d with id at refl in
     let here : IsEntry new (scope_name new before) (record { name = m; id = id }) = record {
       stands = subst (λ (ns : List (List ℕ)). Stands new (val.Id id) (Reference (record { interface = get_or ns before.interface.0 []; name = m }))) (sym front.interfaces)
           (subst (λ (z : List ℕ). Stands new (val.Id id) (Reference (record { interface = get_or mid.interfaces before.interface.0 []; name = z }))) (en ∙ sym em) stands);
@@ -75,7 +75,7 @@ define-grows first mid new before after k n m name id meaning en em at with is s
 pub lowers-use : (t : Table) (target : TypeId) (u : Tree) → Stands t (val.Id target) u → LowersKind t t (kind.Use target) (IsUse u)
 lowers-use t target u s = record {
   extends = extends-none t;
-  below = s.below;
+  typed = s.typed;
   means = ap (λ (x : Tree). IsUse x) s.reads;
   names = refl;
 }
@@ -88,10 +88,10 @@ pub function-adds : (old mid last new : Table) (i : InterfaceId) (n name : List 
 function-adds old mid last new i n name ps ls r t l m en with =
     let f : Function = record { owner = owner.Interface i; name = n; params = ps; result = r } in
     let d = row.Function f in
-    let s = all-stay parameter_below read_parameter unnamed_parameter parameter-stays mid last m.extends.front ps l.within in
+    let s = all-stay parameter_typed read_parameter unnamed_parameter parameter-stays mid last m.extends.front ps l.within in
     let extends = subst (λ (us : List ℕ). Extends old last (us ++ unnamed_if last.rows r)) (sym s.2) (extends-trans old mid last _ _ l.extends m.extends) in
-    let below : function_below (length last.rows) f ≡ true = both (list_all (parameter_below (length last.rows)) ps) (option_below (length last.rows) r) s.0 m.below in
-    let front = with-front last new d with below in
+    let typed : function_all (is_type last.rows) f ≡ true = both (list_all (parameter_typed last.rows) ps) (option_all (is_type last.rows) r) s.0 m.typed in
+    let front = with-front last new d with typed in
     let reads : read_params (table_trees last) ps ≡ fields_of ls = parameters-read (table_trees last) ps ∙ ap fields_of (s.1 ∙ l.reads) in
     let defined : definition_of last.interfaces [] (table_trees last) d ≡ one (name_at old i.0) name (IsFunction (fields_of ls) t) =
     rw (reads, m.reads, en, extends.front.interfaces) refl in

@@ -1,3 +1,4 @@
+pub mod Typing
 pub mod MetNames
 pub mod OrderSteps
 pub mod Lists

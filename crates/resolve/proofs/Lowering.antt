@@ -8,13 +8,13 @@ use Rattle.wit_syntax.specs.View.{ty_view, boxed_view}
 use Rattle.wit_syntax.specs.declared.ast.TypeExpression.{TypeExpression, Named as Name, List as Listed, Option as Optional, Tuple, Result as Either, the_lemmas}
 use Rattle.wit_syntax.specs.declared.ast.Primitive.{Primitive as Keyword}
 use Rattle.wit_syntax.specs.declared.ast.Primitive.TheVariants as keyword
-use Rattle.tables.specs.Tables.{is_below, option_below}
+use Rattle.tables.specs.Tables.{is_type, option_all}
 use Rattle.tables.specs.Package.{Tree, Reference, ListTree, IsType, read_val, read_tuple, read_fields, read_params, read_cases, read_choice, read_enum, read_kind, Fields, field, Choices, empty, RecordTree, VariantTree, FlagsTree, Plain, AsTuple, AsEnum}
 use Rattle.resolve.specs.Postfix.{unnamed, unnamed_if, unnamed_field, unnamed_case, unnamed_parameter}
 use Rattle.resolve.specs.Declarations.{named, named_all}
 use Rattle.resolve.specs.Resolved.{Labelled, Choice, resolved, resolved_all, option_tree, tuple_tree, result_tree, fields_of, unlabelled, choices_of, choice, enumerated, primitive_tree, val_of_primitive}
 use Rattle.resolve.specs.Resolves.{Table}
-use Rattle.resolve.specs.Building.{table_trees, Front, Extends, Stands, Lowers, LowersIf, LowersEach, LowersKind, LowersInner, IsEntry, IsScope, KnowsNames, scope_name, read_field, read_parameter, read_case, field_below, parameter_below, case_below}
+use Rattle.resolve.specs.Building.{table_trees, Front, Extends, Stands, Lowers, LowersIf, LowersEach, LowersKind, LowersInner, IsEntry, IsScope, KnowsNames, scope_name, read_field, read_parameter, read_case, field_typed, parameter_typed, case_typed}
 use Rattle.resolve.specs.declared.known.Entry.{Entry}
 use Rattle.resolve.specs.declared.known.KnownTypes.{KnownTypes}
 use Rattle.tables.specs.declared.tables.ValType.{ValType}
@@ -28,7 +28,7 @@ use Rattle.tables.specs.declared.tables.TypeDefKind.{TypeDefKind}
 use Rattle.tables.specs.declared.tables.TypeDefKind.TheVariants as kind
 use Rattle.tables.proofs.Rows.{split, both}
 use Rattle.resolve.proofs.Lists.{all-left, all-right, flat_map-append, flat_map-one}
-use Rattle.resolve.proofs.Reading.{stands-later, extends-trans, extends-none, read_val-same, below-stays, unnamed-same}
+use Rattle.resolve.proofs.Reading.{stands-later, extends-trans, extends-none, read_val-same, typed-stays, unnamed-same}
 
 -- what an expression stands for
 pub view-Named : (n : List ℕ) → ty_view (Name n) ≡ Named n
@@ -60,7 +60,7 @@ scope-later old new s x h = record {
       record {
         stands = subst (λ (ns : List (List ℕ)). Stands new (val.Id e.id) (Reference (record { interface = get_or ns s.interface.0 []; name = e.name }))) (sym x.interfaces)
             (stands-later old new (val.Id e.id) (Reference (record { interface = scope_name old s; name = e.name })) x was.stands);
-        named = unnamed-same old new x (val.Id e.id) was.stands.below ∙ was.named;
+        named = unnamed-same old new x (val.Id e.id) was.stands.typed ∙ was.named;
       };
 }
 
@@ -82,18 +82,18 @@ primitive-reads ts keyword.U64 = refl
 primitive-reads ts keyword.Char = refl
 primitive-reads ts keyword.String = refl
 
-primitive-below : (n : ℕ) (p : Keyword) → is_below n (val_of_primitive p) ≡ true
-primitive-below n keyword.Bool = refl
-primitive-below n keyword.S8 = refl
-primitive-below n keyword.U8 = refl
-primitive-below n keyword.S16 = refl
-primitive-below n keyword.U16 = refl
-primitive-below n keyword.S32 = refl
-primitive-below n keyword.U32 = refl
-primitive-below n keyword.S64 = refl
-primitive-below n keyword.U64 = refl
-primitive-below n keyword.Char = refl
-primitive-below n keyword.String = refl
+primitive-typed : (rows : List Definition) (p : Keyword) → is_type rows (val_of_primitive p) ≡ true
+primitive-typed rows keyword.Bool = refl
+primitive-typed rows keyword.S8 = refl
+primitive-typed rows keyword.U8 = refl
+primitive-typed rows keyword.S16 = refl
+primitive-typed rows keyword.U16 = refl
+primitive-typed rows keyword.S32 = refl
+primitive-typed rows keyword.U32 = refl
+primitive-typed rows keyword.S64 = refl
+primitive-typed rows keyword.U64 = refl
+primitive-typed rows keyword.Char = refl
+primitive-typed rows keyword.String = refl
 
 primitive-unnamed : (rows : List Definition) (p : Keyword) → unnamed rows (val_of_primitive p) ≡ []
 primitive-unnamed rows keyword.Bool = refl
@@ -112,7 +112,7 @@ alias-of : (t : Table) (v : ValType) (tree : Tree) → Stands t v tree → unnam
 alias-of t v tree s free = record {
   lowers = record {
     extends = extends-none t;
-    below = s.below;
+    typed = s.typed;
     means = ap (λ (u : Tree). IsType u) s.reads;
     names = free;
   };
@@ -121,7 +121,7 @@ alias-of t v tree s free = record {
 
 pub lowers-primitive : (t : Table) (p : Keyword) → LowersInner t t (kind.Alias (val_of_primitive p)) (primitive_tree p)
 lowers-primitive t p =
-    alias-of t (val_of_primitive p) (primitive_tree p) (record { below = primitive-below (length t.rows) p; reads = primitive-reads (table_trees t) p }) (primitive-unnamed t.rows p)
+    alias-of t (val_of_primitive p) (primitive_tree p) (record { typed = primitive-typed t.rows p; reads = primitive-reads (table_trees t) p }) (primitive-unnamed t.rows p)
 
 pub lowers-named : (t : Table) (s : KnownTypes) (n : List ℕ) (id : TypeId) → IsScope t s → Contains s.entries (record { name = n; id = id })
     → LowersInner t t (kind.Alias (val.Id id)) (Reference (record { interface = scope_name t s; name = n }))
@@ -132,29 +132,29 @@ lowers-named t s n id scope c =
 
 pub lowers-list : (a b : Table) (v : ValType) (tree : Tree) → Lowers a b v tree → LowersInner a b (kind.List v) (ListTree tree)
 lowers-list a b v tree l = record {
-  lowers = record { extends = l.extends; below = l.stands.below; means = ap (λ (t : Tree). IsType (ListTree t)) l.stands.reads; names = refl };
+  lowers = record { extends = l.extends; typed = l.stands.typed; means = ap (λ (t : Tree). IsType (ListTree t)) l.stands.reads; names = refl };
   inner = refl;
 }
 
 pub lowers-option : (a b : Table) (v : ValType) (tree : Tree) → Lowers a b v tree → LowersInner a b (kind.Option v) (option_tree tree)
 lowers-option a b v tree l = record {
-  lowers = record { extends = l.extends; below = l.stands.below; means = ap (λ (t : Tree). IsType (option_tree t)) l.stands.reads; names = refl };
+  lowers = record { extends = l.extends; typed = l.stands.typed; means = ap (λ (t : Tree). IsType (option_tree t)) l.stands.reads; names = refl };
   inner = refl;
 }
 
 pub lowers-some : (a b : Table) (v : ValType) (tree : Tree) → Lowers a b v tree → LowersIf a b (Some v) (Some tree)
-lowers-some a b v tree l = record { extends = l.extends; below = l.stands.below; reads = ap (λ (t : Tree). Some t) l.stands.reads }
+lowers-some a b v tree l = record { extends = l.extends; typed = l.stands.typed; reads = ap (λ (t : Tree). Some t) l.stands.reads }
 
 pub lowers-none : (a : Table) → LowersIf a a None None
-lowers-none a = record { extends = extends-none a; below = refl; reads = refl }
+lowers-none a = record { extends = extends-none a; typed = refl; reads = refl }
 
 -- ---- a type that may be left out
 
-option-stays : (old new : Table) → Front old new → (v : Option ValType) → option_below (length old.rows) v ≡ true
-    → (option_below (length new.rows) v ≡ true) × (option_map (read_val (table_trees new)) v ≡ option_map (read_val (table_trees old)) v)
+option-stays : (old new : Table) → Front old new → (v : Option ValType) → option_all (is_type old.rows) v ≡ true
+    → (option_all (is_type new.rows) v ≡ true) × (option_map (read_val (table_trees new)) v ≡ option_map (read_val (table_trees old)) v)
     × (unnamed_if new.rows v ≡ unnamed_if old.rows v)
 option-stays old new x None h = (refl, refl, refl)
-option-stays old new x (Some v) h = (below-stays old new x v h, ap (λ (t : Tree). Some t) (read_val-same old new x v h), unnamed-same old new x v h)
+option-stays old new x (Some v) h = (typed-stays old new x v h, ap (λ (t : Tree). Some t) (read_val-same old new x v h), unnamed-same old new x v h)
 
 choice-reads : (ts : List Tree) (label : List ℕ) (v : Option ValType) (cs : Choices) → read_choice ts label v cs ≡ choice label (option_map (read_val ts) v) cs
 choice-reads ts label None cs = refl
@@ -163,14 +163,14 @@ choice-reads ts label (Some v) cs = refl
 pub lowers-result : (a b c : Table) (v w : Option ValType) (t u : Option Tree) → LowersIf a b v t → LowersIf b c w u
     → LowersInner a c (kind.Result v w) (result_tree t u)
 lowers-result a b c v w t u l m =
-    let s = option-stays b c m.extends.front v l.below in
+    let s = option-stays b c m.extends.front v l.typed in
     let ts = table_trees c in
     let reads : read_kind ts (kind.Result v w) ≡ result_tree t u =
     rw (choice-reads ts (101 ∷ 114 ∷ 114 ∷ 111 ∷ 114 ∷ []) w, choice-reads ts (111 ∷ 107 ∷ []) v, s.1, l.reads, m.reads) refl in
     record {
       lowers = record {
         extends = subst (λ (us : List ℕ). Extends a c (us ++ unnamed_if c.rows w)) (sym s.2) (extends-trans a b c _ _ l.extends m.extends);
-        below = both (option_below (length c.rows) v) (option_below (length c.rows) w) s.0 m.below;
+        typed = both (option_all (is_type c.rows) v) (option_all (is_type c.rows) w) s.0 m.typed;
         means = ap (λ (x : Tree). IsType x) reads;
         names = refl;
       };
@@ -180,59 +180,59 @@ lowers-result a b c v w t u l m =
 -- ---- many
 
 -- what stands in a table stands in it and reads the same when more rows come
-abbrev pub Stays : {A X : Type 0} → (ℕ → A → Bool) → (List Tree → A → X) → (List Definition → A → List ℕ) → Type 0
-Stays {A} below read rest = (old new : Table) → Front old new → (v : A) → below (length old.rows) v ≡ true
-    → (below (length new.rows) v ≡ true) × (read (table_trees new) v ≡ read (table_trees old) v) × (rest new.rows v ≡ rest old.rows v)
+abbrev pub Stays : {A X : Type 0} → (List Definition → A → Bool) → (List Tree → A → X) → (List Definition → A → List ℕ) → Type 0
+Stays {A} typed read rest = (old new : Table) → Front old new → (v : A) → typed old.rows v ≡ true
+    → (typed new.rows v ≡ true) × (read (table_trees new) v ≡ read (table_trees old) v) × (rest new.rows v ≡ rest old.rows v)
 
-pub val-stays : Stays is_below read_val unnamed
-val-stays old new x v h = (below-stays old new x v h, read_val-same old new x v h, unnamed-same old new x v h)
+pub val-stays : Stays is_type read_val unnamed
+val-stays old new x v h = (typed-stays old new x v h, read_val-same old new x v h, unnamed-same old new x v h)
 
-pub field-stays : Stays field_below read_field unnamed_field
+pub field-stays : Stays field_typed read_field unnamed_field
 field-stays old new x f h =
     let p = val-stays old new x f.ty h in
     let g : Tree → Labelled = λ t. record { name = f.name; tree = t } in
     (p.0, ap g p.1, p.2)
 
-pub parameter-stays : Stays parameter_below read_parameter unnamed_parameter
+pub parameter-stays : Stays parameter_typed read_parameter unnamed_parameter
 parameter-stays old new x f h =
     let p = val-stays old new x f.ty h in
     let g : Tree → Labelled = λ t. record { name = f.name; tree = t } in
     (p.0, ap g p.1, p.2)
 
-pub case-stays : Stays case_below read_case unnamed_case
+pub case-stays : Stays case_typed read_case unnamed_case
 case-stays old new x c h =
     let p = option-stays old new x c.ty h in
     let g : Option Tree → Choice = λ t. record { name = c.name; payload = t } in
     (p.0, ap g p.1, p.2)
 
-module _ {A X : Type 0} (below : ℕ → A → Bool) (read : List Tree → A → X) (rest : List Definition → A → List ℕ) where
-  pub lowers_each-none : (a : Table) → LowersEach below read rest a a [] []
+module _ {A X : Type 0} (typed : List Definition → A → Bool) (read : List Tree → A → X) (rest : List Definition → A → List ℕ) where
+  pub lowers_each-none : (a : Table) → LowersEach typed read rest a a [] []
   lowers_each-none a = record { extends = extends-none a; within = refl; reads = refl }
 
-  all-push : (n : ℕ) (vs : List A) (v : A) → list_all (below n) vs ≡ true → below n v ≡ true → list_all (below n) (vs ++ v ∷ []) ≡ true
-  all-push n [] v p q = both _ true q refl
-  all-push n (w ∷ vs) v p q = let h = split (below n w) (list_all (below n) vs) p in both _ _ h.0 (all-push n vs v h.1 q)
+  all-push : (rows : List Definition) (vs : List A) (v : A) → list_all (typed rows) vs ≡ true → typed rows v ≡ true → list_all (typed rows) (vs ++ v ∷ []) ≡ true
+  all-push rows [] v p q = both _ true q refl
+  all-push rows (w ∷ vs) v p q = let h = split (typed rows w) (list_all (typed rows) vs) p in both _ _ h.0 (all-push rows vs v h.1 q)
 
-  module _ (stays : Stays below read rest) where
-    pub all-stay : (old new : Table) → Front old new → (vs : List A) → list_all (below (length old.rows)) vs ≡ true
-        → (list_all (below (length new.rows)) vs ≡ true) × (map (read (table_trees new)) vs ≡ map (read (table_trees old)) vs)
+  module _ (stays : Stays typed read rest) where
+    pub all-stay : (old new : Table) → Front old new → (vs : List A) → list_all (typed old.rows) vs ≡ true
+        → (list_all (typed new.rows) vs ≡ true) × (map (read (table_trees new)) vs ≡ map (read (table_trees old)) vs)
         × (flat_map (rest new.rows) vs ≡ flat_map (rest old.rows) vs)
     all-stay old new x [] h = (refl, refl, refl)
     all-stay old new x (v ∷ vs) h =
-        let p = split (below (length old.rows) v) (list_all (below (length old.rows)) vs) h in
+        let p = split (typed old.rows v) (list_all (typed old.rows) vs) h in
         let q = all-stay old new x vs p.1 in
         let r = stays old new x v p.0 in
         (both _ _ r.0 q.0, rw (r.1, q.1) refl, rw (r.2, q.2) refl)
 
-    pub lowers_each-more : (a b c : Table) (vs : List A) (xs : List X) (v : A) (x : X) → LowersEach below read rest a b vs xs
-        → Extends b c (rest c.rows v) → below (length c.rows) v ≡ true → read (table_trees c) v ≡ x → LowersEach below read rest a c (vs ++ v ∷ []) (xs ++ x ∷ [])
+    pub lowers_each-more : (a b c : Table) (vs : List A) (xs : List X) (v : A) (x : X) → LowersEach typed read rest a b vs xs
+        → Extends b c (rest c.rows v) → typed c.rows v ≡ true → read (table_trees c) v ≡ x → LowersEach typed read rest a c (vs ++ v ∷ []) (xs ++ x ∷ [])
     lowers_each-more a b c vs xs v x l m under reads =
         let p = all-stay b c m.front vs l.within in
         let unused : flat_map (rest b.rows) vs ++ rest c.rows v ≡ flat_map (rest c.rows) (vs ++ v ∷ []) =
         ap (λ us. us ++ rest c.rows v) (sym p.2) ∙ ap (λ us. flat_map (rest c.rows) vs ++ us) (sym (flat_map-one (rest c.rows) v)) ∙ sym (flat_map-append (rest c.rows) vs (v ∷ [])) in
         record {
           extends = subst (λ (us : List ℕ). Extends a c us) unused (extends-trans a b c _ _ l.extends m);
-          within = all-push (length c.rows) vs v p.0 under;
+          within = all-push c.rows vs v p.0 under;
           reads = map-append (read (table_trees c)) vs (v ∷ []) ∙ rw (p.1, l.reads, reads) refl;
         }
 
@@ -259,11 +259,11 @@ pub enum-reads : (ns : List (List ℕ)) → read_enum ns ≡ enumerated ns
 enum-reads [] = refl
 enum-reads (n ∷ ns) = ap (λ (cs : Choices). empty n cs) (enum-reads ns)
 
-pub lowers-tuple : (a b : Table) (vs : List ValType) (ts : List Tree) → LowersEach is_below read_val unnamed a b vs ts → LowersInner a b (kind.Tuple vs) (tuple_tree ts)
+pub lowers-tuple : (a b : Table) (vs : List ValType) (ts : List Tree) → LowersEach is_type read_val unnamed a b vs ts → LowersInner a b (kind.Tuple vs) (tuple_tree ts)
 lowers-tuple a b vs ts l = record {
   lowers = record {
     extends = l.extends;
-    below = l.within;
+    typed = l.within;
     means = ap (λ (fs : Fields). IsType (RecordTree AsTuple fs)) (tuple-reads (table_trees b) vs ∙ ap unlabelled l.reads);
     names = refl;
   };
@@ -302,20 +302,20 @@ choice-same n m t u e h = rw (e, h) refl
 
 -- ---- bodies of definitions
 
-pub lowers-record : (a b : Table) (fs : List Field) (ls : List Labelled) → LowersEach field_below read_field unnamed_field a b fs ls
+pub lowers-record : (a b : Table) (fs : List Field) (ls : List Labelled) → LowersEach field_typed read_field unnamed_field a b fs ls
     → LowersKind a b (kind.Record fs) (IsType (RecordTree Plain (fields_of ls)))
 lowers-record a b fs ls l = record {
   extends = l.extends;
-  below = l.within;
+  typed = l.within;
   means = ap (λ (gs : Fields). IsType (RecordTree Plain gs)) (fields-read (table_trees b) fs ∙ ap fields_of l.reads);
   names = refl;
 }
 
-pub lowers-variant : (a b : Table) (cs : List Case) (ls : List Choice) → LowersEach case_below read_case unnamed_case a b cs ls
+pub lowers-variant : (a b : Table) (cs : List Case) (ls : List Choice) → LowersEach case_typed read_case unnamed_case a b cs ls
     → LowersKind a b (kind.Variant cs) (IsType (VariantTree Plain (choices_of ls)))
 lowers-variant a b cs ls l = record {
   extends = l.extends;
-  below = l.within;
+  typed = l.within;
   means = ap (λ (ds : Choices). IsType (VariantTree Plain ds)) (cases-read (table_trees b) cs ∙ ap choices_of l.reads);
   names = refl;
 }
@@ -323,7 +323,7 @@ lowers-variant a b cs ls l = record {
 pub lowers-enum : (a : Table) (ns ms : List (List ℕ)) → ns ≡ ms → LowersKind a a (kind.Enum ns) (IsType (VariantTree AsEnum (enumerated ms)))
 lowers-enum a ns ms e = record {
   extends = extends-none a;
-  below = refl;
+  typed = refl;
   means = ap (λ (ds : Choices). IsType (VariantTree AsEnum ds)) (enum-reads ns ∙ ap enumerated e);
   names = refl;
 }
@@ -331,7 +331,7 @@ lowers-enum a ns ms e = record {
 pub lowers-flags : (a : Table) (ns ms : List (List ℕ)) → ns ≡ ms → LowersKind a a (kind.Flags ns) (IsType (FlagsTree ms))
 lowers-flags a ns ms e = record {
   extends = extends-none a;
-  below = refl;
+  typed = refl;
   means = ap (λ (ls : List (List ℕ)). IsType (FlagsTree ls)) e;
   names = refl;
 }

@@ -4,7 +4,7 @@ use Rattle.std.specs.List.{list_all}
 use Rattle.std.proofs.lemmas.List.{length-append, length-map, length-take, get_or-map, get_or_default, get_or_append_left, get_or_at, get_or-take, take_all}
 use Rattle.resolve.specs.Scope.{lowered, AreDistinct}
 use Rattle.resolve.specs.Order.{IsPlacement, is_among}
-use Rattle.tables.specs.Tables.{are_earlier}
+use Rattle.tables.specs.Tables.{are_earlier, name_types}
 use Rattle.tables.specs.Package.{NamedDefinition}
 use Rattle.resolve.specs.Postfix.{Leaves, begin}
 use Rattle.resolve.specs.Declarations.{UsedItem, InterfaceTree, interface_at, no_interface, interface_name, interface_names, use_interface, type_names}
@@ -182,6 +182,7 @@ defines-package is order orders empty t scopes k e l h =
       definitions = h.adds.definitions ∙ ap (λ (x : Table). table_definitions x ++ package_meaning is orders (take k order)) e ∙ ap (package_meaning is orders) all;
       postfix = h.adds.postfix (subst (λ (ds : List Definition). Leaves ds []) (sym rows) begin);
       earlier = h.adds.front.earlier (subst (λ (ds : List Definition). IsTrue (are_earlier 0 ds)) (sym rows) refl);
+      typed = h.adds.front.typed (subst (λ (ds : List Definition). IsTrue (name_types ds)) (sym rows) refl);
     }
 
 abbrev pub table : List (List ℕ) → Table

@@ -1,8 +1,8 @@
 -- What a table's rows read as, when more rows come behind them.
 use Rattle.std.proofs.Common.{◌≡◌, ℕ, zero, suc, ◌+◌, ◌<◌, ◌≤◌, true, IsTrue, List, [], ◌∷◌, ◌++◌, length, get_or, slice_get, Option, Some, refl, ap, sym, subst, ◌∙◌, arith, append_assoc, append-nil}
 use Rattle.std.proofs.lemmas.List.{length-append, get_or_append_left, get_or_at}
-use Rattle.std.proofs.lemmas.Bool.{ltb-true, lt-ltb}
-use Rattle.tables.specs.Tables.{is_below, definition_below, are_earlier}
+use Rattle.std.proofs.lemmas.Bool.{ltb-true}
+use Rattle.tables.specs.Tables.{is_type, is_there, type_of, definition_all, definition_below, are_earlier, name_types}
 use Rattle.tables.specs.Package.{Tree, TextTree, NamedDefinition, Meaning, IsUse, IsType, IsFunction, references, reference, definitions_from, definition_of, read_val, read_kind, meaning_of}
 use Rattle.resolve.specs.Postfix.{Leaves, inner, unnamed, is_inner, is_unnamed, is_unnamed_row, one_if, inner_row}
 use Rattle.resolve.specs.Resolves.{Table}
@@ -13,7 +13,9 @@ use Rattle.tables.specs.declared.tables.TypeId.{TypeId}
 use Rattle.tables.specs.declared.tables.TypeDefKind.{TypeDefKind}
 use Rattle.tables.specs.declared.tables.TypeDefKind.TheVariants as kind
 use Rattle.tables.specs.declared.tables.Definition.{Definition}
-use Rattle.tables.proofs.Rows.{is_below-later, split, both}
+use Rattle.tables.proofs.Rows.{split, both}
+use Rattle.tables.proofs.Standards.{type-below}
+use Rattle.resolve.proofs.Typing.{type-later, definition-grows, names-later, get-front}
 
 references-append : (is : List (List ℕ)) (ts : List Tree) (ds es : List Definition) → references is ts (ds ++ es) ≡ references is (references is ts ds) es
 references-append is ts [] es = refl
@@ -44,50 +46,46 @@ trees-more old new more is rows = rw (is, rows) (references-append old.interface
 pub longer : (old new : Table) → Front old new → length old.rows ≤ length new.rows
 longer old new x = omega (arith, ap length x.rows.1, length-append old.rows x.rows.0)
 
-pub below-stays : (old new : Table) → Front old new → (v : ValType) → is_below (length old.rows) v ≡ true → is_below (length new.rows) v ≡ true
-below-stays old new x v h = is_below-later (length old.rows) (length new.rows) v (longer old new x) h
+pub typed-stays : (old new : Table) → Front old new → (v : ValType) → is_type old.rows v ≡ true → is_type new.rows v ≡ true
+typed-stays old new x v h = subst (λ (ds : List Definition). is_type ds v ≡ true) (sym x.rows.1) (type-later old.rows x.rows.0 v h)
 
-pub read_val-same : (old new : Table) → Front old new → (v : ValType) → is_below (length old.rows) v ≡ true → read_val (table_trees new) v ≡ read_val (table_trees old) v
+pub read_val-same : (old new : Table) → Front old new → (v : ValType) → is_type old.rows v ≡ true → read_val (table_trees new) v ≡ read_val (table_trees old) v
 read_val-same old new x (val.Primitive p) h = refl
 read_val-same old new x val.String h = refl
 read_val-same old new x (val.Id t) h =
-    let l : t.0 < length (table_trees old) = omega (arith, trees-length old, ltb-true t.0 (length old.rows) h) in
+    let l : t.0 < length (table_trees old) = omega (arith, trees-length old, ltb-true t.0 (length old.rows) (type-below old.rows (val.Id t) h)) in
     rw (trees-more old new x.rows.0 x.interfaces x.rows.1) (references-front old.interfaces (table_trees old) x.rows.0 t.0 TextTree l)
-
-get-front : {A : Type 0} (xs ys : List A) (n : ℕ) → n < length xs → slice_get (xs ++ ys) n ≡ slice_get xs n
-get-front [] ys n h = absurd (omega arith)
-get-front (x ∷ xs) ys zero h = refl
-get-front (x ∷ xs) ys (suc n) h = get-front xs ys n (omega arith)
 
 get-end : {A : Type 0} (xs : List A) (y : A) (n : ℕ) → n ≡ length xs → slice_get (xs ++ y ∷ []) n ≡ Some y
 get-end [] y n h = rw h refl
 get-end (x ∷ xs) y zero h = absurd (omega arith)
 get-end (x ∷ xs) y (suc n) h = get-end xs y n (omega arith)
 
-pub unnamed-same : (old new : Table) → Front old new → (v : ValType) → is_below (length old.rows) v ≡ true → unnamed new.rows v ≡ unnamed old.rows v
+pub unnamed-same : (old new : Table) → Front old new → (v : ValType) → is_type old.rows v ≡ true → unnamed new.rows v ≡ unnamed old.rows v
 unnamed-same old new x (val.Primitive p) h = refl
 unnamed-same old new x val.String h = refl
 unnamed-same old new x (val.Id t) h =
-    let l = ltb-true t.0 (length old.rows) h in
+    let l = ltb-true t.0 (length old.rows) (type-below old.rows (val.Id t) h) in
     ap (λ (o : Option Definition). one_if (is_unnamed_row o) t.0)
     (ap (λ (ds : List Definition). slice_get ds t.0) x.rows.1 ∙ get-front old.rows x.rows.0 t.0 l)
 
 pub stands-later : (old new : Table) (v : ValType) (tree : Tree) → Front old new → Stands old v tree → Stands new v tree
 stands-later old new v tree x s = record {
-  below = below-stays old new x v s.below;
-  reads = read_val-same old new x v s.below ∙ s.reads;
+  typed = typed-stays old new x v s.typed;
+  reads = read_val-same old new x v s.typed ∙ s.reads;
 }
 
 -- ---- growth after growth
 
 pub front-none : (t : Table) → Front t t
-front-none t = record { interfaces = refl; rows = ([], sym (append-nil t.rows)); earlier = λ h. h }
+front-none t = record { interfaces = refl; rows = ([], sym (append-nil t.rows)); earlier = λ h. h; typed = λ h. h }
 
 pub front-trans : (a b c : Table) → Front a b → Front b c → Front a c
 front-trans a b c x y = record {
   interfaces = y.interfaces ∙ x.interfaces;
   rows = (x.rows.0 ++ y.rows.0, y.rows.1 ∙ ap (λ ds. ds ++ y.rows.0) x.rows.1 ∙ append_assoc a.rows x.rows.0 y.rows.0);
   earlier = λ h. y.earlier (x.earlier h);
+  typed = λ h. y.typed (x.typed h);
 }
 
 pub extends-none : (t : Table) → Extends t t []
@@ -148,23 +146,25 @@ module _ (old new : Table) (d : Definition) (is : With old d new) where
   pub with-names : new.interfaces ≡ old.interfaces
   with-names = ap (λ (t : Table). t.interfaces) is
 
-  pub with-front : definition_below (length old.rows) d ≡ true → Front old new
-  with-front below = let zero_plus : 0 + length old.rows ≡ length old.rows = omega arith in record {
-    interfaces = with-names;
-    rows = (d ∷ [], with-rows);
-    earlier = λ h. subst (λ (ds : List Definition). IsTrue (are_earlier 0 ds)) (sym with-rows) (earlier-more 0 old.rows d h (rw zero_plus below));
-  }
+  pub with-front : definition_all (is_type old.rows) d ≡ true → Front old new
+  with-front typed =
+      let zero_plus : 0 + length old.rows ≡ length old.rows = omega arith in
+      let below : definition_below (length old.rows) d ≡ true = definition-grows _ _ (type-below old.rows) d typed in
+      record {
+        interfaces = with-names;
+        rows = (d ∷ [], with-rows);
+        earlier = λ h. subst (λ (ds : List Definition). IsTrue (are_earlier 0 ds)) (sym with-rows) (earlier-more 0 old.rows d h (rw zero_plus below));
+        typed = λ h. subst (λ (ds : List Definition). IsTrue (name_types ds)) (sym with-rows) (names-later old.rows d h typed);
+      }
 
   pub with-definitions : table_definitions new ≡ table_definitions old ++ definition_of old.interfaces [] (table_trees old) d
   with-definitions = definitions-more old new d with-names with-rows
 
-  pub with-stands : (id : TypeId) → id.0 ≡ length old.rows → Stands new (val.Id id) (reference old.interfaces (table_trees old) d)
-  with-stands id at =
-      let l : id.0 < length new.rows = omega (arith, ap length with-rows, length-append old.rows (d ∷ [])) in
-      record {
-        below = lt-ltb id.0 (length new.rows) l;
-        reads = rw (trees-more old new (d ∷ []) with-names with-rows) (get_or_at (table_trees old) (reference old.interfaces (table_trees old) d) [] TextTree id.0 (omega (arith, trees-length old)));
-      }
+  pub with-stands : (id : TypeId) → id.0 ≡ length old.rows → is_there (type_of (Some d)) ≡ true → Stands new (val.Id id) (reference old.interfaces (table_trees old) d)
+  with-stands id at type = record {
+    typed = ap (λ (o : Option Definition). is_there (type_of o)) (ap (λ (ds : List Definition). slice_get ds id.0) with-rows ∙ get-end old.rows d id.0 at) ∙ type;
+    reads = rw (trees-more old new (d ∷ []) with-names with-rows) (get_or_at (table_trees old) (reference old.interfaces (table_trees old) d) [] TextTree id.0 (omega (arith, trees-length old)));
+  }
 
   pub with-unnamed : (id : TypeId) → id.0 ≡ length old.rows → unnamed new.rows (val.Id id) ≡ one_if (is_unnamed d) id.0
   with-unnamed id at = ap (λ (o : Option Definition). one_if (is_unnamed_row o) id.0) (ap (λ (ds : List Definition). slice_get ds id.0) with-rows ∙ get-end old.rows d id.0 at)
@@ -206,15 +206,15 @@ alias-lowers first old k v tree is l = by (subst (λ (j : TypeDefKind). LowersKi
     by : LowersKind first old (kind.Alias v) (IsType tree) → Lowers first old v tree
     by m = record {
       extends = subst (λ (us : List ℕ). Extends first old us) (sym m.names) m.extends;
-      stands = record { below = m.below; reads = ap tree_of m.means };
+      stands = record { typed = m.typed; reads = ap tree_of m.means };
     }
 
 pub inner-lowers : (first old new : Table) (k : TypeDefKind) (id : TypeId) (tree : Tree) → id.0 ≡ length old.rows → With old (inner_row k) new → is_inner k ≡ true
     → LowersInner first old k tree → Lowers first new (val.Id id) tree
 inner-lowers first old new k id tree at is isinner li =
     let l = li.lowers in
-    let front = with-front old new (inner_row k) is l.below in
-    let stands = with-stands old new (inner_row k) is id at in
+    let front = with-front old new (inner_row k) is l.typed in
+    let stands = with-stands old new (inner_row k) is id at refl in
     let own : unnamed new.rows (val.Id id) ≡ length old.rows ∷ [] = with-unnamed old new (inner_row k) is id at ∙ ap (λ (n : ℕ). n ∷ []) at in
     record {
       extends = record {
@@ -223,5 +223,5 @@ inner-lowers first old new k id tree at is isinner li =
         postfix = λ before h. subst (λ (us : List ℕ). Leaves new.rows (before ++ us)) (sym own)
             (subst (λ (ds : List Definition). Leaves ds (before ++ length old.rows ∷ [])) (sym (with-rows old new (inner_row k) is)) (inner old.rows before k isinner (l.extends.postfix before h)));
       };
-      stands = record { below = stands.below; reads = stands.reads ∙ inner-reads (table_trees old) k tree isinner l.means };
+      stands = record { typed = stands.typed; reads = stands.reads ∙ inner-reads (table_trees old) k tree isinner l.means };
     }

@@ -2,7 +2,7 @@
 use Rattle.std.specs.Prelude.{ℕ, ◌<◌, ◌≡◌, Bool, true, List, [], ◌∷◌, ◌++◌, map, flat_map, length, slice_index_or, All, Contains, take, Option, IsTrue}
 use Rattle.std.specs.List.{list_all}
 use Rattle.std.specs.Option.{option_map}
-use Rattle.tables.specs.Tables.{is_below, option_below, kind_below, are_earlier}
+use Rattle.tables.specs.Tables.{option_all, kind_all, are_earlier, is_type, name_types}
 use Rattle.tables.specs.Package.{Tree, Reference, NamedDefinition, Meaning, IsType, references, definitions_from, read_val, meaning_of}
 use Rattle.resolve.specs.Postfix.{Leaves, IsPostfix, unnamed, unnamed_if, unnamed_field, unnamed_case, unnamed_parameter, parts, aliased, is_inner}
 use Rattle.resolve.specs.Declarations.{UsedItem, TypeItem, InterfaceTree, interface_at, named_definition, named_function, used_names, type_names}
@@ -35,6 +35,7 @@ pub record Front (old new : Table) : Type 0 where
   pub interfaces : new.interfaces ≡ old.interfaces
   pub rows : (more : List Definition) × (new.rows ≡ old.rows ++ more)
   pub earlier : IsTrue (are_earlier 0 old.rows) → IsTrue (are_earlier 0 new.rows)
+  pub typed : IsTrue (name_types old.rows) → IsTrue (name_types new.rows)
 
 -- .. with these definitions; no row is left to be used
 pub record Adds (old new : Table) (ds : List NamedDefinition) : Type 0 where
@@ -48,9 +49,9 @@ pub record Extends (old new : Table) (unused : List ℕ) : Type 0 where
   pub same : table_definitions new ≡ table_definitions old
   pub postfix : (before : List ℕ) → Leaves old.rows before → Leaves new.rows (before ++ unused)
 
--- the type stands in the table and reads as the tree
+-- the type is one of the table and reads as the tree
 pub record Stands (t : Table) (v : ValType) (tree : Tree) : Type 0 where
-  pub below : is_below (length t.rows) v ≡ true
+  pub typed : is_type t.rows v ≡ true
   pub reads : read_val (table_trees t) v ≡ tree
 
 -- the table got the rows that the type needs
@@ -60,13 +61,13 @@ pub record Lowers (old new : Table) (v : ValType) (tree : Tree) : Type 0 where
 
 pub record LowersIf (old new : Table) (v : Option ValType) (tree : Option Tree) : Type 0 where
   pub extends : Extends old new (unnamed_if new.rows v)
-  pub below : option_below (length new.rows) v ≡ true
+  pub typed : option_all (is_type new.rows) v ≡ true
   pub reads : option_map (read_val (table_trees new)) v ≡ tree
 
 -- the table got the rows that these need, which stand in it and read so
-pub record LowersEach {A X : Type 0} (below : ℕ → A → Bool) (read : List Tree → A → X) (rest : List Definition → A → List ℕ) (old new : Table) (vs : List A) (xs : List X) : Type 0 where
+pub record LowersEach {A X : Type 0} (typed : List Definition → A → Bool) (read : List Tree → A → X) (rest : List Definition → A → List ℕ) (old new : Table) (vs : List A) (xs : List X) : Type 0 where
   pub extends : Extends old new (flat_map (rest new.rows) vs)
-  pub within : list_all (below (length new.rows)) vs ≡ true
+  pub within : list_all (typed new.rows) vs ≡ true
   pub reads : map (read (table_trees new)) vs ≡ xs
 
 abbrev pub read_field : List Tree → Field → Labelled
@@ -78,31 +79,31 @@ read_parameter trees f = record { name = f.name; tree = read_val trees f.ty }
 abbrev pub read_case : List Tree → Case → Choice
 read_case trees c = record { name = c.name; payload = option_map (read_val trees) c.ty }
 
-abbrev pub field_below : ℕ → Field → Bool
-field_below n f = is_below n f.ty
+abbrev pub field_typed : List Definition → Field → Bool
+field_typed ds f = is_type ds f.ty
 
-abbrev pub parameter_below : ℕ → Parameter → Bool
-parameter_below n f = is_below n f.ty
+abbrev pub parameter_typed : List Definition → Parameter → Bool
+parameter_typed ds f = is_type ds f.ty
 
-abbrev pub case_below : ℕ → Case → Bool
-case_below n c = option_below n c.ty
+abbrev pub case_typed : List Definition → Case → Bool
+case_typed ds c = option_all (is_type ds) c.ty
 
 abbrev pub LowersAll : Table → Table → List ValType → List Tree → Type 0
-LowersAll = LowersEach is_below read_val unnamed
+LowersAll = LowersEach is_type read_val unnamed
 
 abbrev pub LowersFields : Table → Table → List Field → List Labelled → Type 0
-LowersFields = LowersEach field_below read_field unnamed_field
+LowersFields = LowersEach field_typed read_field unnamed_field
 
 abbrev pub LowersParameters : Table → Table → List Parameter → List Labelled → Type 0
-LowersParameters = LowersEach parameter_below read_parameter unnamed_parameter
+LowersParameters = LowersEach parameter_typed read_parameter unnamed_parameter
 
 abbrev pub LowersCases : Table → Table → List Case → List Choice → Type 0
-LowersCases = LowersEach case_below read_case unnamed_case
+LowersCases = LowersEach case_typed read_case unnamed_case
 
 -- the table got the rows that the kind needs
 pub record LowersKind (old new : Table) (k : TypeDefKind) (m : Meaning) : Type 0 where
   pub extends : Extends old new (parts new.rows k)
-  pub below : kind_below (length new.rows) k ≡ true
+  pub typed : kind_all (is_type new.rows) k ≡ true
   pub means : meaning_of (table_trees new) k ≡ m
   pub names : aliased new.rows k ≡ []
 
@@ -188,3 +189,4 @@ pub record DefinesPackage (is : List InterfaceTree) (order : List ℕ) (orders :
   pub definitions : table_definitions t ≡ package_meaning is orders order
   pub postfix : IsPostfix t.rows
   pub earlier : IsTrue (are_earlier 0 t.rows)
+  pub typed : IsTrue (name_types t.rows)

@@ -1,6 +1,6 @@
 //! A package of a table of definitions: the ids of its interfaces, and its limits.
 ghost use Rattle.std.specs.Prelude.{◌≡◌, ◌≤◌, ◌+◌, ◌⊎◌, [], length, map, sum, nat_lt, IsTrue, IfOk, IfErr};
-ghost use Rattle.tables.specs.Tables.{are_earlier};
+ghost use Rattle.tables.specs.Tables.{are_earlier, name_types};
 ghost use Rattle.resolve.specs.Resolves.{PassesLimit, entries_of, places_where, is_in, is_use, is_use_in, is_type_in, is_function_in, type_id, function_id, interface_in, interfaces_from};
 ghost use Rattle.resolve.specs.Finished.{IsFinished};
 
@@ -181,7 +181,8 @@ fn passes_entries(interfaces: usize, rows: &[Definition]) -> bool
 
 /// The package of this table, under this name.
 pub fn finish(alloc: Global, builder: Builder, id: &PackageId) -> Result<Resolve, ResolveError>
-    requires { IsTrue (are_earlier 0 builder.rows) }
+    requires earlier { IsTrue (are_earlier 0 builder.rows) }
+    requires typed { IsTrue (name_types builder.rows) }
     ensures ok { IfOk result (IsFinished id.now builder) }
     ensures err { IfErr result (λ e. (e ≡ ResolveError.NoMemory) ⊎ ((e ≡ ResolveError.Limit) × PassesLimit builder)) }
 {

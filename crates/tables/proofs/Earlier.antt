@@ -1,10 +1,20 @@
--- Whether definitions name earlier ones alone, one after the other.
-use Rattle.std.proofs.Common.{◌≡◌, ℕ, suc, ◌+◌, ◌<◌, Bool, true, false, ◌&&◌, List, [], ◌∷◌, ◌++◌, length, take, get_or, refl, ap, sym, subst, ◌∙◌, true≢false, arith}
+-- Whether definitions name earlier types alone, one after the other.
+use Rattle.std.proofs.Common.{◌≡◌, ℕ, suc, ◌+◌, ◌<◌, Bool, true, false, IsTrue, Option, None, Some, ◌&&◌, List, [], ◌∷◌, ◌++◌, length, take, get_or, refl, ap, sym, subst, ◌∙◌, true≢false, arith}
 use Rattle.std.proofs.lemmas.Grind.{take_at_read}
 use Rattle.std.proofs.lemmas.List.{length-take}
-use Rattle.tables.specs.Tables.{definition_below, are_earlier}
+use Rattle.std.specs.List.{list_all}
+use Rattle.std.proofs.lemmas.List.Folds.{list_all_more, list_all_at}
+use Rattle.tables.specs.Tables.{option_all, kind_all, definition_all, is_below, definition_below, are_earlier, is_type, name_types, is_earlier, are_standard, are_placed}
+use Rattle.tables.specs.Parts.{is_package}
+use Rattle.tables.specs.declared.tables.Interface.{Interface}
+use Rattle.tables.specs.declared.tables.ValType.{ValType}
+use Rattle.tables.specs.declared.tables.Case.{Case}
+use Rattle.tables.specs.declared.tables.Parameter.{Parameter}
+use Rattle.tables.specs.declared.tables.TypeDefKind.{TypeDefKind}
+use Rattle.tables.specs.declared.tables.TypeDefKind.TheVariants as kind
 use Rattle.tables.specs.declared.tables.Definition.{Definition}
-use Rattle.tables.proofs.Rows.{earlier-at}
+use Rattle.tables.specs.declared.tables.Definition.TheVariants as row
+use Rattle.tables.proofs.Rows.{earlier-at, split, both}
 
 earlier-append : (n : ℕ) (ds : List Definition) (d : Definition) → are_earlier n (ds ++ d ∷ []) ≡ (are_earlier n ds && definition_below (n + length ds) d)
 earlier-append n [] d = let e : n + 0 ≡ n = omega arith in rw e (by (definition_below n d))
@@ -38,3 +48,85 @@ earlier-never ds i d h is here = by (are_earlier 0 ds) refl
         let below : definition_below i (get_or ds i d) ≡ true = rw same at at in
         let back : definition_below i d ≡ true = subst (λ (x : Definition). definition_below i x ≡ true) (sym is) below in
         absurd (true≢false (sym back ∙ here))
+
+-- ---- two properties of all that is named
+
+swap-and : (a b c d : Bool) → ((a && b) && (c && d)) ≡ ((a && c) && (b && d))
+swap-and true b true d = refl
+swap-and true true false d = refl
+swap-and true false false d = refl
+swap-and false b c d = refl
+
+module _ (p q : ValType → Bool) where
+  list-both : {A : Type 0} (f g : A → Bool) (xs : List A) → list_all (λ x. f x && g x) xs ≡ (list_all f xs && list_all g xs)
+  list-both f g [] = refl
+  list-both f g (x ∷ xs) = ap (λ (b : Bool). (f x && g x) && b) (list-both f g xs) ∙ swap-and (f x) (g x) (list_all f xs) (list_all g xs)
+
+  option-both : (v : Option ValType) → option_all (λ u. p u && q u) v ≡ (option_all p v && option_all q v)
+  option-both None = refl
+  option-both (Some v) = refl
+
+  cases-both : (cs : List Case) → list_all (λ c. option_all (λ u. p u && q u) c.ty) cs ≡ (list_all (λ c. option_all p c.ty) cs && list_all (λ c. option_all q c.ty) cs)
+  cases-both [] = refl
+  cases-both (c ∷ cs) =
+      rw (option-both c.ty, cases-both cs)
+      (swap-and (option_all p c.ty) (option_all q c.ty) (list_all (λ x. option_all p x.ty) cs) (list_all (λ x. option_all q x.ty) cs))
+
+  kind-both : (k : TypeDefKind) → kind_all (λ u. p u && q u) k ≡ (kind_all p k && kind_all q k)
+  kind-both (kind.Use t) = refl
+  kind-both (kind.Alias v) = refl
+  kind-both (kind.List v) = refl
+  kind-both (kind.Option v) = refl
+  kind-both (kind.Result v w) = rw (option-both v, option-both w) (swap-and (option_all p v) (option_all q v) (option_all p w) (option_all q w))
+  kind-both (kind.Tuple vs) = list-both p q vs
+  kind-both (kind.Record fs) = list-both (λ f. p f.ty) (λ f. q f.ty) fs
+  kind-both (kind.Variant cs) = cases-both cs
+  kind-both (kind.Enum ns) = refl
+  kind-both (kind.Flags ns) = refl
+
+  pub definition-both : (d : Definition) → definition_all (λ u. p u && q u) d ≡ (definition_all p d && definition_all q d)
+  definition-both (row.Type d) = kind-both d.kind
+  definition-both (row.Function f) =
+      rw (list-both (λ (x : Parameter). p x.ty) (λ x. q x.ty) f.params, option-both f.result)
+      (swap-and (list_all (λ x. p x.ty) f.params) (list_all (λ x. q x.ty) f.params) (option_all p f.result) (option_all q f.result))
+
+-- ---- types that stand before
+
+pub names-more : (ds : List Definition) (i : ℕ) (d : Definition) → i < length ds → d ≡ get_or ds i d
+    → (are_earlier 0 (take i ds) ≡ true) × (list_all (definition_all (is_type ds)) (take i ds) ≡ true)
+    → definition_all (is_earlier ds i) d ≡ true
+    → (are_earlier 0 (take (i + 1) ds) ≡ true) × (list_all (definition_all (is_type ds)) (take (i + 1) ds) ≡ true)
+names-more ds i d h is so_far here =
+    let parts = split (definition_below i d) (definition_all (is_type ds) d) (sym (definition-both (is_below i) (is_type ds) d) ∙ here) in
+    let at : definition_all (is_type ds) (get_or ds i d) ≡ true = subst (λ (e : Definition). definition_all (is_type ds) e ≡ true) is parts.1 in (
+      earlier-more ds i d h is so_far.0 parts.0,
+      list_all_more (definition_all (is_type ds)) ds i d h ∙ both _ _ so_far.1 at,
+    )
+
+pub names-never : (ds : List Definition) (i : ℕ) (d : Definition) → i < length ds → d ≡ get_or ds i d → definition_all (is_earlier ds i) d ≡ false
+    → (are_earlier 0 ds && name_types ds) ≡ false
+names-never ds i d h is here = by (definition_below i d) (definition_all (is_type ds) d) refl refl
+  where
+    sides : (definition_below i d && definition_all (is_type ds) d) ≡ false
+    sides = sym (definition-both (is_below i) (is_type ds) d) ∙ here
+
+    last : (a : Bool) → (a && false) ≡ false
+    last true = refl
+    last false = refl
+
+    by : (a b : Bool) → definition_below i d ≡ a → definition_all (is_type ds) d ≡ b → (are_earlier 0 ds && name_types ds) ≡ false
+    by false b e g = rw (earlier-never ds i d h is e) refl
+    by true false e g =
+        let at : definition_all (is_type ds) (get_or ds i d) ≡ false = subst (λ (x : Definition). definition_all (is_type ds) x ≡ false) is g in
+        rw (list_all_at (definition_all (is_type ds)) ds i d h at) (last (are_earlier 0 ds))
+    by true true e g = absurd (true≢false (sym (both _ _ e g) ∙ sides))
+
+-- ---- parts of a package
+
+pub package-parts : (ds : List Definition) (is : List Interface) → is_package ds is ≡ true
+    → IsTrue (are_earlier 0 ds) × IsTrue (name_types ds) × IsTrue (are_standard ds) × IsTrue (are_placed ds is)
+package-parts ds is h =
+    let halves = split (are_earlier 0 ds && name_types ds) (are_standard ds && are_placed ds is) h in
+    let named = split (are_earlier 0 ds) (name_types ds) halves.0 in
+    let rest = split (are_standard ds) (are_placed ds is) halves.1 in
+    (named.0, named.1, rest.0, rest.1)

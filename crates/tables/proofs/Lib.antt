@@ -2,3 +2,4 @@ mod Names
 pub mod Rows
 mod Unfolded
 pub mod Earlier
+pub mod Standards

@@ -102,7 +102,7 @@ closed_params-stay ds k (p ∷ ps) h b =
 
 -- ---- functions
 
-get-at : (ds : List Definition) (k : ℕ) (d : Definition) → slice_get ds k ≡ Some d → (k < length ds) × ((x : Definition) → get_or ds k x ≡ d)
+pub get-at : (ds : List Definition) (k : ℕ) (d : Definition) → slice_get ds k ≡ Some d → (k < length ds) × ((x : Definition) → get_or ds k x ≡ d)
 get-at [] k d e = absurd (cc)
 get-at (x ∷ ds) zero d e = (omega arith, λ y. cc)
 get-at (x ∷ ds) (suc k) d e = let rest = get-at ds k d e in (omega (arith, rest.0), rest.1)

@@ -4,3 +4,4 @@ pub mod Names
 pub mod Same
 pub mod Package
 pub mod Parts
+pub mod Standard

@@ -13,6 +13,30 @@ use Rattle.tables.specs.declared.tables.Definition.{Definition}
 use Rattle.tables.specs.declared.tables.Definition.TheVariants as row
 use Rattle.tables.specs.declared.tables.Interface.{Interface}
 
+-- each type that a kind, or a definition, names directly has the property
+abbrev pub option_all : (ValType → Bool) → Option ValType → Bool
+option_all has None = true
+option_all has (Some v) = has v
+
+abbrev pub kind_all : (ValType → Bool) → TypeDefKind → Bool
+kind_all has (kind.Use t) = has (val.Id t)
+kind_all has (kind.Alias v) = has v
+kind_all has (kind.List v) = has v
+kind_all has (kind.Option v) = has v
+kind_all has (kind.Result ok error) = option_all has ok && option_all has error
+kind_all has (kind.Tuple vs) = list_all has vs
+kind_all has (kind.Record fs) = list_all (λ f. has f.ty) fs
+kind_all has (kind.Variant cs) = list_all (λ c. option_all has c.ty) cs
+kind_all has (kind.Enum names) = true
+kind_all has (kind.Flags names) = true
+
+abbrev pub function_all : (ValType → Bool) → Function → Bool
+function_all has f = list_all (λ p. has p.ty) f.params && option_all has f.result
+
+abbrev pub definition_all : (ValType → Bool) → Definition → Bool
+definition_all has (row.Type d) = kind_all has d.kind
+definition_all has (row.Function f) = function_all has f
+
 -- the type is a primitive or string, or stands in the table before place n
 abbrev pub is_below : ℕ → ValType → Bool
 is_below n (val.Primitive p) = true
@@ -20,27 +44,16 @@ is_below n val.String = true
 is_below n (val.Id t) = nat_lt t.0 n
 
 abbrev pub option_below : ℕ → Option ValType → Bool
-option_below n None = true
-option_below n (Some v) = is_below n v
+option_below n v = option_all (is_below n) v
 
 abbrev pub kind_below : ℕ → TypeDefKind → Bool
-kind_below n (kind.Use t) = nat_lt t.0 n
-kind_below n (kind.Alias v) = is_below n v
-kind_below n (kind.List v) = is_below n v
-kind_below n (kind.Option v) = is_below n v
-kind_below n (kind.Result ok error) = option_below n ok && option_below n error
-kind_below n (kind.Tuple vs) = list_all (is_below n) vs
-kind_below n (kind.Record fs) = list_all (λ f. is_below n f.ty) fs
-kind_below n (kind.Variant cs) = list_all (λ c. option_below n c.ty) cs
-kind_below n (kind.Enum names) = true
-kind_below n (kind.Flags names) = true
+kind_below n k = kind_all (is_below n) k
 
 abbrev pub function_below : ℕ → Function → Bool
-function_below n f = list_all (λ p. is_below n p.ty) f.params && option_below n f.result
+function_below n f = function_all (is_below n) f
 
 abbrev pub definition_below : ℕ → Definition → Bool
-definition_below n (row.Type d) = kind_below n d.kind
-definition_below n (row.Function f) = function_below n f
+definition_below n d = definition_all (is_below n) d
 
 -- each of these definitions, the first of which stands at place n, names earlier ones alone
 abbrev pub are_earlier : ℕ → List Definition → Bool
@@ -97,3 +110,17 @@ is_placed ds i = list_all (is_type_id ds) i.uses && (list_all (is_type_id ds) i.
 
 abbrev pub are_placed : List Definition → List Interface → Bool
 are_placed ds is = list_all (is_placed ds) is
+
+-- the type is a primitive or string, or a type of the table, not a function
+abbrev pub is_type : List Definition → ValType → Bool
+is_type ds (val.Primitive p) = true
+is_type ds val.String = true
+is_type ds (val.Id t) = is_type_id ds t
+
+-- the definitions name types alone
+abbrev pub name_types : List Definition → Bool
+name_types ds = list_all (definition_all (is_type ds)) ds
+
+-- the type stands in the table before place n, and is no function
+abbrev pub is_earlier : List Definition → ℕ → ValType → Bool
+is_earlier ds n v = is_below n v && is_type ds v

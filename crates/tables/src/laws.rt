@@ -1,5 +1,6 @@
 //! Laws of the tables.
 ghost use Rattle.tables.specs.Package.{ClosesAlike};
+ghost use Rattle.tables.specs.Standard.{HasStandardTypes};
 
 use crate::tables::Resolve;
 
@@ -7,4 +8,10 @@ use crate::tables::Resolve;
 /// of one name.
 pub fn closes_alike(_resolve: &Resolve)
     ensures { ClosesAlike _resolve.now }
+{}
+
+/// The types of a package are ones that a package can have: no record, variant or flags type is empty, and none
+/// is above the limits.
+pub fn types_are_standard(_resolve: &Resolve)
+    ensures { HasStandardTypes _resolve.now }
 {}

@@ -1,7 +1,7 @@
 //! A package of parts that were made elsewhere.
-ghost use Rattle.std.specs.Prelude.{◌≡◌, false, IfOk, IfErr};
+ghost use Rattle.std.specs.Prelude.{◌≡◌, ◌&&◌, false, IfOk, IfErr};
 ghost use Rattle.std.specs.List.{list_all};
-ghost use Rattle.tables.specs.Tables.{is_below, option_below, kind_below, function_below, definition_below, are_earlier, is_within, is_standard_kind, is_standard, are_standard, is_type_id, is_function_id, is_placed, are_placed};
+ghost use Rattle.tables.specs.Tables.{option_all, kind_all, function_all, definition_all, is_earlier, are_earlier, name_types, is_within, is_standard_kind, is_standard, are_standard, is_type_id, is_function_id, is_placed, are_placed};
 ghost use Rattle.tables.specs.Parts.{HasParts, is_package};
 
 use crate::error::ResolveError;
@@ -18,107 +18,110 @@ const MAX_CASES: usize = 100_000;
 /// The most labels of a flags type.
 const MAX_LABELS: usize = 32;
 
-fn is_below(place: usize, ty: ValType) -> bool
-    ensures { result ≡ is_below place ty }
+/// Whether the type stands before this place, and is no function.
+fn is_earlier(definitions: &[Definition], place: usize, ty: ValType) -> bool
+    ensures { result ≡ is_earlier definitions.now place ty }
 {
     match ty {
         ValType::Primitive(_) | ValType::String => true,
-        ValType::Id(id) => (id.0 as usize) < place,
+        ValType::Id(id) => (id.0 as usize) < place && is_type_id(definitions, id),
     }
 }
 
-fn is_option_below(place: usize, ty: Option<ValType>) -> bool
-    ensures { result ≡ option_below place ty }
+fn is_option_earlier(definitions: &[Definition], place: usize, ty: Option<ValType>) -> bool
+    ensures { result ≡ option_all (is_earlier definitions.now place) ty }
 {
     match ty {
-        Some(ty) => is_below(place, ty),
+        Some(ty) => is_earlier(definitions, place, ty),
         None => true,
     }
 }
 
-fn are_types_below(place: usize, types: &[ValType]) -> bool
-    ensures { result ≡ list_all (is_below place) types.now }
+fn are_types_earlier(definitions: &[Definition], place: usize, types: &[ValType]) -> bool
+    ensures { result ≡ list_all (is_earlier definitions.now place) types.now }
 {
     for ty in types {
-        if !is_below(place, *ty) {
+        if !is_earlier(definitions, place, *ty) {
             return false;
         }
     }
     true
 }
 
-fn are_fields_below(place: usize, fields: &[Field]) -> bool
-    ensures { result ≡ list_all (λ f. is_below place f.ty) fields.now }
+fn are_fields_earlier(definitions: &[Definition], place: usize, fields: &[Field]) -> bool
+    ensures { result ≡ list_all (λ f. is_earlier definitions.now place f.ty) fields.now }
 {
     for field in fields {
-        if !is_below(place, field.ty) {
+        if !is_earlier(definitions, place, field.ty) {
             return false;
         }
     }
     true
 }
 
-fn are_cases_below(place: usize, cases: &[Case]) -> bool
-    ensures { result ≡ list_all (λ c. option_below place c.ty) cases.now }
+fn are_cases_earlier(definitions: &[Definition], place: usize, cases: &[Case]) -> bool
+    ensures { result ≡ list_all (λ c. option_all (is_earlier definitions.now place) c.ty) cases.now }
 {
     for case in cases {
-        if !is_option_below(place, case.ty) {
+        if !is_option_earlier(definitions, place, case.ty) {
             return false;
         }
     }
     true
 }
 
-fn are_params_below(place: usize, params: &[Parameter]) -> bool
-    ensures { result ≡ list_all (λ p. is_below place p.ty) params.now }
+fn are_params_earlier(definitions: &[Definition], place: usize, params: &[Parameter]) -> bool
+    ensures { result ≡ list_all (λ p. is_earlier definitions.now place p.ty) params.now }
 {
     for param in params {
-        if !is_below(place, param.ty) {
+        if !is_earlier(definitions, place, param.ty) {
             return false;
         }
     }
     true
 }
 
-fn is_kind_below(place: usize, kind: &TypeDefKind) -> bool
-    ensures { result ≡ kind_below place kind.now }
+fn is_kind_earlier(definitions: &[Definition], place: usize, kind: &TypeDefKind) -> bool
+    ensures { result ≡ kind_all (is_earlier definitions.now place) kind.now }
 {
     match kind {
-        TypeDefKind::Use(target) => (target.0 as usize) < place,
+        TypeDefKind::Use(target) => is_earlier(definitions, place, ValType::Id(*target)),
         TypeDefKind::Alias(ty) | TypeDefKind::List(ty) | TypeDefKind::Option(ty) => {
-            is_below(place, *ty)
+            is_earlier(definitions, place, *ty)
         }
         TypeDefKind::Result(ok, error) => {
-            is_option_below(place, *ok) && is_option_below(place, *error)
+            is_option_earlier(definitions, place, *ok)
+                && is_option_earlier(definitions, place, *error)
         }
-        TypeDefKind::Tuple(types) => are_types_below(place, types.as_slice()),
-        TypeDefKind::Record(fields) => are_fields_below(place, fields.as_slice()),
-        TypeDefKind::Variant(cases) => are_cases_below(place, cases.as_slice()),
+        TypeDefKind::Tuple(types) => are_types_earlier(definitions, place, types.as_slice()),
+        TypeDefKind::Record(fields) => are_fields_earlier(definitions, place, fields.as_slice()),
+        TypeDefKind::Variant(cases) => are_cases_earlier(definitions, place, cases.as_slice()),
         TypeDefKind::Enum(_) | TypeDefKind::Flags(_) => true,
     }
 }
 
-fn is_function_below(place: usize, function: &Function) -> bool
-    ensures { result ≡ function_below place function.now }
+fn is_function_earlier(definitions: &[Definition], place: usize, function: &Function) -> bool
+    ensures { result ≡ function_all (is_earlier definitions.now place) function.now }
 {
-    are_params_below(place, function.params.as_slice()) && is_option_below(place, function.result)
+    are_params_earlier(definitions, place, function.params.as_slice())
+        && is_option_earlier(definitions, place, function.result)
 }
 
-fn is_definition_below(place: usize, definition: &Definition) -> bool
-    ensures { result ≡ definition_below place definition.now }
+fn is_definition_earlier(definitions: &[Definition], place: usize, definition: &Definition) -> bool
+    ensures { result ≡ definition_all (is_earlier definitions.now place) definition.now }
 {
     match definition {
-        Definition::Type(definition) => is_kind_below(place, &definition.kind),
-        Definition::Function(function) => is_function_below(place, function),
+        Definition::Type(definition) => is_kind_earlier(definitions, place, &definition.kind),
+        Definition::Function(function) => is_function_earlier(definitions, place, function),
     }
 }
 
-/// Whether each definition names earlier ones alone.
-fn are_earlier(definitions: &[Definition]) -> bool
-    ensures { result ≡ are_earlier 0 definitions.now }
+/// Whether each definition names earlier types alone.
+fn name_earlier_types(definitions: &[Definition]) -> bool
+    ensures { result ≡ (are_earlier 0 definitions.now && name_types definitions.now) }
 {
     for (place, definition) in definitions.iter().enumerate() {
-        if !is_definition_below(place, definition) {
+        if !is_definition_earlier(definitions, place, definition) {
             return false;
         }
     }
@@ -225,9 +228,17 @@ fn are_placed(definitions: &[Definition], interfaces: &[Interface]) -> bool
     true
 }
 
+fn is_package(definitions: &[Definition], interfaces: &[Interface]) -> bool
+    ensures { result ≡ is_package definitions.now interfaces.now }
+{
+    name_earlier_types(definitions)
+        && are_standard(definitions)
+        && are_placed(definitions, interfaces)
+}
+
 impl Resolve {
-    /// The package of these parts. 44 exactly where a definition names one that isn't before it, or has no or
-    /// too many parts, or where an interface names a place that is of another kind.
+    /// The package of these parts. 44 exactly where a definition names one that isn't a type before it, or has no
+    /// or too many parts, or where an interface names a place that is of another kind.
     pub fn from_parts(
         namespace: Label,
         name: Label,
@@ -239,11 +250,7 @@ impl Resolve {
         ensures ok { IfOk result (λ r. HasParts namespace name version interfaces worlds definitions r) }
         ensures err { IfErr result (λ e. (e ≡ ResolveError.NotThisShape) × (is_package definitions interfaces ≡ false)) }
     {
-        let rows = definitions.as_slice();
-        let is_package = are_earlier(rows)
-            && are_standard(rows)
-            && are_placed(rows, interfaces.as_slice());
-        if !is_package {
+        if !is_package(definitions.as_slice(), interfaces.as_slice()) {
             return Err(ResolveError::NotThisShape);
         }
         Ok(Resolve {

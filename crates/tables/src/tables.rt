@@ -1,6 +1,6 @@
 //! The tables of a package: interfaces, worlds, and one table of definitions.
 ghost use Rattle.std.specs.Prelude.{IsTrue};
-ghost use Rattle.tables.specs.Tables.{are_earlier, are_standard, are_placed};
+ghost use Rattle.tables.specs.Tables.{are_earlier, name_types, are_standard, are_placed};
 
 use crate::sequence::Sequence;
 use atoms::Label;
@@ -167,9 +167,10 @@ pub struct Resolve {
     pub version: Option<String>,
     pub interfaces: Sequence<Interface>,
     pub worlds: Sequence<World>,
-    /// Types and functions, each after the definitions that it names.
+    /// Types and functions, each after the types that it names.
     pub definitions: Sequence<Definition>,
     ghost earlier: { IsTrue (are_earlier 0 definitions) },
+    ghost typed: { IsTrue (name_types definitions) },
     ghost standard: { IsTrue (are_standard definitions) },
     ghost placed: { IsTrue (are_placed definitions interfaces) },
 }

@@ -3,13 +3,13 @@ use Rattle.wit_syntax.specs.View.{optional_view, case_view}
 use Rattle.resolve.specs.Postfix.{unnamed_case}
 use Rattle.resolve.specs.Declarations.{named_case}
 use Rattle.resolve.specs.Resolved.{resolved_if, case_meaning}
-use Rattle.resolve.specs.Building.{LowersIf, scope_name, scope_names, case_below, read_case}
+use Rattle.resolve.specs.Building.{LowersIf, scope_name, scope_names, case_typed, read_case}
 use Rattle.resolve.proofs.Lists.{all_flat-at, map_map-more}
 use Rattle.resolve.proofs.Lowering.{scope-later, same_name, choice-same, lowers_each-none, lowers_each-more, case-stays}
 use Rattle.resolve.proofs.bodies.lower_cases.Goals as goal
 
 pub loop-item-init : goal.loop-item-init
-loop-item-init c = rw c.new-cases.ensures.items (lowers_each-none case_below read_case unnamed_case c.args.builder.now)
+loop-item-init c = rw c.new-cases.ensures.items (lowers_each-none case_typed read_case unnamed_case c.args.builder.now)
 
 pub lower_optional-requires-clause-scoped : goal.lower_optional-requires-clause-scoped
 lower_optional-requires-clause-scoped c = scope-later c.args.builder.now c.loop-item.builder c.args.scope.now c.loop-item.invariant.extends.front c.requires.scoped
@@ -28,6 +28,6 @@ loop-item-preserved c =
     let so_far = c.loop-item.invariant in
     let x = c.item-item.result in
     let m = subst (λ (i : List ℕ). LowersIf mid new c.in_ok-ty.ty (resolved_if i (optional_view x.payload))) (same_name old mid scope so_far.extends.front) c.in_ok-ty.ensures in
-    let more = lowers_each-more case_below read_case unnamed_case case-stays old mid new c.loop-item.cases.items _ (record { name = c.in_ok-copy.field-0; ty = c.in_ok-ty.ty }) (case_meaning here (case_view x))
-    so_far m.extends m.below (choice-same c.in_ok-copy.field-0 x.name _ _ c.in_ok-copy.ensures m.reads) in
+    let more = lowers_each-more case_typed read_case unnamed_case case-stays old mid new c.loop-item.cases.items _ (record { name = c.in_ok-copy.field-0; ty = c.in_ok-ty.ty }) (case_meaning here (case_view x))
+    so_far m.extends m.typed (choice-same c.in_ok-copy.field-0 x.name _ _ c.in_ok-copy.ensures m.reads) in
     rw (c.in_ok-push.ensures.items, map_map-more (case_meaning here) case_view c.args.items.now c.loop-item.item-index x (omega arith) c.item-item.is) more

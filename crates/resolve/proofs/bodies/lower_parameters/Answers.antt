@@ -3,13 +3,13 @@ use Rattle.wit_syntax.specs.View.{ty_view, field_view}
 use Rattle.resolve.specs.Postfix.{unnamed_parameter}
 use Rattle.resolve.specs.Declarations.{named_member}
 use Rattle.resolve.specs.Resolved.{resolved, member_meaning}
-use Rattle.resolve.specs.Building.{Lowers, scope_name, scope_names, parameter_below, read_parameter}
+use Rattle.resolve.specs.Building.{Lowers, scope_name, scope_names, parameter_typed, read_parameter}
 use Rattle.resolve.proofs.Lists.{all_flat-at, map_map-more}
 use Rattle.resolve.proofs.Lowering.{scope-later, same_name, labelled-same, lowers_each-none, lowers_each-more, parameter-stays}
 use Rattle.resolve.proofs.bodies.lower_parameters.Goals as goal
 
 pub loop-member-init : goal.loop-member-init
-loop-member-init c = rw c.new-parameters.ensures.items (lowers_each-none parameter_below read_parameter unnamed_parameter c.args.builder.now)
+loop-member-init c = rw c.new-parameters.ensures.items (lowers_each-none parameter_typed read_parameter unnamed_parameter c.args.builder.now)
 
 pub lower_type-requires-clause-scoped : goal.lower_type-requires-clause-scoped
 lower_type-requires-clause-scoped c = scope-later c.args.builder.now c.loop-member.builder c.args.scope.now c.loop-member.invariant.extends.front c.requires.scoped
@@ -28,6 +28,6 @@ loop-member-preserved c =
     let so_far = c.loop-member.invariant in
     let x = c.member-item.result in
     let m = subst (λ (i : List ℕ). Lowers mid new c.in_ok-ty.ty (resolved i (ty_view x.ty))) (same_name old mid scope so_far.extends.front) c.in_ok-ty.ensures in
-    let more = lowers_each-more parameter_below read_parameter unnamed_parameter parameter-stays old mid new c.loop-member.parameters.items _ (record { name = c.in_ok-copy.field-0; ty = c.in_ok-ty.ty }) (member_meaning here (field_view x))
-    so_far m.extends m.stands.below (labelled-same c.in_ok-copy.field-0 x.name _ _ c.in_ok-copy.ensures m.stands.reads) in
+    let more = lowers_each-more parameter_typed read_parameter unnamed_parameter parameter-stays old mid new c.loop-member.parameters.items _ (record { name = c.in_ok-copy.field-0; ty = c.in_ok-ty.ty }) (member_meaning here (field_view x))
+    so_far m.extends m.stands.typed (labelled-same c.in_ok-copy.field-0 x.name _ _ c.in_ok-copy.ensures m.stands.reads) in
     rw (c.in_ok-push.ensures.items, map_map-more (member_meaning here) field_view c.args.members.now c.loop-member.member-index x (omega arith) c.member-item.is) more

@@ -1,5 +1,5 @@
 use Rattle.std.proofs.Common.{◌≡◌, ◌∙◌, List, IsTrue, length, ap, sym, subst, arith}
-use Rattle.tables.specs.Tables.{are_earlier, are_standard, are_placed}
+use Rattle.tables.specs.Tables.{are_earlier, name_types, are_standard, are_placed}
 use Rattle.resolve.specs.Resolves.{interfaces_from}
 use Rattle.tables.specs.declared.tables.Definition.{Definition}
 use Rattle.tables.specs.declared.tables.Interface.{Interface}
@@ -18,7 +18,8 @@ invariant_of-result c =
     let tested : c.new-3.result ≡ c.deref-else-passes_entries.result.now = c.new-3.ensures ∙ sym c.deref-else-passes_entries.ensures.value in
     let listed : c.new-3.result ≡ c.deref-2.result.now = c.new-3.ensures ∙ sym c.deref-2.ensures.value in
     record {
-      earlier = subst (λ (ds : List Definition). IsTrue (are_earlier 0 ds)) (sym rows) c.requires;
+      earlier = subst (λ (ds : List Definition). IsTrue (are_earlier 0 ds)) (sym rows) c.requires.earlier;
+      typed = subst (λ (ds : List Definition). IsTrue (name_types ds)) (sym rows) c.requires.typed;
       standard = subst (λ (ds : List Definition). IsTrue (are_standard ds)) (sym tested) (sym c.are_standard.ensures ∙ c.if-not-are_standard.false);
       placed = subst (λ (is : List Interface). IsTrue (are_placed c.new-3.result is)) (sym c.in_ok-interfaces_in.ensures)
           (subst (λ (ds : List Definition). IsTrue (are_placed c.new-3.result (interfaces_from ds 0 c.deref-3.result.now))) listed (all-placed-ids c.new-3.result 0 c.deref-3.result.now));

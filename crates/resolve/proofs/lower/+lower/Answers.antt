@@ -3,7 +3,7 @@ use Rattle.std.proofs.Common.{List, ℕ, [], Some, subst, ap, ◌∙◌, sym, ar
 use Rattle.wit_syntax.specs.Syntax.{MaybeTy, Named, ListOf, OptionOf, TupleOf, ResultOf, Present}
 use Rattle.wit_syntax.specs.View.{ty_view, boxed_view}
 use Rattle.tables.specs.Package.{read_val}
-use Rattle.tables.specs.Tables.{is_below}
+use Rattle.tables.specs.Tables.{is_type}
 use Rattle.resolve.specs.Postfix.{unnamed}
 use Rattle.resolve.specs.Declarations.{named_maybe}
 use Rattle.resolve.specs.Resolved.{resolved, resolved_maybe}
@@ -120,5 +120,5 @@ lower_all-loop-expression-preserved t c =
     let so_far = c.loop-expression.invariant in
     let l = subst (λ (i : List ℕ). LowersInner mid c.lower_kind.new.builder c.in_ok-kind.kind (resolved i (ty_view x))) (same_name old mid scope so_far.extends.front) c.in_ok-kind.ensures in
     let m = c.in_ok-inner.ensures mid (resolved here (ty_view x)) l in
-    let more = lowers_each-more is_below read_val unnamed val-stays old mid new c.loop-expression.types.items _ _ _ so_far m.extends m.stands.below m.stands.reads in
+    let more = lowers_each-more is_type read_val unnamed val-stays old mid new c.loop-expression.types.items _ _ _ so_far m.extends m.stands.typed m.stands.reads in
     rw (c.in_ok-push.ensures.items, resolved_all-more here xs k x (omega arith) c.expression-item.is) more

@@ -12,7 +12,7 @@ use Rattle.canonical_abi.specs.declared.flat.Flat.{Flat}
 use Rattle.tables.specs.Closed.{closed_type, closed_types, function_type}
 use Rattle.lift_lower.specs.Scalars.{AreScalar}
 use Rattle.lift_lower.specs.Val.{value_of}
-use Rattle.lift_lower.proofs.ScalarTypes.{scalars-inside, scalars-small, scalars-standard}
+use Rattle.lift_lower.proofs.ScalarTypes.{scalars-inside, scalars-small, scalars-known}
 use Rattle.lift_lower.specs.Crossing.{IsLowered, LowerFails}
 use Rattle.lift_lower.specs.Gives.{AnswerStands}
 use Rattle.lift_lower.specs.Shape.{IsInside}
@@ -24,14 +24,11 @@ use Rattle.witcall.proofs.Promised.{promised}
 use Rattle.witcall.proofs.TypedCalls.{world, placed, place_fails, link_fails, came_back, takes}
 use Rattle.witcall.proofs.session.Session.call.Goals as goal
 
-pub lower-requires-clause-inside : goal.lower-requires-clause-inside
-lower-requires-clause-inside g c = scalars-inside c.resolve-resolve.result.now c.params.result.now (subst AreScalar (sym c.params.ensures) c.of-types.ensures.scalar_params)
-
 pub lower-requires-clause-small : goal.lower-requires-clause-small
 lower-requires-clause-small g c = scalars-small c.resolve-resolve.result.now c.params.result.now (subst AreScalar (sym c.params.ensures) c.of-types.ensures.scalar_params)
 
-pub lower-requires-clause-standard : goal.lower-requires-clause-standard
-lower-requires-clause-standard g c = scalars-standard c.resolve-resolve.result.now c.params.result.now (subst AreScalar (sym c.params.ensures) c.of-types.ensures.scalar_params)
+pub lower-requires-clause-known : goal.lower-requires-clause-known
+lower-requires-clause-known g c = scalars-known c.resolve-resolve.result.now c.params.result.now (subst AreScalar (sym c.params.ensures) c.of-types.ensures.scalar_params)
 
 pub returns-in_err-flats-clause-call : goal.returns-in_err-flats-clause-call
 returns-in_err-flats-clause-call g c =
