@@ -7,6 +7,9 @@ pub mod Steps
 pub mod Passing
 pub mod FlatSteps
 pub mod Denoting
+pub mod Alone
+pub mod Denoted
+pub mod Known
 pub mod Typings
 pub mod ScalarTypes
 pub mod Scripting

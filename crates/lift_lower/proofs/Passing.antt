@@ -43,6 +43,6 @@ pub block-tells : (t : ClosedType) (m : List ℕ) (at : ℕ) → Tells (reading_
 block-tells t m at = block-at-tells (λ a. reading t m a) (Holds t m at) (Faulty t m at) m at (align t) (size t) (reading-tells t m at)
 
 -- a refusal that is what is read is a fault that stands
-pub fails-stand : {X : Type 0} (step : Step) (e : Refusal) (f : Fault) (read : Result Value TrapKind) (P : X → Type 0) (F : TrapKind → Type 0) → f ≡ fault_at step e → Fails e read → ((k : TrapKind) → read ≡ Err k → F k) → AnswerStands step P F (Err f)
+pub fails-stand : {X Y : Type 0} (step : Step) (e : Refusal) (f : Fault) (read : Result Y TrapKind) (P : X → Type 0) (F : TrapKind → Type 0) → f ≡ fault_at step e → Fails e read → ((k : TrapKind) → read ≡ Err k → F k) → AnswerStands step P F (Err f)
 fails-stand step refusal.NoMemory f read P F is h stands = rw is tt
 fails-stand step (refusal.Trap k) f read P F is h stands = rw is (refl, stands k h)

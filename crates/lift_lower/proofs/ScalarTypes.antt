@@ -3,16 +3,17 @@ use Rattle.std.proofs.Common.{◌≡◌, ℕ, ◌+◌, ◌*◌, ◌-◌, ◌%◌
 use Rattle.std.specs.List.{list_all}
 use Rattle.std.specs.Int.{next_multiple_of}
 use Rattle.std.proofs.Math.Nat.{mod-lt}
-use Rattle.canonical_abi.specs.Types.{ClosedType, prim_type, record_type, fields_of, AreStandardFields}
+use Rattle.canonical_abi.specs.Types.{ClosedType, prim_type, record_type, fields_of}
 use Rattle.canonical_abi.specs.Layout.{size, align, end_from, field_extents}
 use Rattle.canonical_abi.proofs.Sizes.{is-alignment}
-use Rattle.tables.specs.Tables.{is_below}
+use Rattle.tables.specs.Tables.{is_below, is_type}
 use Rattle.tables.specs.Closed.{prim_of, closed_val, closed_types, is_scalar}
+use Rattle.tables.specs.declared.tables.Definition.{Definition}
 use Rattle.tables.specs.declared.tables.Resolve.{Resolve}
 use Rattle.tables.specs.declared.tables.ValType.{ValType}
 use Rattle.tables.specs.declared.tables.ValType.TheVariants as val
 use Rattle.lift_lower.specs.Crossing.{fields_of_types}
-use Rattle.lift_lower.specs.Members.{AreAllInside}
+use Rattle.lift_lower.specs.Members.{AreAllInside, AreTypesOf}
 use Rattle.lift_lower.specs.Scalars.{AreScalar}
 use Rattle.lift_lower.proofs.Extents.{align-pos}
 
@@ -25,14 +26,14 @@ all-below n (val.Id i ∷ ts) h = cc
 pub scalars-inside : (r : Resolve) (types : List ValType) → AreScalar types → AreAllInside r types
 scalars-inside r types s = all-below (length r.definitions) types s.primitive
 
-all-standard : (rows : List ClosedType) (types : List ValType) → list_all is_scalar types ≡ true → AreStandardFields (fields_of (map (closed_val rows) types))
-all-standard rows [] h = tt
-all-standard rows (val.Primitive p ∷ ts) h = (tt, all-standard rows ts h)
-all-standard rows (val.String ∷ ts) h = cc
-all-standard rows (val.Id i ∷ ts) h = cc
+all-known : (ds : List Definition) (types : List ValType) → list_all is_scalar types ≡ true → list_all (is_type ds) types ≡ true
+all-known ds [] h = refl
+all-known ds (val.Primitive p ∷ ts) h = all-known ds ts h
+all-known ds (val.String ∷ ts) h = cc
+all-known ds (val.Id i ∷ ts) h = cc
 
-pub scalars-standard : (r : Resolve) (types : List ValType) → AreScalar types → AreStandardFields (fields_of_types r types)
-scalars-standard r types s = all-standard (closed_types r) types s.primitive
+pub scalars-known : (r : Resolve) (types : List ValType) → AreScalar types → AreTypesOf r types
+scalars-known r types s = all-known r.definitions types s.primitive
 
 align-few : (t : ClosedType) → align t ≤ 8
 align-few t = elim (is-alignment t) [

@@ -3,7 +3,7 @@ use Rattle.std.specs.Prelude.{◌≡◌, true, List, map, length}
 use Rattle.std.specs.List.{list_all}
 use Rattle.canonical_abi.specs.Types.{Fields, fields_of, record_fields}
 use Rattle.tables.specs.Closed.{closed_type}
-use Rattle.tables.specs.Tables.{is_below}
+use Rattle.tables.specs.Tables.{is_below, is_type}
 use Rattle.tables.specs.declared.tables.Resolve.{Resolve}
 use Rattle.tables.specs.declared.tables.ValType.{ValType}
 use Rattle.lift_lower.specs.Shape.{IsInside, IsFollowed}
@@ -23,3 +23,7 @@ AreAllInside r types = list_all (is_below (length r.definitions)) types ≡ true
 abbrev pub AreInside : Resolve → Members → Type 0
 AreInside r (Of ty) = IsInside r ty × IsFollowed r ty
 AreInside r (Listed types) = AreAllInside r types.now
+
+-- types of the package
+abbrev pub AreTypesOf : Resolve → List ValType → Type 0
+AreTypesOf r types = list_all (is_type r.definitions) types ≡ true

@@ -1,8 +1,8 @@
 //! Values in flat values, as numbers: what a joined core value has above a kind's own bits is cut off.
 //!
 //! The walk goes down the type and takes from the front of the flat values; texts and lists are loaded.
-ghost use Rattle.std.specs.Prelude.{◌≡◌, ◌+◌, ◌%◌, ◌<◌, ◌≤◌, ◌^◌, ℕ, List, suc, length, map, drop};
-ghost use Rattle.canonical_abi.specs.Types.{variant_cases, field_count, prim_type, variant_type};
+ghost use Rattle.std.specs.Prelude.{◌≡◌, ◌≢◌, Err, ◌+◌, ◌%◌, ◌<◌, ◌≤◌, ◌^◌, ℕ, List, suc, length, map, drop};
+ghost use Rattle.canonical_abi.specs.Types.{IsPlain, AllPlain, variant_cases, field_count, prim_type, variant_type};
 ghost use Rattle.canonical_abi.specs.Layout.{flat_kinds, field_kinds, payload_kinds};
 ghost use Rattle.canonical_abi.specs.Reading.{number_of, low_bits, lifting, lifting_fields, lifting_case};
 ghost use Rattle.layout.specs.Layout.{layouts_of};
@@ -36,7 +36,8 @@ pub(crate) fn low_word(flats: &[Flat], index: usize) -> u32
 #[tactic(auto, unfolding(canonical_abi::specs::Reading::low_bits))]
 fn lift_primitive(primitive: Primitive, flats: &[Flat]) -> Result<Val, Refusal>
     requires { 0 < length flats.now }
-    ensures { (m : List ℕ) → Gives value_of result (lifting (prim_type (prim_of primitive)) m (map number_of flats.now)) }
+    ensures value { (m : List ℕ) → Gives value_of result (lifting (prim_type (prim_of primitive)) m (map number_of flats.now)) }
+    ensures plain { result ≢ Err Refusal.NoMemory }
 {
     match lift_scalar(primitive, flats[0]) {
         Ok(scalar) => Ok(scalar.to_val()),
@@ -46,7 +47,7 @@ fn lift_primitive(primitive: Primitive, flats: &[Flat]) -> Result<Val, Refusal>
 
 /// The value in the first of these flat values.
 #[cycle(lift)]
-fn lift_at(
+pub(crate) fn lift_at(
     alloc: Global,
     resolve: &Resolve,
     layouts: &Layouts,
@@ -58,7 +59,8 @@ fn lift_at(
     requires inside { IsInside resolve.now ty }
     requires carried { length (flat_kinds (closed_type resolve.now ty)) ≤ length flats.now }
     requires few { length flats.now ≤ 16 }
-    ensures { Gives value_of result (lifting (closed_type resolve.now ty) memory.now (map number_of flats.now)) }
+    ensures value { Gives value_of result (lifting (closed_type resolve.now ty) memory.now (map number_of flats.now)) }
+    ensures plain { IsPlain (closed_type resolve.now ty) → result ≢ Err Refusal.NoMemory }
 {
     let ty = followed(resolve, ty);
     match shape_of(resolve, ty) {
@@ -133,8 +135,9 @@ fn lift_variant(
     requires variant { variant_type (variant_cases (closed_type resolve.now ty)) ≡ closed_type resolve.now ty }
     requires carried { length (payload_kinds (variant_cases (closed_type resolve.now ty))) < length flats.now }
     requires few { length flats.now ≤ 16 }
-    ensures { let ns = map number_of flats.now in
+    ensures value { let ns = map number_of flats.now in
         Gives value_of result (lifting_case (variant_cases (closed_type resolve.now ty)) memory.now (drop 1 ns) (low_bits ns 0 32) (low_bits ns 0 32)) }
+    ensures plain { AllPlain (variant_cases (closed_type resolve.now ty)) → result ≢ Err Refusal.NoMemory }
 {
     let case = low_word(flats, 0);
     let Some(payload) = case_payload(resolve, ty, case as usize) else {

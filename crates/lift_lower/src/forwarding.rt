@@ -9,7 +9,7 @@ ghost use Rattle.canonical_abi.specs.Requests.{params_requests, fields_requests}
 ghost use Rattle.layout.specs.Layout.{layouts_of};
 ghost use Rattle.lift_lower.specs.Crossing.{fields_of_types};
 ghost use Rattle.lift_lower.specs.Lowered.{PassesResultBy};
-ghost use Rattle.lift_lower.specs.Members.{AreAllInside};
+ghost use Rattle.lift_lower.specs.Members.{AreAllInside, AreTypesOf};
 ghost use Rattle.lift_lower.specs.Passing.{AreAddressable, HasArea, ParamsPassed, ParamsFailed, ResultPassed, ResultFailed};
 ghost use Rattle.lift_lower.specs.Scripts.{IsDone, HasEnded};
 ghost use Rattle.lift_lower.specs.Val.{value_of};
@@ -35,9 +35,8 @@ pub fn pass_params<G: Guest>(
     guest: &mut G,
 ) -> Result<Flats, TrapKind>
     requires laid_out { layouts.now ≡ layouts_of resolve.now }
-    requires inside { AreAllInside resolve.now types.now }
+    requires known { AreTypesOf resolve.now types.now }
     requires small { size (record_type (fields_of_types resolve.now types.now)) ≤ 16777216 }
-    requires standard { AreStandardFields (fields_of_types resolve.now types.now) }
     requires typed { HaveTypes (map value_of values.now) (fields_of_types resolve.now types.now) }
     requires addressable { AreAddressable (params_requests max_flat_params (fields_of_types resolve.now types.now) (map value_of values.now)) }
     ensures passed { IfOk result (λ flats. ParamsPassed max_flat_params G.allocates (fields_of_types resolve.now types.now)
@@ -58,8 +57,7 @@ pub fn pass_result<G: Guest>(
     area: u32,
 ) -> Result<Flats, TrapKind>
     requires laid_out { layouts.now ≡ layouts_of resolve.now }
-    requires inside { AreAllInside resolve.now types.now }
-    requires standard { AreStandardFields (fields_of_types resolve.now types.now) }
+    requires known { AreTypesOf resolve.now types.now }
     requires typed { HaveTypes (map value_of values.now) (fields_of_types resolve.now types.now) }
     requires addressable { AreAddressable (fields_requests (fields_of_types resolve.now types.now) (map value_of values.now)) }
     requires area { HasArea max_flat_results (fields_of_types resolve.now types.now) area (G.memory guest.old).bytes }

@@ -24,7 +24,7 @@ mod val;
 mod writing;
 
 pub use forwarding::{pass_params, pass_result};
-pub use lifting::lift;
+pub use lifting::{lift, lift_result};
 pub use loading::load;
 pub use lowering::lower;
 pub use scalar::{Scalar, core_kind, lift_scalar, lower_scalar};

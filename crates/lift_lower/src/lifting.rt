@@ -1,19 +1,26 @@
 //! Lifting: the values that flat values denote.
-ghost use Rattle.std.specs.Prelude.{◌≡◌, ◌≤◌, ◌↔◌, ◌<◌, ◌^◌, ℕ, IsTrue, length, map, IfOk, IfErr};
-ghost use Rattle.canonical_abi.specs.Types.{record_type};
-ghost use Rattle.canonical_abi.specs.Flat.{Denotes};
-ghost use Rattle.canonical_abi.specs.Layout.{size, max_flat_params};
+ghost use Rattle.std.specs.Prelude.{◌≡◌, ◌≢◌, ◌≤◌, ◌↔◌, ◌<◌, ◌^◌, ℕ, Err, IsTrue, [], ◌∷◌, length, map, IfOk, IfErr, IfSome, option_map};
+ghost use Rattle.canonical_abi.specs.Types.{record_type, result_fields, field, no_field, IsPlain};
+ghost use Rattle.canonical_abi.specs.Flat.{Denotes, DenotesFault};
+ghost use Rattle.canonical_abi.specs.Layout.{size, max_flat_params, max_flat_results};
 ghost use Rattle.canonical_abi.specs.Reading.{denoting, kind_of};
+ghost use Rattle.canonical_abi.specs.Requests.{fields_requests, params_requests};
+ghost use Rattle.canonical_abi.specs.Session.{as_list};
+ghost use Rattle.canonical_abi.specs.Values.{HaveTypes};
+ghost use Rattle.canonical_abi.specs.declared.trap.Step.TheVariants.{Take};
 ghost use Rattle.layout.specs.Layout.{layouts_of};
+ghost use Rattle.tables.specs.Closed.{closed_type};
 ghost use Rattle.lift_lower.specs.Crossing.{fields_of_types, LiftFails};
-ghost use Rattle.lift_lower.specs.Gives.{Gives};
-ghost use Rattle.lift_lower.specs.Loading.{reading_members};
+ghost use Rattle.lift_lower.specs.Gives.{Gives, AnswerStands};
+ghost use Rattle.lift_lower.specs.Loading.{reading_members, AreBytes};
 ghost use Rattle.lift_lower.specs.Members.{AreAllInside};
+ghost use Rattle.lift_lower.specs.Passing.{AreAddressable};
+ghost use Rattle.lift_lower.specs.Shape.{IsInside};
 ghost use Rattle.lift_lower.specs.Val.{value_of};
 
 use crate::extent::{kinds_within, record_extent};
-use crate::flat::{lift_fields, low_word};
-use crate::loading::{check_block, load_fields};
+use crate::flat::{lift_at, lift_fields, low_word};
+use crate::loading::{check_block, load_block, load_fields};
 use crate::refusal::Refusal;
 use crate::shape::Members;
 use crate::val::Val;
@@ -37,13 +44,83 @@ pub fn lift<G: Guest>(
     requires small { size (record_type (fields_of_types resolve.now types.now)) ≤ 16777216 }
     ensures values { IfOk result (λ values. Denotes max_flat_params (fields_of_types resolve.now types.now)
         (G.memory guest.now).bytes flats.now (map value_of values.items)) }
+    ensures typed { IfOk result (λ values. HaveTypes (map value_of values.items) (fields_of_types resolve.now types.now)) }
+    ensures addressable { IfOk result (λ values. AreAddressable
+        (params_requests max_flat_params (fields_of_types resolve.now types.now) (map value_of values.items))) }
     ensures fault { IfErr result
         (LiftFails (fields_of_types resolve.now types.now) (G.memory guest.now).bytes flats.now) }
 {
+    // A memory's length is a number of 32 bits, and so is that of each of its blocks.
+    let _len = guest.len();
     match lift_values(alloc, resolve, layouts, types, flats, guest.bytes(), 16) {
         Ok(values) => Ok(values),
         Err(refusal) => Err(refusal.at(Step::Take)),
     }
+}
+
+/// The value of a result that flat values denote over a memory, of which at most one goes flat, or the first
+/// fault, in step `take`. Where there is no result, there is no value. `NoMemory` where the host has none for
+/// the value, and never where its type is plain: its values have no parts.
+pub fn lift_result<G: Guest>(
+    alloc: Global,
+    resolve: &Resolve,
+    layouts: &Layouts,
+    ty: Option<ValType>,
+    flats: &[Flat],
+    guest: &G,
+) -> Result<Option<Val>, Fault>
+    requires laid_out { layouts.now ≡ layouts_of resolve.now }
+    requires inside { IfSome ty (IsInside resolve.now) }
+    ensures value { let ts = result_fields (option_map (closed_type resolve.now) ty) in
+        AnswerStands Take (λ v. Denotes max_flat_results ts (G.memory guest.now).bytes flats.now (as_list (option_map value_of v)))
+        (DenotesFault max_flat_results ts (G.memory guest.now).bytes flats.now) result }
+    ensures plain { IfSome ty (λ t. IsPlain (closed_type resolve.now t)) → result ≢ Err Fault.NoMemory }
+    ensures typed { IfOk result (λ v. HaveTypes (as_list (option_map value_of v))
+        (result_fields (option_map (closed_type resolve.now) ty))) }
+    ensures addressable { IfOk result (λ v. AreAddressable
+        (fields_requests (result_fields (option_map (closed_type resolve.now) ty)) (as_list (option_map value_of v)))) }
+{
+    let Some(ty) = ty else {
+        if flats.is_empty() {
+            return Ok(None);
+        }
+        return Err(Refusal::Trap(TrapKind::CoreSignature).at(Step::Take));
+    };
+    // A memory's length is a number of 32 bits, and so is that of each of its blocks.
+    let _len = guest.len();
+    match lift_value(alloc, resolve, layouts, ty, flats, guest.bytes()) {
+        Ok(value) => Ok(Some(value)),
+        Err(refusal) => Err(refusal.at(Step::Take)),
+    }
+}
+
+/// The value that flat values denote, of which at most one goes flat.
+fn lift_value(
+    alloc: Global,
+    resolve: &Resolve,
+    layouts: &Layouts,
+    ty: ValType,
+    flats: &[Flat],
+    memory: &[u8],
+) -> Result<Val, Refusal>
+    requires laid_out { layouts.now ≡ layouts_of resolve.now }
+    requires inside { IsInside resolve.now ty }
+    ensures value { Gives (λ v. value_of v ∷ []) result
+        (denoting max_flat_results (field (closed_type resolve.now ty) no_field) memory.now flats.now) }
+    ensures plain { IsPlain (closed_type resolve.now ty) → result ≢ Err Refusal.NoMemory }
+    ensures bytes { AreBytes memory.now }
+{
+    let Some(kinds) = kinds_within(resolve, layouts, &[ty], 1) else {
+        if !are_kinds(&[CoreKind::I32], flats) {
+            return Err(Refusal::Trap(TrapKind::CoreSignature));
+        }
+        let at = low_word(flats, 0);
+        return load_block(alloc, resolve, layouts, ty, memory, at);
+    };
+    if !are_kinds(kinds.as_slice(), flats) {
+        return Err(Refusal::Trap(TrapKind::CoreSignature));
+    }
+    lift_at(alloc, resolve, layouts, ty, memory, flats)
 }
 
 /// The values that flat values denote, of which at most `limit` go flat.
@@ -60,8 +137,9 @@ pub(crate) fn lift_values(
     requires inside { AreAllInside resolve.now types.now }
     requires small { size (record_type (fields_of_types resolve.now types.now)) ≤ 16777216 }
     requires limit { limit ≤ 16 }
-    ensures { Gives (λ v. map value_of v.items) result
+    ensures value { Gives (λ v. map value_of v.items) result
         (denoting limit (fields_of_types resolve.now types.now) memory.now flats.now) }
+    ensures bytes { AreBytes memory.now }
 {
     let Some(kinds) = kinds_within(resolve, layouts, types, limit) else {
         if !are_kinds(&[CoreKind::I32], flats) {

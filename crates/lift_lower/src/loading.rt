@@ -1,10 +1,10 @@
 //! Loading: the values that stand in a memory.
 //!
 //! The walk goes down the type, whose depth is bounded; long lists are loops.
-ghost use Rattle.std.specs.Prelude.{◌≡◌, ◌≢◌, Err, ◌+◌, ◌*◌, ◌<◌, ◌≤◌, ◌^◌, length, map};
+ghost use Rattle.std.specs.Prelude.{◌≡◌, ◌≢◌, Err, IfOk, ◌+◌, ◌*◌, ◌<◌, ◌≤◌, ◌^◌, length, map};
 ghost use Rattle.std.specs.Int.{w32};
 ghost use Rattle.canonical_abi.specs.Types.{IsPlain, AllPlain, record_fields, variant_cases, field_count, case_count, prim_type, variant_type};
-ghost use Rattle.canonical_abi.specs.Values.{values_of, list_value};
+ghost use Rattle.canonical_abi.specs.Values.{HasType, values_of, list_value};
 ghost use Rattle.canonical_abi.specs.Layout.{size, align, payload_place, end_from, field_extents};
 ghost use Rattle.canonical_abi.specs.Memory.{HoldsInBlock, FaultyInBlock};
 ghost use Rattle.canonical_abi.specs.Reading.{reading, number_at, text_at, block_at, list_at, reading_fields, reading_case, case_number};
@@ -12,7 +12,7 @@ ghost use Rattle.canonical_abi.specs.declared.trap.Step.TheVariants.{Take};
 ghost use Rattle.layout.specs.Layout.{layouts_of};
 ghost use Rattle.tables.specs.Closed.{prim_of, closed_type};
 ghost use Rattle.lift_lower.specs.Gives.{Gives, AnswerStands};
-ghost use Rattle.lift_lower.specs.Loading.{reading_block};
+ghost use Rattle.lift_lower.specs.Loading.{reading_block, AreBytes};
 ghost use Rattle.lift_lower.specs.Members.{AreInside, members_fields};
 ghost use Rattle.lift_lower.specs.Shape.{IsInside, IsFollowed};
 ghost use Rattle.lift_lower.specs.Val.{value_of};
@@ -250,7 +250,10 @@ pub fn load<G: Guest>(
         AnswerStands Take (λ v. HoldsInBlock t (G.memory guest.now).bytes at (value_of v))
         (FaultyInBlock t (G.memory guest.now).bytes at) result }
     ensures plain { IsPlain (closed_type resolve.now ty) → result ≢ Err Fault.NoMemory }
+    ensures typed { IfOk result (λ v. HasType (value_of v) (closed_type resolve.now ty)) }
 {
+    // A memory's length is a number of 32 bits.
+    let _len = guest.len();
     match load_block(alloc, resolve, layouts, ty, guest.bytes(), at) {
         Ok(value) => Ok(value),
         Err(refusal) => Err(refusal.at(Step::Take)),
@@ -258,7 +261,7 @@ pub fn load<G: Guest>(
 }
 
 /// The value in the block at an address.
-fn load_block(
+pub(crate) fn load_block(
     alloc: Global,
     resolve: &Resolve,
     layouts: &Layouts,
@@ -271,6 +274,7 @@ fn load_block(
     ensures value { let t = closed_type resolve.now ty in
         Gives value_of result (reading_block t memory.now at) }
     ensures plain { IsPlain (closed_type resolve.now ty) → result ≢ Err Refusal.NoMemory }
+    ensures bytes { AreBytes memory.now }
 {
     let at = at as usize;
     let align = align_of(resolve, layouts, ty);

@@ -7,7 +7,7 @@ ghost use Rattle.canonical_abi.specs.Lowering.{PassesParams, SpilledLower};
 ghost use Rattle.layout.specs.Layout.{layouts_of};
 ghost use Rattle.lift_lower.specs.Crossing.{fields_of_types, IsLowered, LowerFails};
 ghost use Rattle.lift_lower.specs.Lowered.{PassesParamsBy, SpilledLowerBy};
-ghost use Rattle.lift_lower.specs.Members.{AreAllInside};
+ghost use Rattle.lift_lower.specs.Members.{AreAllInside, AreTypesOf};
 ghost use Rattle.lift_lower.specs.Scripts.{IsDone, HasEnded};
 ghost use Rattle.lift_lower.specs.Val.{value_of};
 
@@ -32,9 +32,8 @@ pub fn lower<G: Guest>(
     guest: &mut G,
 ) -> Result<Flats, Fault>
     requires laid_out { layouts.now ≡ layouts_of resolve.now }
-    requires inside { AreAllInside resolve.now types.now }
+    requires known { AreTypesOf resolve.now types.now }
     requires small { size (record_type (fields_of_types resolve.now types.now)) ≤ 16777216 }
-    requires standard { AreStandardFields (fields_of_types resolve.now types.now) }
     requires typed { HaveTypes (map value_of values.now) (fields_of_types resolve.now types.now) }
     ensures flats { IfOk result (λ flats. IsLowered G.allocates (fields_of_types resolve.now types.now)
         (map value_of values.now) (G.memory guest.old) flats.items (G.memory guest.new)) }

@@ -10,6 +10,7 @@ ghost use Rattle.canonical_abi.specs.Layout.{size, align, end_from, field_extent
 ghost use Rattle.canonical_abi.specs.Storing.{Stores, EachStores, FieldsStore};
 ghost use Rattle.canonical_abi.specs.declared.trap.Step.TheVariants.{Place};
 ghost use Rattle.layout.specs.Layout.{layouts_of};
+ghost use Rattle.tables.specs.Standard.{IsTypeOf};
 ghost use Rattle.tables.specs.Closed.{closed_type};
 ghost use Rattle.lift_lower.specs.Crossing.{IsStoredAt, StoreFails};
 ghost use Rattle.lift_lower.specs.Members.{AreInside, members_fields};
@@ -41,8 +42,7 @@ pub fn store<G: Guest>(
     at: u32,
 ) -> Result<(), Fault>
     requires laid_out { layouts.now ≡ layouts_of resolve.now }
-    requires inside { IsInside resolve.now ty }
-    requires standard { IsStandard (closed_type resolve.now ty) }
+    requires known { IsTypeOf resolve.now ty }
     requires typed { HasType (value_of value.now) (closed_type resolve.now ty) }
     ensures stored { OnOk result (IsStoredAt G.allocates (closed_type resolve.now ty) at (value_of value.now)
         (G.memory guest.old) (G.memory guest.new)) }

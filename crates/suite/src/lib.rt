@@ -7,6 +7,8 @@ mod binaries;
 #[cfg(test)]
 mod calls;
 #[cfg(test)]
+mod compounds;
+#[cfg(test)]
 mod hosts;
 #[cfg(test)]
 mod lines;

@@ -1,10 +1,11 @@
 -- The types of a scalar function, as the fields of records.
 use Rattle.std.proofs.Common.{◌≡◌, true, List, [], ◌∷◌, Option, Some, None, map, refl, sym, ap, ◌∙◌, subst, arith}
-use Rattle.std.specs.Prelude.{IsTrue, slice_get}
+use Rattle.std.specs.Option.{option_map}
+use Rattle.std.specs.Prelude.{IsTrue, IfSome, option_to_list, slice_get}
 use Rattle.std.proofs.lemmas.Bool.{and_parts, leb-true}
 use Rattle.std.proofs.lemmas.List.{length-map}
 use Rattle.std.proofs.lemmas.List.Folds.{list_all-map}
-use Rattle.canonical_abi.specs.Types.{ClosedType, fields_of, result_fields}
+use Rattle.canonical_abi.specs.Types.{ClosedType, IsPlain, fields_of, result_fields}
 use Rattle.tables.specs.Closed.{closed_val, closed_types, closed_params, function_at, function_type, type_of_function, is_scalar, is_scalar_function, IsScalarFunction}
 use Rattle.tables.specs.declared.tables.Function.{Function}
 use Rattle.tables.specs.declared.tables.FunctionId.{FunctionId}
@@ -15,6 +16,9 @@ use Rattle.lift_lower.specs.Scalars.{AreScalar}
 use Rattle.lift_lower.specs.Crossing.{fields_of_types}
 use Rattle.tables.specs.Same.{IsSamePackage}
 use Rattle.tables.specs.Tables.{function_of}
+use Rattle.lift_lower.specs.Members.{AreAllInside}
+use Rattle.lift_lower.specs.Shape.{IsInside}
+use Rattle.witcall.specs.Session.{ArePlain}
 use Rattle.witcall.specs.Signature.{signature_of}
 
 params_closed : (rows : List ClosedType) (ps : List Parameter) → map (closed_val rows) (map (λ p. p.ty) ps) ≡ closed_params rows ps
@@ -53,3 +57,17 @@ own_params r own f ts params same are is = ap (fields_of_types own) are ∙ is �
 pub own_results : (r own : Resolve) (f : FunctionId) (ts : List ValType) → own ≡ r
     → fields_of_types own ts ≡ result_fields (function_type own f).result → fields_of_types own ts ≡ result_fields (function_type r f).result
 own_results r own f ts same is = is ∙ ap (λ q. result_fields (function_type q f).result) same
+
+-- ---- a result, as fields and as the list of its type
+
+pub result_as_fields : (rows : List ClosedType) (o : Option ValType) → fields_of (map (closed_val rows) (option_to_list o)) ≡ result_fields (option_map (closed_val rows) o)
+result_as_fields rows None = refl
+result_as_fields rows (Some t) = refl
+
+pub plain_result : (rows : List ClosedType) (o : Option ValType) → ArePlain (fields_of (map (closed_val rows) (option_to_list o))) → IfSome o (λ t. IsPlain (closed_val rows t))
+plain_result rows None h = tt
+plain_result rows (Some t) h = h.0
+
+pub inside_result : (r : Resolve) (o : Option ValType) → AreAllInside r (option_to_list o) → IfSome o (IsInside r)
+inside_result r None h = tt
+inside_result r (Some t) h = (and_parts _ _ h).0

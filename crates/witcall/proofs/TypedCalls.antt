@@ -1,5 +1,5 @@
 -- The links of a typed call whose result goes flat: no return area is asked for.
-use Rattle.std.proofs.Common.{◌≡◌, ℕ, true, List, Option, Result, Ok, Err, IfOk, IfErr, inl, inr, refl, sym, subst}
+use Rattle.std.proofs.Common.{◌≡◌, ℕ, true, List, Option, Result, Ok, Err, inl, inr, refl, sym, subst}
 use Rattle.std.specs.Option.{option_map}
 use Rattle.canonical_abi.specs.Types.{FunctionType, result_fields}
 use Rattle.canonical_abi.specs.Values.{Value}
@@ -17,7 +17,8 @@ use Rattle.canonical_abi.specs.declared.trap.TrapKind.{TrapKind}
 use Rattle.lift_lower.specs.declared.val.Val.{Val}
 use Rattle.lift_lower.specs.Val.{value_of}
 use Rattle.lift_lower.specs.Crossing.{IsLowered, LowerFails}
-use Rattle.witcall.specs.Session.{typed_answer, TakeFails}
+use Rattle.lift_lower.specs.Gives.{AnswerStands}
+use Rattle.witcall.specs.Session.{typed_answer}
 
 abbrev pub world : Memory → Memory → List ℕ → World
 world caller callee body = record { caller = caller; callee = callee; body = body }
@@ -77,8 +78,9 @@ module _ (parties : Parties) (f : FunctionType) (arguments : List Value) (flat :
       subst (λ x. TypedTraps parties either f arguments old x k new) (sym is_take) (back, 0, came, inl (flat, fault))
 
   pub takes : (old new : World) (back : List Flat) (answer : Result (Option Val) Fault) → CameBack parties either f arguments old back 0 new
-      → IfOk answer (λ v. Denotes max_flat_results (result_fields f.result) new.caller.bytes back (as_list (option_map value_of v)))
-      → IfErr answer (TakeFails (result_fields f.result) new.caller.bytes back) → TypedCall parties either f arguments old (typed_answer answer) new
-  takes old new back (Ok v) came denoted fault = (back, 0, came, inl (flat, denoted))
-  takes old new back (Err (ended.Trap t)) came denoted fault = take_traps old new back t.step t.kind came fault.0 fault.1
-  takes old new back (Err ended.NoMemory) came denoted fault = inr (back, 0, came)
+      → AnswerStands step.Take (λ v. Denotes max_flat_results (result_fields f.result) new.caller.bytes back (as_list (option_map value_of v)))
+      (DenotesFault max_flat_results (result_fields f.result) new.caller.bytes back) answer
+      → TypedCall parties either f arguments old (typed_answer answer) new
+  takes old new back (Ok v) came stands = (back, 0, came, inl (flat, stands))
+  takes old new back (Err (ended.Trap t)) came stands = take_traps old new back t.step t.kind came stands.0 stands.1
+  takes old new back (Err ended.NoMemory) came stands = inr (back, 0, came)

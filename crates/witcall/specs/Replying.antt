@@ -1,7 +1,9 @@
 -- What the program's own body answers.
 use Rattle.std.specs.Prelude.{ℕ, List, Option, Some, None, map, option_to_list}
-use Rattle.canonical_abi.specs.Types.{Fields}
+use Rattle.canonical_abi.specs.Types.{FunctionType, result_fields}
 use Rattle.canonical_abi.specs.Values.{Value}
+use Rattle.canonical_abi.specs.Layout.{max_flat_params}
+use Rattle.canonical_abi.specs.Flat.{Denotes}
 use Rattle.canonical_abi.specs.Guest.{Memory}
 use Rattle.canonical_abi.specs.declared.flat.Flat.{Flat}
 use Rattle.memory.specs.Space.{SpaceAllocates}
@@ -18,10 +20,13 @@ use Rattle.witcall.specs.declared.refused.Refused.{Refused}
 use Rattle.witcall.specs.declared.refused.Refused.TheVariants as refused
 use Rattle.witcall.specs.declared.reply.Reply.{Reply}
 
--- it answers the flat values that carry these values, lowered into its memory; or it stops
-abbrev pub Replies : Fields → List Value → Memory → Option (List Flat) → Memory → Type 0
-Replies results vs old (Some flats) new = IsLowered SpaceAllocates results vs old flats new
-Replies results vs old None new = Unit {0}
+-- the flat values that it was given denote values of the parameters' types in its memory, and it answers flat values that carry these
+-- values, lowered into its memory; or it stops
+abbrev pub Replies : FunctionType → List Value → Memory → List Flat → Option (List Flat) → Memory → Type 0
+Replies f vs old given (Some flats) new =
+    (arguments : List Value) × Denotes max_flat_params f.params old.bytes given arguments
+    × IsLowered SpaceAllocates (result_fields f.result) vs old flats new
+Replies f vs old given None new = Unit {0}
 
 -- it is a body of the function of these names, and its value is what the text says
 pub record IsReplyOf (r : Resolve) (iface func text : List ℕ) (reply : Reply) : Type 0 where

@@ -56,17 +56,16 @@ impl Reply {
 
 impl Export for Reply {
     ghost use Rattle.std.specs.Prelude.{◌≡◌, [], map, option_to_list, Some};
-    ghost use Rattle.canonical_abi.specs.Types.{result_fields};
     ghost use Rattle.tables.specs.Closed.{function_type};
     ghost use Rattle.lift_lower.specs.Val.{value_of};
     ghost use Rattle.witcall.specs.Replying.{Replies};
 
     ghost state = { λ _. [] };
 
-    // It answers its value, or stops.
-    ghost runs = { λ reply s m _ s' m' answer. (s' ≡ s)
-        × Replies (result_fields (function_type reply.«package».resolve reply.func).result)
-        (map value_of (option_to_list reply.value)) m answer m' };
+    // It was given its function's arguments and answers its value, or stops.
+    ghost runs = { λ reply s m given s' m' answer. (s' ≡ s)
+        × Replies (function_type reply.«package».resolve reply.func)
+        (map value_of (option_to_list reply.value)) m given answer m' };
 
     // Its post-return changes nothing.
     ghost posts = { λ _ s m _ s' m' done. (s' ≡ s) × (m' ≡ m) × (done ≡ Some tt) };

@@ -15,13 +15,13 @@ ghost use Rattle.lift_lower.specs.Crossing.{fields_of_types};
 ghost use Rattle.lift_lower.specs.Scalars.{AreScalar};
 ghost use Rattle.lift_lower.specs.Scalar.{value_in};
 ghost use Rattle.tables.specs.declared.tables.Resolve.{Resolve};
-ghost use Rattle.witcall.specs.Session.{typed_answer, TakeFails, IsPlainFunction};
+ghost use Rattle.witcall.specs.Session.{typed_answer, IsPlainFunction};
 
 use crate::package::Package;
 use crate::signature::ScalarTypes;
 use adapter::{Body, Link};
-use canonical_abi::{Fault, Flat, Guest, Step, Trap};
-use lift_lower::{Scalar, Val, lift_scalars, lower};
+use canonical_abi::{Fault, Guest};
+use lift_lower::{Val, lift_result, lower};
 use resolve::FunctionId;
 use std::alloc::Global;
 
@@ -70,7 +70,7 @@ impl<'a, C: Guest, E: Guest, B: Body<E>> Session<'a, C, E, B> {
     /// answer, no byte outside the blocks is changed, and a trap stands.
     pub fn call(
         &mut self,
-        _alloc: Global,
+        alloc: Global,
         func: FunctionId,
         arguments: &[Val],
     ) -> Result<Option<Val>, Fault>
@@ -120,37 +120,13 @@ impl<'a, C: Guest, E: Guest, B: Body<E>> Session<'a, C, E, B> {
             &mut self.callee,
             &mut self.body,
         )?;
-        take_result(&types, back.as_slice())
-    }
-}
-
-/// The result that flat values denote, in step `take`. It takes no memory of the host.
-fn take_result(types: &ScalarTypes, flats: &[Flat]) -> Result<Option<Val>, Fault>
-    requires scalar { AreScalar (option_to_list types.now.result) }
-    ensures denotes { (r : Resolve) (m : List ℕ) → IfOk result (λ v. Denotes max_flat_results
-        (fields_of_types r (option_to_list types.now.result)) m flats.now (as_list (option_map value_of v))) }
-    ensures typed { (r : Resolve) → IfOk result (λ v. HaveTypes (as_list (option_map value_of v))
-        (fields_of_types r (option_to_list types.now.result))) }
-    ensures fault { (r : Resolve) (m : List ℕ) → IfErr result (TakeFails
-        (fields_of_types r (option_to_list types.now.result)) m flats.now) }
-    ensures no_memory { result ≢ Err Fault.NoMemory }
-{
-    match lift_scalars(types.results(), flats) {
-        Ok(values) => Ok(only_value(values.as_slice())),
-        Err(kind) => Err(Fault::Trap(Trap {
-            kind,
-            step: Step::Take,
-        })),
-    }
-}
-
-/// The value of a list of at most one.
-fn only_value(values: &[Scalar]) -> Option<Val>
-    requires { length values.now ≤ 1 }
-    ensures { as_list (option_map value_of result) ≡ map value_in values.now }
-{
-    match values {
-        [value, ..] => Some(value.to_val()),
-        [] => None,
+        lift_result(
+            alloc,
+            resolve,
+            layouts,
+            types.result(),
+            back.as_slice(),
+            &self.caller,
+        )
     }
 }

@@ -1,34 +1,34 @@
 use Rattle.std.proofs.Common.{ap, sym, map, subst, ◌∙◌, List, Ok, Err}
 use Rattle.std.proofs.lemmas.Result.{err_from_is_err_and}
 use Rattle.std.specs.Option.{option_map}
-use Rattle.std.specs.Prelude.{option_to_list, IfOk, IfErr}
-use Rattle.canonical_abi.specs.Flat.{Denotes}
+use Rattle.std.specs.Prelude.{option_to_list, IfOk, IfSome}
+use Rattle.canonical_abi.specs.Flat.{Denotes, DenotesFault}
 use Rattle.canonical_abi.specs.Layout.{fits_flat}
 use Rattle.canonical_abi.specs.Session.{as_list}
-use Rattle.canonical_abi.specs.Types.{Fields, result_fields}
+use Rattle.canonical_abi.specs.Types.{Fields, IsPlain, result_fields}
 use Rattle.canonical_abi.specs.Call.{either, Parties, Calls}
 use Rattle.canonical_abi.specs.Values.{HaveTypes}
 use Rattle.canonical_abi.specs.declared.flat.Flat.{Flat}
-use Rattle.tables.specs.Closed.{closed_types, function_type}
+use Rattle.tables.specs.Closed.{closed_type, closed_types, function_type}
 use Rattle.lift_lower.specs.Scalars.{AreScalar}
 use Rattle.lift_lower.specs.Val.{value_of}
-use Rattle.lift_lower.proofs.ScalarTypes.{scalars-inside, scalars-small, scalars-standard}
+use Rattle.lift_lower.proofs.ScalarTypes.{scalars-inside, scalars-small, scalars-known}
 use Rattle.lift_lower.specs.Crossing.{IsLowered, LowerFails}
-use Rattle.witcall.specs.Session.{TakeFails}
+use Rattle.lift_lower.specs.Gives.{AnswerStands}
+use Rattle.lift_lower.specs.Shape.{IsInside}
+use Rattle.witcall.specs.Session.{ArePlain}
+use Rattle.canonical_abi.specs.declared.trap.Step.TheVariants.{Take}
 use Rattle.witcall.proofs.Results.{result_flat}
-use Rattle.witcall.proofs.ScalarFunctions.{own_params, own_results}
+use Rattle.witcall.proofs.ScalarFunctions.{own_params, own_results, result_as_fields, plain_result, inside_result}
 use Rattle.witcall.proofs.Promised.{promised}
 use Rattle.witcall.proofs.TypedCalls.{world, placed, place_fails, link_fails, came_back, takes}
 use Rattle.witcall.proofs.session.Session.call.Goals as goal
 
-pub lower-requires-clause-inside : goal.lower-requires-clause-inside
-lower-requires-clause-inside g c = scalars-inside c.resolve-resolve.result.now c.params.result.now (subst AreScalar (sym c.params.ensures) c.of-types.ensures.scalar_params)
-
 pub lower-requires-clause-small : goal.lower-requires-clause-small
 lower-requires-clause-small g c = scalars-small c.resolve-resolve.result.now c.params.result.now (subst AreScalar (sym c.params.ensures) c.of-types.ensures.scalar_params)
 
-pub lower-requires-clause-standard : goal.lower-requires-clause-standard
-lower-requires-clause-standard g c = scalars-standard c.resolve-resolve.result.now c.params.result.now (subst AreScalar (sym c.params.ensures) c.of-types.ensures.scalar_params)
+pub lower-requires-clause-known : goal.lower-requires-clause-known
+lower-requires-clause-known g c = scalars-known c.resolve-resolve.result.now c.params.result.now (subst AreScalar (sym c.params.ensures) c.of-types.ensures.scalar_params)
 
 pub returns-in_err-flats-clause-call : goal.returns-in_err-flats-clause-call
 returns-in_err-flats-clause-call g c =
@@ -99,17 +99,32 @@ returns-clause-call g c =
     (c.new-link.ensures.package ∙ c.resolve-resolve.ensures) c.in_ok-back.ensures.call in
     let came = came_back parties f arguments flat (world caller callee body) (world caller' callee body) new flats back places calls in
     let m = (g.C.Guest.memory c.call.new.caller).bytes in
-    let P : Fields → List Flat → Type 0 = λ ts fs. IfOk c.take_result.result (λ v. Denotes 1 ts m fs (as_list (option_map value_of v))) in
-    let Q : Fields → List Flat → Type 0 = λ ts fs. IfErr c.take_result.result (TakeFails ts m fs) in
-    let denoted = subst (P (result_fields f.result)) c.as_slice-2.ensures.value (subst (λ ts. P ts c.as_slice-2.result.now) results (c.take_result.ensures.denotes own m)) in
-    let fault = subst (Q (result_fields f.result)) c.as_slice-2.ensures.value (subst (λ ts. Q ts c.as_slice-2.result.now) results (c.take_result.ensures.fault own m)) in
-    takes parties f arguments flat (world caller callee body) new back c.take_result.result came denoted fault
+    let P : Fields → List Flat → Type 0 = λ ts fs. AnswerStands Take (λ v. Denotes 1 ts m fs (as_list (option_map value_of v))) (DenotesFault 1 ts m fs) c.lift_result.result in
+    let same = ap (λ t. result_fields (option_map (closed_type own) t)) c.result.ensures ∙ sym (result_as_fields (closed_types own) o) ∙ results in
+    let stands = subst (P (result_fields f.result)) c.as_slice-2.ensures.value (subst (λ ts. P ts c.as_slice-2.result.now) same c.lift_result.ensures.value) in
+    takes parties f arguments flat (world caller callee body) new back c.lift_result.result came stands
+
+pub lift_result-requires-clause-inside : goal.lift_result-requires-clause-inside
+lift_result-requires-clause-inside g c =
+    let own = c.resolve-resolve.result.now in
+    let o = c.of-types.result.result in
+    subst (λ t. IfSome t (IsInside own)) (sym c.result.ensures) (inside_result own o (scalars-inside own (option_to_list o) c.of-types.ensures.scalar_result))
 
 pub returns-clause-typed : goal.returns-clause-typed
 returns-clause-typed g c =
     let own = c.resolve-resolve.result.now in
-    let results = own_results c.args.self.now.package.now.resolve own c.args.func (option_to_list c.of-types.result.result) c.resolve-resolve.ensures c.of-types.ensures.results in
-    subst (λ ts. IfOk c.take_result.result (λ v. HaveTypes (as_list (option_map value_of v)) ts)) results (c.take_result.ensures.typed own)
+    let o = c.of-types.result.result in
+    let results = own_results c.args.self.now.package.now.resolve own c.args.func (option_to_list o) c.resolve-resolve.ensures c.of-types.ensures.results in
+    let same = ap (λ t. result_fields (option_map (closed_type own) t)) c.result.ensures ∙ sym (result_as_fields (closed_types own) o) ∙ results in
+    subst (λ ts. IfOk c.lift_result.result (λ v. HaveTypes (as_list (option_map value_of v)) ts)) same c.lift_result.ensures.typed
+
+pub returns-clause-plain : goal.returns-clause-plain
+returns-clause-plain g c = λ plain.
+    let own = c.resolve-resolve.result.now in
+    let o = c.of-types.result.result in
+    let results = own_results c.args.self.now.package.now.resolve own c.args.func (option_to_list o) c.resolve-resolve.ensures c.of-types.ensures.results in
+    let here = plain_result (closed_types own) o (subst ArePlain (sym results) plain.1) in
+    c.lift_result.ensures.plain (subst (λ t. IfSome t (λ v. IsPlain (closed_type own v))) (sym c.result.ensures) here)
 
 pub returns-in_err-flats-clause-promise : goal.returns-in_err-flats-clause-promise
 returns-in_err-flats-clause-promise g c = promised _ _ _ c.args.self.now.package.now.resolve c.args.func _ _ _ _ c.requires.scalar (returns-in_err-flats-clause-call g c)
