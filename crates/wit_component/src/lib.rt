@@ -1,0 +1,8 @@
+//! A package as a component type binary: its tables to a raw component.
+//!
+//! Each interface of a package is an instance type in one component type, as `wit-component` writes them. It
+//! stands on `resolve`, `ctype_bin` and `atoms`.
+#![tactic(auto)]
+
+mod rows;
+mod valtypes;
