@@ -19,9 +19,9 @@ use Rattle.canonical_abi.specs.declared.trap.Step.{Step}
 use Rattle.canonical_abi.specs.declared.trap.Step.TheVariants as step
 use Rattle.canonical_abi.specs.declared.trap.TrapKind.{TrapKind}
 use Rattle.canonical_abi.specs.declared.trap.TrapKind.TheVariants as trap
-use Rattle.resolve.specs.declared.tables.ValType.{ValType}
-use Rattle.resolve.specs.declared.tables.ValType.TheVariants as val
-use Rattle.resolve.specs.Closed.{prim_of, is_scalar}
+use Rattle.tables.specs.declared.tables.ValType.{ValType}
+use Rattle.tables.specs.declared.tables.ValType.TheVariants as val
+use Rattle.tables.specs.Closed.{prim_of, is_scalar}
 use Rattle.lift_lower.specs.Scalars.{AreScalar, fields_in, AreCarried}
 use Rattle.lift_lower.proofs.ScalarLists.{scalars_fit, prim_typed, quiet_leads}
 use Rattle.adapter.specs.Carrying.{CarriesOn, IsFaultAt}

@@ -7,7 +7,7 @@ use Rattle.canonical_abi.specs.declared.flat.Flat.{Flat}
 use Rattle.canonical_abi.specs.declared.trap.Fault.{Fault}
 use Rattle.canonical_abi.specs.declared.trap.Fault.TheVariants.{Trap, NoMemory}
 use Rattle.canonical_abi.specs.declared.trap.Step.{Step}
-use Rattle.resolve.specs.declared.tables.ValType.{ValType}
+use Rattle.tables.specs.declared.tables.ValType.{ValType}
 use Rattle.lift_lower.specs.Scalars.{fields_in, StandFor, FailAs, AreCarried}
 
 -- the values that the first denote are carried by the second

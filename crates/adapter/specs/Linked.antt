@@ -1,6 +1,6 @@
 -- What contracts see of a link.
 use Rattle.layout.specs.Layout.{Table}
-use Rattle.resolve.specs.declared.tables.Resolve.{Resolve}
+use Rattle.tables.specs.declared.tables.Resolve.{Resolve}
 
 -- the package whose functions are called, and its layouts
 pub record Linked : Type 0 where

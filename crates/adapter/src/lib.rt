@@ -2,7 +2,7 @@
 //!
 //! `Link::call` carries the promise: for any caller, callee and body, honest or not, it is the call relation
 //! of `canonical_abi`. A `Body` is what stands behind a component's functions, and a `BoxedBody` one that is
-//! chosen when the program runs. Stands on `lift_lower` (values), `memory` (guests) and `resolve` (types).
+//! chosen when the program runs. Stands on `lift_lower` (values), `memory` (guests) and `tables` (types).
 #![tactic(auto)]
 
 mod body;

@@ -1,7 +1,7 @@
 //! The call itself.
 ghost use Rattle.std.specs.Prelude.{◌≡◌, ◌≢◌, ◌≤◌, length, map, take, IfOk, IfErr, Err};
 ghost use Rattle.canonical_abi.specs.Call.{Calls, either, AllowsSameRuns, AllowsSamePosts};
-ghost use Rattle.resolve.specs.Closed.{function_type, IsScalarFunction};
+ghost use Rattle.tables.specs.Closed.{function_type, IsScalarFunction};
 ghost use Rattle.layout.specs.Layout.{layouts_of};
 ghost use Rattle.lift_lower.specs.Scalars.{AreScalar};
 ghost use Rattle.adapter.specs.Carrying.{CarriesOn, IsFaultAt, answer_of};
@@ -10,8 +10,8 @@ use crate::body::Body;
 use canonical_abi::{Fault, Flat, Guest, Step, Trap, TrapKind};
 use layout::Layouts;
 use lift_lower::{Flats, lift_scalars, lower_scalars};
-use resolve::{FunctionId, Parameter, Primitive, Resolve, ValType};
 use std::marker::Model;
+use tables::{FunctionId, Parameter, Primitive, Resolve, ValType};
 
 /// Calls functions of one component from another, whose package is the same.
 #[derive(Drop)]

@@ -6,12 +6,12 @@ use canonical_abi::Flat;
 use layout::Layouts;
 use lift_lower::Flats;
 use memory::{Bump, Space};
-use resolve::{
+use std::alloc::Global;
+use std::test::Fail;
+use tables::{
     Definition, Function, FunctionId, InterfaceId, Owner, Parameter, Primitive, Resolve, Sequence,
     ValType,
 };
-use std::alloc::Global;
-use std::test::Fail;
 
 /// A body that answers one value.
 #[derive(Drop)]

@@ -6,15 +6,15 @@ use Rattle.std.proofs.lemmas.List.{length-append}
 use Rattle.std.proofs.lemmas.List.Folds.{list_all-map}
 use Rattle.std.proofs.lemmas.Grind.{take_at_read}
 use Rattle.canonical_abi.specs.Layout.{Extent, extent_of, places_from, payload_at}
-use Rattle.resolve.specs.Tables.{is_below, option_below, kind_below, definition_below}
-use Rattle.resolve.specs.Closed.{closed_type, closed_rows}
-use Rattle.resolve.specs.declared.tables.ValType.{ValType}
-use Rattle.resolve.specs.declared.tables.TypeDefKind.{TypeDefKind}
-use Rattle.resolve.specs.declared.tables.TypeDefKind.TheVariants as kind
-use Rattle.resolve.specs.declared.tables.Definition.{Definition}
-use Rattle.resolve.specs.declared.tables.Definition.TheVariants as row
-use Rattle.resolve.specs.declared.tables.Resolve.{Resolve}
-use Rattle.resolve.proofs.Rows.{split, closed_val-stays}
+use Rattle.tables.specs.Tables.{is_below, option_below, kind_below, definition_below}
+use Rattle.tables.specs.Closed.{closed_type, closed_rows}
+use Rattle.tables.specs.declared.tables.ValType.{ValType}
+use Rattle.tables.specs.declared.tables.TypeDefKind.{TypeDefKind}
+use Rattle.tables.specs.declared.tables.TypeDefKind.TheVariants as kind
+use Rattle.tables.specs.declared.tables.Definition.{Definition}
+use Rattle.tables.specs.declared.tables.Definition.TheVariants as row
+use Rattle.tables.specs.declared.tables.Resolve.{Resolve}
+use Rattle.tables.proofs.Rows.{split, closed_val-stays}
 use Rattle.layout.specs.Parts.{payloads, record_parts, variant_parts, kind_parts, definition_parts, parts_from}
 use Rattle.layout.specs.Layout.{row_of}
 use Rattle.layout.specs.Rows.{extent_in, extent_at}

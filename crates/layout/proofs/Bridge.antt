@@ -6,13 +6,13 @@ use Rattle.canonical_abi.specs.Types.{ClosedType, string_type, list_type, record
 use Rattle.canonical_abi.specs.Layout.{Extent, extent_of, field_extents, payload_extents, flat_kinds, field_kinds, payload_kinds, join}
 use Rattle.canonical_abi.specs.declared.flat.CoreKind.{CoreKind}
 use Rattle.canonical_abi.specs.declared.flat.CoreKind.TheVariants.{I32}
-use Rattle.resolve.specs.Closed.{closed_val, closed_kind, closed_definition}
-use Rattle.resolve.specs.declared.tables.ValType.{ValType}
-use Rattle.resolve.specs.declared.tables.ValType.TheVariants as val
-use Rattle.resolve.specs.declared.tables.TypeDefKind.{TypeDefKind}
-use Rattle.resolve.specs.declared.tables.TypeDefKind.TheVariants as kind
-use Rattle.resolve.specs.declared.tables.Definition.{Definition}
-use Rattle.resolve.specs.declared.tables.Definition.TheVariants as row
+use Rattle.tables.specs.Closed.{closed_val, closed_kind, closed_definition}
+use Rattle.tables.specs.declared.tables.ValType.{ValType}
+use Rattle.tables.specs.declared.tables.ValType.TheVariants as val
+use Rattle.tables.specs.declared.tables.TypeDefKind.{TypeDefKind}
+use Rattle.tables.specs.declared.tables.TypeDefKind.TheVariants as kind
+use Rattle.tables.specs.declared.tables.Definition.{Definition}
+use Rattle.tables.specs.declared.tables.Definition.TheVariants as row
 use Rattle.layout.specs.Kinds.{kinds_of, append_kinds, join_kinds}
 use Rattle.layout.specs.Layout.{row_of, capped, result_of}
 use Rattle.layout.specs.Parts.{payloads}

@@ -1,9 +1,9 @@
 -- What a caller with a package and its layouts needs for their questions.
 use Rattle.std.proofs.Common.{◌≡◌, ◌<◌, length, ap, arith}
-use Rattle.resolve.specs.Closed.{IsFunction}
-use Rattle.resolve.specs.declared.tables.Resolve.{Resolve}
-use Rattle.resolve.specs.declared.tables.FunctionId.{FunctionId}
-use Rattle.resolve.proofs.Rows.{stands}
+use Rattle.tables.specs.Closed.{IsFunction}
+use Rattle.tables.specs.declared.tables.Resolve.{Resolve}
+use Rattle.tables.specs.declared.tables.FunctionId.{FunctionId}
+use Rattle.tables.proofs.Rows.{stands}
 use Rattle.layout.specs.Layout.{Table, layouts_of}
 use Rattle.layout.proofs.Table.{length-table}
 

@@ -5,16 +5,16 @@ use Rattle.std.proofs.lemmas.Bool.{cases_lt, ltb-true}
 use Rattle.std.proofs.lemmas.List.{length-append, length-map, length-take, get_or_append_left, get_or_at}
 use Rattle.std.proofs.lemmas.List.Elements.{All-append}
 use Rattle.canonical_abi.specs.Layout.{Extent, extent_of, places_from, payload_at}
-use Rattle.resolve.specs.Tables.{is_below, kind_below, definition_below}
-use Rattle.resolve.specs.Closed.{closed_type}
-use Rattle.resolve.specs.declared.tables.ValType.{ValType}
-use Rattle.resolve.specs.declared.tables.ValType.TheVariants as val
-use Rattle.resolve.specs.declared.tables.TypeDefKind.{TypeDefKind}
-use Rattle.resolve.specs.declared.tables.TypeDefKind.TheVariants as kind
-use Rattle.resolve.specs.declared.tables.Definition.{Definition}
-use Rattle.resolve.specs.declared.tables.Definition.TheVariants as row
-use Rattle.resolve.specs.declared.tables.Resolve.{Resolve}
-use Rattle.resolve.proofs.Rows.{is_below-later}
+use Rattle.tables.specs.Tables.{is_below, kind_below, definition_below}
+use Rattle.tables.specs.Closed.{closed_type}
+use Rattle.tables.specs.declared.tables.ValType.{ValType}
+use Rattle.tables.specs.declared.tables.ValType.TheVariants as val
+use Rattle.tables.specs.declared.tables.TypeDefKind.{TypeDefKind}
+use Rattle.tables.specs.declared.tables.TypeDefKind.TheVariants as kind
+use Rattle.tables.specs.declared.tables.Definition.{Definition}
+use Rattle.tables.specs.declared.tables.Definition.TheVariants as row
+use Rattle.tables.specs.declared.tables.Resolve.{Resolve}
+use Rattle.tables.proofs.Rows.{is_below-later}
 use Rattle.layout.specs.Parts.{payloads, end_of, followed, is_end, is_no_name, AreEnded, record_parts, variant_parts, kind_parts, definition_parts, parts_from}
 use Rattle.layout.specs.Layout.{IsSound}
 use Rattle.layout.specs.Rows.{row_in, rows_at, choices_at, extent_at, extents, definition_row, IsLimitedDefinition}

@@ -6,7 +6,7 @@ use Rattle.std.proofs.lemmas.List.Sums.{fold-append}
 use Rattle.std.proofs.lemmas.Grind.{take_at_read}
 use Rattle.canonical_abi.specs.Layout.{Extent, places_from, end_from, greatest_align}
 use Rattle.canonical_abi.proofs.Places.{le-next_multiple_of}
-use Rattle.resolve.specs.declared.tables.ValType.{ValType}
+use Rattle.tables.specs.declared.tables.ValType.{ValType}
 use Rattle.layout.specs.Kinds.{kinds_of, passed, append_kinds}
 use Rattle.layout.specs.Layout.{IsSound}
 use Rattle.layout.specs.Rows.{row_in, rows_at, extent_in, extents, record_row}

@@ -5,11 +5,11 @@ use Rattle.canonical_abi.specs.Types.{string_type, record_type, fields_of, resul
 use Rattle.canonical_abi.specs.Layout.{field_kinds, fits_flat, passed_kinds, max_flat_params, max_flat_results, CoreSignature, lifted_signature, lowered_signature}
 use Rattle.canonical_abi.specs.declared.flat.CoreKind.{CoreKind}
 use Rattle.canonical_abi.specs.declared.flat.CoreKind.TheVariants.{I32}
-use Rattle.resolve.specs.Closed.{closed_type, closed_types, closed_params, function_type, IsFunction}
-use Rattle.resolve.specs.declared.tables.ValType.{ValType}
-use Rattle.resolve.specs.declared.tables.FunctionId.{FunctionId}
-use Rattle.resolve.specs.declared.tables.Definition.TheVariants as row
-use Rattle.resolve.specs.declared.tables.Resolve.{Resolve}
+use Rattle.tables.specs.Closed.{closed_type, closed_types, closed_params, function_type, IsFunction}
+use Rattle.tables.specs.declared.tables.ValType.{ValType}
+use Rattle.tables.specs.declared.tables.FunctionId.{FunctionId}
+use Rattle.tables.specs.declared.tables.Definition.TheVariants as row
+use Rattle.tables.specs.declared.tables.Resolve.{Resolve}
 use Rattle.layout.specs.Kinds.{kinds_of, passed, append_kinds}
 use Rattle.layout.specs.Layout.{row_of, result_of, layouts_of}
 use Rattle.layout.specs.Rows.{row_in, rows_at}
@@ -18,7 +18,7 @@ use Rattle.layout.specs.declared.rows.Row.{Row}
 use Rattle.layout.specs.declared.kinds.Kinds.{Kinds}
 use Rattle.layout.proofs.Cuts.{kinds_of-flat, kinds_of-spilled, few-or-many}
 use Rattle.std.proofs.lemmas.Bool.Decides.{nat_tests}
-use Rattle.resolve.proofs.Rows.{length-closed_rows, stands, function-row, function-type}
+use Rattle.tables.proofs.Rows.{length-closed_rows, stands, function-row, function-type}
 use Rattle.layout.proofs.Bridge.{row_in-of, rows_at-of, kinds-of}
 
 pub row-is : (rows : List Row) (r : Resolve) (v : ValType) → rows ≡ (layouts_of r).rows → row_in rows v ≡ row_of (closed_type r v)

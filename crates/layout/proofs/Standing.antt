@@ -7,16 +7,16 @@ use Rattle.std.proofs.lemmas.List.{length-append, length-take, get_or_append_lef
 use Rattle.std.proofs.lemmas.Simd.{map-map}
 use Rattle.canonical_abi.specs.Types.{ClosedType, string_type, list_type, record_type, variant_type, fields_of, cases_of, case_count}
 use Rattle.canonical_abi.specs.Layout.{Extent, extent_of, field_extents, payload_extents, places_from, payload_at}
-use Rattle.resolve.specs.Tables.{is_below, option_below, kind_below, definition_below}
-use Rattle.resolve.specs.Closed.{closed_val, closed_kind, closed_definition, closed_rows, closed_types, closed_type}
-use Rattle.resolve.specs.declared.tables.ValType.{ValType}
-use Rattle.resolve.specs.declared.tables.ValType.TheVariants as val
-use Rattle.resolve.specs.declared.tables.TypeDefKind.{TypeDefKind}
-use Rattle.resolve.specs.declared.tables.TypeDefKind.TheVariants as kind
-use Rattle.resolve.specs.declared.tables.Definition.{Definition}
-use Rattle.resolve.specs.declared.tables.Definition.TheVariants as row
-use Rattle.resolve.specs.declared.tables.Resolve.{Resolve}
-use Rattle.resolve.proofs.Rows.{split, earlier-at, closed-at, closed_val-stays}
+use Rattle.tables.specs.Tables.{is_below, option_below, kind_below, definition_below}
+use Rattle.tables.specs.Closed.{closed_val, closed_kind, closed_definition, closed_rows, closed_types, closed_type}
+use Rattle.tables.specs.declared.tables.ValType.{ValType}
+use Rattle.tables.specs.declared.tables.ValType.TheVariants as val
+use Rattle.tables.specs.declared.tables.TypeDefKind.{TypeDefKind}
+use Rattle.tables.specs.declared.tables.TypeDefKind.TheVariants as kind
+use Rattle.tables.specs.declared.tables.Definition.{Definition}
+use Rattle.tables.specs.declared.tables.Definition.TheVariants as row
+use Rattle.tables.specs.declared.tables.Resolve.{Resolve}
+use Rattle.tables.proofs.Rows.{split, earlier-at, closed-at, closed_val-stays}
 use Rattle.layout.specs.Parts.{payloads, followed, end_of, record_parts, variant_parts, kind_parts, definition_parts, parts_from}
 use Rattle.layout.specs.Queries.{Stands}
 use Rattle.layout.specs.declared.parts.Parts.{Parts}

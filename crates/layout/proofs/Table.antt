@@ -3,12 +3,12 @@ use Rattle.std.proofs.Common.{◌≡◌, ℕ, ◌+◌, ◌<◌, ◌≤◌, IsTru
 use Rattle.std.proofs.lemmas.List.{length-map, map-append, take_all, get_or_default}
 use Rattle.std.specs.List.{list_all}
 use Rattle.canonical_abi.specs.Types.{ClosedType, string_type}
-use Rattle.resolve.specs.Tables.{is_below, option_below, definition_below}
-use Rattle.resolve.specs.Closed.{closed_definition, closed_rows, closed_types}
-use Rattle.resolve.specs.declared.tables.Definition.{Definition}
-use Rattle.resolve.specs.declared.tables.Definition.TheVariants as row
-use Rattle.resolve.specs.declared.tables.Resolve.{Resolve}
-use Rattle.resolve.proofs.Rows.{split, below-at, option_below-later, length-closed_rows, length-front, closed_rows-more, closed-at}
+use Rattle.tables.specs.Tables.{is_below, option_below, definition_below}
+use Rattle.tables.specs.Closed.{closed_definition, closed_rows, closed_types}
+use Rattle.tables.specs.declared.tables.Definition.{Definition}
+use Rattle.tables.specs.declared.tables.Definition.TheVariants as row
+use Rattle.tables.specs.declared.tables.Resolve.{Resolve}
+use Rattle.tables.proofs.Rows.{split, below-at, option_below-later, length-closed_rows, length-front, closed_rows-more, closed-at}
 use Rattle.layout.specs.Layout.{row_of, IsSound, IsWithin, Refuses, StandsAt, RefusesFirst, AreWithin}
 use Rattle.layout.specs.Rows.{definition_row, result_below, IsLimitedDefinition, RefusesDefinition}
 use Rattle.layout.specs.declared.rows.Row.{Row}

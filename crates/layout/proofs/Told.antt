@@ -7,15 +7,15 @@ use Rattle.std.proofs.lemmas.Bool.{ltb-true}
 use Rattle.std.proofs.lemmas.List.{length-map}
 use Rattle.canonical_abi.specs.Types.{ClosedType, Fields, no_field, field, Cases, fields_of, cases_of, field_count, case_count, nth_field, nth_case, record_fields, variant_cases}
 use Rattle.canonical_abi.specs.Layout.{extent_of, field_extents, places_from, field_places, payload_place}
-use Rattle.resolve.specs.Tables.{is_below, option_below}
-use Rattle.resolve.specs.Closed.{closed_type, closed_types}
-use Rattle.resolve.specs.declared.tables.ValType.{ValType}
-use Rattle.resolve.specs.declared.tables.ValType.TheVariants as val
-use Rattle.resolve.specs.declared.tables.Owner.TheVariants as owner
-use Rattle.resolve.specs.declared.tables.Definition.{Definition}
-use Rattle.resolve.specs.declared.tables.Definition.TheVariants as row
-use Rattle.resolve.specs.declared.tables.Resolve.{Resolve}
-use Rattle.resolve.proofs.Rows.{split, is_below-later, option_below-later, length-closed_rows}
+use Rattle.tables.specs.Tables.{is_below, option_below}
+use Rattle.tables.specs.Closed.{closed_type, closed_types}
+use Rattle.tables.specs.declared.tables.ValType.{ValType}
+use Rattle.tables.specs.declared.tables.ValType.TheVariants as val
+use Rattle.tables.specs.declared.tables.Owner.TheVariants as owner
+use Rattle.tables.specs.declared.tables.Definition.{Definition}
+use Rattle.tables.specs.declared.tables.Definition.TheVariants as row
+use Rattle.tables.specs.declared.tables.Resolve.{Resolve}
+use Rattle.tables.proofs.Rows.{split, is_below-later, option_below-later, length-closed_rows}
 use Rattle.layout.specs.Parts.{end_of, is_end, is_no_name, AreEnded, parts_from}
 use Rattle.layout.specs.Layout.{row_of, Table, layouts_of}
 use Rattle.layout.specs.Queries.{HasShape, TellsField, TellsCase, shape_by, shape_of, field_by, field_of, placed, case_by, case_at, case_of, Stands}

@@ -5,7 +5,7 @@ use Rattle.std.proofs.lemmas.List.Sums.{fold-append}
 use Rattle.std.proofs.lemmas.Grind.{take_at_read}
 use Rattle.std.specs.Option.{option_map}
 use Rattle.canonical_abi.specs.Layout.{Extent, greatest_size, greatest_align}
-use Rattle.resolve.specs.declared.tables.ValType.{ValType}
+use Rattle.tables.specs.declared.tables.ValType.{ValType}
 use Rattle.layout.specs.Kinds.{kinds_of, join_kinds}
 use Rattle.layout.specs.Layout.{IsSound}
 use Rattle.layout.specs.Parts.{payloads}

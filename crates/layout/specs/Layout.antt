@@ -4,10 +4,10 @@ use Rattle.std.specs.Option.{option_map}
 use Rattle.canonical_abi.specs.Types.{ClosedType, string_type, depth, result_fields}
 use Rattle.canonical_abi.specs.Layout.{extent_of, size, align, flat_kinds, field_kinds, CoreSignature}
 use Rattle.canonical_abi.specs.declared.flat.CoreKind.{CoreKind}
-use Rattle.resolve.specs.Closed.{closed_val, closed_types, closed_type}
-use Rattle.resolve.specs.declared.tables.Definition.{Definition}
-use Rattle.resolve.specs.declared.tables.Definition.TheVariants as row
-use Rattle.resolve.specs.declared.tables.Resolve.{Resolve}
+use Rattle.tables.specs.Closed.{closed_val, closed_types, closed_type}
+use Rattle.tables.specs.declared.tables.Definition.{Definition}
+use Rattle.tables.specs.declared.tables.Definition.TheVariants as row
+use Rattle.tables.specs.declared.tables.Resolve.{Resolve}
 use Rattle.layout.specs.Kinds.{kinds_of, passed}
 use Rattle.layout.specs.Parts.{parts_from}
 use Rattle.layout.specs.declared.parts.Parts.{Parts}

@@ -4,10 +4,10 @@ use Rattle.std.specs.Option.{option_map}
 use Rattle.std.specs.List.{list_all}
 use Rattle.canonical_abi.specs.Types.{ClosedType, prim_type, string_type, list_type, record_type, variant_type, flags_type, Fields, Cases, fields_of, cases_of, field_count, case_count, nth_field, nth_case, record_fields, variant_cases}
 use Rattle.canonical_abi.specs.Layout.{field_places, payload_place}
-use Rattle.resolve.specs.Closed.{prim_of}
-use Rattle.resolve.specs.Tables.{is_below, option_below}
-use Rattle.resolve.specs.declared.tables.ValType.{ValType}
-use Rattle.resolve.specs.declared.tables.ValType.TheVariants as val
+use Rattle.tables.specs.Closed.{prim_of}
+use Rattle.tables.specs.Tables.{is_below, option_below}
+use Rattle.tables.specs.declared.tables.ValType.{ValType}
+use Rattle.tables.specs.declared.tables.ValType.TheVariants as val
 use Rattle.layout.specs.declared.parts.Parts.{Parts}
 use Rattle.layout.specs.declared.parts.Parts.TheVariants as parts
 use Rattle.layout.specs.declared.queries.Shape.{Shape}

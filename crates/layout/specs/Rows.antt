@@ -5,14 +5,14 @@ use Rattle.canonical_abi.specs.Types.{prim_type, string_type, flags_type}
 use Rattle.canonical_abi.specs.Layout.{Extent, record_extent, variant_extent}
 use Rattle.canonical_abi.specs.declared.flat.CoreKind.{CoreKind}
 use Rattle.canonical_abi.specs.declared.flat.CoreKind.TheVariants.{I32}
-use Rattle.resolve.specs.Closed.{prim_of}
-use Rattle.resolve.specs.Tables.{option_below}
-use Rattle.resolve.specs.declared.tables.ValType.{ValType}
-use Rattle.resolve.specs.declared.tables.ValType.TheVariants as val
-use Rattle.resolve.specs.declared.tables.TypeDefKind.{TypeDefKind}
-use Rattle.resolve.specs.declared.tables.TypeDefKind.TheVariants as kind
-use Rattle.resolve.specs.declared.tables.Definition.{Definition}
-use Rattle.resolve.specs.declared.tables.Definition.TheVariants as row
+use Rattle.tables.specs.Closed.{prim_of}
+use Rattle.tables.specs.Tables.{option_below}
+use Rattle.tables.specs.declared.tables.ValType.{ValType}
+use Rattle.tables.specs.declared.tables.ValType.TheVariants as val
+use Rattle.tables.specs.declared.tables.TypeDefKind.{TypeDefKind}
+use Rattle.tables.specs.declared.tables.TypeDefKind.TheVariants as kind
+use Rattle.tables.specs.declared.tables.Definition.{Definition}
+use Rattle.tables.specs.declared.tables.Definition.TheVariants as row
 use Rattle.layout.specs.Kinds.{kinds_of, passed, append_kinds, join_kinds}
 use Rattle.layout.specs.Parts.{payloads}
 use Rattle.layout.specs.Layout.{row_of, capped, max_depth, max_size}

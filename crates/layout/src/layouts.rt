@@ -1,8 +1,8 @@
 //! The layout table of a package.
 ghost use Rattle.std.specs.Prelude.{◌≡◌, ◌↔◌, ◌<◌, [], length, map, slice_get, All, IsTrue, IfOk, IfErr};
-ghost use Rattle.resolve.specs.declared.tables.Resolve.{Resolve};
-ghost use Rattle.resolve.specs.Closed.{closed_types, closed_type, function_type, IsFunction};
-ghost use Rattle.resolve.specs.Tables.{is_below};
+ghost use Rattle.tables.specs.declared.tables.Resolve.{Resolve};
+ghost use Rattle.tables.specs.Closed.{closed_types, closed_type, function_type, IsFunction};
+ghost use Rattle.tables.specs.Tables.{is_below};
 ghost use Rattle.canonical_abi.specs.Types.{fields_of, record_fields};
 ghost use Rattle.canonical_abi.specs.Layout.{extent_of, size, align, field_kinds, field_places, lifted_signature, lowered_signature};
 ghost use Rattle.layout.specs.Kinds.{kinds_of};
@@ -19,9 +19,9 @@ use crate::queries::{CaseInfo, FieldInfo, Shape};
 use crate::rows::{Row, end_of, lay_definition, row_in};
 use crate::signature::{CoreSignature, lifted_of, lowered_of};
 use crate::work::total_work;
-use resolve::{Definition, FunctionId, Resolve, ValType};
 use std::alloc::Global;
 use std::marker::Model;
+use tables::{Definition, FunctionId, Resolve, ValType};
 
 /// The rows of a package's definitions, in table order, and what stands directly in each.
 #[derive(Drop)]

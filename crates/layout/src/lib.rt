@@ -3,7 +3,7 @@
 //! `Layouts::of` makes one row for each definition of a package's table, each from the rows before it, and
 //! refuses the first definition that is too deep or too large. All questions to a made `Layouts` are answered
 //! from its rows, without memory of the host. Its numbers are those that `canonical_abi` defines over closed
-//! types. It stands on `canonical_abi` and `resolve`.
+//! types. It stands on `canonical_abi` and `tables`.
 #![tactic(auto)]
 
 mod error;

@@ -1,10 +1,10 @@
 //! What stands in a record or a variant, whatever it was written as.
 use atoms::Label;
-use resolve::{Case, Field, Parameter, ValType};
+use tables::{Case, Field, Parameter, ValType};
 
 /// What stands in a record, a tuple or a list of parameters: a type, under a name or not.
 pub(crate) trait Member {
-    ghost use Rattle.resolve.specs.declared.tables.ValType.{ValType};
+    ghost use Rattle.tables.specs.declared.tables.ValType.{ValType};
     ghost use Rattle.std.specs.Prelude.{◌≡◌};
 
     ghost type_of: { Self → ValType };
@@ -39,7 +39,7 @@ impl Member for Parameter {
 
 /// A case of a variant, an enum, an option or a result.
 pub(crate) trait Choice {
-    ghost use Rattle.resolve.specs.declared.tables.ValType.{ValType};
+    ghost use Rattle.tables.specs.declared.tables.ValType.{ValType};
     ghost use Rattle.std.specs.Prelude.{◌≡◌, Option};
 
     ghost payload_of: { Self → Option ValType };

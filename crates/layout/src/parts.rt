@@ -1,5 +1,5 @@
 //! What stands directly in the types of a package.
-use resolve::{Sequence, ValType};
+use tables::{Sequence, ValType};
 
 /// What stands directly in a type.
 #[derive(Debug, Drop)]

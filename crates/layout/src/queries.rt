@@ -5,7 +5,7 @@ ghost use Rattle.layout.specs.Parts.{is_no_name};
 ghost use Rattle.layout.specs.Queries.{shape_by, field_by, case_by};
 
 use crate::parts::Parts;
-use resolve::{Primitive, ValType};
+use tables::{Primitive, ValType};
 
 /// The shape of a type.
 #[derive(Clone, Copy, Debug, PartialEq, Eq)]

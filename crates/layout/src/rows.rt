@@ -3,8 +3,8 @@ ghost use Rattle.std.specs.Prelude.{◌≡◌, ◌+◌, ◌≤◌, ◌<◌, ◌�
 ghost use Rattle.std.specs.Int.{next_multiple_of};
 ghost use Rattle.canonical_abi.specs.Types.{prim_type, string_type, flags_type};
 ghost use Rattle.canonical_abi.specs.Layout.{discriminant_size, places_from, payload_at};
-ghost use Rattle.resolve.specs.Closed.{prim_of};
-ghost use Rattle.resolve.specs.Tables.{is_below, option_below, kind_below, definition_below};
+ghost use Rattle.tables.specs.Closed.{prim_of};
+ghost use Rattle.tables.specs.Tables.{is_below, option_below, kind_below, definition_below};
 ghost use Rattle.layout.specs.Layout.{row_of, capped, IsSound, max_size};
 ghost use Rattle.layout.specs.Parts.{payloads, end_of, record_parts, variant_parts, kind_parts, definition_parts};
 ghost use Rattle.layout.specs.Rows.{row_in, rows_at, extent_at, extents, deepest, record_row, choices_at, variant_row, list_row, kind_row, definition_row, number_row, IsKept, IsLimited, IsLimitedDefinition, RefusesRow, RefusesDefinition};
@@ -14,8 +14,8 @@ use crate::kinds::Kinds;
 use crate::members::{Choice, Member};
 use crate::parts::Parts;
 use canonical_abi::CoreKind;
-use resolve::{Definition, Primitive, Sequence, TypeDefKind, ValType};
 use std::alloc::Global;
+use tables::{Definition, Primitive, Sequence, TypeDefKind, ValType};
 
 /// The greatest depth of a type.
 pub const MAX_DEPTH: u32 = 64;

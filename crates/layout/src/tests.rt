@@ -3,12 +3,12 @@ ghost use Rattle.std.specs.Prelude.{◌<◌};
 use super::*;
 use atoms::Label;
 use canonical_abi::CoreKind;
-use resolve::{
+use std::alloc::Global;
+use std::test::*;
+use tables::{
     Case, Definition, Field, Function, FunctionId, InterfaceId, Owner, Parameter, Primitive,
     Resolve, ResolveError, Sequence, TypeDef, TypeDefKind, TypeId, ValType,
 };
-use std::alloc::Global;
-use std::test::*;
 
 const U8: ValType = ValType::Primitive(Primitive::U8);
 

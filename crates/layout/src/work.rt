@@ -2,7 +2,7 @@
 ghost use Rattle.std.specs.Prelude.{◌≡◌, length, filter, is_some};
 ghost use Rattle.layout.specs.Work.{count, members_in, types_in, total_work, saturated};
 
-use resolve::{Case, Definition, TypeDefKind, ValType};
+use tables::{Case, Definition, TypeDefKind, ValType};
 
 fn one_or_none(ty: Option<ValType>) -> u64
     ensures { result ≡ count ty }

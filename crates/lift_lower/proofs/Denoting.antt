@@ -15,10 +15,10 @@ use Rattle.canonical_abi.specs.declared.trap.Fault.{Fault}
 use Rattle.canonical_abi.specs.declared.trap.Step.TheVariants.{Take}
 use Rattle.canonical_abi.specs.declared.trap.TrapKind.TheVariants as trap
 use Rattle.layout.specs.Layout.{Table, layouts_of}
-use Rattle.resolve.specs.Closed.{closed_type}
-use Rattle.resolve.specs.Tables.{is_below}
-use Rattle.resolve.specs.declared.tables.Resolve.{Resolve}
-use Rattle.resolve.specs.declared.tables.ValType.{ValType}
+use Rattle.tables.specs.Closed.{closed_type}
+use Rattle.tables.specs.Tables.{is_below}
+use Rattle.tables.specs.declared.tables.Resolve.{Resolve}
+use Rattle.tables.specs.declared.tables.ValType.{ValType}
 use Rattle.lift_lower.specs.Crossing.{fields_of_types, LiftFails}
 use Rattle.lift_lower.specs.Gives.{Fails, fault_at}
 use Rattle.lift_lower.specs.declared.refusal.Refusal.{Refusal}

@@ -8,10 +8,10 @@ use Rattle.canonical_abi.specs.Types.{ClosedType, record_type, variant_type, Fie
 use Rattle.canonical_abi.specs.Layout.{size, align, discriminant_size, greatest_align, end_from, field_extents, payload_extents, payload_place}
 use Rattle.canonical_abi.proofs.Sizes.{is-alignment, greatest-le}
 use Rattle.layout.specs.Layout.{Table, layouts_of}
-use Rattle.resolve.specs.Tables.{is_below}
-use Rattle.resolve.specs.declared.tables.Resolve.{Resolve}
-use Rattle.resolve.specs.declared.tables.ValType.{ValType}
-use Rattle.resolve.proofs.Rows.{length-closed_rows}
+use Rattle.tables.specs.Tables.{is_below}
+use Rattle.tables.specs.declared.tables.Resolve.{Resolve}
+use Rattle.tables.specs.declared.tables.ValType.{ValType}
+use Rattle.tables.proofs.Rows.{length-closed_rows}
 use Rattle.lift_lower.specs.Shape.{IsInside}
 
 -- a type of the package has a row

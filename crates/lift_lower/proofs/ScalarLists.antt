@@ -18,9 +18,9 @@ use Rattle.canonical_abi.specs.declared.flat.CoreKind.{CoreKind}
 use Rattle.canonical_abi.specs.declared.flat.Flat.{Flat}
 use Rattle.canonical_abi.specs.declared.trap.TrapKind.{TrapKind}
 use Rattle.canonical_abi.specs.declared.trap.TrapKind.TheVariants as trap
-use Rattle.resolve.specs.Closed.{prim_of, is_scalar}
-use Rattle.resolve.specs.declared.tables.ValType.{ValType}
-use Rattle.resolve.specs.declared.tables.ValType.TheVariants as val
+use Rattle.tables.specs.Closed.{prim_of, is_scalar}
+use Rattle.tables.specs.declared.tables.ValType.{ValType}
+use Rattle.tables.specs.declared.tables.ValType.TheVariants as val
 use Rattle.lift_lower.specs.Crossing.{IsLowered}
 use Rattle.lift_lower.specs.Scalar.{prim_in, value_in, core_in, ScalarIs}
 use Rattle.lift_lower.specs.Scalars.{AreScalar, fields_in, prim_of_type, KindsFit, Stands, FirstFault, StandFor, FailAs, IsQuiet, AreCarried}

@@ -6,11 +6,11 @@ use Rattle.std.proofs.Math.Nat.{mod-lt}
 use Rattle.canonical_abi.specs.Types.{ClosedType, prim_type, record_type, fields_of, AreStandardFields}
 use Rattle.canonical_abi.specs.Layout.{size, align, end_from, field_extents}
 use Rattle.canonical_abi.proofs.Sizes.{is-alignment}
-use Rattle.resolve.specs.Tables.{is_below}
-use Rattle.resolve.specs.Closed.{prim_of, closed_val, closed_types, is_scalar}
-use Rattle.resolve.specs.declared.tables.Resolve.{Resolve}
-use Rattle.resolve.specs.declared.tables.ValType.{ValType}
-use Rattle.resolve.specs.declared.tables.ValType.TheVariants as val
+use Rattle.tables.specs.Tables.{is_below}
+use Rattle.tables.specs.Closed.{prim_of, closed_val, closed_types, is_scalar}
+use Rattle.tables.specs.declared.tables.Resolve.{Resolve}
+use Rattle.tables.specs.declared.tables.ValType.{ValType}
+use Rattle.tables.specs.declared.tables.ValType.TheVariants as val
 use Rattle.lift_lower.specs.Crossing.{fields_of_types}
 use Rattle.lift_lower.specs.Members.{AreAllInside}
 use Rattle.lift_lower.specs.Scalars.{AreScalar}

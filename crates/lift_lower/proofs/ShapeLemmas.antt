@@ -3,20 +3,20 @@ use Rattle.std.proofs.Common.{◌≡◌, ℕ, zero, suc, ◌<◌, ◌≤◌, Boo
 use Rattle.std.specs.List.{list_all}
 use Rattle.std.proofs.lemmas.Bool.{and_parts, ltb-true}
 use Rattle.canonical_abi.specs.Types.{ClosedType, list_type, record_type, variant_type, fields_of, cases_of, record_fields, variant_cases, nth_field, nth_case, field_count, case_count}
-use Rattle.resolve.specs.Closed.{closed_val, closed_kind, closed_params, closed_definition, closed_rows, closed_types, closed_type}
-use Rattle.resolve.specs.Tables.{is_below, option_below, kind_below, definition_below, is_standard}
-use Rattle.resolve.specs.declared.tables.Case.{Case}
-use Rattle.resolve.specs.declared.tables.Definition.{Definition}
-use Rattle.resolve.specs.declared.tables.Definition.TheVariants as row
-use Rattle.resolve.specs.declared.tables.Field.{Field}
-use Rattle.resolve.specs.declared.tables.Parameter.{Parameter}
-use Rattle.resolve.specs.declared.tables.Resolve.{Resolve}
-use Rattle.resolve.specs.declared.tables.TypeDefKind.{TypeDefKind}
-use Rattle.resolve.specs.declared.tables.TypeDefKind.TheVariants as kind
-use Rattle.resolve.specs.declared.tables.TypeId.{TypeId}
-use Rattle.resolve.specs.declared.tables.ValType.{ValType}
-use Rattle.resolve.specs.declared.tables.ValType.TheVariants as val
-use Rattle.resolve.proofs.Rows.{closed-at, closed_val-stays, closed_params-stay, below-at, is_below-later}
+use Rattle.tables.specs.Closed.{closed_val, closed_kind, closed_params, closed_definition, closed_rows, closed_types, closed_type}
+use Rattle.tables.specs.Tables.{is_below, option_below, kind_below, definition_below, is_standard}
+use Rattle.tables.specs.declared.tables.Case.{Case}
+use Rattle.tables.specs.declared.tables.Definition.{Definition}
+use Rattle.tables.specs.declared.tables.Definition.TheVariants as row
+use Rattle.tables.specs.declared.tables.Field.{Field}
+use Rattle.tables.specs.declared.tables.Parameter.{Parameter}
+use Rattle.tables.specs.declared.tables.Resolve.{Resolve}
+use Rattle.tables.specs.declared.tables.TypeDefKind.{TypeDefKind}
+use Rattle.tables.specs.declared.tables.TypeDefKind.TheVariants as kind
+use Rattle.tables.specs.declared.tables.TypeId.{TypeId}
+use Rattle.tables.specs.declared.tables.ValType.{ValType}
+use Rattle.tables.specs.declared.tables.ValType.TheVariants as val
+use Rattle.tables.proofs.Rows.{closed-at, closed_val-stays, closed_params-stay, below-at, is_below-later}
 use Rattle.lift_lower.specs.Shape.{IsInside, IsFollowed, rank, target_in, target_in_kind, is_own, is_own_kind, HasShape, HasShapeIn, ShapeBelow}
 use Rattle.lift_lower.specs.declared.shape.Shape.{Shape}
 use Rattle.lift_lower.specs.declared.shape.Shape.TheVariants as shape

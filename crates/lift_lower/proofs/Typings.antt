@@ -13,7 +13,7 @@ use Rattle.lift_lower.specs.Shape.{HasShapeIn}
 use Rattle.lift_lower.specs.declared.shape.Shape.{Shape}
 use Rattle.lift_lower.specs.declared.shape.Shape.TheVariants as shape
 use Rattle.lift_lower.proofs.Steps.{fields_from, fields-next, fields-last, some-inj}
-use Rattle.resolve.specs.declared.tables.ValType.{ValType}
+use Rattle.tables.specs.declared.tables.ValType.{ValType}
 
 -- ---- forms: what a value and a type have in common
 

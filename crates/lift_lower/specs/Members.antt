@@ -2,10 +2,10 @@
 use Rattle.std.specs.Prelude.{◌≡◌, true, List, map, length}
 use Rattle.std.specs.List.{list_all}
 use Rattle.canonical_abi.specs.Types.{Fields, fields_of, record_fields}
-use Rattle.resolve.specs.Closed.{closed_type}
-use Rattle.resolve.specs.Tables.{is_below}
-use Rattle.resolve.specs.declared.tables.Resolve.{Resolve}
-use Rattle.resolve.specs.declared.tables.ValType.{ValType}
+use Rattle.tables.specs.Closed.{closed_type}
+use Rattle.tables.specs.Tables.{is_below}
+use Rattle.tables.specs.declared.tables.Resolve.{Resolve}
+use Rattle.tables.specs.declared.tables.ValType.{ValType}
 use Rattle.lift_lower.specs.Shape.{IsInside, IsFollowed}
 use Rattle.lift_lower.specs.declared.shape.Members.{Members}
 use Rattle.lift_lower.specs.declared.shape.Members.TheVariants.{Of, Listed}

@@ -11,9 +11,9 @@ use Rattle.canonical_abi.specs.Trace.{Event, node}
 use Rattle.canonical_abi.specs.Lowering.{FieldsLower}
 use Rattle.canonical_abi.specs.declared.flat.Flat.{Flat}
 use Rattle.canonical_abi.specs.declared.trap.TrapKind.{TrapKind}
-use Rattle.resolve.specs.Closed.{prim_of, closed_val, is_scalar}
-use Rattle.resolve.specs.declared.tables.ValType.{ValType}
-use Rattle.resolve.specs.declared.tables.ValType.TheVariants as val
+use Rattle.tables.specs.Closed.{prim_of, closed_val, is_scalar}
+use Rattle.tables.specs.declared.tables.ValType.{ValType}
+use Rattle.tables.specs.declared.tables.ValType.TheVariants as val
 use Rattle.lift_lower.specs.Scalar.{value_in, ScalarIs}
 use Rattle.lift_lower.specs.declared.scalar.Scalar.{Scalar}
 

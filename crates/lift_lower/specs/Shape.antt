@@ -1,15 +1,15 @@
 -- The shape of a type: what it is once names are followed.
 use Rattle.std.specs.Prelude.{◌≡◌, ◌≤◌, ℕ, suc, Bool, true, false, IsTrue, List, length, slice_get, Option, None, Some}
 use Rattle.canonical_abi.specs.Types.{ClosedType, Fields, Cases, prim_type, string_type, list_type, record_type, variant_type, flags_type, field_count, case_count}
-use Rattle.resolve.specs.Tables.{is_below}
-use Rattle.resolve.specs.Closed.{prim_of, closed_val, closed_types}
-use Rattle.resolve.specs.declared.tables.Definition.{Definition}
-use Rattle.resolve.specs.declared.tables.Definition.TheVariants as row
-use Rattle.resolve.specs.declared.tables.Resolve.{Resolve}
-use Rattle.resolve.specs.declared.tables.TypeDefKind.{TypeDefKind}
-use Rattle.resolve.specs.declared.tables.TypeDefKind.TheVariants as kind
-use Rattle.resolve.specs.declared.tables.ValType.{ValType}
-use Rattle.resolve.specs.declared.tables.ValType.TheVariants as val
+use Rattle.tables.specs.Tables.{is_below}
+use Rattle.tables.specs.Closed.{prim_of, closed_val, closed_types}
+use Rattle.tables.specs.declared.tables.Definition.{Definition}
+use Rattle.tables.specs.declared.tables.Definition.TheVariants as row
+use Rattle.tables.specs.declared.tables.Resolve.{Resolve}
+use Rattle.tables.specs.declared.tables.TypeDefKind.{TypeDefKind}
+use Rattle.tables.specs.declared.tables.TypeDefKind.TheVariants as kind
+use Rattle.tables.specs.declared.tables.ValType.{ValType}
+use Rattle.tables.specs.declared.tables.ValType.TheVariants as val
 use Rattle.lift_lower.specs.declared.shape.Shape.{Shape}
 use Rattle.lift_lower.specs.declared.shape.Shape.TheVariants as shape
 

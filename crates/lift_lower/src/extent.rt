@@ -3,7 +3,7 @@ ghost use Rattle.std.specs.Prelude.{◌≡◌, ◌<◌, ◌≤◌, ◌^◌, true
 ghost use Rattle.canonical_abi.specs.Types.{record_type};
 ghost use Rattle.canonical_abi.specs.Layout.{size, align, flat_kinds, field_kinds, fits_flat};
 ghost use Rattle.layout.specs.Layout.{layouts_of};
-ghost use Rattle.resolve.specs.Closed.{closed_type};
+ghost use Rattle.tables.specs.Closed.{closed_type};
 ghost use Rattle.lift_lower.specs.Crossing.{fields_of_types};
 ghost use Rattle.lift_lower.specs.Members.{AreAllInside};
 ghost use Rattle.lift_lower.specs.Shape.{IsInside};
@@ -11,7 +11,7 @@ ghost use Rattle.lift_lower.specs.Shape.{IsInside};
 use arrayvec::ArrayVec;
 use canonical_abi::CoreKind;
 use layout::{Kinds, Layouts};
-use resolve::{Resolve, ValType};
+use tables::{Resolve, ValType};
 
 pub(crate) fn size_of(_resolve: &Resolve, layouts: &Layouts, ty: ValType) -> usize
     requires laid_out { layouts.now ≡ layouts_of _resolve.now }

@@ -6,7 +6,7 @@ ghost use Rattle.canonical_abi.specs.Types.{variant_cases, field_count, prim_typ
 ghost use Rattle.canonical_abi.specs.Layout.{flat_kinds, field_kinds, payload_kinds};
 ghost use Rattle.canonical_abi.specs.Reading.{number_of, low_bits, lifting, lifting_fields, lifting_case};
 ghost use Rattle.layout.specs.Layout.{layouts_of};
-ghost use Rattle.resolve.specs.Closed.{prim_of, closed_type};
+ghost use Rattle.tables.specs.Closed.{prim_of, closed_type};
 ghost use Rattle.lift_lower.specs.Gives.{Gives};
 ghost use Rattle.lift_lower.specs.Members.{AreInside, members_fields};
 ghost use Rattle.lift_lower.specs.Shape.{IsInside, IsFollowed};
@@ -21,8 +21,8 @@ use crate::shape::{Members, Shape, case_payload, followed, member_type, shape_of
 use crate::val::Val;
 use canonical_abi::{Flat, TrapKind};
 use layout::Layouts;
-use resolve::{Primitive, Resolve, ValType};
 use std::alloc::Global;
+use tables::{Primitive, Resolve, ValType};
 
 /// The low 32 bits of a flat value.
 #[tactic(auto, unfolding(canonical_abi::specs::Reading::low_bits))]

@@ -8,7 +8,7 @@ ghost use Rattle.canonical_abi.specs.Values.{HasType, HaveTypes, string_value, l
 ghost use Rattle.canonical_abi.specs.Layout.{flat_kinds, field_kinds};
 ghost use Rattle.canonical_abi.specs.Lowering.{zero_of, widened, joined_flats};
 ghost use Rattle.layout.specs.Layout.{layouts_of};
-ghost use Rattle.resolve.specs.Closed.{closed_type};
+ghost use Rattle.tables.specs.Closed.{closed_type};
 ghost use Rattle.lift_lower.specs.Lowered.{LowersInto, LowersBy, FieldsLowerInto, FieldsLowerBy};
 ghost use Rattle.lift_lower.specs.Members.{AreInside, members_fields};
 ghost use Rattle.lift_lower.specs.Scripts.{IsDone, HasEnded};
@@ -24,7 +24,7 @@ use crate::val::Val;
 use crate::writing::put_text;
 use canonical_abi::{CoreKind, Flat, Guest, TrapKind};
 use layout::Layouts;
-use resolve::{Resolve, ValType};
+use tables::{Resolve, ValType};
 
 /// Lowers a value.
 #[cycle(lower)]

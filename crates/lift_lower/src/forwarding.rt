@@ -23,7 +23,7 @@ use crate::storing::store_fields;
 use crate::val::Val;
 use canonical_abi::{Guest, TrapKind};
 use layout::Layouts;
-use resolve::{Resolve, ValType};
+use tables::{Resolve, ValType};
 
 /// Lowers the parameters of a call into the callee: the core values that carry them, or the fault of the
 /// first request that fails.

@@ -2,7 +2,7 @@
 //!
 //! `has_type`, `lift` and `lower` carry the promise: a value exactly where the flat values denote one, else
 //! the fault. `Scalar` is the value of one primitive node, which is lifted and lowered with no memory of the
-//! host. Stands on `canonical_abi` (definitions), `resolve` and `layout` (types) and `memory` (guests).
+//! host. Stands on `canonical_abi` (definitions), `tables` and `layout` (types) and `memory` (guests).
 #![tactic(auto)]
 
 mod bytes;

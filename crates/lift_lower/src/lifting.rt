@@ -19,8 +19,8 @@ use crate::shape::Members;
 use crate::val::Val;
 use canonical_abi::{CoreKind, Fault, Flat, Guest, Step, TrapKind};
 use layout::Layouts;
-use resolve::{Resolve, ValType};
 use std::alloc::Global;
+use tables::{Resolve, ValType};
 
 /// The values that flat values denote over a memory, or the first fault, in step `take`. `NoMemory` where
 /// the host has none for the values.

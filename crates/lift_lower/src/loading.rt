@@ -10,7 +10,7 @@ ghost use Rattle.canonical_abi.specs.Memory.{HoldsInBlock, FaultyInBlock};
 ghost use Rattle.canonical_abi.specs.Reading.{reading, number_at, text_at, block_at, list_at, reading_fields, reading_case, case_number};
 ghost use Rattle.canonical_abi.specs.declared.trap.Step.TheVariants.{Take};
 ghost use Rattle.layout.specs.Layout.{layouts_of};
-ghost use Rattle.resolve.specs.Closed.{prim_of, closed_type};
+ghost use Rattle.tables.specs.Closed.{prim_of, closed_type};
 ghost use Rattle.lift_lower.specs.Gives.{Gives, AnswerStands};
 ghost use Rattle.lift_lower.specs.Loading.{reading_block};
 ghost use Rattle.lift_lower.specs.Members.{AreInside, members_fields};
@@ -28,8 +28,8 @@ use crate::text::text_in;
 use crate::val::Val;
 use canonical_abi::{Fault, Guest, Step, TrapKind};
 use layout::Layouts;
-use resolve::{Primitive, Resolve, ValType};
 use std::alloc::Global;
+use tables::{Primitive, Resolve, ValType};
 
 /// Tests a block's alignment, then its end.
 pub(crate) fn check_block(

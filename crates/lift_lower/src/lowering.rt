@@ -20,7 +20,7 @@ use crate::val::Val;
 use crate::writing::ask_block;
 use canonical_abi::{Fault, Flat, Guest, TrapKind};
 use layout::Layouts;
-use resolve::{Resolve, ValType};
+use tables::{Resolve, ValType};
 
 /// The core values that carry values of these types, whose texts and lists are put into the guest's memory.
 /// A trap is in step `place`: the first request that fails. Takes no memory of the host.

@@ -5,13 +5,13 @@ ghost use Rattle.canonical_abi.specs.Values.{HasPrimType};
 ghost use Rattle.canonical_abi.specs.Layout.{prim_kind};
 ghost use Rattle.canonical_abi.specs.Memory.{PrimFaulty};
 ghost use Rattle.canonical_abi.specs.Reading.{number_of, flat_bits};
-ghost use Rattle.resolve.specs.Closed.{prim_of};
+ghost use Rattle.tables.specs.Closed.{prim_of};
 ghost use Rattle.lift_lower.specs.Scalar.{prim_in, value_in, core_in, ScalarIs};
 ghost use Rattle.lift_lower.specs.Val.{value_of, IsCompound};
 
 use crate::val::Val;
 use canonical_abi::{CoreKind, Flat, TrapKind};
-use resolve::Primitive;
+use tables::Primitive;
 
 /// A value of a primitive type other than string.
 #[derive(Clone, Copy, Debug, PartialEq, Eq)]

@@ -4,15 +4,15 @@ ghost use Rattle.canonical_abi.specs.Types.{ClosedType};
 ghost use Rattle.canonical_abi.specs.Values.{HaveTypes};
 ghost use Rattle.canonical_abi.specs.Layout.{prim_kind};
 ghost use Rattle.canonical_abi.specs.Reading.{kind_of};
-ghost use Rattle.resolve.specs.Closed.{prim_of, is_scalar};
-ghost use Rattle.resolve.specs.declared.tables.ValType.{ValType};
+ghost use Rattle.tables.specs.Closed.{prim_of, is_scalar};
+ghost use Rattle.tables.specs.declared.tables.ValType.{ValType};
 ghost use Rattle.lift_lower.specs.Scalar.{value_in, core_in};
 ghost use Rattle.lift_lower.specs.Scalars.{AreScalar, fields_in, prim_of_type, KindsFit, Stands, FirstFault, StandFor, FailAs, AreOfTypes, AreCarried};
 
 use crate::scalar::{Scalar, core_kind, lift_scalar, lower_scalar};
 use arrayvec::ArrayVec;
 use canonical_abi::{Flat, TrapKind};
-use resolve::{Primitive, ValType};
+use tables::{Primitive, ValType};
 
 /// The core values of one call: sixteen parameters and a return area at most.
 pub type Flats = ArrayVec<Flat, 17>;

@@ -2,12 +2,12 @@
 //! option or a result is a variant.
 ghost use Rattle.std.specs.Prelude.{◌≡◌, ◌<◌, ℕ, List, IsTrue, IfSome, IfNone, Some, option_map, slice_get};
 ghost use Rattle.canonical_abi.specs.Types.{ClosedType, record_fields, variant_cases, nth_field, nth_case};
-ghost use Rattle.resolve.specs.Closed.{closed_type, closed_val, closed_kind, closed_definition};
-ghost use Rattle.resolve.specs.Tables.{is_below, option_below, kind_below, definition_below, is_standard_kind, is_standard};
+ghost use Rattle.tables.specs.Closed.{closed_type, closed_val, closed_kind, closed_definition};
+ghost use Rattle.tables.specs.Tables.{is_below, option_below, kind_below, definition_below, is_standard_kind, is_standard};
 ghost use Rattle.lift_lower.specs.Members.{AreInside, members_fields};
 ghost use Rattle.lift_lower.specs.Shape.{HasShape, HasShapeIn, ShapeBelow, HasFewFlags, IsFollowed, rank, IsInside, is_own, is_own_kind, target_in};
 
-use resolve::{Case, Definition, Field, Parameter, Primitive, Resolve, TypeDefKind, ValType};
+use tables::{Case, Definition, Field, Parameter, Primitive, Resolve, TypeDefKind, ValType};
 
 /// What a type is for the ABI. A record, a variant and flags tell how many fields, cases and labels they have.
 #[derive(Clone, Copy, Debug, PartialEq, Eq)]

@@ -10,7 +10,7 @@ ghost use Rattle.canonical_abi.specs.Layout.{size, align, end_from, field_extent
 ghost use Rattle.canonical_abi.specs.Storing.{Stores, EachStores, FieldsStore};
 ghost use Rattle.canonical_abi.specs.declared.trap.Step.TheVariants.{Place};
 ghost use Rattle.layout.specs.Layout.{layouts_of};
-ghost use Rattle.resolve.specs.Closed.{closed_type};
+ghost use Rattle.tables.specs.Closed.{closed_type};
 ghost use Rattle.lift_lower.specs.Crossing.{IsStoredAt, StoreFails};
 ghost use Rattle.lift_lower.specs.Members.{AreInside, members_fields};
 ghost use Rattle.lift_lower.specs.Scripts.{IsDone, HasEnded, GrantsBlock, AsksBlock};
@@ -25,7 +25,7 @@ use crate::val::Val;
 use crate::writing::{ask_block, put_text, write_header, write_number, write_scalar};
 use canonical_abi::{Fault, Guest, Step, Trap, TrapKind};
 use layout::Layouts;
-use resolve::{Resolve, ValType};
+use tables::{Resolve, ValType};
 
 /// The most bytes that a text or a list of typed values may need.
 pub(crate) const MAX_BLOCK: u32 = 16_777_216;

@@ -4,7 +4,7 @@ ghost use Rattle.std.specs.List.{AllByRecursion};
 ghost use Rattle.canonical_abi.specs.Types.{ClosedType, variant_cases, variant_type, field_count};
 ghost use Rattle.canonical_abi.specs.Values.{HasType, HaveTypes, HasPrimType};
 ghost use Rattle.layout.specs.Layout.{layouts_of};
-ghost use Rattle.resolve.specs.Closed.{closed_type};
+ghost use Rattle.tables.specs.Closed.{closed_type};
 ghost use Rattle.lift_lower.specs.Members.{AreInside, members_fields};
 ghost use Rattle.lift_lower.specs.Scalar.{prim_in, value_in};
 ghost use Rattle.lift_lower.specs.Shape.{HasShapeIn, IsInside, IsFollowed};
@@ -14,7 +14,7 @@ use crate::scalar::Scalar;
 use crate::shape::{Members, Shape, case_payload, followed, member_type, shape_of};
 use crate::val::Val;
 use layout::Layouts;
-use resolve::{Resolve, ValType};
+use tables::{Resolve, ValType};
 
 /// Whether a value is of a type of this package. Takes no memory of the host.
 pub fn has_type(resolve: &Resolve, _layouts: &Layouts, ty: ValType, value: &Val) -> bool

@@ -5,16 +5,16 @@ use Rattle.std.proofs.lemmas.List.{length-append, length-take, map-append}
 use Rattle.std.proofs.lemmas.Bool.{lt-ltb}
 use Rattle.std.proofs.lemmas.List.Sums.{sum_by-cons}
 use Rattle.std.proofs.lemmas.Bool.Decides.{nat_tests}
-use Rattle.resolve.specs.declared.tables.TypeName.{TypeName}
-use Rattle.resolve.specs.declared.tables.ValType.TheVariants as val
-use Rattle.resolve.specs.declared.tables.TypeDefKind.{TypeDefKind}
-use Rattle.resolve.specs.declared.tables.TypeDefKind.TheVariants as kind
-use Rattle.resolve.specs.Tables.{is_type_id, is_function_id, is_placed, are_placed, is_there, type_of, function_of}
+use Rattle.tables.specs.declared.tables.TypeName.{TypeName}
+use Rattle.tables.specs.declared.tables.ValType.TheVariants as val
+use Rattle.tables.specs.declared.tables.TypeDefKind.{TypeDefKind}
+use Rattle.tables.specs.declared.tables.TypeDefKind.TheVariants as kind
+use Rattle.tables.specs.Tables.{is_type_id, is_function_id, is_placed, are_placed, is_there, type_of, function_of}
 use Rattle.resolve.specs.Resolves.{places_where, is_use_in, is_type_in, is_function_in, type_id, function_id, interface_in, interfaces_from, entries_of, entries_under}
-use Rattle.resolve.specs.declared.tables.Interface.{Interface}
-use Rattle.resolve.specs.declared.tables.Definition.{Definition}
-use Rattle.resolve.specs.declared.tables.Definition.TheVariants as row
-use Rattle.resolve.proofs.Rows.{both}
+use Rattle.tables.specs.declared.tables.Interface.{Interface}
+use Rattle.tables.specs.declared.tables.Definition.{Definition}
+use Rattle.tables.specs.declared.tables.Definition.TheVariants as row
+use Rattle.tables.proofs.Rows.{both}
 use Rattle.resolve.proofs.Meeting.{take-more}
 
 if-true : {A : Type 0} (b : Bool) (x y : A) → b ≡ true → cond b x y ≡ x

@@ -2,8 +2,8 @@
 use Rattle.std.proofs.Common.{◌≡◌, ℕ, true, List, [], ◌∷◌, ◌++◌, Option, Some, map, length, get_or, refl, ap, sym, ◌∙◌, subst, All, Contains, append_assoc, append-nil}
 use Rattle.std.proofs.lemmas.List.{map-append}
 use Rattle.std.specs.List.{list_all}
-use Rattle.resolve.specs.Tables.{option_below, function_below}
-use Rattle.resolve.specs.Package.{Tree, Reference, NamedDefinition, Meaning, IsUse, IsFunction, definition_of, read_params}
+use Rattle.tables.specs.Tables.{option_below, function_below}
+use Rattle.tables.specs.Package.{Tree, Reference, NamedDefinition, Meaning, IsUse, IsFunction, definition_of, read_params}
 use Rattle.resolve.specs.Postfix.{Leaves, whole, unnamed_if, unnamed_parameter}
 use Rattle.resolve.specs.Declarations.{UsedItem, TypeItem, FunctionItem, InterfaceTree, used_names}
 use Rattle.resolve.specs.Resolved.{Labelled, use_meaning, function_meaning, in_order, interface_meaning, no_type, fields_of}
@@ -11,18 +11,18 @@ use Rattle.resolve.specs.Resolves.{Table}
 use Rattle.resolve.specs.Building.{table_trees, table_definitions, name_at, Front, Extends, Adds, Grows, Stands, LowersKind, LowersIf, LowersParameters, IsEntry, IsScope, scope_name, scope_names, names_of, ordered_names, KnowsNames, CanUse, DefinesInterface, parameter_below, read_parameter}
 use Rattle.resolve.specs.declared.known.Entry.{Entry}
 use Rattle.resolve.specs.declared.known.KnownTypes.{KnownTypes}
-use Rattle.resolve.specs.declared.tables.Function.{Function}
-use Rattle.resolve.specs.declared.tables.Parameter.{Parameter}
-use Rattle.resolve.specs.declared.tables.Owner.TheVariants as owner
-use Rattle.resolve.specs.declared.tables.TypeId.{TypeId}
-use Rattle.resolve.specs.declared.tables.InterfaceId.{InterfaceId}
-use Rattle.resolve.specs.declared.tables.ValType.{ValType}
-use Rattle.resolve.specs.declared.tables.ValType.TheVariants as val
-use Rattle.resolve.specs.declared.tables.TypeDefKind.{TypeDefKind}
-use Rattle.resolve.specs.declared.tables.TypeDefKind.TheVariants as kind
-use Rattle.resolve.specs.declared.tables.Definition.{Definition}
-use Rattle.resolve.specs.declared.tables.Definition.TheVariants as row
-use Rattle.resolve.proofs.Rows.{both}
+use Rattle.tables.specs.declared.tables.Function.{Function}
+use Rattle.tables.specs.declared.tables.Parameter.{Parameter}
+use Rattle.tables.specs.declared.tables.Owner.TheVariants as owner
+use Rattle.tables.specs.declared.tables.TypeId.{TypeId}
+use Rattle.tables.specs.declared.tables.InterfaceId.{InterfaceId}
+use Rattle.tables.specs.declared.tables.ValType.{ValType}
+use Rattle.tables.specs.declared.tables.ValType.TheVariants as val
+use Rattle.tables.specs.declared.tables.TypeDefKind.{TypeDefKind}
+use Rattle.tables.specs.declared.tables.TypeDefKind.TheVariants as kind
+use Rattle.tables.specs.declared.tables.Definition.{Definition}
+use Rattle.tables.specs.declared.tables.Definition.TheVariants as row
+use Rattle.tables.proofs.Rows.{both}
 use Rattle.resolve.proofs.Lists.{all-append, all-cons, all-none}
 use Rattle.resolve.proofs.Reading.{With, with-rows, with-front, with-definitions, with-stands, with-unnamed, front-trans, adds-trans, adds-none, extends-trans, extends-none}
 use Rattle.resolve.proofs.Lowering.{scope-later, same_name, all-stay, parameter-stays, parameters-read}

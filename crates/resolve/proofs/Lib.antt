@@ -1,9 +1,5 @@
-pub mod Names
 pub mod MetNames
-pub mod Rows
 pub mod OrderSteps
-pub mod Unfolded
-pub mod Earlier
 pub mod Lists
 pub mod Reading
 pub mod Lowering

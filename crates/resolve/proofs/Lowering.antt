@@ -8,8 +8,8 @@ use Rattle.wit_syntax.specs.View.{ty_view, boxed_view}
 use Rattle.wit_syntax.specs.declared.ast.TypeExpression.{TypeExpression, Named as Name, List as Listed, Option as Optional, Tuple, Result as Either, the_lemmas}
 use Rattle.wit_syntax.specs.declared.ast.Primitive.{Primitive as Keyword}
 use Rattle.wit_syntax.specs.declared.ast.Primitive.TheVariants as keyword
-use Rattle.resolve.specs.Tables.{is_below, option_below}
-use Rattle.resolve.specs.Package.{Tree, Reference, ListTree, IsType, read_val, read_tuple, read_fields, read_params, read_cases, read_choice, read_enum, read_kind, Fields, field, Choices, empty, RecordTree, VariantTree, FlagsTree, Plain, AsTuple, AsEnum}
+use Rattle.tables.specs.Tables.{is_below, option_below}
+use Rattle.tables.specs.Package.{Tree, Reference, ListTree, IsType, read_val, read_tuple, read_fields, read_params, read_cases, read_choice, read_enum, read_kind, Fields, field, Choices, empty, RecordTree, VariantTree, FlagsTree, Plain, AsTuple, AsEnum}
 use Rattle.resolve.specs.Postfix.{unnamed, unnamed_if, unnamed_field, unnamed_case, unnamed_parameter}
 use Rattle.resolve.specs.Declarations.{named, named_all}
 use Rattle.resolve.specs.Resolved.{Labelled, Choice, resolved, resolved_all, option_tree, tuple_tree, result_tree, fields_of, unlabelled, choices_of, choice, enumerated, primitive_tree, val_of_primitive}
@@ -17,16 +17,16 @@ use Rattle.resolve.specs.Resolves.{Table}
 use Rattle.resolve.specs.Building.{table_trees, Front, Extends, Stands, Lowers, LowersIf, LowersEach, LowersKind, LowersInner, IsEntry, IsScope, KnowsNames, scope_name, read_field, read_parameter, read_case, field_below, parameter_below, case_below}
 use Rattle.resolve.specs.declared.known.Entry.{Entry}
 use Rattle.resolve.specs.declared.known.KnownTypes.{KnownTypes}
-use Rattle.resolve.specs.declared.tables.ValType.{ValType}
-use Rattle.resolve.specs.declared.tables.ValType.TheVariants as val
-use Rattle.resolve.specs.declared.tables.Definition.{Definition}
-use Rattle.resolve.specs.declared.tables.TypeId.{TypeId}
-use Rattle.resolve.specs.declared.tables.Field.{Field}
-use Rattle.resolve.specs.declared.tables.Parameter.{Parameter}
-use Rattle.resolve.specs.declared.tables.Case.{Case}
-use Rattle.resolve.specs.declared.tables.TypeDefKind.{TypeDefKind}
-use Rattle.resolve.specs.declared.tables.TypeDefKind.TheVariants as kind
-use Rattle.resolve.proofs.Rows.{split, both}
+use Rattle.tables.specs.declared.tables.ValType.{ValType}
+use Rattle.tables.specs.declared.tables.ValType.TheVariants as val
+use Rattle.tables.specs.declared.tables.Definition.{Definition}
+use Rattle.tables.specs.declared.tables.TypeId.{TypeId}
+use Rattle.tables.specs.declared.tables.Field.{Field}
+use Rattle.tables.specs.declared.tables.Parameter.{Parameter}
+use Rattle.tables.specs.declared.tables.Case.{Case}
+use Rattle.tables.specs.declared.tables.TypeDefKind.{TypeDefKind}
+use Rattle.tables.specs.declared.tables.TypeDefKind.TheVariants as kind
+use Rattle.tables.proofs.Rows.{split, both}
 use Rattle.resolve.proofs.Lists.{all-left, all-right, flat_map-append, flat_map-one}
 use Rattle.resolve.proofs.Reading.{stands-later, extends-trans, extends-none, read_val-same, below-stays, unnamed-same}
 

@@ -3,8 +3,8 @@ use Rattle.std.proofs.Common.{◌≡◌, ◌⊎◌, inl, inr, ℕ, zero, suc, �
 use Rattle.std.proofs.lemmas.List.{length-append, get_or_append_left, get_or_at, take-append-le, take_at, take_all, map-append}
 use Rattle.resolve.specs.Scope.{lowered, IsMetBefore}
 use Rattle.resolve.specs.Distinct.{AreMet, RefusesNames, RefusesScopes}
-use Rattle.resolve.specs.declared.error.ResolveError.{ResolveError}
-use Rattle.resolve.specs.declared.error.ResolveError.TheVariants as error
+use Rattle.tables.specs.declared.error.ResolveError.{ResolveError}
+use Rattle.tables.specs.declared.error.ResolveError.TheVariants as error
 use Rattle.resolve.proofs.Lists.{flat_map-append, flat_map-one, contains-left, contains-right, contains-here, contains-later}
 
 pub met-none : (met_names : List (List ℕ)) → met_names ≡ [] → AreMet [] met_names

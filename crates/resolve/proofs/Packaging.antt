@@ -4,19 +4,19 @@ use Rattle.std.specs.List.{list_all}
 use Rattle.std.proofs.lemmas.List.{length-append, length-map, length-take, get_or-map, get_or_default, get_or_append_left, get_or_at, get_or-take, take_all}
 use Rattle.resolve.specs.Scope.{lowered, AreDistinct}
 use Rattle.resolve.specs.Order.{IsPlacement, is_among}
-use Rattle.resolve.specs.Tables.{are_earlier}
-use Rattle.resolve.specs.Package.{NamedDefinition}
+use Rattle.tables.specs.Tables.{are_earlier}
+use Rattle.tables.specs.Package.{NamedDefinition}
 use Rattle.resolve.specs.Postfix.{Leaves, begin}
 use Rattle.resolve.specs.Declarations.{UsedItem, InterfaceTree, interface_at, no_interface, interface_name, interface_names, use_interface, type_names}
 use Rattle.resolve.specs.Resolved.{interface_meaning}
 use Rattle.resolve.specs.Resolves.{Table, interface_uses, uses_of_interface, type_uses, HasKnownNames, IsKnownUse, names_in_order, place_of}
 use Rattle.resolve.specs.Building.{table_definitions, name_at, Adds, IsScope, scope_name, scope_names, CanUse, DefinesInterface, DefinesPackage, package_meaning}
-use Rattle.resolve.specs.declared.tables.InterfaceId.{InterfaceId}
-use Rattle.resolve.specs.declared.tables.Definition.{Definition}
+use Rattle.tables.specs.declared.tables.InterfaceId.{InterfaceId}
+use Rattle.tables.specs.declared.tables.Definition.{Definition}
 use Rattle.resolve.specs.declared.known.KnownTypes.{KnownTypes}
 use Rattle.resolve.specs.declared.declared.Declarations.{Declarations}
 use Rattle.resolve.specs.Sources.{declared_tree}
-use Rattle.resolve.proofs.Rows.{split}
+use Rattle.tables.proofs.Rows.{split}
 use Rattle.resolve.proofs.Lists.{all-append, all-cons, all-none, contains-map, flat_map-append, flat_map-one}
 use Rattle.resolve.proofs.Meeting.{below_or_at, take-more}
 use Rattle.resolve.proofs.Reading.{adds-none, adds-trans}

@@ -2,18 +2,18 @@
 use Rattle.std.proofs.Common.{◌≡◌, ℕ, zero, suc, ◌+◌, ◌<◌, ◌≤◌, true, IsTrue, List, [], ◌∷◌, ◌++◌, length, get_or, slice_get, Option, Some, refl, ap, sym, subst, ◌∙◌, arith, append_assoc, append-nil}
 use Rattle.std.proofs.lemmas.List.{length-append, get_or_append_left, get_or_at}
 use Rattle.std.proofs.lemmas.Bool.{ltb-true, lt-ltb}
-use Rattle.resolve.specs.Tables.{is_below, definition_below, are_earlier}
-use Rattle.resolve.specs.Package.{Tree, TextTree, NamedDefinition, Meaning, IsUse, IsType, IsFunction, references, reference, definitions_from, definition_of, read_val, read_kind, meaning_of}
+use Rattle.tables.specs.Tables.{is_below, definition_below, are_earlier}
+use Rattle.tables.specs.Package.{Tree, TextTree, NamedDefinition, Meaning, IsUse, IsType, IsFunction, references, reference, definitions_from, definition_of, read_val, read_kind, meaning_of}
 use Rattle.resolve.specs.Postfix.{Leaves, inner, unnamed, is_inner, is_unnamed, is_unnamed_row, one_if, inner_row}
 use Rattle.resolve.specs.Resolves.{Table}
 use Rattle.resolve.specs.Building.{table_trees, table_definitions, Front, Extends, Adds, Stands, Lowers, LowersKind, LowersInner, is_expressed}
-use Rattle.resolve.specs.declared.tables.ValType.{ValType}
-use Rattle.resolve.specs.declared.tables.ValType.TheVariants as val
-use Rattle.resolve.specs.declared.tables.TypeId.{TypeId}
-use Rattle.resolve.specs.declared.tables.TypeDefKind.{TypeDefKind}
-use Rattle.resolve.specs.declared.tables.TypeDefKind.TheVariants as kind
-use Rattle.resolve.specs.declared.tables.Definition.{Definition}
-use Rattle.resolve.proofs.Rows.{is_below-later, split, both}
+use Rattle.tables.specs.declared.tables.ValType.{ValType}
+use Rattle.tables.specs.declared.tables.ValType.TheVariants as val
+use Rattle.tables.specs.declared.tables.TypeId.{TypeId}
+use Rattle.tables.specs.declared.tables.TypeDefKind.{TypeDefKind}
+use Rattle.tables.specs.declared.tables.TypeDefKind.TheVariants as kind
+use Rattle.tables.specs.declared.tables.Definition.{Definition}
+use Rattle.tables.proofs.Rows.{is_below-later, split, both}
 
 references-append : (is : List (List ℕ)) (ts : List Tree) (ds es : List Definition) → references is ts (ds ++ es) ≡ references is (references is ts ds) es
 references-append is ts [] es = refl

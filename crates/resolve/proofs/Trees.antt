@@ -8,7 +8,7 @@ use Rattle.wit_syntax.specs.declared.ast.Interface.{Interface as Syntax}
 use Rattle.wit_syntax.specs.declared.ast.PackageId.{PackageId}
 use Rattle.resolve.specs.Order.{IsPlacement}
 use Rattle.resolve.specs.Scope.{AreDistinct}
-use Rattle.resolve.specs.Package.{package_of, interface_names as names_in, world_names}
+use Rattle.tables.specs.Package.{package_of, interface_names as names_in, world_names}
 use Rattle.resolve.specs.Declarations.{InterfaceTree, interface_of, interfaces, interface_at, interface_name, interface_names, file_name}
 use Rattle.resolve.specs.Resolves.{Table, Resolves, package_in, table_of, interface_uses, type_uses, interfaces_from, interfaces_in, type_entries, PassesLimit, IsOfInterfaces, HasNoFaults, HasDistinctNames, HasCycle, IsPackageOf, Refuses}
 use Rattle.resolve.specs.Building.{DefinesPackage, table_definitions}
@@ -17,12 +17,12 @@ use Rattle.resolve.specs.Knowing.{RefusesUnknown}
 use Rattle.resolve.specs.Shape.{HasInterfaces}
 use Rattle.resolve.specs.Postfix.{IsPostfix}
 use Rattle.resolve.specs.Sources.{interface_entry, interface_syntax}
-use Rattle.resolve.specs.declared.error.ResolveError.{ResolveError}
-use Rattle.resolve.specs.declared.error.ResolveError.TheVariants as error
-use Rattle.resolve.specs.declared.tables.Interface.{Interface}
-use Rattle.resolve.specs.declared.tables.World.{World}
-use Rattle.resolve.specs.declared.tables.Definition.{Definition}
-use Rattle.resolve.specs.declared.tables.Resolve.{Resolve}
+use Rattle.tables.specs.declared.error.ResolveError.{ResolveError}
+use Rattle.tables.specs.declared.error.ResolveError.TheVariants as error
+use Rattle.tables.specs.declared.tables.Interface.{Interface}
+use Rattle.tables.specs.declared.tables.World.{World}
+use Rattle.tables.specs.declared.tables.Definition.{Definition}
+use Rattle.tables.specs.declared.tables.Resolve.{Resolve}
 use Rattle.resolve.proofs.Lists.{contains-unmap, contains-here, contains-later, all-head}
 
 no-world : (i : Bor Syntax) (at : Span) (n : List ℕ) (ws : List WorldEntry) → interface_entry i ≡ AWorld at n ws → ⊥

@@ -2,21 +2,21 @@
 use Rattle.std.specs.Prelude.{ℕ, ◌<◌, ◌≡◌, Bool, true, List, [], ◌∷◌, ◌++◌, map, flat_map, length, slice_index_or, All, Contains, take, Option, IsTrue}
 use Rattle.std.specs.List.{list_all}
 use Rattle.std.specs.Option.{option_map}
-use Rattle.resolve.specs.Tables.{is_below, option_below, kind_below, are_earlier}
-use Rattle.resolve.specs.Package.{Tree, Reference, NamedDefinition, Meaning, IsType, references, definitions_from, read_val, meaning_of}
+use Rattle.tables.specs.Tables.{is_below, option_below, kind_below, are_earlier}
+use Rattle.tables.specs.Package.{Tree, Reference, NamedDefinition, Meaning, IsType, references, definitions_from, read_val, meaning_of}
 use Rattle.resolve.specs.Postfix.{Leaves, IsPostfix, unnamed, unnamed_if, unnamed_field, unnamed_case, unnamed_parameter, parts, aliased, is_inner}
 use Rattle.resolve.specs.Declarations.{UsedItem, TypeItem, InterfaceTree, interface_at, named_definition, named_function, used_names, type_names}
 use Rattle.resolve.specs.Resolved.{Labelled, Choice, interface_meaning, no_type}
 use Rattle.resolve.specs.Resolves.{Table, names_in_order}
-use Rattle.resolve.specs.declared.tables.ValType.{ValType}
-use Rattle.resolve.specs.declared.tables.ValType.TheVariants as val
-use Rattle.resolve.specs.declared.tables.InterfaceId.{InterfaceId}
-use Rattle.resolve.specs.declared.tables.Definition.{Definition}
-use Rattle.resolve.specs.declared.tables.Parameter.{Parameter}
-use Rattle.resolve.specs.declared.tables.Field.{Field}
-use Rattle.resolve.specs.declared.tables.Case.{Case}
-use Rattle.resolve.specs.declared.tables.TypeDefKind.{TypeDefKind}
-use Rattle.resolve.specs.declared.tables.TypeDefKind.TheVariants as kind
+use Rattle.tables.specs.declared.tables.ValType.{ValType}
+use Rattle.tables.specs.declared.tables.ValType.TheVariants as val
+use Rattle.tables.specs.declared.tables.InterfaceId.{InterfaceId}
+use Rattle.tables.specs.declared.tables.Definition.{Definition}
+use Rattle.tables.specs.declared.tables.Parameter.{Parameter}
+use Rattle.tables.specs.declared.tables.Field.{Field}
+use Rattle.tables.specs.declared.tables.Case.{Case}
+use Rattle.tables.specs.declared.tables.TypeDefKind.{TypeDefKind}
+use Rattle.tables.specs.declared.tables.TypeDefKind.TheVariants as kind
 use Rattle.resolve.specs.declared.known.Entry.{Entry}
 use Rattle.resolve.specs.declared.known.KnownTypes.{KnownTypes}
 

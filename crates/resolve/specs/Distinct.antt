@@ -1,8 +1,8 @@
 -- Names that are met one after the other, and the refusals of scopes.
 use Rattle.std.specs.Prelude.{◌≡◌, ℕ, List, map, Contains}
 use Rattle.resolve.specs.Scope.{lowered, AreDistinct, IsDuplicate}
-use Rattle.resolve.specs.declared.error.ResolveError.{ResolveError}
-use Rattle.resolve.specs.declared.error.ResolveError.TheVariants as error
+use Rattle.tables.specs.declared.error.ResolveError.{ResolveError}
+use Rattle.tables.specs.declared.error.ResolveError.TheVariants as error
 
 -- these names were met, each for the first time
 pub record AreMet (names met_names : List (List ℕ)) : Type 0 where

@@ -3,7 +3,7 @@ use Rattle.std.specs.Prelude.{◌≡◌, ◌≤◌, []}
 use Rattle.wit_syntax.specs.View.{version_view}
 use Rattle.wit_syntax.specs.declared.ast.PackageId.{PackageId}
 use Rattle.resolve.specs.Resolves.{Table, interfaces_in, type_entries}
-use Rattle.resolve.specs.declared.tables.Resolve.{Resolve}
+use Rattle.tables.specs.declared.tables.Resolve.{Resolve}
 
 pub record IsFinished (p : PackageId) (t : Table) (r : Resolve) : Type 0 where
   pub namespace : r.namespace ≡ p.namespace

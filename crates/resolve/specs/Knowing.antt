@@ -3,8 +3,8 @@ use Rattle.std.specs.Prelude.{ℕ, List, map, All, Contains}
 use Rattle.wit_syntax.specs.Syntax.{Entry, Uses, Defines, Declares}
 use Rattle.resolve.specs.Declarations.{UsedItem, InterfaceTree, used_item, type_names, named_definition, named_function}
 use Rattle.resolve.specs.Resolves.{IsKnownUse, IsUnknownUse, IsUnknownName, IsUnknownIn}
-use Rattle.resolve.specs.declared.error.ResolveError.{ResolveError}
-use Rattle.resolve.specs.declared.error.ResolveError.TheVariants as error
+use Rattle.tables.specs.declared.error.ResolveError.{ResolveError}
+use Rattle.tables.specs.declared.error.ResolveError.TheVariants as error
 
 abbrev pub KnowsEntry : List InterfaceTree → InterfaceTree → Entry → Type 0
 KnowsEntry is i (Uses at p us) = All (IsKnownUse is) (map (used_item p) us)

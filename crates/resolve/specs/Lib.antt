@@ -1,11 +1,5 @@
-pub mod Tables
-pub mod Closed
-pub mod Names
-pub mod Same
 pub mod Scope
 pub mod Order
-pub mod Package
-pub mod Parts
 pub mod Declarations
 pub mod Resolved
 pub mod Postfix

@@ -8,25 +8,25 @@ use Rattle.wit_syntax.specs.Syntax.{Ty, depth, Member, CaseOf, Definition as Bod
 use Rattle.wit_syntax.specs.View.{version_view}
 use Rattle.resolve.specs.Scope.{AreDistinct, IsDuplicate}
 use Rattle.resolve.specs.Order.{IsPlacement, IsCycle}
-use Rattle.resolve.specs.Tables.{are_standard}
-use Rattle.resolve.specs.Package.{Package, definitions_from, package_of, interface_names as names_in}
+use Rattle.tables.specs.Tables.{are_standard}
+use Rattle.tables.specs.Package.{Package, definitions_from, package_of, interface_names as names_in}
 use Rattle.resolve.specs.Postfix.{IsPostfix}
 use Rattle.resolve.specs.Declarations.{UsedItem, TypeItem, FunctionItem, InterfaceTree, interfaces, interface_at, interface_names, use_interface, type_names, own_types, named_definition, named_function, scopes}
 use Rattle.resolve.specs.Resolved.{interface_meaning}
-use Rattle.resolve.specs.declared.error.ResolveError.{ResolveError}
-use Rattle.resolve.specs.declared.error.ResolveError.TheVariants as error
-use Rattle.resolve.specs.declared.tables.ValType.TheVariants as val
-use Rattle.resolve.specs.declared.tables.TypeDefKind.{TypeDefKind}
-use Rattle.resolve.specs.declared.tables.TypeDefKind.TheVariants as kind
-use Rattle.resolve.specs.declared.tables.TypeName.{TypeName}
-use Rattle.resolve.specs.declared.tables.TypeId.{TypeId}
-use Rattle.resolve.specs.declared.tables.FunctionId.{FunctionId}
-use Rattle.resolve.specs.declared.tables.Owner.{Owner}
-use Rattle.resolve.specs.declared.tables.Owner.TheVariants as owner
-use Rattle.resolve.specs.declared.tables.Definition.{Definition}
-use Rattle.resolve.specs.declared.tables.Definition.TheVariants as row
-use Rattle.resolve.specs.declared.tables.Interface.{Interface}
-use Rattle.resolve.specs.declared.tables.Resolve.{Resolve}
+use Rattle.tables.specs.declared.error.ResolveError.{ResolveError}
+use Rattle.tables.specs.declared.error.ResolveError.TheVariants as error
+use Rattle.tables.specs.declared.tables.ValType.TheVariants as val
+use Rattle.tables.specs.declared.tables.TypeDefKind.{TypeDefKind}
+use Rattle.tables.specs.declared.tables.TypeDefKind.TheVariants as kind
+use Rattle.tables.specs.declared.tables.TypeName.{TypeName}
+use Rattle.tables.specs.declared.tables.TypeId.{TypeId}
+use Rattle.tables.specs.declared.tables.FunctionId.{FunctionId}
+use Rattle.tables.specs.declared.tables.Owner.{Owner}
+use Rattle.tables.specs.declared.tables.Owner.TheVariants as owner
+use Rattle.tables.specs.declared.tables.Definition.{Definition}
+use Rattle.tables.specs.declared.tables.Definition.TheVariants as row
+use Rattle.tables.specs.declared.tables.Interface.{Interface}
+use Rattle.tables.specs.declared.tables.Resolve.{Resolve}
 
 -- ---- order
 

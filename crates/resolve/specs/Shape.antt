@@ -2,8 +2,8 @@
 use Rattle.std.specs.Prelude.{◌≡◌, List, []}
 use Rattle.wit_syntax.specs.Syntax.{FileEntry, File}
 use Rattle.resolve.specs.Resolves.{IsOfInterfaces, HasWorld}
-use Rattle.resolve.specs.declared.error.ResolveError.{ResolveError}
-use Rattle.resolve.specs.declared.error.ResolveError.TheVariants as error
+use Rattle.tables.specs.declared.error.ResolveError.{ResolveError}
+use Rattle.tables.specs.declared.error.ResolveError.TheVariants as error
 
 pub record HasInterfaces (f : File) (es : List FileEntry) : Type 0 where
   pub alone : IsOfInterfaces f

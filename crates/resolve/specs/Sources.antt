@@ -5,7 +5,7 @@ use Rattle.wit_syntax.specs.Syntax.{FileEntry, AnInterface}
 use Rattle.wit_syntax.specs.View.{function_view, entry_view}
 use Rattle.wit_syntax.specs.declared.ast.Interface.{Interface as InterfaceSyntax}
 use Rattle.wit_syntax.specs.declared.ast.Func.{Func}
-use Rattle.resolve.specs.Package.{Key}
+use Rattle.tables.specs.Package.{Key}
 use Rattle.resolve.specs.Declarations.{UsedItem, FunctionItem, InterfaceTree, interface_tree}
 use Rattle.resolve.specs.Lent.{declared_type, used_item_of}
 use Rattle.resolve.specs.declared.declared.Declarations.{Declarations}

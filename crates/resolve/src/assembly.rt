@@ -10,10 +10,9 @@ ghost use Rattle.resolve.specs.Building.{DefinesPackage};
 use crate::builder::Builder;
 use crate::declared::Declarations;
 use crate::define::define_interface;
-use crate::sequence::Sequence;
-use crate::tables::InterfaceId;
 use atoms::Label;
 use std::alloc::{AllocError, Global};
+use tables::{InterfaceId, Sequence};
 
 /// The names of interfaces in this order.
 fn ordered_names(

@@ -1,7 +1,7 @@
 //! Definitions of the syntax as kinds of the table.
 ghost use Rattle.std.specs.Prelude.{◌≡◌, map, flat_map, IfOk};
 ghost use Rattle.wit_syntax.specs.View.{field_view, case_view, definition_view};
-ghost use Rattle.resolve.specs.Package.{IsType};
+ghost use Rattle.tables.specs.Package.{IsType};
 ghost use Rattle.resolve.specs.Declarations.{named_member, named_case, named_definition};
 ghost use Rattle.resolve.specs.Resolved.{member_meaning, case_meaning, definition_meaning};
 ghost use Rattle.resolve.specs.Building.{LowersFields, LowersParameters, LowersCases, LowersKind, IsScope, KnowsNames, scope_name};
@@ -9,10 +9,9 @@ ghost use Rattle.resolve.specs.Building.{LowersFields, LowersParameters, LowersC
 use crate::builder::Builder;
 use crate::known::KnownTypes;
 use crate::lower::{lower_kind, lower_optional, lower_type};
-use crate::sequence::Sequence;
-use crate::tables::{Case, Field, Parameter, TypeDefKind};
 use atoms::Label;
 use std::alloc::{AllocError, Global};
+use tables::{Case, Field, Parameter, Sequence, TypeDefKind};
 
 pub fn lower_fields(
     alloc: Global,

@@ -1,14 +1,14 @@
 //! The table of definitions while it is made.
 ghost use Rattle.std.specs.Prelude.{◌≡◌, ◌≢◌, ◌<◌, ◌++◌, ◌∷◌, [], length, IfOk};
 ghost use Rattle.std.specs.Bool.{OnTrue, OnFalse};
-ghost use Rattle.resolve.specs.Package.{Tree};
+ghost use Rattle.tables.specs.Package.{Tree};
 ghost use Rattle.resolve.specs.Resolves.{Table};
 ghost use Rattle.resolve.specs.Building.{Lowers, LowersInner, name_at};
 
-use crate::tables::{Definition, InterfaceId, TypeDef, TypeDefKind, TypeId, ValType};
 use atoms::Label;
 use std::alloc::{AllocError, Global};
 use std::marker::Model;
+use tables::{Definition, InterfaceId, TypeDef, TypeDefKind, TypeId, ValType};
 
 /// The names of the interfaces in package order, and the definitions so far.
 #[derive(Drop)]

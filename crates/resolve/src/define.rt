@@ -2,25 +2,24 @@
 ghost use Rattle.std.specs.Prelude.{◌≡◌, ◌<◌, ◌++◌, ◌∷◌, [], length, map, All, Contains, IfOk, OnOk};
 ghost use Rattle.resolve.specs.Declarations.{named_definition, named_function};
 ghost use Rattle.resolve.specs.Resolved.{use_meaning, type_meaning, function_meaning, in_order};
-ghost use Rattle.resolve.specs.Package.{Reference};
+ghost use Rattle.tables.specs.Package.{Reference};
 ghost use Rattle.resolve.specs.Order.{IsPlacement};
 ghost use Rattle.resolve.specs.Resolves.{type_uses};
 ghost use Rattle.resolve.specs.Lent.{used_item_of, type_item, declared_type};
 ghost use Rattle.resolve.specs.Sources.{declared_tree, used_key, function_item, declared_function};
 ghost use Rattle.resolve.specs.Building.{Adds, Grows, Stands, IsScope, KnowsNames, NamesEarlier, CanUse, DefinesInterface, DefinesNamed, TypesKnown, FunctionsKnown, name_at, scope_name, scope_names};
-ghost use Rattle.resolve.specs.declared.tables.ValType.TheVariants.{Id};
+ghost use Rattle.tables.specs.declared.tables.ValType.TheVariants.{Id};
 
 use crate::bodies::{lower_definition, lower_parameters};
 use crate::builder::Builder;
 use crate::declared::{Declarations, UsedType};
 use crate::known::{Entry, KnownTypes};
 use crate::lower::lower_optional;
-use crate::sequence::Sequence;
-use crate::tables::{
-    Definition, Function, InterfaceId, Owner, TypeDef, TypeDefKind, TypeId, TypeName,
-};
 use atoms::Label;
 use std::alloc::{AllocError, Global};
+use tables::{
+    Definition, Function, InterfaceId, Owner, Sequence, TypeDef, TypeDefKind, TypeId, TypeName,
+};
 use wit_syntax::Func;
 
 /// Puts a type under a name at the end of the table; the scope then knows it.

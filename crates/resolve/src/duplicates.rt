@@ -7,10 +7,10 @@ ghost use Rattle.resolve.specs.Distinct.{AreMet, RefusesNames, RefusesScopes};
 ghost use Rattle.resolve.specs.Scope.{AreDistinct};
 
 use crate::declare::local_name;
-use crate::error::ResolveError;
 use crate::scope::Scope;
 use atoms::Label;
 use std::alloc::Global;
+use tables::ResolveError;
 use wit_syntax::{Case, Field, Interface, InterfaceItem, TypeDefKind, UsedName};
 
 fn distinct_labels(alloc: Global, labels: &[Label]) -> Result<(), ResolveError>

@@ -1,18 +1,16 @@
 //! A package of a table of definitions: the ids of its interfaces, and its limits.
 ghost use Rattle.std.specs.Prelude.{◌≡◌, ◌≤◌, ◌+◌, ◌⊎◌, [], length, map, sum, nat_lt, IsTrue, IfOk, IfErr};
-ghost use Rattle.resolve.specs.Tables.{are_earlier};
+ghost use Rattle.tables.specs.Tables.{are_earlier};
 ghost use Rattle.resolve.specs.Resolves.{PassesLimit, entries_of, places_where, is_in, is_use, is_use_in, is_type_in, is_function_in, type_id, function_id, interface_in, interfaces_from};
 ghost use Rattle.resolve.specs.Finished.{IsFinished};
 
 use crate::builder::Builder;
-use crate::error::ResolveError;
-use crate::parts::are_standard;
-use crate::sequence::Sequence;
-use crate::tables::{
-    Definition, FunctionId, Interface, Owner, Resolve, TypeDefKind, TypeId, TypeName, ValType,
-};
 use atoms::Label;
 use std::alloc::{AllocError, Global};
+use tables::{
+    Definition, FunctionId, Interface, Owner, Resolve, ResolveError, Sequence, TypeDefKind, TypeId,
+    TypeName, ValType, are_standard,
+};
 use wit_syntax::PackageId;
 
 /// The most type entries of a package.

@@ -8,13 +8,12 @@ ghost use Rattle.resolve.specs.Sources.{declared_tree};
 
 use crate::declare::push_types;
 use crate::declared::{Declarations, UsedType};
-use crate::error::ResolveError;
 use crate::named::definition_names;
 use crate::order::{OrderError, placement};
-use crate::sequence::Sequence;
 use crate::unknown::place_of;
 use atoms::Label;
 use std::alloc::{AllocError, Global};
+use tables::{ResolveError, Sequence};
 
 /// The places of these names, without those that don't stand there.
 fn places(alloc: Global, names: &[&Label], wanted: &[&Label]) -> Result<Sequence<usize>, AllocError>

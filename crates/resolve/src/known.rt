@@ -2,9 +2,8 @@
 ghost use Rattle.std.specs.Prelude.{Contains};
 ghost use Rattle.resolve.specs.Building.{scope_names};
 
-use crate::sequence::Sequence;
-use crate::tables::{InterfaceId, TypeId};
 use atoms::Label;
+use tables::{InterfaceId, Sequence, TypeId};
 
 /// A name, and the type that it stands for.
 #[derive(Drop)]

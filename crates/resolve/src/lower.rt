@@ -8,9 +8,8 @@ ghost use Rattle.resolve.specs.Building.{Lowers, LowersInner, LowersIf, LowersAl
 
 use crate::builder::Builder;
 use crate::known::KnownTypes;
-use crate::sequence::Sequence;
-use crate::tables::{Primitive, TypeDefKind, ValType};
 use std::alloc::{AllocError, Global};
+use tables::{Primitive, Sequence, TypeDefKind, ValType};
 use wit_syntax::TypeExpression;
 
 fn lower_primitive(primitive: wit_syntax::Primitive) -> ValType

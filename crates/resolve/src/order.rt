@@ -3,8 +3,8 @@ ghost use Rattle.std.specs.Prelude.{◌≡◌, ◌<◌, ℕ, Bool, true, false, 
 ghost use Rattle.std.specs.List.{list_all};
 ghost use Rattle.resolve.specs.Order.{is_ready, IsNext, IsPlacement, IsCycle};
 
-use crate::sequence::Sequence;
 use std::alloc::{AllocError, AllocFailed, Global};
+use tables::Sequence;
 
 /// Why things could not be placed.
 #[derive(Debug, Drop)]

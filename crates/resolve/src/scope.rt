@@ -2,11 +2,11 @@
 ghost use Rattle.std.specs.Prelude.{◌≡◌, ◌++◌, ◌∷◌, [], ◌⊎◌, true, false, OnOk, IfOk, IfErr, Contains};
 ghost use Rattle.resolve.specs.Scope.{lowered};
 
-use crate::error::ResolveError;
 use atoms::Label;
 use indexmap::IndexSet;
 use std::alloc::Global;
 use std::marker::Model;
+use tables::ResolveError;
 
 /// The names that were met in a scope, in lower case.
 #[derive(Drop)]

@@ -8,10 +8,10 @@ ghost use Rattle.resolve.specs.Sources.{declared_tree, interface_syntax, use_of}
 ghost use Rattle.resolve.specs.Knowing.{KnowsEntry, LacksEntry, LacksUse, LacksAny, RefusesUnknown};
 
 use crate::declared::Declarations;
-use crate::error::ResolveError;
 use crate::named::{definition_names, function_names};
 use atoms::Label;
 use std::alloc::{AllocError, Global};
+use tables::ResolveError;
 use wit_syntax::{Interface, InterfaceItem, Use};
 
 /// The first place of a name.

@@ -1,7 +1,7 @@
 //! Calls through one link: what reaches the body, what comes back, and where each trap is found.
 
 ghost use Rattle.std.specs.Prelude.{IfOk};
-ghost use Rattle.resolve.specs.Closed.{IsScalarFunction};
+ghost use Rattle.tables.specs.Closed.{IsScalarFunction};
 
 use adapter::{BoxedBody, Export, Link, Stopped};
 use canonical_abi::{Fault, Flat, Full, Guest, Step, Trap, TrapKind};

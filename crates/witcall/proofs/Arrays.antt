@@ -1,7 +1,7 @@
 -- Arrays read item by item.
 use Rattle.std.proofs.Common.{◌≡◌, ℕ, zero, suc, ◌+◌, ◌<◌, List, [], ◌∷◌, ◌++◌, length, drop, get_or, refl, sym, ap, ◌∙◌, subst, Option, Some, None, append_assoc, append-nil, drop-cons, arith}
 use Rattle.canonical_abi.specs.Values.{Value}
-use Rattle.resolve.specs.declared.tables.ValType.{ValType}
+use Rattle.tables.specs.declared.tables.ValType.{ValType}
 use Rattle.serde_json.specs.Data.{Data, Items, no_items, item, array}
 use Rattle.serde_json.specs.View.{items_of}
 use Rattle.serde_json.specs.Find.{as_array}

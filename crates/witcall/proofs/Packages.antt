@@ -2,11 +2,11 @@
 use Rattle.std.proofs.Common.{◌≡◌, ◌≤◌, ◌<◌, ℕ, length, sym, ap, subst, arith}
 use Rattle.std.specs.Prelude.{slice_index_or}
 use Rattle.canonical_abi.specs.Types.{ClosedType, string_type}
-use Rattle.resolve.specs.Closed.{closed_types}
-use Rattle.resolve.specs.Same.{IsSamePackage}
-use Rattle.resolve.specs.declared.tables.Definition.{Definition}
-use Rattle.resolve.specs.declared.tables.Definition.TheVariants as row
-use Rattle.resolve.specs.declared.tables.Resolve.{Resolve}
+use Rattle.tables.specs.Closed.{closed_types}
+use Rattle.tables.specs.Same.{IsSamePackage}
+use Rattle.tables.specs.declared.tables.Definition.{Definition}
+use Rattle.tables.specs.declared.tables.Definition.TheVariants as row
+use Rattle.tables.specs.declared.tables.Resolve.{Resolve}
 use Rattle.layout.specs.Layout.{IsWithin, Refuses, StandsAt, AreWithin}
 use Rattle.layout.specs.declared.error.LayoutError.TheVariants.{TooDeep, TooLarge}
 

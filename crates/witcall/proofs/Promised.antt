@@ -11,13 +11,13 @@ use Rattle.canonical_abi.specs.Session.{TypedCall}
 use Rattle.canonical_abi.specs.Headline.{IsStandardFunction, IsPromised}
 use Rattle.canonical_abi.specs.declared.trap.Fault.{Fault}
 use Rattle.canonical_abi.proofs.Promise.{keeps-promise}
-use Rattle.resolve.specs.Closed.{closed_types, closed_val, closed_params, function_at, function_type, type_of_function, is_scalar, is_scalar_result, is_scalar_function, IsScalarFunction}
-use Rattle.resolve.specs.declared.tables.Function.{Function}
-use Rattle.resolve.specs.declared.tables.FunctionId.{FunctionId}
-use Rattle.resolve.specs.declared.tables.Parameter.{Parameter}
-use Rattle.resolve.specs.declared.tables.Resolve.{Resolve}
-use Rattle.resolve.specs.declared.tables.ValType.{ValType}
-use Rattle.resolve.specs.declared.tables.ValType.TheVariants as val
+use Rattle.tables.specs.Closed.{closed_types, closed_val, closed_params, function_at, function_type, type_of_function, is_scalar, is_scalar_result, is_scalar_function, IsScalarFunction}
+use Rattle.tables.specs.declared.tables.Function.{Function}
+use Rattle.tables.specs.declared.tables.FunctionId.{FunctionId}
+use Rattle.tables.specs.declared.tables.Parameter.{Parameter}
+use Rattle.tables.specs.declared.tables.Resolve.{Resolve}
+use Rattle.tables.specs.declared.tables.ValType.{ValType}
+use Rattle.tables.specs.declared.tables.ValType.TheVariants as val
 
 scalar_is_standard : (rows : List ClosedType) (v : ValType) → is_scalar v ≡ true → IsStandard (closed_val rows v)
 scalar_is_standard rows (val.Primitive p) h = tt

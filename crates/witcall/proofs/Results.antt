@@ -6,9 +6,9 @@ use Rattle.std.proofs.lemmas.List.{length_push}
 use Rattle.canonical_abi.specs.Types.{ClosedType, fields_of}
 use Rattle.canonical_abi.specs.Values.{Value, HaveTypes}
 use Rattle.canonical_abi.specs.Layout.{fits_flat}
-use Rattle.resolve.specs.Closed.{closed_val}
-use Rattle.resolve.specs.declared.tables.ValType.{ValType}
-use Rattle.resolve.specs.declared.tables.ValType.TheVariants as val
+use Rattle.tables.specs.Closed.{closed_val}
+use Rattle.tables.specs.declared.tables.ValType.{ValType}
+use Rattle.tables.specs.declared.tables.ValType.TheVariants as val
 use Rattle.lift_lower.specs.Scalars.{AreScalar}
 
 not_scalar : false ≡ true → ⊥

@@ -5,16 +5,16 @@ use Rattle.std.proofs.lemmas.Bool.{and_parts, leb-true}
 use Rattle.std.proofs.lemmas.List.{length-map}
 use Rattle.std.proofs.lemmas.List.Folds.{list_all-map}
 use Rattle.canonical_abi.specs.Types.{ClosedType, fields_of, result_fields}
-use Rattle.resolve.specs.Closed.{closed_val, closed_types, closed_params, function_at, function_type, type_of_function, is_scalar, is_scalar_function, IsScalarFunction}
-use Rattle.resolve.specs.declared.tables.Function.{Function}
-use Rattle.resolve.specs.declared.tables.FunctionId.{FunctionId}
-use Rattle.resolve.specs.declared.tables.Parameter.{Parameter}
-use Rattle.resolve.specs.declared.tables.Resolve.{Resolve}
-use Rattle.resolve.specs.declared.tables.ValType.{ValType}
+use Rattle.tables.specs.Closed.{closed_val, closed_types, closed_params, function_at, function_type, type_of_function, is_scalar, is_scalar_function, IsScalarFunction}
+use Rattle.tables.specs.declared.tables.Function.{Function}
+use Rattle.tables.specs.declared.tables.FunctionId.{FunctionId}
+use Rattle.tables.specs.declared.tables.Parameter.{Parameter}
+use Rattle.tables.specs.declared.tables.Resolve.{Resolve}
+use Rattle.tables.specs.declared.tables.ValType.{ValType}
 use Rattle.lift_lower.specs.Scalars.{AreScalar}
 use Rattle.lift_lower.specs.Crossing.{fields_of_types}
-use Rattle.resolve.specs.Same.{IsSamePackage}
-use Rattle.resolve.specs.Tables.{function_of}
+use Rattle.tables.specs.Same.{IsSamePackage}
+use Rattle.tables.specs.Tables.{function_of}
 use Rattle.witcall.specs.Signature.{signature_of}
 
 params_closed : (rows : List ClosedType) (ps : List Parameter) → map (closed_val rows) (map (λ p. p.ty) ps) ≡ closed_params rows ps

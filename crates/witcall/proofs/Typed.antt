@@ -3,9 +3,9 @@ use Rattle.std.proofs.Common.{◌≡◌, ℕ, List, [], ◌∷◌, map, Bool, tr
 use Rattle.std.specs.Char.{IsScalar}
 use Rattle.canonical_abi.specs.Types.{Prim, boolean, unsigned, signed, scalar_value, ClosedType, fields_of}
 use Rattle.canonical_abi.specs.Values.{Value, is_scalar, HasPrimType, HasType, HaveTypes}
-use Rattle.resolve.specs.Closed.{prim_of, closed_val}
-use Rattle.resolve.specs.declared.tables.ValType.{ValType}
-use Rattle.resolve.specs.declared.tables.ValType.TheVariants as val
+use Rattle.tables.specs.Closed.{prim_of, closed_val}
+use Rattle.tables.specs.declared.tables.ValType.{ValType}
+use Rattle.tables.specs.declared.tables.ValType.TheVariants as val
 use Rattle.serde_json.specs.Data.{Data}
 use Rattle.witcall.specs.Json.{PrimJson, Json, EachJson}
 

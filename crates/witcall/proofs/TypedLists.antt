@@ -2,8 +2,8 @@
 use Rattle.std.proofs.Common.{◌≡◌, ℕ, zero, suc, ◌+◌, ◌<◌, List, [], ◌∷◌, length, drop, map, get_or, sym, ap, ◌∙◌, subst, drop-cons, arith}
 use Rattle.canonical_abi.specs.Types.{ClosedType, fields_of}
 use Rattle.canonical_abi.specs.Values.{Value, HasType, HaveTypes}
-use Rattle.resolve.specs.Closed.{closed_val}
-use Rattle.resolve.specs.declared.tables.ValType.{ValType}
+use Rattle.tables.specs.Closed.{closed_val}
+use Rattle.tables.specs.declared.tables.ValType.{ValType}
 
 module _ (rows : List ClosedType) where
   abbrev pub Have : List ValType → List Value → Type 0

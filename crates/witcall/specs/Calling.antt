@@ -6,11 +6,11 @@ use Rattle.canonical_abi.specs.Call.{Run, PostRun, Parties, World, either}
 use Rattle.canonical_abi.specs.Session.{TypedCall}
 use Rattle.memory.specs.Bump.{bump}
 use Rattle.memory.specs.Space.{of_kind, SpaceAllocates}
-use Rattle.resolve.specs.Closed.{function_at, function_type}
-use Rattle.resolve.specs.Names.{IsNamed}
-use Rattle.resolve.specs.declared.tables.FunctionId.{FunctionId}
-use Rattle.resolve.specs.declared.tables.Resolve.{Resolve}
-use Rattle.resolve.specs.declared.tables.ValType.{ValType}
+use Rattle.tables.specs.Closed.{function_at, function_type}
+use Rattle.tables.specs.Names.{IsNamed}
+use Rattle.tables.specs.declared.tables.FunctionId.{FunctionId}
+use Rattle.tables.specs.declared.tables.Resolve.{Resolve}
+use Rattle.tables.specs.declared.tables.ValType.{ValType}
 use Rattle.canonical_abi.specs.declared.trap.Fault.{Fault}
 use Rattle.canonical_abi.specs.declared.trap.Fault.TheVariants as fault
 use Rattle.memory.specs.declared.error.MemoryError.TheVariants as memory

@@ -3,9 +3,9 @@ use Rattle.std.specs.Prelude.{◌≡◌, ◌<◌, ◌^◌, ℕ, ℤ, List, [], �
 use Rattle.std.specs.Char.{IsScalar}
 use Rattle.canonical_abi.specs.Types.{Prim, boolean, unsigned, signed, scalar_value, bits, width_of}
 use Rattle.canonical_abi.specs.Values.{Value, HasPrimType, bool_value, unsigned_value, signed_value, char_value}
-use Rattle.resolve.specs.Closed.{prim_of}
-use Rattle.resolve.specs.declared.tables.ValType.{ValType}
-use Rattle.resolve.specs.declared.tables.ValType.TheVariants as val
+use Rattle.tables.specs.Closed.{prim_of}
+use Rattle.tables.specs.declared.tables.ValType.{ValType}
+use Rattle.tables.specs.declared.tables.ValType.TheVariants as val
 use Rattle.serde_json.specs.Data as json
 use Rattle.serde_json.specs.Data.{Data}
 use Rattle.serde_json.specs.Find.{of_integer}

@@ -9,7 +9,7 @@ use Rattle.wit_tokens.specs.declared.error.TextError.TheVariants.{Unsupported}
 use Rattle.wit_syntax.specs.Syntax.{File, FileEntry, AnInterface, AWorld}
 use Rattle.wit_text.specs.Reading.{IsRead, Faulty}
 use Rattle.resolve.specs.Resolves.{HasNoFaults, IsPackageOf, Refuses}
-use Rattle.resolve.specs.declared.tables.Resolve.{Resolve}
+use Rattle.tables.specs.declared.tables.Resolve.{Resolve}
 use Rattle.layout.specs.Layout.{AreWithin, RefusesFirst}
 use Rattle.witcall.specs.declared.package.OpenError.{OpenError}
 use Rattle.witcall.specs.declared.package.OpenError.TheVariants as error

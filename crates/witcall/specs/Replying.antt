@@ -7,11 +7,11 @@ use Rattle.canonical_abi.specs.declared.flat.Flat.{Flat}
 use Rattle.memory.specs.Space.{SpaceAllocates}
 use Rattle.lift_lower.specs.Crossing.{IsLowered}
 use Rattle.lift_lower.specs.Val.{value_of}
-use Rattle.resolve.specs.Closed.{function_at}
-use Rattle.resolve.specs.Names.{IsNamed}
-use Rattle.resolve.specs.Same.{IsSamePackage}
-use Rattle.resolve.specs.declared.tables.FunctionId.{FunctionId}
-use Rattle.resolve.specs.declared.tables.Resolve.{Resolve}
+use Rattle.tables.specs.Closed.{function_at}
+use Rattle.tables.specs.Names.{IsNamed}
+use Rattle.tables.specs.Same.{IsSamePackage}
+use Rattle.tables.specs.declared.tables.FunctionId.{FunctionId}
+use Rattle.tables.specs.declared.tables.Resolve.{Resolve}
 use Rattle.witcall.specs.Json.{IsArrayTextOf, RefusesArray}
 use Rattle.witcall.specs.Signature.{signature_of, IsMissing}
 use Rattle.witcall.specs.declared.refused.Refused.{Refused}

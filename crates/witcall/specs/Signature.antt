@@ -1,11 +1,11 @@
 -- The types of a function's parameters and of its result, as its package names them.
 use Rattle.std.specs.Prelude.{◌⊎◌, ℕ, List, [], map, Option, Some, None}
-use Rattle.resolve.specs.Closed.{IsScalarFunction}
-use Rattle.resolve.specs.Names.{IsNamed}
-use Rattle.resolve.specs.declared.tables.FunctionId.{FunctionId}
-use Rattle.resolve.specs.declared.tables.Resolve.{Resolve}
-use Rattle.resolve.specs.declared.tables.ValType.{ValType}
-use Rattle.resolve.specs.declared.tables.Function.{Function}
+use Rattle.tables.specs.Closed.{IsScalarFunction}
+use Rattle.tables.specs.Names.{IsNamed}
+use Rattle.tables.specs.declared.tables.FunctionId.{FunctionId}
+use Rattle.tables.specs.declared.tables.Resolve.{Resolve}
+use Rattle.tables.specs.declared.tables.ValType.{ValType}
+use Rattle.tables.specs.declared.tables.Function.{Function}
 
 pub record Signature : Type 0 where
   pub params : List ValType

@@ -6,7 +6,7 @@ ghost use Rattle.std.specs.Io.KnownBytes.{Appends, Keeps};
 ghost use Rattle.canonical_abi.specs.Values.{HasType, HaveTypes};
 ghost use Rattle.canonical_abi.specs.Types.{result_fields};
 ghost use Rattle.canonical_abi.specs.Session.{as_list};
-ghost use Rattle.resolve.specs.Closed.{IsScalarFunction, function_at, function_type};
+ghost use Rattle.tables.specs.Closed.{IsScalarFunction, function_at, function_type};
 ghost use Rattle.lift_lower.specs.Val.{value_of};
 ghost use Rattle.witcall.specs.Signature.{signature_of};
 ghost use Rattle.witcall.specs.Calling.{IsOutputOf, Prints, Refuses, CallAnswers, CallRefuses, fresh};

@@ -8,7 +8,7 @@ ghost use Rattle.serde_json.specs.Read.{read as read_text};
 ghost use Rattle.serde_json.specs.View.{view};
 ghost use Rattle.canonical_abi.specs.Types.{ClosedType, fields_of};
 ghost use Rattle.canonical_abi.specs.Values.{HasType, HaveTypes, Value};
-ghost use Rattle.resolve.specs.Closed.{prim_of, is_scalar, closed_type, closed_val};
+ghost use Rattle.tables.specs.Closed.{prim_of, is_scalar, closed_type, closed_val};
 ghost use Rattle.lift_lower.specs.Val.{value_of};
 ghost use Rattle.witcall.specs.Json.{PrimJson, HasNoneOfPrim, Json as StandsAs, HasNone, IsTextOf, IsTextOfNone, IsOfPrim, data_of, IsCompactTextOf, EachJson, IsArrayTextOf, RefusesArray};
 

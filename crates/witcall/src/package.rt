@@ -4,10 +4,10 @@ ghost use Rattle.std.specs.Prelude.{◌≡◌, map, IfOk, IfErr};
 ghost use Rattle.layout.specs.Layout.{layouts_of, AreWithin};
 ghost use Rattle.wit_syntax.specs.View.{item_view};
 ghost use Rattle.witcall.specs.Opening.{IsOpened, OpenRefuses, first_world};
-ghost use Rattle.resolve.specs.Same.{IsSamePackage};
+ghost use Rattle.tables.specs.Same.{IsSamePackage};
 
 use layout::{LayoutError, Layouts};
-use resolve::{Resolve, ResolveError};
+use resolve::{Resolve, ResolveError, from_ast};
 use std::alloc::{AllocError, Global};
 use thiserror::Error;
 use wit_text::{Feature, Item, Span, TextError, parse};
@@ -133,7 +133,7 @@ pub fn open(alloc: Global, bytes: &[u8]) -> Result<Package, OpenError>
     if let Some(span) = first_world(&ast.items) {
         return Err(OpenError::Text(TextError::Unsupported(Feature::LaterStage, span)));
     }
-    let resolve = Resolve::from_ast(alloc, &ast)?;
+    let resolve = from_ast(alloc, &ast)?;
     let layouts = Layouts::of(alloc, &resolve)?;
     Ok(Package { resolve, layouts })
 }

@@ -1,6 +1,6 @@
 //! The program's own body: it answers one value.
 
-ghost use Rattle.resolve.specs.Closed.{IsScalarFunction};
+ghost use Rattle.tables.specs.Closed.{IsScalarFunction};
 
 use crate::json::values_from_json;
 use crate::package::Package;
@@ -57,7 +57,7 @@ impl Reply {
 impl Export for Reply {
     ghost use Rattle.std.specs.Prelude.{◌≡◌, [], map, option_to_list, Some};
     ghost use Rattle.canonical_abi.specs.Types.{result_fields};
-    ghost use Rattle.resolve.specs.Closed.{function_type};
+    ghost use Rattle.tables.specs.Closed.{function_type};
     ghost use Rattle.lift_lower.specs.Val.{value_of};
     ghost use Rattle.witcall.specs.Replying.{Replies};
 

@@ -4,7 +4,7 @@ ghost use Rattle.std.specs.Prelude.{◌≡◌, ◌≢◌, ◌≤◌, ℕ, List, 
 ghost use Rattle.std.specs.Option.{option_map};
 ghost use Rattle.canonical_abi.specs.Values.{HaveTypes};
 ghost use Rattle.canonical_abi.specs.Types.{result_fields};
-ghost use Rattle.resolve.specs.Closed.{IsScalarFunction, function_type};
+ghost use Rattle.tables.specs.Closed.{IsScalarFunction, function_type};
 ghost use Rattle.canonical_abi.specs.Layout.{max_flat_results};
 ghost use Rattle.canonical_abi.specs.Flat.{Denotes};
 ghost use Rattle.canonical_abi.specs.Call.{either, AllowsSameRuns, AllowsSamePosts};
@@ -14,7 +14,7 @@ ghost use Rattle.lift_lower.specs.Val.{value_of};
 ghost use Rattle.lift_lower.specs.Crossing.{fields_of_types};
 ghost use Rattle.lift_lower.specs.Scalars.{AreScalar};
 ghost use Rattle.lift_lower.specs.Scalar.{value_in};
-ghost use Rattle.resolve.specs.declared.tables.Resolve.{Resolve};
+ghost use Rattle.tables.specs.declared.tables.Resolve.{Resolve};
 ghost use Rattle.witcall.specs.Session.{typed_answer, TakeFails, IsPlainFunction};
 
 use crate::package::Package;

@@ -2,8 +2,8 @@
 
 ghost use Rattle.std.specs.Prelude.{◌≡◌, ◌≤◌, length, map, take, IfOk, IfErr, OnErr, option_to_list};
 ghost use Rattle.canonical_abi.specs.Types.{result_fields};
-ghost use Rattle.resolve.specs.Closed.{IsScalarFunction, function_at, function_type};
-ghost use Rattle.resolve.specs.Names.{IsNamed};
+ghost use Rattle.tables.specs.Closed.{IsScalarFunction, function_at, function_type};
+ghost use Rattle.tables.specs.Names.{IsNamed};
 ghost use Rattle.lift_lower.specs.Scalars.{AreScalar};
 ghost use Rattle.lift_lower.specs.Crossing.{fields_of_types};
 ghost use Rattle.witcall.specs.Signature.{signature_of, IsMissing};

@@ -6,7 +6,7 @@ ghost use Rattle.layout.specs.Layout.{layouts_of};
 ghost use Rattle.lift_lower.specs.Crossing.{fields_of_types};
 ghost use Rattle.lift_lower.specs.Scalars.{AreScalar};
 ghost use Rattle.lift_lower.specs.Val.{value_of};
-ghost use Rattle.resolve.specs.Closed.{IsScalarFunction, function_type};
+ghost use Rattle.tables.specs.Closed.{IsScalarFunction, function_type};
 
 use crate::package::Package;
 use crate::signature::ScalarTypes;

@@ -2,7 +2,7 @@ use Rattle.std.proofs.Common.{[], length, ap, sym, ◌∙◌, arith}
 use Rattle.std.proofs.lemmas.List.{take_all}
 use Rattle.std.proofs.lemmas.Result.{err_from_is_err_and}
 use Rattle.canonical_abi.specs.Layout.{extent_of}
-use Rattle.resolve.specs.Closed.{closed_type}
+use Rattle.tables.specs.Closed.{closed_type}
 use Rattle.layout.specs.Parts.{parts_from}
 use Rattle.layout.proofs.Table.{length-rows, next-below, refuses-first, all-within, all-rows}
 use Rattle.layout.proofs.Laid.{laid-none, laid-more, length-laid}

@@ -1,5 +1,5 @@
 use Rattle.std.proofs.Common.{arith}
-use Rattle.resolve.specs.Closed.{closed_type}
+use Rattle.tables.specs.Closed.{closed_type}
 use Rattle.lift_lower.proofs.Extents.{has-row, align-pos}
 use Rattle.lift_lower.proofs.extent.align_of.Goals as goal
 

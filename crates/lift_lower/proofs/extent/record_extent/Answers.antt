@@ -2,11 +2,11 @@ use Rattle.std.proofs.Common.{◌≡◌, ℕ, max, fold, List, [], Ok, length, g
 use Rattle.std.specs.Int.{next_multiple_of}
 use Rattle.canonical_abi.specs.Types.{record_type, field_count}
 use Rattle.canonical_abi.specs.Layout.{size, align, field_extents}
-use Rattle.resolve.specs.Closed.{closed_type}
-use Rattle.resolve.specs.declared.tables.Primitive.TheVariants as primitive
-use Rattle.resolve.specs.declared.tables.Resolve.{Resolve}
-use Rattle.resolve.specs.declared.tables.ValType.{ValType}
-use Rattle.resolve.specs.declared.tables.ValType.TheVariants as val
+use Rattle.tables.specs.Closed.{closed_type}
+use Rattle.tables.specs.declared.tables.Primitive.TheVariants as primitive
+use Rattle.tables.specs.declared.tables.Resolve.{Resolve}
+use Rattle.tables.specs.declared.tables.ValType.{ValType}
+use Rattle.tables.specs.declared.tables.ValType.TheVariants as val
 use Rattle.lift_lower.specs.Crossing.{fields_of_types}
 use Rattle.lift_lower.proofs.Denoting.{nth-type, count-types, align-next, end-last, align-last}
 use Rattle.lift_lower.proofs.Extents.{fields-fit}

@@ -4,7 +4,7 @@ use Rattle.std.proofs.lemmas.List.{map-append}
 use Rattle.canonical_abi.specs.Types.{prim_type, boolean, variant_cases, nth_case}
 use Rattle.canonical_abi.specs.Values.{payload_value}
 use Rattle.canonical_abi.specs.Reading.{number_of, lifting, lifting_fields, ◌>>=◌}
-use Rattle.resolve.specs.Closed.{closed_type}
+use Rattle.tables.specs.Closed.{closed_type}
 use Rattle.lift_lower.specs.Members.{members_fields}
 use Rattle.lift_lower.specs.Val.{value_of}
 use Rattle.lift_lower.proofs.Extents.{member-depth, case-depth}

@@ -6,7 +6,7 @@ use Rattle.canonical_abi.specs.Types.{ClosedType, IsStandard, list_type, record_
 use Rattle.canonical_abi.specs.Values.{Value, HasType, HaveTypes, values_of, list_value, record_value}
 use Rattle.canonical_abi.specs.Layout.{flat_kinds, payload_kinds}
 use Rattle.canonical_abi.specs.declared.flat.CoreKind.TheVariants.{I32}
-use Rattle.resolve.specs.Closed.{closed_type, closed_types}
+use Rattle.tables.specs.Closed.{closed_type, closed_types}
 use Rattle.lift_lower.specs.Members.{members_fields}
 use Rattle.lift_lower.specs.Scalar.{prim_in, value_in}
 use Rattle.lift_lower.specs.Val.{value_of}

@@ -6,7 +6,7 @@ use Rattle.canonical_abi.specs.Types.{prim_type, boolean, variant_cases, nth_cas
 use Rattle.canonical_abi.specs.Values.{payload_value}
 use Rattle.canonical_abi.specs.Layout.{size, align, discriminant_size, payload_place}
 use Rattle.canonical_abi.specs.Reading.{reading, number_at, byte_width, case_number, reading_fields, ◌>>=◌}
-use Rattle.resolve.specs.Closed.{closed_type}
+use Rattle.tables.specs.Closed.{closed_type}
 use Rattle.lift_lower.specs.Members.{members_fields}
 use Rattle.lift_lower.specs.Val.{value_of}
 use Rattle.lift_lower.proofs.Extents.{member-depth, case-depth, payload-place, payload-fits}

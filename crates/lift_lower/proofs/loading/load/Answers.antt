@@ -1,6 +1,6 @@
 use Rattle.canonical_abi.specs.Memory.{HoldsInBlock, FaultyInBlock}
 use Rattle.canonical_abi.specs.declared.trap.Step.TheVariants.{Take}
-use Rattle.resolve.specs.Closed.{closed_type}
+use Rattle.tables.specs.Closed.{closed_type}
 use Rattle.lift_lower.specs.Loading.{reading_block}
 use Rattle.lift_lower.specs.Val.{value_of}
 use Rattle.lift_lower.proofs.Passing.{block-tells, fails-stand}

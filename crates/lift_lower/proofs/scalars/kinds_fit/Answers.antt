@@ -5,8 +5,8 @@ use Rattle.canonical_abi.specs.contracts.flat.CoreKind.{the_type}
 use Rattle.canonical_abi.specs.declared.flat.CoreKind.{CoreKind}
 use Rattle.canonical_abi.specs.declared.flat.CoreKind.TheVariants.{I32, I64}
 use Rattle.canonical_abi.specs.declared.flat.Flat.TheVariants as flat
-use Rattle.resolve.specs.declared.tables.Primitive.TheVariants as primitive
-use Rattle.resolve.specs.declared.tables.ValType.TheVariants as val
+use Rattle.tables.specs.declared.tables.Primitive.TheVariants as primitive
+use Rattle.tables.specs.declared.tables.ValType.TheVariants as val
 use Rattle.lift_lower.proofs.ScalarLists.{kind_at}
 use Rattle.lift_lower.proofs.scalars.kinds_fit.Goals as goal
 

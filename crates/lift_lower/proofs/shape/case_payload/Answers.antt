@@ -1,6 +1,6 @@
 use Rattle.std.proofs.Common.{◌∙◌, sym, ap, arith}
 use Rattle.canonical_abi.specs.Types.{variant_cases, nth_case}
-use Rattle.resolve.specs.Closed.{closed_types}
+use Rattle.tables.specs.Closed.{closed_types}
 use Rattle.lift_lower.proofs.ShapeLemmas.{row-at, closed-of, later-case}
 use Rattle.lift_lower.proofs.shape.case_payload.Goals as goal
 

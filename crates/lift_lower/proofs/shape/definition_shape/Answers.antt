@@ -1,6 +1,6 @@
 use Rattle.std.proofs.Common.{◌∙◌, sym, ap}
 use Rattle.std.proofs.lemmas.List.{length-map}
-use Rattle.resolve.specs.Closed.{closed_definition}
+use Rattle.tables.specs.Closed.{closed_definition}
 use Rattle.lift_lower.proofs.ShapeLemmas.{count-fields}
 use Rattle.lift_lower.proofs.shape.definition_shape.Goals as goal
 

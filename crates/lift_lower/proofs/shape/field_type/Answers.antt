@@ -1,6 +1,6 @@
 use Rattle.std.proofs.Common.{◌∙◌, sym, ap, arith}
 use Rattle.canonical_abi.specs.Types.{record_fields, nth_field}
-use Rattle.resolve.specs.Closed.{closed_types}
+use Rattle.tables.specs.Closed.{closed_types}
 use Rattle.lift_lower.proofs.ShapeLemmas.{row-at, closed-of, later}
 use Rattle.lift_lower.proofs.shape.field_type.Goals as goal
 

@@ -1,5 +1,5 @@
 use Rattle.std.proofs.Common.{◌≡◌}
-use Rattle.resolve.specs.Closed.{closed_type}
+use Rattle.tables.specs.Closed.{closed_type}
 use Rattle.lift_lower.specs.Shape.{IsInside, rank}
 use Rattle.lift_lower.proofs.shape.followed.Given as goal
 

@@ -1,6 +1,6 @@
 use Rattle.std.proofs.Common.{◌∙◌, sym, ap, refl, [], ◌∷◌, option_map}
 use Rattle.std.proofs.lemmas.List.{length-map}
-use Rattle.resolve.specs.Closed.{closed_val, closed_kind}
+use Rattle.tables.specs.Closed.{closed_val, closed_kind}
 use Rattle.lift_lower.proofs.ShapeLemmas.{count-fields, count-cases}
 use Rattle.lift_lower.proofs.shape.kind_shape.Goals as goal
 

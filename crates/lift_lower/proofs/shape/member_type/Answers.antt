@@ -1,5 +1,5 @@
 use Rattle.std.proofs.Common.{sym, length}
-use Rattle.resolve.specs.Closed.{closed_types}
+use Rattle.tables.specs.Closed.{closed_types}
 use Rattle.lift_lower.proofs.ShapeLemmas.{field-Tuple, below-Tuple}
 use Rattle.lift_lower.proofs.shape.member_type.Goals as goal
 

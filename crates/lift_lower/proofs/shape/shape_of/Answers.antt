@@ -1,5 +1,5 @@
 use Rattle.std.proofs.Common.{◌≡◌, get_or}
-use Rattle.resolve.specs.Closed.{closed_types}
+use Rattle.tables.specs.Closed.{closed_types}
 use Rattle.lift_lower.proofs.ShapeLemmas.{row-at, shape-of, in_table, standard-at}
 use Rattle.lift_lower.proofs.shape.shape_of.Goals as goal
 

@@ -8,7 +8,7 @@ use Rattle.canonical_abi.specs.Values.{Value, HasType, HaveTypes, values_of, lis
 use Rattle.canonical_abi.specs.Layout.{size, align, prim_width, discriminant_size, payload_place}
 use Rattle.canonical_abi.specs.Reading.{reading_fields}
 use Rattle.canonical_abi.specs.Storing.{EachStores, Stores, FieldsStore, CaseStores}
-use Rattle.resolve.specs.Closed.{closed_type, closed_types}
+use Rattle.tables.specs.Closed.{closed_type, closed_types}
 use Rattle.lift_lower.specs.Members.{members_fields}
 use Rattle.lift_lower.specs.Scalar.{prim_in, value_in}
 use Rattle.lift_lower.specs.Val.{value_of}

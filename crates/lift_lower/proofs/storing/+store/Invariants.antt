@@ -3,7 +3,7 @@ use Rattle.canonical_abi.specs.Types.{depth, fields_depth}
 use Rattle.canonical_abi.specs.Values.{HaveTypes}
 use Rattle.canonical_abi.specs.Layout.{size}
 use Rattle.canonical_abi.specs.Storing.{Stores, EachStores, FieldsStore}
-use Rattle.resolve.specs.Closed.{closed_type}
+use Rattle.tables.specs.Closed.{closed_type}
 use Rattle.lift_lower.specs.Members.{members_fields}
 use Rattle.lift_lower.specs.Scripts.{IsBegun}
 use Rattle.lift_lower.specs.Val.{value_of}

@@ -1,7 +1,7 @@
 use Rattle.std.proofs.Common.{◌≡◌, ◌*◌, ◌<◌, ◌≤◌, ◌^◌, min, ap, ◌∙◌, arith}
 use Rattle.canonical_abi.specs.Layout.{size}
 use Rattle.canonical_abi.proofs.Sizes.{is-alignment, one-size, le-times}
-use Rattle.resolve.specs.Closed.{closed_type}
+use Rattle.tables.specs.Closed.{closed_type}
 use Rattle.lift_lower.specs.Scripts.{RequestEnds, HasEnded, AsksBlock}
 use Rattle.lift_lower.proofs.Scripting.{asked, saturated-ends, if-err-as, if-ok-as}
 use Rattle.lift_lower.proofs.storing.ask_elements.Goals as goal

@@ -4,7 +4,7 @@ use Rattle.std.proofs.lemmas.Str.{IsUtf8-string_bytes}
 use Rattle.std.specs.List.{AllByRecursion}
 use Rattle.canonical_abi.specs.Types.{variant_cases, nth_case, record_fields}
 use Rattle.canonical_abi.specs.Values.{Value, HasType, HaveTypes, values_of}
-use Rattle.resolve.specs.Closed.{closed_type, closed_types}
+use Rattle.tables.specs.Closed.{closed_type, closed_types}
 use Rattle.lift_lower.specs.Members.{members_fields}
 use Rattle.lift_lower.specs.Val.{value_of}
 use Rattle.lift_lower.proofs.Steps.{nth_field-some}

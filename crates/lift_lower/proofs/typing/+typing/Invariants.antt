@@ -1,7 +1,7 @@
 use Rattle.std.proofs.Common.{◌↔◌, map, take, drop}
 use Rattle.std.specs.List.{AllByRecursion}
 use Rattle.canonical_abi.specs.Values.{HasType, HaveTypes}
-use Rattle.resolve.specs.Closed.{closed_type}
+use Rattle.tables.specs.Closed.{closed_type}
 use Rattle.lift_lower.specs.Members.{members_fields}
 use Rattle.lift_lower.specs.Val.{value_of}
 use Rattle.lift_lower.proofs.Steps.{fields_from}

@@ -3,11 +3,11 @@ use Rattle.wit_syntax.specs.Syntax.{Definition, Record, Variant}
 use Rattle.wit_syntax.specs.View.{field_view, case_view, definition_view}
 use Rattle.wit_syntax.specs.declared.ast.Field.{Field}
 use Rattle.wit_syntax.specs.declared.ast.Case.{Case}
-use Rattle.resolve.specs.Package.{IsType}
+use Rattle.tables.specs.Package.{IsType}
 use Rattle.resolve.specs.Declarations.{named_definition}
 use Rattle.resolve.specs.Resolved.{definition_meaning}
 use Rattle.resolve.specs.Building.{LowersKind, KnowsNames, scope_name}
-use Rattle.resolve.specs.declared.tables.TypeDefKind.TheVariants as kind
+use Rattle.tables.specs.declared.tables.TypeDefKind.TheVariants as kind
 use Rattle.resolve.proofs.Lowering.{lowers-record, lowers-variant}
 use Rattle.resolve.proofs.bodies.lower_definition.Goals as goal
 

@@ -1,8 +1,8 @@
 use Rattle.std.proofs.Common.{◌≡◌, ◌∙◌, List, IsTrue, length, ap, sym, subst, arith}
-use Rattle.resolve.specs.Tables.{are_earlier, are_standard, are_placed}
+use Rattle.tables.specs.Tables.{are_earlier, are_standard, are_placed}
 use Rattle.resolve.specs.Resolves.{interfaces_from}
-use Rattle.resolve.specs.declared.tables.Definition.{Definition}
-use Rattle.resolve.specs.declared.tables.Interface.{Interface}
+use Rattle.tables.specs.declared.tables.Definition.{Definition}
+use Rattle.tables.specs.declared.tables.Interface.{Interface}
 use Rattle.resolve.proofs.Finishing.{within-entries, few-rows, all-placed-ids}
 use Rattle.resolve.proofs.finish.finish.Goals as goal
 

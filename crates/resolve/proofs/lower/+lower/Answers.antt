@@ -2,8 +2,8 @@ use Rattle.wit_syntax.specs.declared.ast.TypeExpression.{TypeExpression, the_lem
 use Rattle.std.proofs.Common.{List, ℕ, [], Some, subst, ap, ◌∙◌, sym, arith, rules, Contains}
 use Rattle.wit_syntax.specs.Syntax.{MaybeTy, Named, ListOf, OptionOf, TupleOf, ResultOf, Present}
 use Rattle.wit_syntax.specs.View.{ty_view, boxed_view}
-use Rattle.resolve.specs.Package.{read_val}
-use Rattle.resolve.specs.Tables.{is_below}
+use Rattle.tables.specs.Package.{read_val}
+use Rattle.tables.specs.Tables.{is_below}
 use Rattle.resolve.specs.Postfix.{unnamed}
 use Rattle.resolve.specs.Declarations.{named_maybe}
 use Rattle.resolve.specs.Resolved.{resolved, resolved_maybe}

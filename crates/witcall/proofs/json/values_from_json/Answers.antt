@@ -2,8 +2,8 @@ use Rattle.std.proofs.Common.{◌≡◌, ℕ, List, Result, Ok, Err, map, refl, 
 use Rattle.std.specs.Prelude.{IfErr, IsErrOf}
 use Rattle.serde_json.specs.View.{view}
 use Rattle.witcall.proofs.Arrays.{only_items}
-use Rattle.resolve.specs.Closed.{closed_types}
-use Rattle.resolve.specs.declared.tables.ValType.{ValType}
+use Rattle.tables.specs.Closed.{closed_types}
+use Rattle.tables.specs.declared.tables.ValType.{ValType}
 use Rattle.witcall.specs.Json.{EachJson, IsArrayTextOfNone, RefusesArray}
 use Rattle.witcall.specs.declared.json.JsonError.{JsonError}
 use Rattle.witcall.specs.declared.json.JsonError.TheVariants.{BadJson, NotThisType, NoMemory}

@@ -1,8 +1,8 @@
 use Rattle.std.proofs.Common.{◌≤◌, Option, Some, None, length, map, refl, sym, subst, arith}
 use Rattle.std.specs.Prelude.{option_to_list}
 use Rattle.canonical_abi.specs.Values.{HaveTypes}
-use Rattle.resolve.specs.Closed.{closed_types}
-use Rattle.resolve.specs.declared.tables.ValType.{ValType}
+use Rattle.tables.specs.Closed.{closed_types}
+use Rattle.tables.specs.declared.tables.ValType.{ValType}
 use Rattle.lift_lower.specs.Crossing.{fields_of_types}
 use Rattle.lift_lower.specs.Scalars.{AreOfTypes, FailAs}
 use Rattle.witcall.proofs.session.take_result.Goals as goal

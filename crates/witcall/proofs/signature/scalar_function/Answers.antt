@@ -1,5 +1,5 @@
 use Rattle.std.proofs.Common.{inl, subst, sym}
-use Rattle.resolve.specs.Names.{IsNamed}
+use Rattle.tables.specs.Names.{IsNamed}
 use Rattle.witcall.proofs.signature.scalar_function.Goals as goal
 
 pub returns-in_default-clause-none : goal.returns-in_default-clause-none

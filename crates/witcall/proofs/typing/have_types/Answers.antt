@@ -3,9 +3,9 @@ use Rattle.std.specs.Prelude.{IsTrue, false}
 use Rattle.std.proofs.Math.ListN.{get_or-map}
 use Rattle.std.proofs.lemmas.List.{length-map}
 use Rattle.canonical_abi.specs.Values.{HasType}
-use Rattle.resolve.specs.Closed.{closed_types, closed_val}
-use Rattle.resolve.specs.declared.tables.Primitive.TheVariants as primitive
-use Rattle.resolve.specs.declared.tables.ValType.TheVariants as val
+use Rattle.tables.specs.Closed.{closed_types, closed_val}
+use Rattle.tables.specs.declared.tables.Primitive.TheVariants as primitive
+use Rattle.tables.specs.declared.tables.ValType.TheVariants as val
 use Rattle.lift_lower.specs.Val.{value_of}
 use Rattle.witcall.proofs.TypedLists.{rests_more, have_length, have_at}
 use Rattle.witcall.proofs.typing.have_types.Goals as goal

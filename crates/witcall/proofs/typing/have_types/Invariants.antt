@@ -1,5 +1,5 @@
 use Rattle.std.proofs.Common.{map}
-use Rattle.resolve.specs.Closed.{closed_types}
+use Rattle.tables.specs.Closed.{closed_types}
 use Rattle.lift_lower.specs.Val.{value_of}
 use Rattle.witcall.proofs.TypedLists.{Rests}
 use Rattle.witcall.proofs.typing.have_types.Given as goal

@@ -2,7 +2,7 @@ use Rattle.std.proofs.Common.{◌≡◌, sym, ap, refl, map, take, Some}
 use Rattle.std.proofs.lemmas.Result.{err_from_is_err_and}
 use Rattle.canonical_abi.specs.Call.{Parties}
 use Rattle.canonical_abi.specs.declared.trap.Step.TheVariants as step
-use Rattle.resolve.specs.Closed.{closed_types, function_at, function_type}
+use Rattle.tables.specs.Closed.{closed_types, function_at, function_type}
 use Rattle.adapter.specs.Carrying.{CarriesOn, IsFaultAt}
 use Rattle.adapter.proofs.Functions.{as_types, types_fit, same_types}
 use Rattle.adapter.proofs.Links.{args_fault, body_stops, result_fault, post_stops, completes}

@@ -1,5 +1,5 @@
 use Rattle.std.proofs.Common.{None, length}
-use Rattle.resolve.specs.Closed.{closed_type}
+use Rattle.tables.specs.Closed.{closed_type}
 use Rattle.layout.proofs.Told.{offset-told}
 use Rattle.layout.proofs.layouts.Layouts.field_offset.Goals as goal
 

@@ -1,7 +1,7 @@
 use Rattle.std.proofs.Common.{[], arith, length, ap, ◌∙◌, sym}
 use Rattle.std.proofs.lemmas.List.{length-map}
 use Rattle.canonical_abi.specs.Layout.{extent_of}
-use Rattle.resolve.specs.Closed.{closed_types, closed_type}
+use Rattle.tables.specs.Closed.{closed_types, closed_type}
 use Rattle.layout.specs.Layout.{result_of}
 use Rattle.layout.proofs.Agreement.{length-parts}
 use Rattle.layout.proofs.Table.{length-table}

@@ -3,7 +3,7 @@ use Rattle.std.proofs.lemmas.List.{length-map}
 use Rattle.std.specs.Prelude.{option_to_list, IsSome, ◌↔◌}
 use Rattle.canonical_abi.specs.Types.{fields_of}
 use Rattle.canonical_abi.specs.Values.{HaveTypes}
-use Rattle.resolve.specs.Closed.{closed_types, closed_type, function_at}
+use Rattle.tables.specs.Closed.{closed_types, closed_type, function_at}
 use Rattle.lift_lower.specs.Val.{value_of}
 use Rattle.witcall.specs.Json.{IsArrayTextOf}
 use Rattle.witcall.specs.Signature.{signature_of}

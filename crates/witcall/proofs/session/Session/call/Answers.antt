@@ -9,7 +9,7 @@ use Rattle.canonical_abi.specs.Types.{Fields, result_fields}
 use Rattle.canonical_abi.specs.Call.{either, Parties, Calls}
 use Rattle.canonical_abi.specs.Values.{HaveTypes}
 use Rattle.canonical_abi.specs.declared.flat.Flat.{Flat}
-use Rattle.resolve.specs.Closed.{closed_types, function_type}
+use Rattle.tables.specs.Closed.{closed_types, function_type}
 use Rattle.lift_lower.specs.Scalars.{AreScalar}
 use Rattle.lift_lower.specs.Val.{value_of}
 use Rattle.lift_lower.proofs.ScalarTypes.{scalars-inside, scalars-small, scalars-standard}

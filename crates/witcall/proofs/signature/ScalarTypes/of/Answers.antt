@@ -1,7 +1,7 @@
 use Rattle.std.proofs.Common.{◌≡◌, sym, ap, ◌∙◌, subst, take}
 use Rattle.lift_lower.specs.Scalars.{AreScalar}
 use Rattle.lift_lower.specs.Crossing.{fields_of_types}
-use Rattle.resolve.specs.Closed.{function_at}
+use Rattle.tables.specs.Closed.{function_at}
 use Rattle.witcall.specs.Signature.{signature_of}
 use Rattle.witcall.proofs.ScalarFunctions.{params_are_fields, params_are_scalar}
 use Rattle.witcall.proofs.signature.ScalarTypes.of.Goals as goal

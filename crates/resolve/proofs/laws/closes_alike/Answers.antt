@@ -1,5 +1,0 @@
-use Rattle.resolve.proofs.Unfolded.{closes_alike}
-use Rattle.resolve.proofs.laws.closes_alike.Goals as goal
-
-pub returns : goal.returns
-returns c = closes_alike c.args._resolve.now

@@ -1,5 +1,0 @@
-use Rattle.resolve.proofs.Names.{both_behind}
-use Rattle.resolve.proofs.lookup.behind_part.Goals as goal
-
-pub returns : goal.returns
-returns c = both_behind _ _ _ _ _ c.in_ok-rest.ensures c.behind-2.ensures

@@ -1,6 +1,0 @@
-use Rattle.std.proofs.Common.{◌≡◌, true, take}
-use Rattle.resolve.specs.Tables.{are_earlier}
-use Rattle.resolve.proofs.parts.are_earlier.Given as goal
-
-abbrev pub invariant-loop-place : goal.invariant-loop-place
-invariant-loop-place l = are_earlier 0 (take l.place l.definitions) ≡ true

@@ -1,0 +1,4 @@
+mod Names
+pub mod Rows
+mod Unfolded
+pub mod Earlier

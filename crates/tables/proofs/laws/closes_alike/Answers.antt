@@ -1,0 +1,5 @@
+use Rattle.tables.proofs.Unfolded.{closes_alike}
+use Rattle.tables.proofs.laws.closes_alike.Goals as goal
+
+pub returns : goal.returns
+returns c = closes_alike c.args._resolve.now

@@ -1,0 +1,6 @@
+pub mod Tables
+pub mod Closed
+pub mod Names
+pub mod Same
+pub mod Package
+pub mod Parts

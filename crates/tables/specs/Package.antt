@@ -1,0 +1,240 @@
+-- A package as its names tell it: definitions in package order, in which a reference is a pair of an interface and a name, and what
+-- their names unfold to.
+use Rattle.std.specs.Prelude.{◌≡◌, ◌||◌, ◌&&◌, ℕ, Bool, false, List, [], ◌∷◌, ◌++◌, map, length, slice_index_or, Option, None, Some, if◌then◌else◌}
+use Rattle.std.specs.Option.{option_map}
+use Rattle.std.specs.Str.{bytes_eq}
+use Rattle.canonical_abi.specs.Types.{ClosedType, prim_type, string_type, list_type, record_type, variant_type, flags_type}
+use Rattle.canonical_abi.specs.Types as closed
+use Rattle.tables.specs.Closed.{prim_of, closed_type}
+use Rattle.tables.specs.declared.tables.Primitive.{Primitive}
+use Rattle.tables.specs.declared.tables.ValType.{ValType}
+use Rattle.tables.specs.declared.tables.ValType.TheVariants as val
+use Rattle.tables.specs.declared.tables.TypeDefKind.{TypeDefKind}
+use Rattle.tables.specs.declared.tables.TypeDefKind.TheVariants as kind
+use Rattle.tables.specs.declared.tables.TypeName.{TypeName}
+use Rattle.tables.specs.declared.tables.Parameter.{Parameter}
+use Rattle.tables.specs.declared.tables.Field.{Field}
+use Rattle.tables.specs.declared.tables.Case.{Case}
+use Rattle.tables.specs.declared.tables.Owner.{Owner}
+use Rattle.tables.specs.declared.tables.Owner.TheVariants as owner
+use Rattle.tables.specs.declared.tables.Function.{Function}
+use Rattle.tables.specs.declared.tables.Definition.{Definition}
+use Rattle.tables.specs.declared.tables.Definition.TheVariants as row
+use Rattle.tables.specs.declared.tables.Resolve.{Resolve}
+
+-- how a record or a variant is written
+pub data Form : Type 0 where
+  Plain : Form
+  AsTuple : Form
+  AsEnum : Form
+  AsOption : Form
+  AsResult : Form
+
+-- a name of an interface
+pub record Key : Type 0 where
+  pub interface : List ℕ
+  pub name : List ℕ
+
+mutual
+  -- a labelled type, in which references may stand
+  pub data Tree : Type 0 where
+    PrimTree : Primitive → Tree
+    TextTree : Tree
+    Reference : Key → Tree
+    ListTree : Tree → Tree
+    RecordTree : Form → Fields → Tree
+    VariantTree : Form → Choices → Tree
+    FlagsTree : List (List ℕ) → Tree
+
+  pub data Fields : Type 0 where
+    no_fields : Fields
+    field : List ℕ → Tree → Fields → Fields
+
+  pub data Choices : Type 0 where
+    no_choices : Choices
+    empty : List ℕ → Choices → Choices
+    holding : List ℕ → Tree → Choices → Choices
+
+-- a definition with a name: a used name, a type, or a function with its parameters and its result
+pub data Meaning : Type 0 where
+  IsUse : Tree → Meaning
+  IsType : Tree → Meaning
+  IsFunction : Fields → Option Tree → Meaning
+
+pub record NamedDefinition : Type 0 where
+  pub key : Key
+  pub meaning : Meaning
+
+-- ---- closed types by names
+
+abbrev pub Environment : Type 0
+Environment = List (Key × ClosedType)
+
+abbrev pub is_same_key : Key → Key → Bool
+is_same_key a b = bytes_eq a.interface b.interface && bytes_eq a.name b.name
+
+abbrev pub lookup : Environment → Key → ClosedType
+lookup [] n = string_type
+lookup (e ∷ es) n = if is_same_key e.0 n then e.1 else lookup es n
+
+abbrev mutual
+  pub closed_tree : Environment → Tree → ClosedType
+  closed_tree env (PrimTree p) = prim_type (prim_of p)
+  closed_tree env TextTree = string_type
+  closed_tree env (Reference n) = lookup env n
+  closed_tree env (ListTree t) = list_type (closed_tree env t)
+  closed_tree env (RecordTree form fs) = record_type (closed_fields env fs)
+  closed_tree env (VariantTree form cs) = variant_type (closed_choices env cs)
+  closed_tree env (FlagsTree labels) = flags_type (length labels)
+
+  pub closed_fields : Environment → Fields → closed.Fields
+  closed_fields env no_fields = closed.no_field
+  closed_fields env (field label t fs) = closed.field (closed_tree env t) (closed_fields env fs)
+
+  pub closed_choices : Environment → Choices → closed.Cases
+  closed_choices env no_choices = closed.no_case
+  closed_choices env (empty label cs) = closed.plain_case (closed_choices env cs)
+  closed_choices env (holding label t cs) = closed.case_with (closed_tree env t) (closed_choices env cs)
+
+-- what a definition adds: a function adds no type
+abbrev pub entry : Environment → Key → Meaning → Environment
+entry env n (IsUse t) = (n, closed_tree env t) ∷ []
+entry env n (IsType t) = (n, closed_tree env t) ∷ []
+entry env n (IsFunction fs result) = []
+
+-- the environment after these definitions, each closed over those before it
+abbrev pub environment : Environment → List NamedDefinition → Environment
+environment env [] = env
+environment env (d ∷ ds) = environment (env ++ entry env d.key d.meaning) ds
+
+-- ---- what the rows of a table read as
+
+abbrev pub read_val : List Tree → ValType → Tree
+read_val trees (val.Primitive p) = PrimTree p
+read_val trees val.String = TextTree
+read_val trees (val.Id t) = slice_index_or trees t.0 TextTree
+
+abbrev pub read_choice : List Tree → List ℕ → Option ValType → Choices → Choices
+read_choice trees label None cs = empty label cs
+read_choice trees label (Some v) cs = holding label (read_val trees v) cs
+
+abbrev pub read_tuple : List Tree → List ValType → Fields
+read_tuple trees [] = no_fields
+read_tuple trees (v ∷ vs) = field [] (read_val trees v) (read_tuple trees vs)
+
+abbrev pub read_fields : List Tree → List Field → Fields
+read_fields trees [] = no_fields
+read_fields trees (f ∷ fs) = field f.name (read_val trees f.ty) (read_fields trees fs)
+
+abbrev pub read_params : List Tree → List Parameter → Fields
+read_params trees [] = no_fields
+read_params trees (p ∷ ps) = field p.name (read_val trees p.ty) (read_params trees ps)
+
+abbrev pub read_cases : List Tree → List Case → Choices
+read_cases trees [] = no_choices
+read_cases trees (c ∷ cs) = read_choice trees c.name c.ty (read_cases trees cs)
+
+abbrev pub read_enum : List (List ℕ) → Choices
+read_enum [] = no_choices
+read_enum (n ∷ ns) = empty n (read_enum ns)
+
+-- the labels of an option are `none` and `some`, those of a result `ok` and `error`
+abbrev pub read_kind : List Tree → TypeDefKind → Tree
+read_kind trees (kind.Use t) = read_val trees (val.Id t)
+read_kind trees (kind.Alias v) = read_val trees v
+read_kind trees (kind.List v) = ListTree (read_val trees v)
+read_kind trees (kind.Option v) = VariantTree AsOption (empty (110 ∷ 111 ∷ 110 ∷ 101 ∷ []) (holding (115 ∷ 111 ∷ 109 ∷ 101 ∷ []) (read_val trees v) no_choices))
+read_kind trees (kind.Result ok error) =
+    VariantTree AsResult (read_choice trees (111 ∷ 107 ∷ []) ok (read_choice trees (101 ∷ 114 ∷ 114 ∷ 111 ∷ 114 ∷ []) error no_choices))
+read_kind trees (kind.Tuple vs) = RecordTree AsTuple (read_tuple trees vs)
+read_kind trees (kind.Record fs) = RecordTree Plain (read_fields trees fs)
+read_kind trees (kind.Variant cs) = VariantTree Plain (read_cases trees cs)
+read_kind trees (kind.Enum names) = VariantTree AsEnum (read_enum names)
+read_kind trees (kind.Flags names) = FlagsTree names
+
+-- a name under the name of its interface
+abbrev pub key_of : List (List ℕ) → TypeName → Key
+key_of interfaces n = record { interface = slice_index_or interfaces n.interface.0 []; name = n.name }
+
+-- what a reference to a row stands for: its name, or the tree of a row without a name; of a function, its parameters
+abbrev pub reference_by : List (List ℕ) → Option TypeName → Tree → Tree
+reference_by interfaces None t = t
+reference_by interfaces (Some n) t = Reference (key_of interfaces n)
+
+abbrev pub reference : List (List ℕ) → List Tree → Definition → Tree
+reference interfaces trees (row.Type d) = reference_by interfaces d.name (read_kind trees d.kind)
+reference interfaces trees (row.Function f) = RecordTree Plain (read_params trees f.params)
+
+abbrev pub references : List (List ℕ) → List Tree → List Definition → List Tree
+references interfaces trees [] = trees
+references interfaces trees (d ∷ ds) = references interfaces (trees ++ reference interfaces trees d ∷ []) ds
+
+-- the definitions with names, in table order
+abbrev pub meaning_of : List Tree → TypeDefKind → Meaning
+meaning_of trees (kind.Use t) = IsUse (read_val trees (val.Id t))
+meaning_of trees k = IsType (read_kind trees k)
+
+abbrev pub named_by : List (List ℕ) → List Tree → Option TypeName → TypeDefKind → List NamedDefinition
+named_by interfaces trees None k = []
+named_by interfaces trees (Some n) k = record { key = key_of interfaces n; meaning = meaning_of trees k } ∷ []
+
+-- the name of the interface, or of the world, in which a function stands
+abbrev pub owner_name : List (List ℕ) → List (List ℕ) → Owner → List ℕ
+owner_name interfaces worlds (owner.Interface i) = slice_index_or interfaces i.0 []
+owner_name interfaces worlds (owner.World w) = slice_index_or worlds w.0 []
+
+abbrev pub named_function : List (List ℕ) → List (List ℕ) → List Tree → Function → NamedDefinition
+named_function interfaces worlds trees f = record {
+  key = record { interface = owner_name interfaces worlds f.owner; name = f.name };
+  meaning = IsFunction (read_params trees f.params) (option_map (read_val trees) f.result);
+}
+
+abbrev pub definition_of : List (List ℕ) → List (List ℕ) → List Tree → Definition → List NamedDefinition
+definition_of interfaces worlds trees (row.Type d) = named_by interfaces trees d.name d.kind
+definition_of interfaces worlds trees (row.Function f) = named_function interfaces worlds trees f ∷ []
+
+abbrev pub definitions_from : List (List ℕ) → List (List ℕ) → List Tree → List Definition → List NamedDefinition
+definitions_from interfaces worlds trees [] = []
+definitions_from interfaces worlds trees (d ∷ ds) =
+    definition_of interfaces worlds trees d ++ definitions_from interfaces worlds (trees ++ reference interfaces trees d ∷ []) ds
+
+abbrev pub interface_names : Resolve → List (List ℕ)
+interface_names r = map (λ i. i.name) r.interfaces
+
+abbrev pub world_names : Resolve → List (List ℕ)
+world_names r = map (λ w. w.name) r.worlds
+
+abbrev pub trees : Resolve → List Tree
+trees r = references (interface_names r) [] r.definitions
+
+abbrev pub definitions : Resolve → List NamedDefinition
+definitions r = definitions_from (interface_names r) (world_names r) [] r.definitions
+
+-- a package as its names tell it
+pub record Package : Type 0 where
+  pub interfaces : List (List ℕ)
+  pub definitions : List NamedDefinition
+
+abbrev pub package_of : Resolve → Package
+package_of r = record { interfaces = interface_names r; definitions = definitions r }
+
+-- ---- the law
+
+abbrev pub is_known : List Key → Key → Bool
+is_known [] n = false
+is_known (m ∷ ms) n = is_same_key m n || is_known ms n
+
+-- no name of a type of these rows is one of `seen` or stands twice
+abbrev pub IsDistinctName : List (List ℕ) → List Key → Option TypeName → (List Key → Type 0) → Type 0
+IsDistinctName interfaces seen None rest = rest seen
+IsDistinctName interfaces seen (Some n) rest = (is_known seen (key_of interfaces n) ≡ false) × rest (seen ++ key_of interfaces n ∷ [])
+
+abbrev pub HasDistinctTypes : List (List ℕ) → List Definition → List Key → Type 0
+HasDistinctTypes interfaces [] seen = Unit {0}
+HasDistinctTypes interfaces (row.Type d ∷ ds) seen = IsDistinctName interfaces seen d.name (HasDistinctTypes interfaces ds)
+HasDistinctTypes interfaces (row.Function f ∷ ds) seen = HasDistinctTypes interfaces ds seen
+
+-- a type of the package, closed by the names of the package alone, is its closed type
+abbrev pub ClosesAlike : Resolve → Type 0
+ClosesAlike r = HasDistinctTypes (interface_names r) r.definitions []
+    → (v : ValType) → closed_tree (environment [] (definitions r)) (read_val (trees r) v) ≡ closed_type r v

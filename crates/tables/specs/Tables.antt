@@ -1,0 +1,99 @@
+-- What is true of every table of definitions: each names earlier types alone, none is empty or above the limits, and ids are of their kind.
+use Rattle.std.specs.Prelude.{ℕ, ◌+◌, Bool, true, false, ◌&&◌, nat_lt, nat_le, List, [], ◌∷◌, length, Option, None, Some, slice_get}
+use Rattle.std.specs.List.{list_all}
+use Rattle.tables.specs.declared.tables.TypeId.{TypeId}
+use Rattle.tables.specs.declared.tables.FunctionId.{FunctionId}
+use Rattle.tables.specs.declared.tables.ValType.{ValType}
+use Rattle.tables.specs.declared.tables.ValType.TheVariants as val
+use Rattle.tables.specs.declared.tables.TypeDefKind.{TypeDefKind}
+use Rattle.tables.specs.declared.tables.TypeDefKind.TheVariants as kind
+use Rattle.tables.specs.declared.tables.TypeDef.{TypeDef}
+use Rattle.tables.specs.declared.tables.Function.{Function}
+use Rattle.tables.specs.declared.tables.Definition.{Definition}
+use Rattle.tables.specs.declared.tables.Definition.TheVariants as row
+use Rattle.tables.specs.declared.tables.Interface.{Interface}
+
+-- the type is a primitive or string, or stands in the table before place n
+abbrev pub is_below : ℕ → ValType → Bool
+is_below n (val.Primitive p) = true
+is_below n val.String = true
+is_below n (val.Id t) = nat_lt t.0 n
+
+abbrev pub option_below : ℕ → Option ValType → Bool
+option_below n None = true
+option_below n (Some v) = is_below n v
+
+abbrev pub kind_below : ℕ → TypeDefKind → Bool
+kind_below n (kind.Use t) = nat_lt t.0 n
+kind_below n (kind.Alias v) = is_below n v
+kind_below n (kind.List v) = is_below n v
+kind_below n (kind.Option v) = is_below n v
+kind_below n (kind.Result ok error) = option_below n ok && option_below n error
+kind_below n (kind.Tuple vs) = list_all (is_below n) vs
+kind_below n (kind.Record fs) = list_all (λ f. is_below n f.ty) fs
+kind_below n (kind.Variant cs) = list_all (λ c. option_below n c.ty) cs
+kind_below n (kind.Enum names) = true
+kind_below n (kind.Flags names) = true
+
+abbrev pub function_below : ℕ → Function → Bool
+function_below n f = list_all (λ p. is_below n p.ty) f.params && option_below n f.result
+
+abbrev pub definition_below : ℕ → Definition → Bool
+definition_below n (row.Type d) = kind_below n d.kind
+definition_below n (row.Function f) = function_below n f
+
+-- each of these definitions, the first of which stands at place n, names earlier ones alone
+abbrev pub are_earlier : ℕ → List Definition → Bool
+are_earlier n [] = true
+are_earlier n (d ∷ ds) = definition_below n d && are_earlier (n + 1) ds
+
+-- records, variants, tuples, enums and flags are nonempty, with at most 100,000 cases and at most 32 flags
+abbrev pub is_within : ℕ → ℕ → Bool
+is_within n limit = nat_lt 0 n && nat_le n limit
+
+abbrev pub is_standard_kind : TypeDefKind → Bool
+is_standard_kind (kind.Use t) = true
+is_standard_kind (kind.Alias v) = true
+is_standard_kind (kind.List v) = true
+is_standard_kind (kind.Option v) = true
+is_standard_kind (kind.Result ok error) = true
+is_standard_kind (kind.Tuple vs) = nat_lt 0 (length vs)
+is_standard_kind (kind.Record fs) = nat_lt 0 (length fs)
+is_standard_kind (kind.Variant cs) = is_within (length cs) 100000
+is_standard_kind (kind.Enum names) = is_within (length names) 100000
+is_standard_kind (kind.Flags names) = is_within (length names) 32
+
+abbrev pub is_standard : Definition → Bool
+is_standard (row.Type d) = is_standard_kind d.kind
+is_standard (row.Function f) = true
+
+abbrev pub are_standard : List Definition → Bool
+are_standard ds = list_all is_standard ds
+
+-- the function or the type at a place of the table
+abbrev pub function_of : Option Definition → Option Function
+function_of None = None
+function_of (Some (row.Type d)) = None
+function_of (Some (row.Function f)) = Some f
+
+abbrev pub type_of : Option Definition → Option TypeDef
+type_of None = None
+type_of (Some (row.Type d)) = Some d
+type_of (Some (row.Function f)) = None
+
+abbrev pub is_there : {A : Type 0} → Option A → Bool
+is_there None = false
+is_there (Some x) = true
+
+abbrev pub is_function_id : List Definition → FunctionId → Bool
+is_function_id ds f = is_there (function_of (slice_get ds f.0))
+
+abbrev pub is_type_id : List Definition → TypeId → Bool
+is_type_id ds t = is_there (type_of (slice_get ds t.0))
+
+-- the ids of an interface are places of types and of functions
+abbrev pub is_placed : List Definition → Interface → Bool
+is_placed ds i = list_all (is_type_id ds) i.uses && (list_all (is_type_id ds) i.types && list_all (is_function_id ds) i.functions)
+
+abbrev pub are_placed : List Definition → List Interface → Bool
+are_placed ds is = list_all (is_placed ds) is

@@ -1,0 +1,50 @@
+//! Why a package could not be made.
+ghost use Rattle.std.specs.Prelude.{◌≡◌};
+ghost use Rattle.tables.specs.declared.error.ResolveError.TheVariants.{NoMemory};
+
+use atoms::Label;
+use std::alloc::{AllocError, AllocFailed};
+use thiserror::Error;
+
+/// Why a package could not be made.
+#[derive(Debug, Drop, Error)]
+pub enum ResolveError {
+    /// 40: a name stands twice in one scope, but for the case of its letters. It is given as it is spelt at
+    /// the later place.
+    #[error("error 40 duplicate {}", .0.as_str())]
+    Duplicate(Label),
+    /// 41: a name stands for nothing.
+    #[error("error 41 unknown {}", .0.as_str())]
+    Unknown(Label),
+    /// 42: interfaces use each other, or types name each other.
+    #[error("error 42 cycle")]
+    Cycle,
+    /// 43: the package has neither an interface nor a world.
+    #[error("error 43 empty package")]
+    EmptyPackage,
+    /// 44: the package isn't of the shape that is read.
+    #[error("error 44 not this shape")]
+    NotThisShape,
+    /// 45: the package has too many types, cases or labels.
+    #[error("error 45 limit")]
+    Limit,
+    /// 46
+    #[error("error 46 no memory")]
+    NoMemory,
+}
+
+impl From<AllocError> for ResolveError {
+    ghost from_gives = { λ _ e. e ≡ NoMemory };
+
+    fn from(_error: AllocError) -> Self {
+        ResolveError::NoMemory
+    }
+}
+
+impl<T: Drop> From<AllocFailed<T>> for ResolveError {
+    ghost from_gives = { λ _ e. e ≡ NoMemory };
+
+    fn from(_error: AllocFailed<T>) -> Self {
+        ResolveError::NoMemory
+    }
+}
