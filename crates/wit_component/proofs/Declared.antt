@@ -1,7 +1,7 @@
 -- Declarations of rows, one row after the other.
 use Rattle.std.proofs.Common.{◌≡◌, ℕ, ◌+◌, ◌<◌, List, [], ◌∷◌, ◌++◌, length, take, get_or, refl, ap, sym, ◌∙◌, append_assoc, append-nil}
 use Rattle.std.proofs.lemmas.Grind.{take_at_read}
-use Rattle.resolve.specs.declared.tables.Definition.{Definition}
+use Rattle.tables.specs.declared.tables.Definition.{Definition}
 use Rattle.wit_component.specs.Rows.{Place, row_declarations, place_after, declarations_of, places_after}
 
 places-append : (at : Place) (ds es : List Definition) → places_after at (ds ++ es) ≡ places_after (places_after at ds) es

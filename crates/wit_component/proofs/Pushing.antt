@@ -6,7 +6,7 @@ use Rattle.ctype_bin.specs.View.{decl_view, defined_view}
 use Rattle.ctype_bin.specs.declared.raw.RawDecl.{RawDecl}
 use Rattle.ctype_bin.specs.declared.raw.RawDefinedType.{RawDefinedType}
 use Rattle.resolve.specs.Resolves.{is_use}
-use Rattle.resolve.specs.declared.tables.TypeDefKind.{TypeDefKind}
+use Rattle.tables.specs.declared.tables.TypeDefKind.{TypeDefKind}
 use Rattle.wit_component.specs.Rows.{Place, outer_alias, defined_of, definition_if, definition_of}
 
 pub one-more : (before after : List RawDecl) (d : RawDecl) (e : Decl) → after ≡ before ++ d ∷ [] → decl_view d ≡ e → map decl_view after ≡ map decl_view before ++ e ∷ []

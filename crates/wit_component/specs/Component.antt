@@ -5,18 +5,18 @@ use Rattle.ctype_bin.specs.Raw.{Component, Instance, Decl, Entry, Alias, Export,
 use Rattle.ctype_bin.specs.View.{decls_of}
 use Rattle.ctype_bin.specs.declared.raw.RawAlias.TheVariants as alias
 use Rattle.ctype_bin.specs.declared.raw.RawDescription.TheVariants as described
-use Rattle.resolve.specs.Tables.{type_of}
-use Rattle.resolve.specs.Names.{full_name}
-use Rattle.resolve.specs.declared.tables.TypeId.{TypeId}
-use Rattle.resolve.specs.declared.tables.FunctionId.{FunctionId}
-use Rattle.resolve.specs.declared.tables.TypeDef.{TypeDef}
-use Rattle.resolve.specs.declared.tables.TypeDefKind.{TypeDefKind}
-use Rattle.resolve.specs.declared.tables.TypeDefKind.TheVariants as kind
-use Rattle.resolve.specs.declared.tables.TypeName.{TypeName}
-use Rattle.resolve.specs.declared.tables.Definition.{Definition}
-use Rattle.resolve.specs.declared.tables.Definition.TheVariants as row
-use Rattle.resolve.specs.declared.tables.Interface.{Interface}
-use Rattle.resolve.specs.declared.tables.Resolve.{Resolve}
+use Rattle.tables.specs.Tables.{type_of}
+use Rattle.tables.specs.Names.{full_name}
+use Rattle.tables.specs.declared.tables.TypeId.{TypeId}
+use Rattle.tables.specs.declared.tables.FunctionId.{FunctionId}
+use Rattle.tables.specs.declared.tables.TypeDef.{TypeDef}
+use Rattle.tables.specs.declared.tables.TypeDefKind.{TypeDefKind}
+use Rattle.tables.specs.declared.tables.TypeDefKind.TheVariants as kind
+use Rattle.tables.specs.declared.tables.TypeName.{TypeName}
+use Rattle.tables.specs.declared.tables.Definition.{Definition}
+use Rattle.tables.specs.declared.tables.Definition.TheVariants as row
+use Rattle.tables.specs.declared.tables.Interface.{Interface}
+use Rattle.tables.specs.declared.tables.Resolve.{Resolve}
 use Rattle.wit_component.specs.Rows.{Place, declarations_of, places_after}
 
 -- ---- the rows of an interface

@@ -11,19 +11,19 @@ use Rattle.ctype_bin.specs.declared.raw.RawCase.{RawCase}
 use Rattle.ctype_bin.specs.declared.raw.RawAlias.TheVariants as alias
 use Rattle.ctype_bin.specs.declared.raw.RawDescription.TheVariants as described
 use Rattle.resolve.specs.Resolves.{is_use}
-use Rattle.resolve.specs.declared.tables.Primitive.{Primitive}
-use Rattle.resolve.specs.declared.tables.Primitive.TheVariants as primitive
-use Rattle.resolve.specs.declared.tables.ValType.{ValType}
-use Rattle.resolve.specs.declared.tables.ValType.TheVariants as val
-use Rattle.resolve.specs.declared.tables.TypeDefKind.{TypeDefKind}
-use Rattle.resolve.specs.declared.tables.TypeDefKind.TheVariants as kind
-use Rattle.resolve.specs.declared.tables.TypeName.{TypeName}
-use Rattle.resolve.specs.declared.tables.Parameter.{Parameter}
-use Rattle.resolve.specs.declared.tables.Field.{Field}
-use Rattle.resolve.specs.declared.tables.Case.{Case}
-use Rattle.resolve.specs.declared.tables.Function.{Function}
-use Rattle.resolve.specs.declared.tables.Definition.{Definition}
-use Rattle.resolve.specs.declared.tables.Definition.TheVariants as row
+use Rattle.tables.specs.declared.tables.Primitive.{Primitive}
+use Rattle.tables.specs.declared.tables.Primitive.TheVariants as primitive
+use Rattle.tables.specs.declared.tables.ValType.{ValType}
+use Rattle.tables.specs.declared.tables.ValType.TheVariants as val
+use Rattle.tables.specs.declared.tables.TypeDefKind.{TypeDefKind}
+use Rattle.tables.specs.declared.tables.TypeDefKind.TheVariants as kind
+use Rattle.tables.specs.declared.tables.TypeName.{TypeName}
+use Rattle.tables.specs.declared.tables.Parameter.{Parameter}
+use Rattle.tables.specs.declared.tables.Field.{Field}
+use Rattle.tables.specs.declared.tables.Case.{Case}
+use Rattle.tables.specs.declared.tables.Function.{Function}
+use Rattle.tables.specs.declared.tables.Definition.{Definition}
+use Rattle.tables.specs.declared.tables.Definition.TheVariants as row
 
 -- ---- value types, over the type index of each row
 

@@ -13,7 +13,7 @@ use atoms::Label;
 use ctype_bin::{
     ExternName, RawAlias, RawDecl, RawDefinedType, RawDescription, RawFunction, RawType,
 };
-use resolve::{Definition, Function, TypeDef, TypeDefKind, TypeName, ValType};
+use tables::{Definition, Function, TypeDef, TypeDefKind, TypeName, ValType};
 use std::alloc::{AllocError, Global};
 use std::marker::Model;
 

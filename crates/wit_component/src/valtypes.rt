@@ -4,7 +4,7 @@ ghost use Rattle.wit_component.specs.Rows.{raw_primitive, valtype_of, field_of, 
 
 use atoms::Label;
 use ctype_bin::{RawCase, RawField, RawValType};
-use resolve::{Case, Field, Parameter, Primitive, TypeId, ValType};
+use tables::{Case, Field, Parameter, Primitive, TypeId, ValType};
 use std::alloc::{AllocError, Global};
 
 pub fn raw_primitive(primitive: Primitive) -> ctype_bin::Primitive
