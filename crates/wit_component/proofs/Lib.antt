@@ -1,2 +1,3 @@
 pub mod Pushing
 pub mod Declared
+pub mod Ends

@@ -44,26 +44,31 @@ is_parted count start (i ∷ is) = nat_le start (end_of start i) && (nat_le (end
 
 -- ---- aliases of used types
 
+-- the row that a used name stands for
+abbrev pub used_by : TypeDefKind → Option TypeId
+used_by (kind.Use t) = Some t
+used_by _ = None
+
+abbrev pub used_in : Definition → Option TypeId
+used_in (row.Type d) = used_by d.kind
+used_in (row.Function f) = None
+
 abbrev pub name_of : Option TypeDef → Option TypeName
 name_of None = None
 name_of (Some d) = d.name
 
-abbrev pub name_at : List Definition → TypeId → Option TypeName
-name_at rows t = name_of (type_of (slice_get rows t.0))
+abbrev pub name_at : List Definition → Option TypeId → Option TypeName
+name_at rows None = None
+name_at rows (Some t) = name_of (type_of (slice_get rows t.0))
 
 -- the type of this name that the instance of its interface exports
 abbrev pub instance_export : Option TypeName → List Decl
 instance_export None = []
 instance_export (Some n) = Alias (alias.InstanceExport n.interface.0 n.name) ∷ []
 
-abbrev pub kind_alias : List Definition → TypeDefKind → List Decl
-kind_alias rows (kind.Use t) = instance_export (name_at rows t)
-kind_alias rows _ = []
-
 -- a used name has an alias of the used type
 abbrev pub row_alias : List Definition → Definition → List Decl
-row_alias rows (row.Type d) = kind_alias rows d.kind
-row_alias rows (row.Function f) = []
+row_alias rows d = instance_export (name_at rows (used_in d))
 
 abbrev pub aliases_of : List Definition → List Definition → List Decl
 aliases_of rows ds = flat_map (row_alias rows) ds

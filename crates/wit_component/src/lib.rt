@@ -4,5 +4,6 @@
 //! stands on `resolve`, `ctype_bin` and `atoms`.
 #![tactic(auto)]
 
+mod interfaces;
 mod rows;
 mod valtypes;
