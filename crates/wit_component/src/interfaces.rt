@@ -79,7 +79,7 @@ fn instance_export(alloc: Global, name: &TypeName) -> Result<RawDecl, AllocError
 }
 
 /// An alias of each type that these rows use.
-fn aliases_of(
+pub fn aliases_of(
     alloc: Global,
     rows: &[Definition],
     of: &[Definition],
@@ -98,7 +98,7 @@ fn aliases_of(
 
 /// The declaration of an instance type.
 #[tactic(auto, unfolding(ctype_bin::specs::View::decl_view), using(ctype_bin::proofs::Views::views))]
-fn instance_decl(decls: Vec<RawDecl>) -> RawDecl
+pub fn instance_decl(decls: Vec<RawDecl>) -> RawDecl
     ensures { decl_view result ≡ Entry (Instance (decls_of (map decl_view decls.items))) }
 {
     RawDecl::Type(RawType::Instance(decls))

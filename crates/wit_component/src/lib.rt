@@ -4,6 +4,7 @@
 //! stands on `resolve`, `ctype_bin` and `atoms`.
 #![tactic(auto)]
 
+mod component;
 mod interfaces;
 mod rows;
 mod valtypes;
