@@ -5,10 +5,10 @@ ghost use Rattle.ctype_bin.specs.View.{decl_view};
 ghost use Rattle.ctype_bin.specs.Raw.{Export};
 ghost use Rattle.ctype_bin.specs.declared.raw.RawDescription.TheVariants.{Instance};
 ghost use Rattle.tables.specs.Names.{full_name};
-ghost use Rattle.wit_component.specs.Component.{Front, first_place, interface_declarations, front_after};
+ghost use Rattle.wit_component.specs.Component.{Front, first_place, interface_declarations, front_after, is_parted, interfaces_declared, no_front};
 ghost use Rattle.wit_component.specs.Form.{has_full_names};
 
-use crate::interfaces::{aliases_of, instance_decl};
+use crate::interfaces::{aliases_of, end_of, instance_decl};
 use crate::rows::{RowPlace, declarations_of};
 use atoms::FullName;
 use ctype_bin::{ExternName, RawDecl, RawDescription};
@@ -95,4 +95,29 @@ fn interface_declarations(
         types: index + 1,
     };
     Ok((decls, next))
+}
+
+/// The declarations of a package's component type.
+pub fn declarations(alloc: Global, resolve: &Resolve) -> Result<Vec<RawDecl>, AllocError>
+    requires named { IsTrue (has_full_names resolve.now) }
+    requires parted { IsTrue (is_parted (length resolve.now.definitions) 0 resolve.now.interfaces) }
+    requires rows { length resolve.now.definitions + length resolve.now.interfaces ≤ 65535 }
+    ensures { IfOk result (λ ds. map decl_view ds.items ≡ interfaces_declared resolve.now no_front 0 resolve.now.interfaces) }
+{
+    let rows = resolve.definitions.as_slice();
+    let mut place = InterfacePlace {
+        indices: Vec::new(alloc),
+        types: 0,
+    };
+    let mut start = 0;
+    let mut decls = Vec::new(alloc);
+    for interface in resolve.interfaces.as_slice() {
+        let end = end_of(start, interface);
+        let own = &rows[start..end];
+        let (mut more, next) = interface_declarations(alloc, resolve, place, own, interface)?;
+        decls.append(&mut more)?;
+        place = next;
+        start = end;
+    }
+    Ok(decls)
 }
