@@ -1,3 +1,4 @@
 pub mod Rows
 pub mod Component
 pub mod Form
+pub mod References

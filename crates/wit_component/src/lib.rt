@@ -6,5 +6,6 @@
 
 mod component;
 mod interfaces;
+mod references;
 mod rows;
 mod valtypes;
