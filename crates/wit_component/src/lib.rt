@@ -8,4 +8,5 @@ mod component;
 mod interfaces;
 mod references;
 mod rows;
+mod unused;
 mod valtypes;
