@@ -83,7 +83,7 @@ spelt_all bytes f rest fits e =
     let none : rest ≡ [] = file_all bytes f rest e in
     subst (λ (u : List ℕ). file.spells u f) (sym (t.parts ∙ ap (λ (r : List ℕ). t.text ++ r) none ∙ append-nil t.text)) t.spelt
 
-read_all : (bytes : List ℕ) (f : File) → file.spells bytes f → file.read bytes ≡ Ok (f, [])
+pub read_all : (bytes : List ℕ) (f : File) → file.spells bytes f → file.read bytes ≡ Ok (f, [])
 read_all bytes f s = ap (λ (t : List ℕ). file.read t) (sym (append-nil bytes)) ∙ exact-file.complete bytes [] f s refl
 
 pub spellable : (bytes : List ℕ) (f : File) → IsBytes bytes → file.read bytes ≡ Ok (f, []) → IsSpellable f

@@ -17,7 +17,7 @@ use Rattle.ctype_bin.proofs.Numbers.{exact-u32}
 use Rattle.ctype_bin.proofs.Sized.{exact-sized}
 use Rattle.ctype_bin.proofs.Grammar.{exact-index, exact-zero, exact-utf8, exact-extern, exact-type}
 
-exact-exactly : (bytes : List ℕ) → Exact (f.exactly bytes)
+pub exact-exactly : (bytes : List ℕ) → Exact (f.exactly bytes)
 unfolding f.exactly
 exact-exactly [] = exact-give within 0
 exact-exactly (b ∷ bs) = exact-then within (only byte (λ x. unless (x == b) NotComponent)) (λ first. f.exactly bs) (exact-only byte _ exact-byte) (λ first. exact-exactly bs)

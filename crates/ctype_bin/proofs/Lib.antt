@@ -19,3 +19,8 @@ pub mod Rewritten
 pub mod RewrittenTypes
 pub mod RewrittenDecls
 pub mod RewrittenFile
+pub mod Reread
+pub mod RereadTypes
+pub mod RereadDecls
+pub mod RereadFile
+pub mod Made

@@ -87,7 +87,7 @@ primitive_back prim.U64 = refl
 primitive_back prim.Char = refl
 primitive_back prim.String = refl
 
-primitive_opens : (p : Primitive) → g.is_opcode (primitive_byte p) ≡ true
+pub primitive_opens : (p : Primitive) → g.is_opcode (primitive_byte p) ≡ true
 primitive_opens prim.Bool = refl
 primitive_opens prim.S8 = refl
 primitive_opens prim.U8 = refl
@@ -100,7 +100,7 @@ primitive_opens prim.U64 = refl
 primitive_opens prim.Char = refl
 primitive_opens prim.String = refl
 
-no_fault : (p : Primitive) → g.valtype_fault (primitive_byte p) ≡ None
+pub no_fault : (p : Primitive) → g.valtype_fault (primitive_byte p) ≡ None
 no_fault p = rw (primitive_back p) refl
 
 placed_none : (o : Option Fault) (left : ℕ) → o ≡ None → placed_at o left ≡ None
@@ -132,11 +132,10 @@ unfolding g.type_index
 written-type_index types = written-gives (only s33 (λ i. unless (nat_lt i types) BadIndex)) (λ i. valtypes.Index i) s33_bytes valtype_bytes (written-only s33 _ s33_bytes written-s33) (λ i. refl)
 
 -- what is written begins with a byte that passes or not
-Begins : (ℕ → Bool) → Bool → List ℕ → Type 0
+abbrev pub Begins : (ℕ → Bool) → Bool → List ℕ → Type 0
 Begins test b bytes = (c : ℕ) × (cs : List ℕ) × (bytes ≡ c ∷ cs) × (test c ≡ b)
 
-index_begins : (i : ℕ) → Begins g.is_opcode false (s33_bytes i)
-unfolding Begins
+pub index_begins : (i : ℕ) → Begins g.is_opcode false (s33_bytes i)
 index_begins i =
     elim (cases_lt i 64) [
       | inl small ↦ (i, [], one_group 64 3 i small, let low : nat_le 64 i ≡ false = lt-leb 64 i small in rw low refl)
@@ -158,7 +157,6 @@ module _ {X : Type 0} (test : ℕ → Bool) (p q : Bytes X) (w : X → List ℕ)
       subst (λ (l : List ℕ). spells_by test p q l x) (sym e) u
 
   choose_spelt : (b : Bool) (bytes : List ℕ) (x : X) → MatchBool b (p.spells bytes x) (q.spells bytes x) → spells_by test p q (w x) x
-  unfolding Begins
   choose_spelt true bytes x s = let h = bp bytes x s in spelt_so h.0 h.1 (w x) x true h.2 h.3 (ep.spelt bytes x s)
   choose_spelt false bytes x s = let h = bq bytes x s in spelt_so h.0 h.1 (w x) x false h.2 h.3 (eq.spelt bytes x s)
 
@@ -178,7 +176,6 @@ module _ {X : Type 0} (test : ℕ → Bool) (p q : Bytes X) (w : X → List ℕ)
   written-choose = record { spelt = all_spelt; short = all_short }
 
 primitive_begins : (bytes : List ℕ) (t : RawValType) → g.primitive.spells bytes t → Begins g.is_opcode true (valtype_bytes t)
-unfolding Begins
 primitive_begins bytes t s = let h = spelt_primitive bytes t s in (primitive_byte h.0, [], ap valtype_bytes h.1, primitive_opens h.0)
 
 spelt_index : (types : ℕ) (bytes : List ℕ) (t : RawValType) → (g.type_index types).spells bytes t → (i : ℕ) × (t ≡ valtypes.Index i)

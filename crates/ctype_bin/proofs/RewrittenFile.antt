@@ -75,7 +75,7 @@ section_spelt : (id n size : ℕ) → (id == 0) ≡ false → size < 2 ^ 32 → 
 unfolding f.section
 section_spelt id n size other lt = (id ∷ u32_bytes size, [], Some size, sym (append-nil (id ∷ u32_bytes size)), head_spelt id size other lt, (refl, refl))
 
-exactly_spelt : (bytes : List ℕ) → (f.exactly bytes).spells bytes 0
+pub exactly_spelt : (bytes : List ℕ) → (f.exactly bytes).spells bytes 0
 unfolding f.exactly
 exactly_spelt [] = (refl, refl)
 exactly_spelt (b ∷ bs) = (b ∷ [], bs, b, refl, ((refl, refl), λ all. fits (length all)), exactly_spelt bs)

@@ -128,7 +128,7 @@ opcode_byte op.Function = 0x40
 opcode_byte op.Component = 0x41
 opcode_byte op.Instance = 0x42
 
-opcode_back : (o : Opcode) → opcode_of (opcode_byte o) ≡ Some o
+pub opcode_back : (o : Opcode) → opcode_of (opcode_byte o) ≡ Some o
 unfolding opcode_of primitive_of
 opcode_back (op.Primitive prim.Bool) = refl
 opcode_back (op.Primitive prim.S8) = refl

@@ -11,3 +11,5 @@ pub mod Shortest
 pub mod Writing
 pub mod Spellable
 pub mod Encoding
+pub mod Formed
+pub mod Parts

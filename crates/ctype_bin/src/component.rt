@@ -1,8 +1,16 @@
 //! A whole component type binary.
-ghost use Rattle.ctype_bin.specs.Spellable.{IsSpellable};
+ghost use Rattle.std.specs.Prelude.{◌≡◌, IfOk, IfErr, MatchResult};
+ghost use Rattle.ctype_bin.specs.Raw.{File};
 ghost use Rattle.ctype_bin.specs.View.{file_of};
+ghost use Rattle.ctype_bin.specs.Writing.{file_bytes};
+ghost use Rattle.ctype_bin.specs.Spellable.{IsSpellable};
+ghost use Rattle.ctype_bin.specs.Parts.{Refuses};
 
+use crate::encoding::spelling;
+use crate::error::{BinError, ItemError, Stuck};
 use crate::raw::{RawExport, RawType};
+use crate::sections::parts_of;
+use std::alloc::Global;
 
 /// A component type binary's type section and export section. Some bytes spell it: its indices are in range at their
 /// places, its names are well formed, and its counts and nesting keep the limits.
@@ -14,7 +22,25 @@ pub struct RawComponent {
 }
 
 impl RawComponent {
-    ghost use Rattle.std.specs.Prelude.{◌≡◌};
+    /// A component of these parts, exactly where bytes of some length spell it. Else the first fault in the order of
+    /// the bytes, with place 0: 13 with `03` for an import in an instance type, 15, 16 or 17; 21 where memory is wanting.
+    /// The length of 1,048,576 bytes is no limit here. (Binary.md)
+    pub fn new(
+        alloc: Global,
+        types: Vec<RawType>,
+        exports: Vec<RawExport>,
+    ) -> Result<RawComponent, BinError>
+        ensures types { IfOk result (λ c. c.types ≡ types) }
+        ensures exports { IfOk result (λ c. c.exports ≡ exports) }
+        ensures only { IsSpellable (file_of types exports) → MatchResult result (λ _. Unit {0}) (λ e. e ≡ BinError.NoMemory) }
+        ensures err { IfErr result (λ e. Refuses (file_of types exports) e) }
+    {
+        let Ok(bytes) = spelling(alloc, types.as_slice(), exports.as_slice()) else {
+            return Err(BinError::NoMemory);
+        };
+        reread(alloc, bytes.as_slice())?;
+        Ok(RawComponent::of(types, exports))
+    }
 
     /// A component that is spelled.
     pub(crate) fn of(types: Vec<RawType>, exports: Vec<RawExport>) -> RawComponent
@@ -37,5 +63,19 @@ impl RawComponent {
         ensures { result.now ≡ self.now.exports.items }
     {
         self.exports.as_slice()
+    }
+}
+
+/// Reads what was written of a component's parts, and so finds the first fault in them, which has no place.
+fn reread(alloc: Global, bytes: &[u8]) -> Result<(), BinError>
+    requires { (f : File) × (bytes.now ≡ file_bytes f) }
+    ensures { (f : File) → bytes.now ≡ file_bytes f → MatchResult result (λ _. ∥ IsSpellable f ∥₁) (λ e. Refuses f e) }
+{
+    match parts_of(alloc, bytes) {
+        Ok(_) => Ok(()),
+        Err(ItemError::Memory) => Err(BinError::NoMemory),
+        Err(ItemError::Stuck(Stuck::At(fault, _))) => Err(BinError::At(fault, 0)),
+        Err(ItemError::Stuck(Stuck::End)) => unreachable!(),
+        Err(ItemError::Stuck(Stuck::Past(_))) => unreachable!(),
     }
 }

@@ -1,26 +1,32 @@
 //! Encoding a component.
-ghost use Rattle.std.specs.Prelude.{◌≡◌, ◌++◌, IfOk, IfErr, OnOk, OnErr};
+ghost use Rattle.std.specs.Prelude.{◌≡◌, ◌++◌, IfOk, IfErr, OnOk, OnErr, map};
+ghost use Rattle.ctype_bin.specs.View.{type_view, export_view};
 ghost use Rattle.ctype_bin.specs.FileView.{file_view};
 ghost use Rattle.ctype_bin.specs.Writing.{file_bytes};
 ghost use Rattle.ctype_bin.specs.Encoding.{AppendsSpelling};
 
 use crate::component::RawComponent;
 use crate::error::BinError;
+use crate::raw::{RawExport, RawType};
 use crate::sections::{EXPORT_SECTION, PREAMBLE, TYPE_SECTION};
 use crate::writing::{put_exports, put_section, put_types};
 use std::alloc::{AllocError, Global};
 
-/// The component's shortest spelling.
-fn spelling(alloc: Global, component: &RawComponent) -> Result<Vec<u8>, AllocError>
-    ensures { IfOk result (λ v. v.items ≡ file_bytes (file_view component.now)) }
+/// The shortest spelling of a component of these parts.
+pub(crate) fn spelling(
+    alloc: Global,
+    types: &[RawType],
+    exports: &[RawExport],
+) -> Result<Vec<u8>, AllocError>
+    ensures { IfOk result (λ v. v.items ≡ file_bytes (record { types = map type_view types.now; exports = map export_view exports.now })) }
 {
-    let mut types = Vec::new(alloc);
-    put_types(alloc, &mut types, component.types())?;
-    let mut exports = Vec::new(alloc);
-    put_exports(alloc, &mut exports, component.exports())?;
+    let mut type_section = Vec::new(alloc);
+    put_types(alloc, &mut type_section, types)?;
+    let mut export_section = Vec::new(alloc);
+    put_exports(alloc, &mut export_section, exports)?;
     let mut bytes = Vec::from_slice(alloc, &PREAMBLE)?;
-    put_section(&mut bytes, TYPE_SECTION, types.as_slice())?;
-    put_section(&mut bytes, EXPORT_SECTION, exports.as_slice())?;
+    put_section(&mut bytes, TYPE_SECTION, type_section.as_slice())?;
+    put_section(&mut bytes, EXPORT_SECTION, export_section.as_slice())?;
     Ok(bytes)
 }
 
@@ -34,7 +40,7 @@ pub fn encode(alloc: Global, component: &RawComponent, out: &mut Vec<u8>) -> Res
     // The same as one function of the component.
     ensures exact { OnOk result (out.new.items ≡ out.old.items ++ file_bytes (file_view component.now)) }
 {
-    let Ok(bytes) = spelling(alloc, component) else {
+    let Ok(bytes) = spelling(alloc, component.types(), component.exports()) else {
         return Err(BinError::NoMemory);
     };
     match out.extend_from_slice(bytes.as_slice()) {

@@ -312,7 +312,10 @@ fn exports_within(
 
 /// The parts of a whole file.
 #[tactic(auto, unfolding(crate::specs::File::file))]
-fn parts_of(alloc: Global, bytes: &[u8]) -> Result<(Vec<RawType>, Vec<RawExport>), ItemError>
+pub(crate) fn parts_of(
+    alloc: Global,
+    bytes: &[u8],
+) -> Result<(Vec<RawType>, Vec<RawExport>), ItemError>
     ensures { Gives (λ x. (file_of x.0 x.1, [])) result (file.read bytes.now) }
 {
     let rest = preamble_of(bytes)?;

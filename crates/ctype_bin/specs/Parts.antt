@@ -1,0 +1,35 @@
+-- What can be wrong with the parts of a component.
+use Rattle.std.specs.Prelude.{◌≡◌, ℕ, Err}
+use Rattle.ctype_bin.specs.declared.error.Fault.{Fault}
+use Rattle.ctype_bin.specs.declared.error.Fault.TheVariants.{UnknownOpcode, BadIndex, EmptyType, Limit}
+use Rattle.ctype_bin.specs.declared.error.Stuck.{Stuck}
+use Rattle.ctype_bin.specs.declared.error.Stuck.TheVariants.{At}
+use Rattle.ctype_bin.specs.declared.error.BinError.{BinError}
+use Rattle.ctype_bin.specs.declared.error.BinError.TheVariants as errors
+use Rattle.ctype_bin.specs.Raw.{File}
+use Rattle.ctype_bin.specs.File.{file}
+use Rattle.ctype_bin.specs.Writing.{file_bytes}
+use Rattle.ctype_bin.specs.Spellable.{IsSpellable}
+use Rattle.ctype_bin.specs.Formed.{FormedFile}
+
+-- an import in an instance type, whose byte is 3; an index; a count of 0; a limit
+abbrev pub IsOfParts : Fault → Type 0
+IsOfParts (UnknownOpcode b) = b ≡ 3
+IsOfParts BadIndex = Unit {0}
+IsOfParts EmptyType = Unit {0}
+IsOfParts Limit = Unit {0}
+IsOfParts _ = ⊥
+
+-- No bytes spell the component, and the fault is the first in what would be written of it.
+pub record IsWrong (f : File) (fault : Fault) : Type 0 where
+  pub unspellable : IsSpellable f → ⊥
+  pub left : ℕ
+  pub read : file.read (file_bytes f) ≡ Err (At fault left)
+  pub first : file.fails (file_bytes f) (At fault left)
+  pub kind : FormedFile f → IsOfParts fault
+
+-- Why parts are refused: the fault has place 0.
+abbrev pub Refuses : File → BinError → Type 0
+Refuses f (errors.At fault place) = (place ≡ 0) × IsWrong f fault
+Refuses f (errors.Read place) = ⊥
+Refuses f errors.NoMemory = Unit {0}
