@@ -5,6 +5,7 @@
 #![tactic(auto)]
 
 mod component;
+mod form;
 mod interfaces;
 mod references;
 mod rows;

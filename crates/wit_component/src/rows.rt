@@ -13,9 +13,9 @@ use atoms::Label;
 use ctype_bin::{
     ExternName, RawAlias, RawDecl, RawDefinedType, RawDescription, RawFunction, RawType,
 };
-use tables::{Definition, Function, TypeDef, TypeDefKind, TypeName, ValType};
 use std::alloc::{AllocError, Global};
 use std::marker::Model;
+use tables::{Definition, Function, TypeDef, TypeDefKind, TypeName, ValType};
 
 /// Where a row of an interface stands.
 #[derive(Drop)]

@@ -8,7 +8,7 @@ use crate::references::references;
 use std::alloc::{AllocError, Global};
 use tables::{Definition, TypeDefKind, TypeId};
 
-fn is_unnamed(row: &Definition) -> bool
+pub fn is_unnamed(row: &Definition) -> bool
     ensures { result ≡ is_unnamed row.now }
 {
     match row {
@@ -45,11 +45,7 @@ fn is_alias(kind: &TypeDefKind) -> bool
 }
 
 /// The rows without names that a row is made of.
-fn inner_rows(
-    alloc: Global,
-    rows: &[Definition],
-    row: &Definition,
-) -> Result<Vec<u32>, AllocError>
+fn inner_rows(alloc: Global, rows: &[Definition], row: &Definition) -> Result<Vec<u32>, AllocError>
     ensures { IfOk result (λ v. v.items ≡ inner_rows rows.now row.now) }
 {
     let ids = references(alloc, row)?;

@@ -4,8 +4,8 @@ ghost use Rattle.wit_component.specs.Rows.{raw_primitive, valtype_of, field_of, 
 
 use atoms::Label;
 use ctype_bin::{RawCase, RawField, RawValType};
-use tables::{Case, Field, Parameter, Primitive, TypeId, ValType};
 use std::alloc::{AllocError, Global};
+use tables::{Case, Field, Parameter, Primitive, TypeId, ValType};
 
 pub fn raw_primitive(primitive: Primitive) -> ctype_bin::Primitive
     ensures { result ≡ raw_primitive primitive }
