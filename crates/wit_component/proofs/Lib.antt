@@ -1,3 +1,5 @@
 pub mod Pushing
 pub mod Declared
 pub mod Ends
+pub mod Postfixed
+pub mod Forms

@@ -1,5 +1,5 @@
 -- The tables that packages have: what from_ast makes, and what a component type spells.
-use Rattle.std.specs.Prelude.{◌≡◌, ◌≢◌, ◌≤◌, ℕ, ◌+◌, Bool, true, false, ◌&&◌, not, ◌==◌, nat_lt, nat_le, List, [], ◌∷◌, ◌++◌, map, length, IsTrue, Option, None, Some, slice_get}
+use Rattle.std.specs.Prelude.{◌≡◌, ◌≢◌, ◌≤◌, ℕ, ◌+◌, Bool, true, false, ◌&&◌, not, ◌==◌, nat_lt, nat_le, List, [], ◌∷◌, ◌++◌, map, sum, length, IsTrue, Option, None, Some, slice_get}
 use Rattle.std.specs.List.{list_all}
 use Rattle.std.specs.Option.{option_map}
 use Rattle.std.specs.String.{string_bytes}
@@ -16,7 +16,8 @@ use Rattle.tables.specs.declared.tables.Definition.TheVariants as row
 use Rattle.tables.specs.declared.tables.Interface.{Interface}
 use Rattle.tables.specs.declared.tables.Resolve.{Resolve}
 use Rattle.resolve.specs.Postfix.{is_unnamed, IsPostfix}
-use Rattle.resolve.specs.Resolves.{is_owned_by, is_use, places_where, type_entries, table_of}
+use Rattle.resolve.specs.Resolves.{is_owned_by, is_use, places_where, entries_of, type_entries, table_of}
+use Rattle.wit_component.specs.Unused.{are_used}
 use Rattle.wit_component.specs.References.{row_references}
 use Rattle.wit_component.specs.Component.{end_of, rows_of, is_parted}
 
@@ -102,3 +103,14 @@ pub record IsInPackageForm (r : Resolve) : Type 0 where
   pub interfaces : IsTrue (are_interfaces r.definitions 0 0 r.interfaces)
   pub postfix : IsPostfix r.definitions
   pub entries : type_entries (table_of r) ≤ 65535
+
+-- the same as a test, but for the order of the rows without names
+abbrev pub is_in_form : Resolve → Bool
+is_in_form r =
+    not (length r.interfaces == 0)
+    && (length r.worlds == 0
+    && (not (nat_lt 65535 (1 + length r.interfaces + sum (map entries_of r.definitions)))
+    && (is_parted (length r.definitions) 0 r.interfaces
+    && (has_full_names r
+    && (are_interfaces r.definitions 0 0 r.interfaces
+    && are_used r.definitions 0 [] r.definitions)))))

@@ -1,5 +1,6 @@
 pub mod Rows
 pub mod Component
-pub mod Form
 pub mod References
 pub mod Unused
+pub mod Form
+pub mod Standing

@@ -101,7 +101,8 @@ fn interface_declarations(
 pub fn declarations(alloc: Global, resolve: &Resolve) -> Result<Vec<RawDecl>, AllocError>
     requires named { IsTrue (has_full_names resolve.now) }
     requires parted { IsTrue (is_parted (length resolve.now.definitions) 0 resolve.now.interfaces) }
-    requires rows { length resolve.now.definitions + length resolve.now.interfaces ≤ 65535 }
+    requires rows { length resolve.now.definitions ≤ 65535 }
+    requires interfaces { length resolve.now.interfaces ≤ 65535 }
     ensures { IfOk result (λ ds. map decl_view ds.items ≡ interfaces_declared resolve.now no_front 0 resolve.now.interfaces) }
 {
     let rows = resolve.definitions.as_slice();

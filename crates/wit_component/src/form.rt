@@ -7,11 +7,11 @@ ghost use Rattle.atoms.specs.FullName.{is_package_label, is_version_or_none};
 ghost use Rattle.atoms.specs.Label.{is_upper};
 ghost use Rattle.resolve.specs.Resolves.{is_owned_by, is_use, places_where, entries_of};
 ghost use Rattle.wit_component.specs.Component.{end_of, is_parted};
-ghost use Rattle.wit_component.specs.Form.{has_full_names, is_own_name, is_own, is_earlier_name, is_earlier, uses_earlier, is_owned, is_local, is_named, ids_of, is_use_at, has_ids, are_interfaces};
+ghost use Rattle.wit_component.specs.Form.{has_full_names, is_own_name, is_own, is_earlier_name, is_earlier, uses_earlier, is_owned, is_local, is_named, ids_of, is_use_at, has_ids, are_interfaces, is_in_form};
 
 use crate::interfaces::end_of;
 use crate::references::references;
-use crate::unused::is_unnamed;
+use crate::unused::{are_used, is_unnamed};
 use atoms::{Label, is_version};
 use std::alloc::{AllocError, Global};
 use tables::{Definition, Interface, Owner, Resolve, TypeDefKind, TypeId, TypeName, ValType};
@@ -307,4 +307,22 @@ fn passes_entries(interfaces: usize, rows: &[Definition]) -> bool
         total += entries_of(row);
     }
     total > MAX_ENTRIES
+}
+
+/// Whether a table is one that packages have, as a component type spells them.
+pub fn is_in_form(alloc: Global, resolve: &Resolve) -> Result<bool, AllocError>
+    ensures { IfOk result (λ b. b ≡ is_in_form resolve.now) }
+{
+    let rows = resolve.definitions.as_slice();
+    let interfaces = resolve.interfaces.as_slice();
+    if interfaces.is_empty() || !resolve.worlds.is_empty() {
+        return Ok(false);
+    }
+    if passes_entries(interfaces.len(), rows) || !is_parted(rows.len(), interfaces) {
+        return Ok(false);
+    }
+    if !has_full_names(alloc, resolve)? || !are_interfaces(alloc, rows, interfaces)? {
+        return Ok(false);
+    }
+    are_used(alloc, rows)
 }

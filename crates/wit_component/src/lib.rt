@@ -9,5 +9,6 @@ mod form;
 mod interfaces;
 mod references;
 mod rows;
+mod to_raw;
 mod unused;
 mod valtypes;
