@@ -3,3 +3,5 @@ pub mod Declared
 pub mod Ends
 pub mod Postfixed
 pub mod Forms
+pub mod Fronts
+pub mod Postfix

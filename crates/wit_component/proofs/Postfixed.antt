@@ -1,24 +1,18 @@
 -- Rows in postfix order: the test, and the relation.
-use Rattle.std.proofs.Common.{◌≡◌, ℕ, zero, suc, ◌+◌, ◌-◌, ◌<◌, Bool, true, false, cond, not, ◌&&◌, ◌==◌, nat_lt, nat_eq, IsTrue, List, [], ◌∷◌, ◌++◌, flat_map, take, drop, length, slice_get, Option, None, Some, is_some, refl, ap, sym, subst, ◌∙◌, append_assoc, append-nil, arith, length-append}
-use Rattle.std.specs.List.{list_all, ends_with}
-use Rattle.std.proofs.Math.Seq.{drop-append_seam, take-append_seam}
-use Rattle.std.proofs.lemmas.List.{take-append-drop}
+use Rattle.std.proofs.Common.{◌≡◌, ℕ, Bool, true, false, cond, ◌&&◌, ◌==◌, IsTrue, List, [], ◌∷◌, ◌++◌, flat_map, length, Option, None, Some, refl, ap, sym, ◌∙◌, append-nil, arith}
 use Rattle.std.proofs.lemmas.Grind.{flat_map-append}
-use Rattle.std.proofs.lemmas.Slice.Eq.{bytes_eq-Decides}
 use Rattle.std.proofs.lemmas.Bool.Decides.{nat_tests}
-use Rattle.tables.specs.Tables.{is_below, option_below, kind_below, function_below, definition_below, are_earlier}
 use Rattle.tables.specs.declared.tables.TypeId.{TypeId}
 use Rattle.tables.specs.declared.tables.ValType.{ValType}
 use Rattle.tables.specs.declared.tables.ValType.TheVariants as val
 use Rattle.tables.specs.declared.tables.TypeDef.{TypeDef}
 use Rattle.tables.specs.declared.tables.TypeDefKind.{TypeDefKind}
 use Rattle.tables.specs.declared.tables.TypeDefKind.TheVariants as kind
-use Rattle.tables.specs.declared.tables.TypeName.{TypeName}
 use Rattle.tables.specs.declared.tables.Definition.{Definition}
 use Rattle.tables.specs.declared.tables.Definition.TheVariants as row
-use Rattle.resolve.specs.Postfix.{is_unnamed, is_unnamed_row, one_if, unnamed, unnamed_if, unnamed_field, unnamed_case, unnamed_parameter, parts, parts_of, aliased, aliased_by, is_inner, inner_row, Leaves, begin, inner, whole, IsPostfix}
-use Rattle.wit_component.specs.References.{references, references_if, field_references, case_references, parameter_references, kind_references, row_references}
-use Rattle.wit_component.specs.Unused.{unnamed_at, inner_rows, is_alias, can_use, closes, is_next, unused_after, are_used}
+use Rattle.resolve.specs.Postfix.{unnamed, unnamed_if, unnamed_field, unnamed_case, unnamed_parameter, parts, parts_of, aliased, aliased_by}
+use Rattle.wit_component.specs.References.{references, references_if, field_references, case_references, parameter_references, kind_references}
+use Rattle.wit_component.specs.Unused.{unnamed_at, inner_rows, is_alias, can_use}
 
 pub split : (a b : Bool) → IsTrue (a && b) → IsTrue a × IsTrue b
 split true b h = (refl, h)

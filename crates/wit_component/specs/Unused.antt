@@ -2,7 +2,6 @@
 use Rattle.std.specs.Prelude.{ℕ, ◌+◌, ◌-◌, Bool, true, false, ◌&&◌, ◌==◌, nat_eq, List, [], ◌∷◌, ◌++◌, flat_map, take, length, slice_get, if◌then◌else◌}
 use Rattle.std.specs.List.{ends_with}
 use Rattle.tables.specs.declared.tables.TypeId.{TypeId}
-use Rattle.tables.specs.declared.tables.TypeDef.{TypeDef}
 use Rattle.tables.specs.declared.tables.TypeDefKind.{TypeDefKind}
 use Rattle.tables.specs.declared.tables.TypeDefKind.TheVariants as kind
 use Rattle.tables.specs.declared.tables.Definition.{Definition}

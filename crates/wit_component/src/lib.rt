@@ -1,7 +1,7 @@
 //! A package as a component type binary: its tables to a raw component.
 //!
 //! Each interface of a package is an instance type in one component type, as `wit-component` writes them. It
-//! stands on `resolve`, `ctype_bin` and `atoms`.
+//! stands on `tables`, on `ctype_bin` and on `atoms`.
 #![tactic(auto)]
 
 mod component;
@@ -9,6 +9,8 @@ mod form;
 mod interfaces;
 mod references;
 mod rows;
-mod to_raw;
 mod unused;
 mod valtypes;
+mod writing;
+
+pub use writing::to_raw;

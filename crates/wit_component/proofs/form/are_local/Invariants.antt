@@ -1,7 +1,6 @@
-use Rattle.std.proofs.Common.{◌≡◌, ◌++◌, ◌+◌, map, take, drop, not, length}
+use Rattle.std.proofs.Common.{◌≡◌, drop}
 use Rattle.std.specs.List.{list_all}
-use Rattle.resolve.specs.Resolves.{places_where}
-use Rattle.wit_component.specs.Form.{is_own, is_local, is_named, is_use_at, ids_of}
+use Rattle.wit_component.specs.Form.{is_local}
 use Rattle.wit_component.proofs.form.are_local.Given as goal
 
 abbrev pub invariant-loop-row : goal.invariant-loop-row

@@ -1,7 +1,4 @@
-use Rattle.std.proofs.Common.{length}
-use Rattle.resolve.specs.Resolves.{entries_of}
 use Rattle.resolve.proofs.Finishing.{within-entries, few-rows}
-use Rattle.tables.specs.declared.tables.Definition.{Definition}
 use Rattle.wit_component.proofs.form.is_in_form.Goals as goal
 
 pub are_interfaces-requires-clause-few : goal.are_interfaces-requires-clause-few

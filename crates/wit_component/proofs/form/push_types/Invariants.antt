@@ -1,7 +1,4 @@
-use Rattle.std.proofs.Common.{◌≡◌, ◌++◌, ◌+◌, map, take, drop, not, length}
-use Rattle.std.specs.List.{list_all}
-use Rattle.resolve.specs.Resolves.{places_where}
-use Rattle.wit_component.specs.Form.{is_own, is_local, is_named, is_use_at, ids_of}
+use Rattle.std.proofs.Common.{◌≡◌, ◌++◌, map, take}
 use Rattle.wit_component.proofs.form.push_types.Given as goal
 
 abbrev pub invariant-loop-id : goal.invariant-loop-id

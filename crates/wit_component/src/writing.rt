@@ -37,3 +37,21 @@ fn parts_of(alloc: Global, resolve: &Resolve) -> Result<(Vec<RawType>, Vec<RawEx
     exports.push(package_export(alloc)?)?;
     Ok((types, exports))
 }
+
+/// The component type that a package is, in the layout of packages. 44 `NotThisShape` where the table isn't one that
+/// packages have. (Binary.md)
+pub fn to_raw(alloc: Global, resolve: &Resolve) -> Result<RawComponent, ResolveError>
+    ensures ok { IfOk result (λ raw. Stands raw resolve.now) }
+    ensures err { IfErr result (λ e. (e ≡ ResolveError.NoMemory)
+        ⊎ ((e ≡ ResolveError.NotThisShape) × (IsInPackageForm resolve.now → IsSpellable (component_of resolve.now) → ⊥))) }
+{
+    if !is_in_form(alloc, resolve)? {
+        return Err(ResolveError::NotThisShape);
+    }
+    let (types, exports) = parts_of(alloc, resolve)?;
+    match RawComponent::new(alloc, types, exports) {
+        Ok(raw) => Ok(raw),
+        Err(BinError::NoMemory) => Err(ResolveError::NoMemory),
+        Err(_) => Err(ResolveError::NotThisShape),
+    }
+}
