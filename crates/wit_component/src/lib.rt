@@ -7,8 +7,11 @@
 mod component;
 mod form;
 mod interfaces;
+mod reading;
 mod references;
 mod rows;
+mod types;
+mod unread;
 mod unused;
 mod valtypes;
 mod writing;
