@@ -5,3 +5,4 @@ pub mod Postfixed
 pub mod Forms
 pub mod Fronts
 pub mod Postfix
+pub mod OneReading

@@ -4,3 +4,4 @@ pub mod References
 pub mod Unused
 pub mod Form
 pub mod Standing
+pub mod Reads

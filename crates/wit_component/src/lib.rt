@@ -4,16 +4,20 @@
 //! stands on `tables`, on `ctype_bin` and on `atoms`.
 #![tactic(auto)]
 
+mod candidate;
 mod component;
 mod form;
+mod from_component;
 mod interfaces;
 mod reading;
 mod references;
 mod rows;
+mod same;
 mod types;
 mod unread;
 mod unused;
 mod valtypes;
 mod writing;
 
+pub use from_component::from_raw;
 pub use writing::to_raw;
