@@ -13,6 +13,8 @@ mod lines;
 #[cfg(test)]
 mod names;
 #[cfg(test)]
+mod packages;
+#[cfg(test)]
 mod sessions;
 #[cfg(test)]
 mod streaming;

@@ -1,7 +1,7 @@
-//! A package as a component type binary: its tables to a raw component.
+//! A package as a component type binary: its tables to a raw component, and back.
 //!
 //! Each interface of a package is an instance type in one component type, as `wit-component` writes them. It
-//! stands on `tables`, on `ctype_bin` and on `atoms`.
+//! stands on `tables`, `ctype_bin` and `atoms`, and on the definitions of `resolve`.
 #![tactic(auto)]
 
 mod candidate;
