@@ -56,6 +56,7 @@ impl FullName {
     /// The text that spells the name.
     pub fn text(&self, alloc: Global) -> Result<String, AllocError>
         ensures spelt { IfOk result (λ s. string_bytes s ≡ full_name_text (parts_of self.now)) }
+        ensures named { IfOk result (λ s. IsFullName (string_bytes s) (parts_of self.now)) }
     {
         let mut text = String::from_str(alloc, self.namespace.as_str())?;
         text.push(':')?;

@@ -1,6 +1,6 @@
 -- The test of a full name tells whether a text has the parts of one.
 use Rattle.std.proofs.Common.{◌≡◌, IsTrue, ℕ, suc, Bool, true, false, ◌&&◌, List, [], ◌∷◌, ◌++◌, Option, None, Some, Result, Ok, Err, refl, sym, ap, subst, ◌∙◌, arith, eqb, cond}
-use Rattle.std.specs.Prelude.{MatchResult, IsUtf8, is_ok}
+use Rattle.std.specs.Prelude.{MatchResult, IsUtf8, is_ok, ◌||◌}
 use Rattle.std.specs.Str.{is_utf8}
 use Rattle.std.proofs.lemmas.Str.{is_utf8-from_IsUtf8, IsUtf8-from_is_utf8}
 use Rattle.std.proofs.lemmas.Bool.{eq-eqb, ne_eqb, eqb-true}
@@ -134,3 +134,15 @@ extern_full text out utf8 = rw (out, is_utf8-from_IsUtf8 text utf8) refl
 pub extern_none : (text : List ℕ) → is_label text ≡ false → ¬ (IsUtf8 text) → is_extern_name text ≡ false
 unfolding is_extern_name
 extern_none text out none = rw (out, not_utf8 text none) refl
+
+pub label_passes : (text : List ℕ) → is_label text ≡ true → is_extern_name text ≡ true
+unfolding is_extern_name
+label_passes text is = rw is refl
+
+pub extern_passes : (text : List ℕ) → IsUtf8 text → is_full_name text ≡ true → is_extern_name text ≡ true
+unfolding is_extern_name
+extern_passes text utf8 is = rw (is_utf8-from_IsUtf8 text utf8, is) (by (is_label text))
+  where
+    by : (b : Bool) → (b || true) ≡ true
+    by true = refl
+    by false = refl

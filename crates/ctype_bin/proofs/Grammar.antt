@@ -160,7 +160,7 @@ exact-instance_export scope = exact-then within (g.index scope.instances) _ (exa
 
 exact-outer : (around : List ℕ) (scope : Scope) → Exact (g.outer_type around scope)
 unfolding g.outer_type
-exact-outer around scope = exact-then within (only u32 (λ n. unless (nat_le n (length around)) BadIndex)) _ (exact-only u32 _ exact-u32) (λ n. gives (g.index (g.types_at around scope n)) _ (exact-index (g.types_at around scope n)))
+exact-outer around scope = exact-then within (only u32 (λ n. unless (nat_le n (length around)) BadIndex)) _ (exact-only u32 _ exact-u32) (λ n. gives (g.index (g.types_at around scope.types n)) _ (exact-index (g.types_at around scope.types n)))
 
 exact-alias : (around : List ℕ) (scope : Scope) → Exact (g.alias around scope)
 unfolding g.alias

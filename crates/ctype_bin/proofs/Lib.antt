@@ -24,3 +24,4 @@ pub mod RereadTypes
 pub mod RereadDecls
 pub mod RereadFile
 pub mod Made
+pub mod InRange

@@ -1,5 +1,5 @@
 -- What is read of a written component: it is that component, or its parts are wrong.
-use Rattle.std.proofs.Common.{◌≡◌, List, ℕ, [], ◌++◌, Result, Ok, Err, refl, sym, ap, subst, ◌∙◌}
+use Rattle.std.proofs.Common.{◌≡◌, List, ℕ, [], Result, Ok, Err, sym, ap, subst, ◌∙◌}
 use Rattle.ctype_bin.specs.declared.error.Fault.{Fault}
 use Rattle.ctype_bin.specs.declared.error.Stuck.{Stuck}
 use Rattle.ctype_bin.specs.declared.error.Stuck.TheVariants.{End, At, Past}
@@ -26,7 +26,7 @@ stuck_at s = Err s
 pub stopped_at : (e : ItemError) (s t : Stuck) (r : Result (File × List ℕ) Stuck) → e ≡ items.Stuck s → s ≡ t → Stops e r → r ≡ Err t
 stopped_at e s t r is same h = subst (λ (d : ItemError). Stops d r) is h ∙ ap stuck_at same
 
-module _ (f : File) (bytes : List ℕ) (written : bytes ≡ file_bytes f) where
+module _ (f : File) (bytes : List ℕ) (written : bytes ≡ file_bytes f) (formed : FormedFile f) where
   again : Again (FormedFile f) (λ y. y ≡ f) [] (file.read bytes)
   again = subst (λ (l : List ℕ). Again (FormedFile f) (λ y. y ≡ f) [] (file.read l)) (sym written) (reread-file (FormedFile f) f (λ h. h))
 
@@ -56,5 +56,5 @@ module _ (f : File) (bytes : List ℕ) (written : bytes ≡ file_bytes f) where
         left = left;
         read = ap (λ (l : List ℕ). file.read l) (sym written) ∙ e;
         first = subst (λ (l : List ℕ). file.fails l (At fault left)) written (exact-file.faulty bytes (At fault left) fits e);
-        kind = met (At fault left) e;
+        kind = met (At fault left) e formed;
       }

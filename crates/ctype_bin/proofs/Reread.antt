@@ -1,13 +1,12 @@
 -- What is written of a value is read as that value, or a fault of the value is met: combinators. W is what is known of
 -- all that is written.
-use Rattle.std.proofs.Common.{◌≡◌, ℕ, zero, suc, ◌+◌, ◌*◌, ◌/◌, ◌%◌, ◌^◌, ◌<◌, ◌≤◌, Bool, true, false, List, [], ◌∷◌, ◌++◌, length, Option, Some, None, Result, Ok, Err, refl, sym, ap, subst, ◌∙◌, append_assoc, arith, inl, inr}
-use Rattle.std.specs.Prelude.{if◌then◌else◌}
+use Rattle.std.proofs.Common.{◌≡◌, ℕ, zero, suc, ◌+◌, ◌*◌, ◌/◌, ◌%◌, ◌^◌, ◌≤◌, Bool, true, false, List, [], ◌∷◌, ◌++◌, length, Option, Some, None, Result, Ok, Err, refl, sym, ap, subst, append_assoc, arith, inl, inr}
 use Rattle.std.proofs.Math.Nat.{pow-suc, mod-add-div}
 use Rattle.std.proofs.lemmas.Bool.{cases_lt, le-ltb}
-use Rattle.productions.specs.Production.{give, ◌>>=◌, when, times, run, after, passed}
+use Rattle.productions.specs.Production.{give, ◌>>=◌, times, run, after, passed}
 use Rattle.atoms.specs.declared.error.AtomError.{AtomError}
 use Rattle.atoms.specs.declared.error.AtomError.TheVariants as atoms
-use Rattle.atoms.specs.Leb128.{Spells, groups_at, carried}
+use Rattle.atoms.specs.Leb128.{Spells, groups_at}
 use Rattle.ctype_bin.specs.declared.error.Fault.{Fault}
 use Rattle.ctype_bin.specs.declared.error.Stuck.{Stuck}
 use Rattle.ctype_bin.specs.declared.error.Stuck.TheVariants.{End, At, Past}

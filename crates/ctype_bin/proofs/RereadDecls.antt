@@ -1,6 +1,6 @@
 -- What is written of a type is read as that type, or a fault of it is met: imports, exports, declarations and scopes.
-use Rattle.std.proofs.Common.{◌≡◌, ℕ, zero, suc, ◌+◌, Bool, true, false, List, [], ◌∷◌, ◌++◌, length, Option, Some, None, refl, sym, ap, subst, ◌∙◌}
-use Rattle.std.specs.Prelude.{◌||◌, ◌&&◌, not, ◌==◌, nat_le, nat_lt, if◌then◌else◌}
+use Rattle.std.proofs.Common.{◌≡◌, ℕ, zero, suc, ◌+◌, Bool, true, false, List, [], ◌∷◌, ◌++◌, length, Option, None, refl, sym, ap, subst, ◌∙◌}
+use Rattle.std.specs.Prelude.{◌||◌, ◌&&◌, not, ◌==◌, nat_le, if◌then◌else◌}
 use Rattle.productions.specs.Production.{give, ◌>>=◌, when, run}
 use Rattle.ctype_bin.specs.declared.error.Fault.{Fault}
 use Rattle.ctype_bin.specs.declared.error.Fault.TheVariants.{UnknownOpcode, BadIndex, Limit}
@@ -20,7 +20,7 @@ use Rattle.ctype_bin.specs.Raw as raw
 use Rattle.ctype_bin.specs.Writing.{u32_bytes, name_bytes, extern_bytes, description_bytes, alias_bytes, decl_count, type_bytes, decl_bytes, decls_bytes}
 use Rattle.ctype_bin.specs.Formed.{Fits, FormedAlias, FormedDescription, FormedName, FormedType, FormedDecl, FormedDecls}
 use Rattle.ctype_bin.proofs.RewrittenTypes.{opcode_byte, opcode_back}
-use Rattle.ctype_bin.proofs.Reread.{OfFault, Rereads, reread-then, reread-next, reread-give, reread-gives, reread-only, weaker, reread-tested, reread-byte, reread-u32}
+use Rattle.ctype_bin.proofs.Reread.{OfFault, Rereads, reread-then, reread-next, reread-give, reread-gives, reread-only, reread-tested, reread-byte, reread-u32}
 use Rattle.ctype_bin.proofs.RereadTypes.{of_index, of_limit, reread-index, reread-zero, reread-label, reread-extern, OpensPlain, opens_defined, opens_function}
 
 -- ---- aliases
@@ -53,7 +53,7 @@ targets around scope (aliases.InstanceExport i text) formed = aliased around sco
     (reread-gives g.label (λ text. aliases.InstanceExport i text) (name_bytes text) (λ y. y ≡ text) (λ y. y ≡ aliases.InstanceExport i text) (reread-label text (λ w. (formed w).1)) (λ y e. rw e refl)))
 targets around scope (aliases.Outer n i) formed = aliased around scope 2 (u32_bytes n ++ u32_bytes i) (aliases.Outer n i) refl
     (reread-next (only u32 (λ n. unless (nat_le n (length around)) BadIndex)) _ (u32_bytes n) (u32_bytes i) n (λ y. y ≡ aliases.Outer n i) (reread-tested u32 (λ n. unless (nat_le n (length around)) BadIndex) (u32_bytes n) n (reread-u32 n (λ w. (formed w).0)) (of_index _ (nat_le n (length around))))
-    (reread-gives (g.index (g.types_at around scope n)) (λ i. aliases.Outer n i) (u32_bytes i) (λ y. y ≡ i) (λ y. y ≡ aliases.Outer n i) (reread-index (g.types_at around scope n) i (λ w. (formed w).1)) (λ y e. rw e refl)))
+    (reread-gives (g.index (g.types_at around scope.types n)) (λ i. aliases.Outer n i) (u32_bytes i) (λ y. y ≡ i) (λ y. y ≡ aliases.Outer n i) (reread-index (g.types_at around scope.types n) i (λ w. (formed w).1)) (λ y e. rw e refl)))
 
 reread-alias : {W : Type 0} (around : List ℕ) (scope : Scope) (a : RawAlias) → (W → FormedAlias a) → Rereads W (g.alias around scope) (alias_bytes a) (λ y. y.0 ≡ Alias a)
 unfolding g.alias

@@ -1,16 +1,15 @@
 -- What is written of a file is read as that file, or a fault of it is met.
-use Rattle.std.proofs.Common.{◌≡◌, ℕ, zero, suc, ◌+◌, ◌-◌, ◌≤◌, Bool, true, false, List, [], ◌∷◌, ◌++◌, length, take, drop, Option, Some, None, Result, Ok, Err, refl, sym, ap, subst, ◌∙◌, append_assoc, arith}
-use Rattle.std.specs.Prelude.{◌||◌, ◌==◌, nat_le, if◌then◌else◌}
+use Rattle.std.proofs.Common.{◌≡◌, ℕ, suc, ◌-◌, Bool, true, false, List, [], ◌∷◌, ◌++◌, length, Some, Result, Ok, Err, refl, sym, ap, subst, ◌∙◌, append_assoc, arith}
+use Rattle.std.specs.Prelude.{◌||◌, ◌==◌, nat_le}
 use Rattle.std.proofs.Math.Seq.{take-append_seam, drop-append_seam}
 use Rattle.std.proofs.lemmas.Bool.{eq-eqb, le-leb}
 use Rattle.std.proofs.lemmas.List.{append-nil, length-append}
 use Rattle.productions.specs.Production.{give, ◌>>=◌, when, times, run, by_option}
-use Rattle.ctype_bin.specs.declared.error.Fault.{Fault}
-use Rattle.ctype_bin.specs.declared.error.Fault.TheVariants.{UnknownOpcode, BadSection, SizeMismatch}
+use Rattle.ctype_bin.specs.declared.error.Fault.TheVariants.{UnknownOpcode, BadSection}
 use Rattle.ctype_bin.specs.declared.error.Stuck.{Stuck}
 use Rattle.ctype_bin.specs.declared.error.Stuck.TheVariants.{End, At, Past}
 use Rattle.ctype_bin.specs.declared.scope.Scope.{Scope}
-use Rattle.ctype_bin.specs.Bytes.{Bytes, byte, only, unless, u32, sized, section_from, cut_section_from, in_section}
+use Rattle.ctype_bin.specs.Bytes.{Bytes, byte, only, unless, u32, sized, section_from, in_section}
 use Rattle.ctype_bin.specs.Grammar.{index, zero_byte, extern_name, type, new_scope, with_entries}
 use Rattle.ctype_bin.specs.File as f
 use Rattle.ctype_bin.specs.Raw.{Definition, Exported, File}

@@ -1,10 +1,8 @@
 -- What is written of a type is read as that type, or a fault of it is met: names, value types, and types without scopes.
-use Rattle.std.proofs.Common.{◌≡◌, ℕ, zero, suc, ◌+◌, ◌<◌, Bool, true, false, List, [], ◌∷◌, ◌++◌, length, Option, Some, None, refl, sym, ap, subst, ◌∙◌, append_assoc}
-use Rattle.std.specs.Prelude.{◌||◌, ◌&&◌, not, ◌==◌, nat_le, nat_lt, unwrap_or, if◌then◌else◌}
-use Rattle.std.proofs.lemmas.List.{append-nil}
+use Rattle.std.proofs.Common.{◌≡◌, ℕ, zero, suc, Bool, true, false, List, [], ◌∷◌, ◌++◌, length, Option, Some, None, refl, ap, append_assoc}
+use Rattle.std.specs.Prelude.{◌||◌, ◌==◌, nat_lt}
 use Rattle.atoms.specs.Label.{is_label}
-use Rattle.productions.specs.Production.{give, ◌>>=◌, when, times}
-use Rattle.ctype_bin.specs.declared.error.Fault.{Fault}
+use Rattle.productions.specs.Production.{times}
 use Rattle.ctype_bin.specs.declared.error.Fault.TheVariants.{UnknownOpcode, BadIndex, EmptyType, BadName, Limit}
 use Rattle.ctype_bin.specs.declared.raw.RawValType.{RawValType}
 use Rattle.ctype_bin.specs.declared.raw.RawValType.TheVariants as valtypes
@@ -12,17 +10,15 @@ use Rattle.ctype_bin.specs.declared.raw.RawField.{RawField}
 use Rattle.ctype_bin.specs.declared.raw.RawCase.{RawCase}
 use Rattle.ctype_bin.specs.declared.opcode.Opcode.{Opcode}
 use Rattle.ctype_bin.specs.declared.opcode.Opcode.TheVariants as op
-use Rattle.ctype_bin.specs.declared.scope.Scope.{Scope}
-use Rattle.ctype_bin.specs.Opcodes.{primitive_of, opcode_of}
 use Rattle.ctype_bin.specs.Names.{is_extern_name}
-use Rattle.ctype_bin.specs.Bytes.{Bytes, byte, several, only, unless, u32, s33}
+use Rattle.ctype_bin.specs.Bytes.{byte, several, only, unless, u32, s33}
 use Rattle.ctype_bin.specs.Grammar as g
 use Rattle.ctype_bin.specs.Raw.{Defined, Prim, Record, Variant, ListOf, Tuple, FlagSet, Enumeration, OptionOf, ResultOf, Function, Definition, Define, Func}
 use Rattle.ctype_bin.specs.Writing.{u32_bytes, s33_bytes, each, counted, name_bytes, extern_bytes, primitive_byte, valtype_bytes, optional_bytes, outcome_bytes, field_bytes, case_bytes, type_bytes}
-use Rattle.ctype_bin.specs.Formed.{Fits, All, FormedLabel, FormedName, FormedValType, FormedOption, FormedField, FormedCase, FormedDefined, FormedFunction, FormedType}
-use Rattle.ctype_bin.proofs.Rewritten.{Begins, index_begins, primitive_opens, primitive_back, no_fault}
-use Rattle.ctype_bin.proofs.RewrittenTypes.{opcode_byte, opcode_back}
-use Rattle.ctype_bin.proofs.Reread.{OfFault, Rereads, reread-then, reread-next, reread-give, reread-gives, reread-only, weaker, reread-tested, reread-byte, reread-several, reread-u32, reread-s33, reread-first, reread-second, reread-times, reread-counted}
+use Rattle.ctype_bin.specs.Formed.{Fits, FormedLabel, FormedName, FormedValType, FormedOption, FormedField, FormedCase, FormedDefined, FormedFunction}
+use Rattle.ctype_bin.proofs.Rewritten.{index_begins, primitive_opens, primitive_back, no_fault}
+use Rattle.ctype_bin.proofs.RewrittenTypes.{opcode_byte}
+use Rattle.ctype_bin.proofs.Reread.{OfFault, Rereads, reread-next, reread-give, reread-gives, reread-tested, reread-byte, reread-several, reread-u32, reread-s33, reread-first, reread-second, reread-times, reread-counted}
 
 -- ---- tests
 

@@ -87,7 +87,7 @@ nothing_trails : (n : ℕ) → (f.trailing (suc n)).spells [] 0
 unfolding f.trailing
 nothing_trails n = ([], [], None, refl, refl, (refl, refl))
 
-sized_both : {X : Type 0} (short : ℕ → Stuck) (size : ℕ) (p : Bytes X) (bytes : List ℕ) (x : X) → (sized short size p).spells bytes x → (length bytes ≡ size) × p.spells bytes x
+pub sized_both : {X : Type 0} (short : ℕ → Stuck) (size : ℕ) (p : Bytes X) (bytes : List ℕ) (x : X) → (sized short size p).spells bytes x → (length bytes ≡ size) × p.spells bytes x
 unfolding sized
 sized_both short size p bytes x s = s
 

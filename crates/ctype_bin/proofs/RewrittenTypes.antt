@@ -209,7 +209,7 @@ written-instance_export scope = written-then (g.index scope.instances) _ u32_byt
 written-outer : (around : List ℕ) (scope : Scope) → Written (g.outer_type around scope) alias_body
 unfolding g.outer_type alias_index
 written-outer around scope = written-then (only u32 (λ n. unless (nat_le n (length around)) BadIndex)) _ u32_bytes (λ n a. u32_bytes (alias_index a)) alias_body (written-only u32 _ u32_bytes written-u32)
-    (λ n. written-gives (g.index (g.types_at around scope n)) (λ i. aliases.Outer n i) u32_bytes (λ a. u32_bytes (alias_index a)) (written-index (g.types_at around scope n)) (λ i. refl))
+    (λ n. written-gives (g.index (g.types_at around scope.types n)) (λ i. aliases.Outer n i) u32_bytes (λ a. u32_bytes (alias_index a)) (written-index (g.types_at around scope.types n)) (λ i. refl))
     (λ n a front back sp sq. rw sq.5.1 refl)
 
 -- a byte that is a or b, and b where it isn't a

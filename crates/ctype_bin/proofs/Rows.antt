@@ -1,5 +1,5 @@
 -- What is written of declarations, seen as a list.
-use Rattle.std.proofs.Common.{◌≡◌, ℕ, suc, List, [], ◌∷◌, ◌++◌, length, map, refl, ap, ◌∙◌, append_assoc}
+use Rattle.std.proofs.Common.{◌≡◌, ℕ, suc, List, [], ◌∷◌, ◌++◌, length, map, refl, sym, ap, subst, ◌∙◌, append_assoc}
 use Rattle.std.specs.Global.{Vec}
 use Rattle.ctype_bin.specs.declared.raw.RawDecl.{RawDecl}
 use Rattle.ctype_bin.specs.declared.raw.RawType as t
@@ -9,6 +9,7 @@ use Rattle.ctype_bin.specs.File.{preamble}
 use Rattle.ctype_bin.specs.Raw.{Decl}
 use Rattle.ctype_bin.specs.View.{type_view, decl_view, export_view, decls_of}
 use Rattle.ctype_bin.specs.Writing.{u32_bytes, each, counted, decl_count, type_bytes, decl_bytes, decls_bytes, exported_bytes, section_bytes, file_bytes}
+use Rattle.ctype_bin.specs.Formed.{Fits, All, Counted, FormedType, FormedDecl, FormedDecls, FormedExport, FormedFile}
 use Rattle.ctype_bin.proofs.Views.{view-Component, view-Instance}
 
 pub count_is : (ds : List Decl) → decl_count (decls_of ds) ≡ length ds
@@ -41,6 +42,40 @@ bytes-Component decls = ap type_bytes (view-Component decls) ∙ ap (λ (l : Lis
 pub bytes-Instance : (decls : Vec RawDecl) → type_bytes (type_view (t.Instance decls)) ≡ 0x42 ∷ counted (λ d. decl_bytes (decl_view d)) decls.items
 unfolding type_bytes
 bytes-Instance decls = ap type_bytes (view-Instance decls) ∙ ap (λ (l : List ℕ). 0x42 ∷ l) (decls_are (map decl_view decls.items) ∙ counted_map decl_bytes decl_view decls.items)
+
+-- ---- what was written has numbers and names such as its types hold
+
+pub all-map : {X Y : Type 0} (P : Y → Type 0) (f : X → Y) (xs : List X) → All (λ x. P (f x)) xs → All P (map f xs)
+all-map P f [] h = tt
+all-map P f (x ∷ xs) h = (h.0, all-map P f xs h.1)
+
+pub counted-all_map : {X Y : Type 0} (P : Y → Type 0) (f : X → Y) (xs : List X) → Counted (λ x. P (f x)) xs → Counted P (map f xs)
+counted-all_map P f xs h = (rw (length-map f xs) h.0, all-map P f xs h.1)
+
+all-decls : (ds : List Decl) → All FormedDecl ds → FormedDecls (decls_of ds)
+unfolding FormedDecls
+all-decls [] h = tt
+all-decls (d ∷ ds) h = (h.0, all-decls ds h.1)
+
+formed-decls : (ds : List Decl) → Counted FormedDecl ds → Fits (decl_count (decls_of ds)) × FormedDecls (decls_of ds)
+formed-decls ds h = (rw (count_is ds) h.0, all-decls ds h.1)
+
+pub formed-Component : (decls : Vec RawDecl) → Counted (λ d. FormedDecl (decl_view d)) decls.items → FormedType (type_view (t.Component decls))
+unfolding FormedType
+formed-Component decls h = subst FormedType (sym (view-Component decls)) (formed-decls (map decl_view decls.items) (counted-all_map FormedDecl decl_view decls.items h))
+
+pub formed-Instance : (decls : Vec RawDecl) → Counted (λ d. FormedDecl (decl_view d)) decls.items → FormedType (type_view (t.Instance decls))
+unfolding FormedType
+formed-Instance decls h = subst FormedType (sym (view-Instance decls)) (formed-decls (map decl_view decls.items) (counted-all_map FormedDecl decl_view decls.items h))
+
+pub file_formed : (types : List RawType) (exports : List RawExport) (a b : List ℕ) → a ≡ counted (λ t. type_bytes (type_view t)) types → b ≡ counted (λ x. exported_bytes (export_view x)) exports → Counted (λ t. FormedType (type_view t)) types → Counted (λ e. FormedExport (export_view e)) exports
+    → Fits (length a) → Fits (length b) → FormedFile (record { types = map type_view types; exports = map export_view exports })
+file_formed types exports a b ha hb ft fe la lb = record {
+  types = counted-all_map FormedType type_view types ft;
+  exports = counted-all_map FormedExport export_view exports fe;
+  type_size = rw (counted_map type_bytes type_view types) (rw ha at la);
+  export_size = rw (counted_map exported_bytes export_view exports) (rw hb at lb);
+}
 
 -- the parts of a file in turn
 pub file_is : (types : List RawType) (exports : List RawExport) (a b c d e : List ℕ) → a ≡ counted (λ t. type_bytes (type_view t)) types → b ≡ counted (λ x. exported_bytes (export_view x)) exports → c ≡ preamble → d ≡ c ++ section_bytes 7 a → e ≡ d ++ section_bytes 11 b

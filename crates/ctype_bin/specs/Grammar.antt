@@ -254,9 +254,9 @@ opcode depth entries = do
 
 -- ---- aliases, around being the counts of types of the scopes around, the innermost last
 
-abbrev pub types_at : List ℕ → Scope → ℕ → ℕ
-types_at around scope zero = scope.types
-types_at around scope (suc n) = slice_index around (length around - suc n)
+abbrev pub types_at : List ℕ → ℕ → ℕ → ℕ
+types_at around types zero = types
+types_at around types (suc n) = slice_index around (length around - suc n)
 
 unfoldable pub instance_export : Scope → Bytes RawAlias
 instance_export scope = do
@@ -267,7 +267,7 @@ instance_export scope = do
 unfoldable pub outer_type : List ℕ → Scope → Bytes RawAlias
 outer_type around scope = do
   n ← only u32 (λ n. unless (nat_le n (length around)) BadIndex)
-  i ← index (types_at around scope n)
+  i ← index (types_at around scope.types n)
   give (aliases.Outer n i)
 
 -- what is wrong with a byte where a type entry begins, if it is allowed there

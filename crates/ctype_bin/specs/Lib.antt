@@ -13,3 +13,4 @@ pub mod Spellable
 pub mod Encoding
 pub mod Formed
 pub mod Parts
+pub mod InRange

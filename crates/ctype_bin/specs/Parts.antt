@@ -2,7 +2,6 @@
 use Rattle.std.specs.Prelude.{◌≡◌, ℕ, Err}
 use Rattle.ctype_bin.specs.declared.error.Fault.{Fault}
 use Rattle.ctype_bin.specs.declared.error.Fault.TheVariants.{UnknownOpcode, BadIndex, EmptyType, Limit}
-use Rattle.ctype_bin.specs.declared.error.Stuck.{Stuck}
 use Rattle.ctype_bin.specs.declared.error.Stuck.TheVariants.{At}
 use Rattle.ctype_bin.specs.declared.error.BinError.{BinError}
 use Rattle.ctype_bin.specs.declared.error.BinError.TheVariants as errors
@@ -10,7 +9,6 @@ use Rattle.ctype_bin.specs.Raw.{File}
 use Rattle.ctype_bin.specs.File.{file}
 use Rattle.ctype_bin.specs.Writing.{file_bytes}
 use Rattle.ctype_bin.specs.Spellable.{IsSpellable}
-use Rattle.ctype_bin.specs.Formed.{FormedFile}
 
 -- an import in an instance type, whose byte is 3; an index; a count of 0; a limit
 abbrev pub IsOfParts : Fault → Type 0
@@ -26,7 +24,7 @@ pub record IsWrong (f : File) (fault : Fault) : Type 0 where
   pub left : ℕ
   pub read : file.read (file_bytes f) ≡ Err (At fault left)
   pub first : file.fails (file_bytes f) (At fault left)
-  pub kind : FormedFile f → IsOfParts fault
+  pub kind : IsOfParts fault
 
 -- Why parts are refused: the fault has place 0.
 abbrev pub Refuses : File → BinError → Type 0

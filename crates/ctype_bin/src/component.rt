@@ -3,6 +3,7 @@ ghost use Rattle.std.specs.Prelude.{◌≡◌, IfOk, IfErr, MatchResult};
 ghost use Rattle.ctype_bin.specs.Raw.{File};
 ghost use Rattle.ctype_bin.specs.View.{file_of};
 ghost use Rattle.ctype_bin.specs.Writing.{file_bytes};
+ghost use Rattle.ctype_bin.specs.Formed.{FormedFile};
 ghost use Rattle.ctype_bin.specs.Spellable.{IsSpellable};
 ghost use Rattle.ctype_bin.specs.Parts.{Refuses};
 
@@ -68,8 +69,8 @@ impl RawComponent {
 
 /// Reads what was written of a component's parts, and so finds the first fault in them, which has no place.
 fn reread(alloc: Global, bytes: &[u8]) -> Result<(), BinError>
-    requires { (f : File) × (bytes.now ≡ file_bytes f) }
-    ensures { (f : File) → bytes.now ≡ file_bytes f → MatchResult result (λ _. ∥ IsSpellable f ∥₁) (λ e. Refuses f e) }
+    requires { (f : File) × (bytes.now ≡ file_bytes f) × FormedFile f }
+    ensures { (f : File) → bytes.now ≡ file_bytes f → FormedFile f → MatchResult result (λ _. ∥ IsSpellable f ∥₁) (λ e. Refuses f e) }
 {
     match parts_of(alloc, bytes) {
         Ok(_) => Ok(()),

@@ -3,6 +3,7 @@ ghost use Rattle.std.specs.Prelude.{◌≡◌, ◌++◌, IfOk, IfErr, OnOk, OnEr
 ghost use Rattle.ctype_bin.specs.View.{type_view, export_view};
 ghost use Rattle.ctype_bin.specs.FileView.{file_view};
 ghost use Rattle.ctype_bin.specs.Writing.{file_bytes};
+ghost use Rattle.ctype_bin.specs.Formed.{FormedFile};
 ghost use Rattle.ctype_bin.specs.Encoding.{AppendsSpelling};
 
 use crate::component::RawComponent;
@@ -18,7 +19,8 @@ pub(crate) fn spelling(
     types: &[RawType],
     exports: &[RawExport],
 ) -> Result<Vec<u8>, AllocError>
-    ensures { IfOk result (λ v. v.items ≡ file_bytes (record { types = map type_view types.now; exports = map export_view exports.now })) }
+    ensures bytes { IfOk result (λ v. v.items ≡ file_bytes (record { types = map type_view types.now; exports = map export_view exports.now })) }
+    ensures formed { IfOk result (λ _. FormedFile (record { types = map type_view types.now; exports = map export_view exports.now })) }
 {
     let mut type_section = Vec::new(alloc);
     put_types(alloc, &mut type_section, types)?;

@@ -6,6 +6,10 @@ ghost use Rattle.ctype_bin.specs.Writing.{type_bytes, file_bytes};
 ghost use Rattle.ctype_bin.specs.Raw.{File};
 ghost use Rattle.ctype_bin.specs.Grammar.{type};
 ghost use Rattle.ctype_bin.specs.File.{file};
+ghost use Rattle.ctype_bin.specs.FileView.{file_view};
+ghost use Rattle.ctype_bin.specs.InRange.{FileInRange};
+
+use crate::component::RawComponent;
 
 /// Reading a type finds just what its productions spell, or the first fault, which stands within the bytes.
 pub fn types_are_read_exactly()
@@ -22,4 +26,11 @@ pub fn files_are_read_exactly()
 pub fn spellings_are_rewritten()
     ensures types { (depth : ℕ) (around : List ℕ) (scope : Scope) → Written (type depth around scope) (λ y. type_bytes y.0) }
     ensures files { (bytes : List ℕ) (f : File) → file.spells bytes f → file.spells (file_bytes f) f }
+{}
+
+/// Each index of a file that is spelled is below the count of its space where it stands, and so is each index of a
+/// component.
+pub fn indices_are_in_range()
+    ensures files { (bytes : List ℕ) (f : File) → file.spells bytes f → FileInRange f }
+    ensures components { (c : RawComponent) → FileInRange (file_view c) }
 {}

@@ -62,12 +62,12 @@ pub(crate) fn with_entries(scope: Scope, entries: u32) -> Scope
 }
 
 /// How many type entries the scope has that so many scopes stand inside of.
-pub(crate) fn types_at(around: &[u32], scope: Scope, count: u32) -> u32
+pub(crate) fn types_at(around: &[u32], types: u32, count: u32) -> u32
     requires { count ≤ length around.now }
-    ensures { result ≡ types_at around.now scope count }
+    ensures { result ≡ types_at around.now types count }
 {
     if count == 0 {
-        return scope.types;
+        return types;
     }
     around[around.len() - count as usize]
 }

@@ -82,7 +82,7 @@ fn outer_of<'a>(
     if count as usize > around.len() {
         return Err(at(Fault::BadIndex, bytes));
     }
-    let (index, rest) = index_of(types_at(around, scope, count), rest)?;
+    let (index, rest) = index_of(types_at(around, scope.types, count), rest)?;
     Ok((RawAlias::Outer { count, index }, rest))
 }
 

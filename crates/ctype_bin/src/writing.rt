@@ -3,6 +3,7 @@ ghost use Rattle.std.specs.Prelude.{◌≡◌, ◌++◌, ◌∷◌, [], length, 
 ghost use Rattle.ctype_bin.specs.View.{defined_view, function_view, type_view, decl_view, export_view};
 ghost use Rattle.ctype_bin.specs.Names.{name_view};
 ghost use Rattle.ctype_bin.specs.Writing.{u32_bytes, s33_bytes, each, counted, name_bytes, extern_bytes, primitive_byte, valtype_bytes, optional_bytes, field_bytes, case_bytes, defined_bytes, outcome_bytes, function_bytes, alias_bytes, description_bytes, type_bytes, decl_bytes, exported_bytes, section_bytes};
+ghost use Rattle.ctype_bin.specs.Formed.{Fits, Counted, FormedLabel, FormedName, FormedValType, FormedOption, FormedField, FormedCase, FormedDefined, FormedFunction, FormedAlias, FormedDescription, FormedType, FormedDecl, FormedExport};
 
 use crate::name::ExternName;
 use crate::raw::{
@@ -32,7 +33,8 @@ fn put_s33(out: &mut Vec<u8>, value: u32) -> Result<(), AllocError>
 
 /// A count, for which there is no memory where it passes 32 bits.
 pub(crate) fn put_count(out: &mut Vec<u8>, count: usize) -> Result<(), AllocError>
-    ensures { OnOk result (out.new.items ≡ out.old.items ++ u32_bytes count) }
+    ensures bytes { OnOk result (out.new.items ≡ out.old.items ++ u32_bytes count) }
+    ensures formed { OnOk result (Fits count) }
 {
     match u32::try_from(count) {
         Ok(count) => put_u32(out, count),
@@ -41,7 +43,8 @@ pub(crate) fn put_count(out: &mut Vec<u8>, count: usize) -> Result<(), AllocErro
 }
 
 fn put_name(out: &mut Vec<u8>, text: &[u8]) -> Result<(), AllocError>
-    ensures { OnOk result (out.new.items ≡ out.old.items ++ name_bytes text.now) }
+    ensures bytes { OnOk result (out.new.items ≡ out.old.items ++ name_bytes text.now) }
+    ensures formed { OnOk result (Fits (length text.now)) }
 {
     put_count(out, text.len())?;
     out.extend_from_slice(text)?;
@@ -53,7 +56,8 @@ pub(crate) fn put_extern_name(
     out: &mut Vec<u8>,
     name: &ExternName,
 ) -> Result<(), AllocError>
-    ensures { OnOk result (out.new.items ≡ out.old.items ++ extern_bytes (name_view name.now)) }
+    ensures bytes { OnOk result (out.new.items ≡ out.old.items ++ extern_bytes (name_view name.now)) }
+    ensures formed { OnOk result (FormedName (name_view name.now)) }
 {
     out.push(0)?;
     match name {
@@ -84,7 +88,8 @@ fn primitive_byte(primitive: Primitive) -> u8
 }
 
 fn put_valtype(out: &mut Vec<u8>, ty: RawValType) -> Result<(), AllocError>
-    ensures { OnOk result (out.new.items ≡ out.old.items ++ valtype_bytes ty) }
+    ensures bytes { OnOk result (out.new.items ≡ out.old.items ++ valtype_bytes ty) }
+    ensures formed { OnOk result (FormedValType ty) }
 {
     match ty {
         RawValType::Primitive(primitive) => Ok(out.push(primitive_byte(primitive))?),
@@ -93,7 +98,8 @@ fn put_valtype(out: &mut Vec<u8>, ty: RawValType) -> Result<(), AllocError>
 }
 
 fn put_optional(out: &mut Vec<u8>, ty: Option<RawValType>) -> Result<(), AllocError>
-    ensures { OnOk result (out.new.items ≡ out.old.items ++ optional_bytes ty) }
+    ensures bytes { OnOk result (out.new.items ≡ out.old.items ++ optional_bytes ty) }
+    ensures formed { OnOk result (FormedOption ty) }
 {
     match ty {
         None => Ok(out.push(0)?),
@@ -105,14 +111,16 @@ fn put_optional(out: &mut Vec<u8>, ty: Option<RawValType>) -> Result<(), AllocEr
 }
 
 fn put_field(out: &mut Vec<u8>, field: &RawField) -> Result<(), AllocError>
-    ensures { OnOk result (out.new.items ≡ out.old.items ++ field_bytes field.now) }
+    ensures bytes { OnOk result (out.new.items ≡ out.old.items ++ field_bytes field.now) }
+    ensures formed { OnOk result (FormedField field.now) }
 {
     put_name(out, field.label.as_bytes())?;
     put_valtype(out, field.ty)
 }
 
 fn put_fields(out: &mut Vec<u8>, fields: &[RawField]) -> Result<(), AllocError>
-    ensures { OnOk result (out.new.items ≡ out.old.items ++ counted field_bytes fields.now) }
+    ensures bytes { OnOk result (out.new.items ≡ out.old.items ++ counted field_bytes fields.now) }
+    ensures formed { OnOk result (Counted FormedField fields.now) }
 {
     put_count(out, fields.len())?;
     for field in fields {
@@ -122,7 +130,8 @@ fn put_fields(out: &mut Vec<u8>, fields: &[RawField]) -> Result<(), AllocError>
 }
 
 fn put_case(out: &mut Vec<u8>, case: &RawCase) -> Result<(), AllocError>
-    ensures { OnOk result (out.new.items ≡ out.old.items ++ case_bytes case.now) }
+    ensures bytes { OnOk result (out.new.items ≡ out.old.items ++ case_bytes case.now) }
+    ensures formed { OnOk result (FormedCase case.now) }
 {
     put_name(out, case.label.as_bytes())?;
     put_optional(out, case.payload)?;
@@ -131,7 +140,8 @@ fn put_case(out: &mut Vec<u8>, case: &RawCase) -> Result<(), AllocError>
 }
 
 fn put_cases(out: &mut Vec<u8>, cases: &[RawCase]) -> Result<(), AllocError>
-    ensures { OnOk result (out.new.items ≡ out.old.items ++ counted case_bytes cases.now) }
+    ensures bytes { OnOk result (out.new.items ≡ out.old.items ++ counted case_bytes cases.now) }
+    ensures formed { OnOk result (Counted FormedCase cases.now) }
 {
     put_count(out, cases.len())?;
     for case in cases {
@@ -141,7 +151,8 @@ fn put_cases(out: &mut Vec<u8>, cases: &[RawCase]) -> Result<(), AllocError>
 }
 
 fn put_members(out: &mut Vec<u8>, members: &[RawValType]) -> Result<(), AllocError>
-    ensures { OnOk result (out.new.items ≡ out.old.items ++ counted valtype_bytes members.now) }
+    ensures bytes { OnOk result (out.new.items ≡ out.old.items ++ counted valtype_bytes members.now) }
+    ensures formed { OnOk result (Counted FormedValType members.now) }
 {
     put_count(out, members.len())?;
     for member in members {
@@ -151,7 +162,8 @@ fn put_members(out: &mut Vec<u8>, members: &[RawValType]) -> Result<(), AllocErr
 }
 
 fn put_labels(out: &mut Vec<u8>, labels: &[Label]) -> Result<(), AllocError>
-    ensures { OnOk result (out.new.items ≡ out.old.items ++ counted name_bytes labels.now) }
+    ensures bytes { OnOk result (out.new.items ≡ out.old.items ++ counted name_bytes labels.now) }
+    ensures formed { OnOk result (Counted FormedLabel labels.now) }
 {
     put_count(out, labels.len())?;
     for label in labels {
@@ -161,7 +173,8 @@ fn put_labels(out: &mut Vec<u8>, labels: &[Label]) -> Result<(), AllocError>
 }
 
 fn put_defined(out: &mut Vec<u8>, ty: &RawDefinedType) -> Result<(), AllocError>
-    ensures { OnOk result (out.new.items ≡ out.old.items ++ defined_bytes (defined_view ty.now)) }
+    ensures bytes { OnOk result (out.new.items ≡ out.old.items ++ defined_bytes (defined_view ty.now)) }
+    ensures formed { OnOk result (FormedDefined (defined_view ty.now)) }
 {
     match ty {
         RawDefinedType::Primitive(primitive) => Ok(out.push(primitive_byte(*primitive))?),
@@ -202,7 +215,8 @@ fn put_defined(out: &mut Vec<u8>, ty: &RawDefinedType) -> Result<(), AllocError>
 }
 
 fn put_outcome(out: &mut Vec<u8>, ty: Option<RawValType>) -> Result<(), AllocError>
-    ensures { OnOk result (out.new.items ≡ out.old.items ++ outcome_bytes ty) }
+    ensures bytes { OnOk result (out.new.items ≡ out.old.items ++ outcome_bytes ty) }
+    ensures formed { OnOk result (FormedOption ty) }
 {
     match ty {
         Some(ty) => {
@@ -214,7 +228,8 @@ fn put_outcome(out: &mut Vec<u8>, ty: Option<RawValType>) -> Result<(), AllocErr
 }
 
 fn put_function(out: &mut Vec<u8>, function: &RawFunction) -> Result<(), AllocError>
-    ensures { OnOk result (out.new.items ≡ out.old.items ++ function_bytes (function_view function.now)) }
+    ensures bytes { OnOk result (out.new.items ≡ out.old.items ++ function_bytes (function_view function.now)) }
+    ensures formed { OnOk result (FormedFunction (function_view function.now)) }
 {
     out.push(0x40)?;
     put_fields(out, function.params.as_slice())?;
@@ -222,7 +237,8 @@ fn put_function(out: &mut Vec<u8>, function: &RawFunction) -> Result<(), AllocEr
 }
 
 fn put_alias(out: &mut Vec<u8>, alias: &RawAlias) -> Result<(), AllocError>
-    ensures { OnOk result (out.new.items ≡ out.old.items ++ alias_bytes alias.now) }
+    ensures bytes { OnOk result (out.new.items ≡ out.old.items ++ alias_bytes alias.now) }
+    ensures formed { OnOk result (FormedAlias alias.now) }
 {
     out.push(3)?;
     match alias {
@@ -240,7 +256,8 @@ fn put_alias(out: &mut Vec<u8>, alias: &RawAlias) -> Result<(), AllocError>
 }
 
 fn put_description(out: &mut Vec<u8>, description: RawDescription) -> Result<(), AllocError>
-    ensures { OnOk result (out.new.items ≡ out.old.items ++ description_bytes description) }
+    ensures bytes { OnOk result (out.new.items ≡ out.old.items ++ description_bytes description) }
+    ensures formed { OnOk result (FormedDescription description) }
 {
     match description {
         RawDescription::Function(index) => {
@@ -268,16 +285,18 @@ fn put_external(
     name: &ExternName,
     description: RawDescription,
 ) -> Result<(), AllocError>
-    ensures { OnOk result (out.new.items ≡ out.old.items ++ (extern_bytes (name_view name.now) ++ description_bytes description)) }
+    ensures bytes { OnOk result (out.new.items ≡ out.old.items ++ (extern_bytes (name_view name.now) ++ description_bytes description)) }
+    ensures formed { OnOk result (FormedName (name_view name.now) × FormedDescription description) }
 {
     put_extern_name(alloc, out, name)?;
     put_description(out, description)
 }
 
 #[cycle(types)]
-#[tactic(auto, unfolding(crate::specs::Writing::decl_bytes, crate::specs::View::decl_view))]
+#[tactic(auto, unfolding(crate::specs::Writing::decl_bytes, crate::specs::View::decl_view, crate::specs::Formed::FormedDecl))]
 fn put_decl(alloc: Global, out: &mut Vec<u8>, decl: &RawDecl) -> Result<(), AllocError>
-    ensures { OnOk result (out.new.items ≡ out.old.items ++ decl_bytes (decl_view decl.now)) }
+    ensures bytes { OnOk result (out.new.items ≡ out.old.items ++ decl_bytes (decl_view decl.now)) }
+    ensures formed { OnOk result (FormedDecl (decl_view decl.now)) }
 {
     match decl {
         RawDecl::Type(ty) => {
@@ -301,7 +320,8 @@ fn put_decl(alloc: Global, out: &mut Vec<u8>, decl: &RawDecl) -> Result<(), Allo
 
 #[cycle(types)]
 fn put_decls(alloc: Global, out: &mut Vec<u8>, decls: &[RawDecl]) -> Result<(), AllocError>
-    ensures { OnOk result (out.new.items ≡ out.old.items ++ counted (λ d. decl_bytes (decl_view d)) decls.now) }
+    ensures bytes { OnOk result (out.new.items ≡ out.old.items ++ counted (λ d. decl_bytes (decl_view d)) decls.now) }
+    ensures formed { OnOk result (Counted (λ d. FormedDecl (decl_view d)) decls.now) }
 {
     put_count(out, decls.len())?;
     for decl in decls {
@@ -311,9 +331,10 @@ fn put_decls(alloc: Global, out: &mut Vec<u8>, decls: &[RawDecl]) -> Result<(), 
 }
 
 #[cycle(types)]
-#[tactic(auto, unfolding(crate::specs::Writing::type_bytes, crate::specs::View::type_view))]
+#[tactic(auto, unfolding(crate::specs::Writing::type_bytes, crate::specs::View::type_view, crate::specs::Formed::FormedType))]
 fn put_type(alloc: Global, out: &mut Vec<u8>, ty: &RawType) -> Result<(), AllocError>
-    ensures { OnOk result (out.new.items ≡ out.old.items ++ type_bytes (type_view ty.now)) }
+    ensures bytes { OnOk result (out.new.items ≡ out.old.items ++ type_bytes (type_view ty.now)) }
+    ensures formed { OnOk result (FormedType (type_view ty.now)) }
 {
     match ty {
         RawType::Defined(ty) => put_defined(out, ty),
@@ -334,7 +355,8 @@ pub(crate) fn put_types(
     out: &mut Vec<u8>,
     types: &[RawType],
 ) -> Result<(), AllocError>
-    ensures { OnOk result (out.new.items ≡ out.old.items ++ counted (λ t. type_bytes (type_view t)) types.now) }
+    ensures bytes { OnOk result (out.new.items ≡ out.old.items ++ counted (λ t. type_bytes (type_view t)) types.now) }
+    ensures formed { OnOk result (Counted (λ t. FormedType (type_view t)) types.now) }
 {
     put_count(out, types.len())?;
     for ty in types {
@@ -344,7 +366,8 @@ pub(crate) fn put_types(
 }
 
 fn put_export(alloc: Global, out: &mut Vec<u8>, export: &RawExport) -> Result<(), AllocError>
-    ensures { OnOk result (out.new.items ≡ out.old.items ++ exported_bytes (export_view export.now)) }
+    ensures bytes { OnOk result (out.new.items ≡ out.old.items ++ exported_bytes (export_view export.now)) }
+    ensures formed { OnOk result (FormedExport (export_view export.now)) }
 {
     put_extern_name(alloc, out, &export.name)?;
     out.push(3)?;
@@ -358,7 +381,8 @@ pub(crate) fn put_exports(
     out: &mut Vec<u8>,
     exports: &[RawExport],
 ) -> Result<(), AllocError>
-    ensures { OnOk result (out.new.items ≡ out.old.items ++ counted (λ e. exported_bytes (export_view e)) exports.now) }
+    ensures bytes { OnOk result (out.new.items ≡ out.old.items ++ counted (λ e. exported_bytes (export_view e)) exports.now) }
+    ensures formed { OnOk result (Counted (λ e. FormedExport (export_view e)) exports.now) }
 {
     put_count(out, exports.len())?;
     for export in exports {
@@ -368,7 +392,8 @@ pub(crate) fn put_exports(
 }
 
 pub(crate) fn put_section(out: &mut Vec<u8>, id: u8, content: &[u8]) -> Result<(), AllocError>
-    ensures { OnOk result (out.new.items ≡ out.old.items ++ section_bytes id content.now) }
+    ensures bytes { OnOk result (out.new.items ≡ out.old.items ++ section_bytes id content.now) }
+    ensures formed { OnOk result (Fits (length content.now)) }
 {
     out.push(id)?;
     put_count(out, content.len())?;

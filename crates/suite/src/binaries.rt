@@ -168,6 +168,19 @@ fn more_or_other_bytes(rt: HostRuntime) -> Result<(), Fail> {
     spelled.extend_from_slice(&[0x9e, 0])?;
     spelled.extend_from_slice(&P1[10..])?;
     assert_eq!(rt; answer(alloc, spelled.as_slice())?.as_str(), "component");
+    let mut overlong = Vec::from_slice(alloc, &P1[..9])?;
+    overlong.extend_from_slice(&[0x9e, 0x80, 0x80, 0x80, 0x80, 0])?;
+    overlong.extend_from_slice(&P1[10..])?;
+    assert_eq!(rt;
+        answer(alloc, overlong.as_slice())?.as_str(),
+        "error 23 overlong at 9"
+    );
+    let mut empty = Vec::from_slice(alloc, &P1[..8])?;
+    empty.extend_from_slice(&[7, 3, 1, 0x72, 0])?;
+    assert_eq!(rt;
+        answer(alloc, empty.as_slice())?.as_str(),
+        "error 16 empty type at 12"
+    );
     let mut growing = Vec::from_slice(alloc, &P1[..8])?;
     growing.extend_from_slice(&[7, 8, 1, 0x72, 0xff, 0xff, 0xff, 0xff, 0x0f])?;
     assert_eq!(rt;
@@ -273,6 +286,11 @@ fn every_byte_changed(rt: HostRuntime) -> Result<(), Fail> {
         for byte in 0..=255 {
             let bytes = changed(alloc, place, byte)?;
             assert!(rt; stands(alloc, bytes.as_slice())?, "{place}, {byte}");
+            let told = answer(alloc, bytes.as_slice())?;
+            assert!(rt;
+                !told.as_str().contains("by bytes"),
+                "{place}, {byte}: {told}"
+            );
         }
     }
     Ok(())

@@ -15,6 +15,8 @@ mod names;
 #[cfg(test)]
 mod packages;
 #[cfg(test)]
+mod parts;
+#[cfg(test)]
 mod sessions;
 #[cfg(test)]
 mod streaming;

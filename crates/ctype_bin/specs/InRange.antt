@@ -1,0 +1,109 @@
+-- Each index is below the count of its space, as that is where the index stands.
+use Rattle.std.specs.Prelude.{◌<◌, ◌≤◌, ℕ, ◌+◌, List, [], ◌∷◌, ◌++◌, length, Option, Some, None}
+use Rattle.ctype_bin.specs.declared.raw.RawValType.{RawValType}
+use Rattle.ctype_bin.specs.declared.raw.RawValType.TheVariants as valtypes
+use Rattle.ctype_bin.specs.declared.raw.RawField.{RawField}
+use Rattle.ctype_bin.specs.declared.raw.RawCase.{RawCase}
+use Rattle.ctype_bin.specs.declared.raw.RawAlias.{RawAlias}
+use Rattle.ctype_bin.specs.declared.raw.RawAlias.TheVariants as aliases
+use Rattle.ctype_bin.specs.declared.raw.RawDescription.{RawDescription}
+use Rattle.ctype_bin.specs.declared.raw.RawDescription.TheVariants as descriptions
+use Rattle.ctype_bin.specs.Raw.{Defined, Prim, Record, Variant, ListOf, Tuple, FlagSet, Enumeration, OptionOf, ResultOf, Function, Definition, Define, Func, Component, Instance, Decl, Entry, Alias, Import, Export, Decls, none, then, File}
+use Rattle.ctype_bin.specs.Grammar.{types_at}
+use Rattle.ctype_bin.specs.Formed.{All}
+
+-- ---- among so many types
+
+abbrev pub ValTypeInRange : ℕ → RawValType → Type 0
+ValTypeInRange types (valtypes.Primitive p) = Unit {0}
+ValTypeInRange types (valtypes.Index i) = i < types
+
+abbrev pub OptionInRange : ℕ → Option RawValType → Type 0
+OptionInRange types None = Unit {0}
+OptionInRange types (Some t) = ValTypeInRange types t
+
+abbrev pub FieldInRange : ℕ → RawField → Type 0
+FieldInRange types f = ValTypeInRange types f.ty
+
+abbrev pub CaseInRange : ℕ → RawCase → Type 0
+CaseInRange types c = OptionInRange types c.payload
+
+abbrev pub DefinedInRange : ℕ → Defined → Type 0
+DefinedInRange types (Record fs) = All (FieldInRange types) fs
+DefinedInRange types (Variant cs) = All (CaseInRange types) cs
+DefinedInRange types (ListOf e) = ValTypeInRange types e
+DefinedInRange types (Tuple es) = All (ValTypeInRange types) es
+DefinedInRange types (OptionOf e) = ValTypeInRange types e
+DefinedInRange types (ResultOf ok error) = OptionInRange types ok × OptionInRange types error
+DefinedInRange types (Prim p) = Unit {0}
+DefinedInRange types (FlagSet ls) = Unit {0}
+DefinedInRange types (Enumeration ls) = Unit {0}
+
+abbrev pub FunctionInRange : ℕ → Function → Type 0
+FunctionInRange types f = All (FieldInRange types) f.params × OptionInRange types f.outcome
+
+abbrev pub DescriptionInRange : ℕ → RawDescription → Type 0
+DescriptionInRange types (descriptions.Function i) = i < types
+DescriptionInRange types (descriptions.TypeEqual i) = i < types
+DescriptionInRange types (descriptions.Component i) = i < types
+DescriptionInRange types (descriptions.Instance i) = i < types
+
+-- ---- in a scope, around being the counts of types of the scopes around it, the innermost last
+
+abbrev pub AliasInRange : List ℕ → ℕ → ℕ → RawAlias → Type 0
+AliasInRange around types instances (aliases.InstanceExport i text) = i < instances
+AliasInRange around types instances (aliases.Outer n i) = (n ≤ length around) × (i < types_at around types n)
+
+-- the types and the instances that a description brings
+abbrev pub types_with : ℕ → RawDescription → ℕ
+types_with types (descriptions.Function i) = types
+types_with types (descriptions.TypeEqual i) = types + 1
+types_with types (descriptions.Component i) = types
+types_with types (descriptions.Instance i) = types
+
+abbrev pub instances_with : ℕ → RawDescription → ℕ
+instances_with instances (descriptions.Function i) = instances
+instances_with instances (descriptions.TypeEqual i) = instances
+instances_with instances (descriptions.Component i) = instances
+instances_with instances (descriptions.Instance i) = instances + 1
+
+-- how many there are behind a declaration
+abbrev pub types_behind : ℕ → Decl → ℕ
+types_behind types (Entry t) = types + 1
+types_behind types (Alias a) = types + 1
+types_behind types (Import text d) = types_with types d
+types_behind types (Export text d) = types_with types d
+
+abbrev pub instances_behind : ℕ → Decl → ℕ
+instances_behind instances (Entry t) = instances
+instances_behind instances (Alias a) = instances
+instances_behind instances (Import text d) = instances_with instances d
+instances_behind instances (Export text d) = instances_with instances d
+
+unfoldable mutual
+  -- in a scope of so many types
+  pub TypeInRange : List ℕ → ℕ → Definition → Type 0
+  TypeInRange around types (Define d) = DefinedInRange types d
+  TypeInRange around types (Func f) = FunctionInRange types f
+  TypeInRange around types (Component ds) = DeclsInRange (around ++ types ∷ []) 0 0 ds
+  TypeInRange around types (Instance ds) = DeclsInRange (around ++ types ∷ []) 0 0 ds
+
+  -- of so many types and instances
+  pub DeclInRange : List ℕ → ℕ → ℕ → Decl → Type 0
+  DeclInRange around types instances (Entry t) = TypeInRange around types t
+  DeclInRange around types instances (Alias a) = AliasInRange around types instances a
+  DeclInRange around types instances (Import text d) = DescriptionInRange types d
+  DeclInRange around types instances (Export text d) = DescriptionInRange types d
+
+  pub DeclsInRange : List ℕ → ℕ → ℕ → Decls → Type 0
+  DeclsInRange around types instances none = Unit {0}
+  DeclsInRange around types instances (then d ds) = DeclInRange around types instances d × DeclsInRange around (types_behind types d) (instances_behind instances d) ds
+
+-- ---- in a file, whose scope has no other around it
+
+abbrev pub TypesInRange : ℕ → List Definition → Type 0
+TypesInRange types [] = Unit {0}
+TypesInRange types (d ∷ ds) = TypeInRange [] types d × TypesInRange (types + 1) ds
+
+abbrev pub FileInRange : File → Type 0
+FileInRange f = TypesInRange 0 f.types × All (λ e. e.type < length f.types) f.exports
