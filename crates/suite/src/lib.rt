@@ -15,6 +15,8 @@ mod lines;
 #[cfg(test)]
 mod names;
 #[cfg(test)]
+mod packages;
+#[cfg(test)]
 mod parts;
 #[cfg(test)]
 mod sessions;

@@ -1,0 +1,28 @@
+use Rattle.std.proofs.Common.{◌≡◌, Bool, true, false, refl, ap, sym, ◌∙◌, inr}
+use Rattle.std.specs.Global.{Vec}
+use Rattle.ctype_bin.specs.View.{file_of}
+use Rattle.ctype_bin.specs.declared.raw.RawType.{RawType}
+use Rattle.ctype_bin.specs.declared.raw.RawExport.{RawExport}
+use Rattle.wit_component.proofs.Forms.{in-form, form-in}
+use Rattle.wit_component.proofs.writing.to_raw.Goals as goal
+
+no-form : (b : Bool) → b ≡ false → b ≡ true → ⊥
+no-form b h q = absurd (cc)
+
+pub returns-then-not-branch-clause-err : goal.returns-then-not-branch-clause-err
+returns-then-not-branch-clause-err c =
+    let told = c.in_ok-is_in_form.ensures in
+    let test = c.if-not-branch.true in
+    inr (refl, λ form spelt. no-form _ test (told ∙ form-in c.args.resolve.now form))
+
+pub returns-in-Ok-clause-ok : goal.returns-in-Ok-clause-ok
+returns-in-Ok-clause-ok c =
+    let told = c.in_ok-is_in_form.ensures in
+    let test = c.if-not-branch.false in
+    record {
+      component =
+          ap (λ (types : Vec RawType). file_of types c.in-Ok.raw.exports) c.in-Ok.ensures.types
+          ∙ ap (λ (exports : Vec RawExport). file_of c.in_ok-types.types exports) c.in-Ok.ensures.exports
+          ∙ c.in_ok-types.ensures;
+      form = in-form c.args.resolve.now (sym told ∙ test);
+    }

@@ -1,0 +1,120 @@
+-- Binary.md, "Component Definitions" and "Type Definitions": a package as one component type. Each interface is an instance type and an
+-- export of an instance under its full name; before them stands an alias of each type that the interface uses of another.
+use Rattle.std.specs.Prelude.{ℕ, ◌+◌, ◌-◌, Bool, ◌&&◌, ◌==◌, nat_le, List, [], ◌∷◌, ◌++◌, flat_map, length, slice_get, take, drop, Option, None, Some}
+use Rattle.ctype_bin.specs.Raw.{Component, Instance, Decl, Entry, Alias, Export, File}
+use Rattle.ctype_bin.specs.View.{decls_of}
+use Rattle.ctype_bin.specs.declared.raw.RawAlias.TheVariants as alias
+use Rattle.ctype_bin.specs.declared.raw.RawDescription.TheVariants as described
+use Rattle.tables.specs.Tables.{type_of}
+use Rattle.tables.specs.Names.{full_name}
+use Rattle.tables.specs.declared.tables.TypeId.{TypeId}
+use Rattle.tables.specs.declared.tables.FunctionId.{FunctionId}
+use Rattle.tables.specs.declared.tables.TypeDef.{TypeDef}
+use Rattle.tables.specs.declared.tables.TypeDefKind.{TypeDefKind}
+use Rattle.tables.specs.declared.tables.TypeDefKind.TheVariants as kind
+use Rattle.tables.specs.declared.tables.TypeName.{TypeName}
+use Rattle.tables.specs.declared.tables.Definition.{Definition}
+use Rattle.tables.specs.declared.tables.Definition.TheVariants as row
+use Rattle.tables.specs.declared.tables.Interface.{Interface}
+use Rattle.tables.specs.declared.tables.Resolve.{Resolve}
+use Rattle.wit_component.specs.Rows.{Place, declarations_of, places_after}
+
+-- ---- the rows of an interface
+
+-- the place behind the last of these ids, or start
+abbrev pub behind_types : ℕ → List TypeId → ℕ
+behind_types start [] = start
+behind_types start (t ∷ ts) = behind_types (t.0 + 1) ts
+
+abbrev pub behind_functions : ℕ → List FunctionId → ℕ
+behind_functions start [] = start
+behind_functions start (f ∷ fs) = behind_functions (f.0 + 1) fs
+
+-- the place behind an interface's last row, where its rows begin at start: uses, then types, then functions
+abbrev pub end_of : ℕ → Interface → ℕ
+end_of start i = behind_functions (behind_types (behind_types start i.uses) i.types) i.functions
+
+abbrev pub rows_of : List Definition → ℕ → Interface → List Definition
+rows_of rows start i = take (end_of start i - start) (drop start rows)
+
+-- each interface's rows stand behind those of the interface before it, and no other row is there
+abbrev pub is_parted : ℕ → ℕ → List Interface → Bool
+is_parted count start [] = start == count
+is_parted count start (i ∷ is) = nat_le start (end_of start i) && (nat_le (end_of start i) count && is_parted count (end_of start i) is)
+
+-- ---- aliases of used types
+
+-- the row that a used name stands for
+abbrev pub used_by : TypeDefKind → Option TypeId
+used_by (kind.Use t) = Some t
+used_by _ = None
+
+abbrev pub used_in : Definition → Option TypeId
+used_in (row.Type d) = used_by d.kind
+used_in (row.Function f) = None
+
+abbrev pub name_of : Option TypeDef → Option TypeName
+name_of None = None
+name_of (Some d) = d.name
+
+abbrev pub name_at : List Definition → Option TypeId → Option TypeName
+name_at rows None = None
+name_at rows (Some t) = name_of (type_of (slice_get rows t.0))
+
+-- the type of this name that the instance of its interface exports
+abbrev pub instance_export : Option TypeName → List Decl
+instance_export None = []
+instance_export (Some n) = Alias (alias.InstanceExport n.interface.0 n.name) ∷ []
+
+-- a used name has an alias of the used type
+abbrev pub row_alias : List Definition → Definition → List Decl
+row_alias rows d = instance_export (name_at rows (used_in d))
+
+abbrev pub aliases_of : List Definition → List Definition → List Decl
+aliases_of rows ds = flat_map (row_alias rows) ds
+
+-- ---- interfaces
+
+-- Where an interface stands: the type index of each row of the table before it, and how many types the component type has before it.
+pub record Front : Type 0 where
+  pub indices : List ℕ
+  pub types : ℕ
+
+abbrev pub first_place : Front → Place
+first_place at = record { indices = at.indices; types = 0; used = at.types }
+
+-- an interface of these rows under this full name
+abbrev pub interface_declarations : List Definition → Front → List Definition → List ℕ → List Decl
+interface_declarations rows at ds name =
+    aliases_of rows ds
+    ++ Entry (Instance (decls_of (declarations_of (first_place at) ds)))
+    ∷ Export name (described.Instance (at.types + length (aliases_of rows ds)))
+    ∷ []
+
+abbrev pub front_after : List Definition → Front → List Definition → Front
+front_after rows at ds = record {
+  indices = (places_after (first_place at) ds).indices;
+  types = at.types + length (aliases_of rows ds) + 1;
+}
+
+-- the declarations of these interfaces, the first of which stands at this front; its rows begin at start
+abbrev pub interfaces_declared : Resolve → Front → ℕ → List Interface → List Decl
+interfaces_declared r at start [] = []
+interfaces_declared r at start (i ∷ is) =
+    interface_declarations r.definitions at (rows_of r.definitions start i) (full_name r i)
+    ++ interfaces_declared r (front_after r.definitions at (rows_of r.definitions start i)) (end_of start i) is
+
+-- nothing stands before the first interface
+abbrev pub no_front : Front
+no_front = record { indices = []; types = 0 }
+
+-- `package`
+abbrev pub package_export : List ℕ
+package_export = 112 ∷ 97 ∷ 99 ∷ 107 ∷ 97 ∷ 103 ∷ 101 ∷ []
+
+-- a package as a file: one component type, exported under the name `package`
+abbrev pub component_of : Resolve → File
+component_of r = record {
+  types = Component (decls_of (interfaces_declared r no_front 0 r.interfaces)) ∷ [];
+  exports = record { name = package_export; type = 0 } ∷ [];
+}

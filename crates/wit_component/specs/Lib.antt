@@ -1,0 +1,7 @@
+pub mod Rows
+pub mod Component
+pub mod References
+pub mod Unused
+pub mod Form
+pub mod Standing
+pub mod Reads

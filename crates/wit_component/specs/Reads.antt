@@ -1,0 +1,33 @@
+-- What is answered of a raw component.
+use Rattle.std.specs.Prelude.{◌≡◌, Bool, true, false, List, [], ◌∷◌}
+use Rattle.ctype_bin.specs.Raw.{Definition, Define, Func, Component, Instance, Decls, none, then}
+use Rattle.ctype_bin.specs.FileView.{file_view}
+use Rattle.ctype_bin.specs.declared.component.RawComponent.{RawComponent}
+use Rattle.tables.specs.declared.error.ResolveError.{ResolveError}
+use Rattle.tables.specs.declared.error.ResolveError.TheVariants as error
+
+abbrev pub is_none : Decls → Bool
+is_none none = true
+is_none (then d ds) = false
+
+abbrev pub has_no_decls : Definition → Bool
+has_no_decls (Component ds) = is_none ds
+has_no_decls (Define d) = false
+has_no_decls (Func f) = false
+has_no_decls (Instance ds) = false
+
+-- the one type of the component is a component type without declarations
+abbrev pub is_empty_package : List Definition → Bool
+is_empty_package [] = false
+is_empty_package (t ∷ []) = has_no_decls t
+is_empty_package (t ∷ u ∷ ts) = false
+
+-- Why a component is refused: 43 looks at its one type alone. The package of 44 would have to be of this component.
+abbrev pub Refuses : RawComponent → ResolveError → Type 0
+Refuses raw error.EmptyPackage = is_empty_package (file_view raw).types ≡ true
+Refuses raw error.NotThisShape = is_empty_package (file_view raw).types ≡ false
+Refuses raw error.NoMemory = Unit {0}
+Refuses raw (error.Duplicate n) = ⊥
+Refuses raw (error.Unknown n) = ⊥
+Refuses raw error.Cycle = ⊥
+Refuses raw error.Limit = ⊥

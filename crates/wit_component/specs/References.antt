@@ -1,0 +1,47 @@
+-- The types that a row is made of.
+use Rattle.std.specs.Prelude.{List, [], ◌∷◌, ◌++◌, flat_map, Option, None, Some}
+use Rattle.tables.specs.declared.tables.TypeId.{TypeId}
+use Rattle.tables.specs.declared.tables.ValType.{ValType}
+use Rattle.tables.specs.declared.tables.ValType.TheVariants as val
+use Rattle.tables.specs.declared.tables.TypeDefKind.{TypeDefKind}
+use Rattle.tables.specs.declared.tables.TypeDefKind.TheVariants as kind
+use Rattle.tables.specs.declared.tables.Parameter.{Parameter}
+use Rattle.tables.specs.declared.tables.Field.{Field}
+use Rattle.tables.specs.declared.tables.Case.{Case}
+use Rattle.tables.specs.declared.tables.Definition.{Definition}
+use Rattle.tables.specs.declared.tables.Definition.TheVariants as row
+
+abbrev pub references : ValType → List TypeId
+references (val.Primitive p) = []
+references val.String = []
+references (val.Id t) = t ∷ []
+
+abbrev pub references_if : Option ValType → List TypeId
+references_if None = []
+references_if (Some v) = references v
+
+abbrev pub field_references : Field → List TypeId
+field_references f = references f.ty
+
+abbrev pub case_references : Case → List TypeId
+case_references c = references_if c.ty
+
+abbrev pub parameter_references : Parameter → List TypeId
+parameter_references p = references p.ty
+
+-- the rows that a type is made of, from the left; a used name is made of none
+abbrev pub kind_references : TypeDefKind → List TypeId
+kind_references (kind.Use t) = []
+kind_references (kind.Alias v) = references v
+kind_references (kind.List v) = references v
+kind_references (kind.Option v) = references v
+kind_references (kind.Result ok error) = references_if ok ++ references_if error
+kind_references (kind.Tuple vs) = flat_map references vs
+kind_references (kind.Record fs) = flat_map field_references fs
+kind_references (kind.Variant cs) = flat_map case_references cs
+kind_references (kind.Enum names) = []
+kind_references (kind.Flags names) = []
+
+abbrev pub row_references : Definition → List TypeId
+row_references (row.Type d) = kind_references d.kind
+row_references (row.Function f) = flat_map parameter_references f.params ++ references_if f.result

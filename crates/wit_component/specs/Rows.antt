@@ -1,0 +1,145 @@
+-- Binary.md, "Type Definitions": the declarations of an instance type for the rows of an interface.
+use Rattle.std.specs.Prelude.{ℕ, ◌+◌, List, [], ◌∷◌, ◌++◌, map, slice_index, Option, None, Some, if◌then◌else◌}
+use Rattle.std.specs.Option.{option_map}
+use Rattle.ctype_bin.specs.Raw.{Defined, Prim, Record, Variant, ListOf, Tuple, FlagSet, Enumeration, OptionOf, ResultOf, Function as Signature, Define, Func, Decl, Entry, Alias, Export}
+use Rattle.ctype_bin.specs.declared.raw.Primitive.{Primitive as RawPrimitive}
+use Rattle.ctype_bin.specs.declared.raw.Primitive.TheVariants as raw
+use Rattle.ctype_bin.specs.declared.raw.RawValType.{RawValType}
+use Rattle.ctype_bin.specs.declared.raw.RawValType.TheVariants as valtype
+use Rattle.ctype_bin.specs.declared.raw.RawField.{RawField}
+use Rattle.ctype_bin.specs.declared.raw.RawCase.{RawCase}
+use Rattle.ctype_bin.specs.declared.raw.RawAlias.TheVariants as alias
+use Rattle.ctype_bin.specs.declared.raw.RawDescription.TheVariants as described
+use Rattle.resolve.specs.Resolves.{is_use}
+use Rattle.tables.specs.declared.tables.Primitive.{Primitive}
+use Rattle.tables.specs.declared.tables.Primitive.TheVariants as primitive
+use Rattle.tables.specs.declared.tables.ValType.{ValType}
+use Rattle.tables.specs.declared.tables.ValType.TheVariants as val
+use Rattle.tables.specs.declared.tables.TypeDefKind.{TypeDefKind}
+use Rattle.tables.specs.declared.tables.TypeDefKind.TheVariants as kind
+use Rattle.tables.specs.declared.tables.TypeName.{TypeName}
+use Rattle.tables.specs.declared.tables.Parameter.{Parameter}
+use Rattle.tables.specs.declared.tables.Field.{Field}
+use Rattle.tables.specs.declared.tables.Case.{Case}
+use Rattle.tables.specs.declared.tables.Function.{Function}
+use Rattle.tables.specs.declared.tables.Definition.{Definition}
+use Rattle.tables.specs.declared.tables.Definition.TheVariants as row
+
+-- ---- value types, over the type index of each row
+
+abbrev pub raw_primitive : Primitive → RawPrimitive
+raw_primitive primitive.Bool = raw.Bool
+raw_primitive primitive.S8 = raw.S8
+raw_primitive primitive.U8 = raw.U8
+raw_primitive primitive.S16 = raw.S16
+raw_primitive primitive.U16 = raw.U16
+raw_primitive primitive.S32 = raw.S32
+raw_primitive primitive.U32 = raw.U32
+raw_primitive primitive.S64 = raw.S64
+raw_primitive primitive.U64 = raw.U64
+raw_primitive primitive.Char = raw.Char
+
+abbrev pub valtype_of : List ℕ → ValType → RawValType
+valtype_of indices (val.Primitive p) = valtype.Primitive (raw_primitive p)
+valtype_of indices val.String = valtype.Primitive raw.String
+valtype_of indices (val.Id t) = valtype.Index (slice_index indices t.0)
+
+abbrev pub field_of : List ℕ → Field → RawField
+field_of indices f = record { label = f.name; ty = valtype_of indices f.ty }
+
+abbrev pub parameter_of : List ℕ → Parameter → RawField
+parameter_of indices p = record { label = p.name; ty = valtype_of indices p.ty }
+
+abbrev pub case_of : List ℕ → Case → RawCase
+case_of indices c = record { label = c.name; payload = option_map (valtype_of indices) c.ty }
+
+abbrev pub signature_of : List ℕ → Function → Signature
+signature_of indices f = record { params = map (parameter_of indices) f.params; outcome = option_map (valtype_of indices) f.result }
+
+-- ---- rows
+
+-- Where a row of an interface stands: the type index of each row of the table before it, how many types the instance type has before it,
+-- and the component type's index of the used type, if the row is a used name.
+pub record Place : Type 0 where
+  pub indices : List ℕ
+  pub types : ℕ
+  pub used : ℕ
+
+-- an outer alias's target: the type of the component type around, at this index
+abbrev pub outer_alias : ℕ → Decl
+outer_alias n = Alias (alias.Outer 1 n)
+
+-- how a type is defined: a used name and a new name of another named type have no definition of their own
+abbrev pub defined_of : List ℕ → TypeDefKind → Option Defined
+defined_of indices (kind.Use t) = None
+defined_of indices (kind.Alias (val.Primitive p)) = Some (Prim (raw_primitive p))
+defined_of indices (kind.Alias val.String) = Some (Prim raw.String)
+defined_of indices (kind.Alias (val.Id t)) = None
+defined_of indices (kind.List v) = Some (ListOf (valtype_of indices v))
+defined_of indices (kind.Option v) = Some (OptionOf (valtype_of indices v))
+defined_of indices (kind.Result ok error) = Some (ResultOf (option_map (valtype_of indices) ok) (option_map (valtype_of indices) error))
+defined_of indices (kind.Tuple vs) = Some (Tuple (map (valtype_of indices) vs))
+defined_of indices (kind.Record fs) = Some (Record (map (field_of indices) fs))
+defined_of indices (kind.Variant cs) = Some (Variant (map (case_of indices) cs))
+defined_of indices (kind.Enum names) = Some (Enumeration names)
+defined_of indices (kind.Flags names) = Some (FlagSet names)
+
+abbrev pub definition_if : Option Defined → List Decl
+definition_if None = []
+definition_if (Some d) = Entry (Define d) ∷ []
+
+-- what stands before a type's export: an outer alias of a used type, or its definition
+abbrev pub definition_of : Place → TypeDefKind → List Decl
+definition_of at k = if is_use k then outer_alias at.used ∷ [] else definition_if (defined_of at.indices k)
+
+-- the index of what it is: of its definition, or of the type that it is a new name of
+abbrev pub definition_index : Place → TypeDefKind → ℕ
+definition_index at (kind.Alias (val.Id t)) = slice_index at.indices t.0
+definition_index at _ = at.types
+
+-- a type with a name is exported under it, equal to its definition
+abbrev pub type_export : Option TypeName → ℕ → List Decl
+type_export None i = []
+type_export (Some n) i = Export n.name (described.TypeEqual i) ∷ []
+
+abbrev pub row_declarations : Place → Definition → List Decl
+row_declarations at (row.Type d) = definition_of at d.kind ++ type_export d.name (definition_index at d.kind)
+row_declarations at (row.Function f) = Entry (Func (signature_of at.indices f)) ∷ Export f.name (described.Function at.types) ∷ []
+
+-- A definition, an alias and an export each take a type index, and a function its definition's.
+abbrev pub defined_types : TypeDefKind → ℕ
+defined_types (kind.Alias (val.Id t)) = 0
+defined_types _ = 1
+
+abbrev pub exported_types : Option TypeName → ℕ
+exported_types None = 0
+exported_types (Some n) = 1
+
+abbrev pub row_types : Definition → ℕ
+row_types (row.Type d) = defined_types d.kind + exported_types d.name
+row_types (row.Function f) = 1
+
+-- a type with a name is referred to by the index that its export took, one without by its definition's
+abbrev pub export_offset : Option TypeName → TypeDefKind → ℕ
+export_offset None k = 0
+export_offset (Some n) k = defined_types k
+
+abbrev pub row_offset : Definition → ℕ
+row_offset (row.Type d) = export_offset d.name d.kind
+row_offset (row.Function f) = 0
+
+abbrev pub place_after : Place → Definition → Place
+place_after at d = record {
+  indices = at.indices ++ (at.types + row_offset d) ∷ [];
+  types = at.types + row_types d;
+  used = at.used + 1;
+}
+
+-- the declarations of these rows, the first of which stands at this place, and the place after them
+abbrev pub declarations_of : Place → List Definition → List Decl
+declarations_of at [] = []
+declarations_of at (d ∷ ds) = row_declarations at d ++ declarations_of (place_after at d) ds
+
+abbrev pub places_after : Place → List Definition → Place
+places_after at [] = at
+places_after at (d ∷ ds) = places_after (place_after at d) ds

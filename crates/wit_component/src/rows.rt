@@ -1,0 +1,268 @@
+//! The rows of an interface as declarations of its instance type.
+ghost use Rattle.std.specs.Prelude.{◌≡◌, ◌≤◌, ◌<◌, ◌+◌, ◌++◌, map, option_map, length, vec_len, IfOk, OnOk, OnErr};
+ghost use Rattle.ctype_bin.specs.View.{decl_view, decls_of, defined_view};
+ghost use Rattle.ctype_bin.specs.Raw.{Define, Func, Entry, Export};
+ghost use Rattle.resolve.specs.Resolves.{is_use};
+ghost use Rattle.wit_component.specs.Rows.{Place, signature_of, defined_of, definition_of, definition_index, type_export, row_declarations, outer_alias, defined_types, row_types, row_offset, place_after, declarations_of, places_after};
+
+use crate::valtypes::{
+    cases_of, fields_of, index_of, labels_of, members_of, optional_of, parameters_of,
+    raw_primitive, valtype_of,
+};
+use atoms::Label;
+use ctype_bin::{
+    ExternName, RawAlias, RawDecl, RawDefinedType, RawDescription, RawFunction, RawType,
+};
+use std::alloc::{AllocError, Global};
+use std::marker::Model;
+use tables::{Definition, Function, TypeDef, TypeDefKind, TypeName, ValType};
+
+/// Where a row of an interface stands.
+#[derive(Drop)]
+pub struct RowPlace {
+    /// The type index of each row of the table before it.
+    indices: Vec<u32>,
+    /// How many types the instance type has before it.
+    types: u32,
+    /// The component type's index of the type that it uses, if it is a used name.
+    used: u32,
+}
+
+impl Model for RowPlace {
+    ghost use Rattle.wit_component.specs.Rows.{Place};
+
+    ghost Value = { Place };
+
+    ghost view = { λ p. record { indices = p.indices.items; types = p.types; used = p.used } };
+}
+
+fn is_use(kind: &TypeDefKind) -> bool
+    ensures { result ≡ is_use kind.now }
+{
+    matches!(kind, TypeDefKind::Use(_))
+}
+
+/// The definition of a type, if it has one of its own.
+fn defined_of(
+    alloc: Global,
+    indices: &[u32],
+    kind: &TypeDefKind,
+) -> Result<Option<RawDefinedType>, AllocError>
+    ensures { IfOk result (λ d. option_map defined_view d ≡ defined_of indices.now kind.now) }
+{
+    let defined = match kind {
+        TypeDefKind::Use(_) | TypeDefKind::Alias(ValType::Id(_)) => return Ok(None),
+        TypeDefKind::Alias(ValType::Primitive(primitive)) => {
+            RawDefinedType::Primitive(raw_primitive(*primitive))
+        }
+        TypeDefKind::Alias(ValType::String) => {
+            RawDefinedType::Primitive(ctype_bin::Primitive::String)
+        }
+        TypeDefKind::List(element) => RawDefinedType::List(valtype_of(indices, *element)),
+        TypeDefKind::Option(payload) => RawDefinedType::Option(valtype_of(indices, *payload)),
+        TypeDefKind::Result(ok, error) => RawDefinedType::Result {
+            ok: optional_of(indices, *ok),
+            error: optional_of(indices, *error),
+        },
+        TypeDefKind::Tuple(types) => {
+            RawDefinedType::Tuple(members_of(alloc, indices, types.as_slice())?)
+        }
+        TypeDefKind::Record(fields) => {
+            RawDefinedType::Record(fields_of(alloc, indices, fields.as_slice())?)
+        }
+        TypeDefKind::Variant(cases) => {
+            RawDefinedType::Variant(cases_of(alloc, indices, cases.as_slice())?)
+        }
+        TypeDefKind::Enum(names) => RawDefinedType::Enum(labels_of(alloc, names.as_slice())?),
+        TypeDefKind::Flags(names) => RawDefinedType::Flags(labels_of(alloc, names.as_slice())?),
+    };
+    Ok(Some(defined))
+}
+
+/// A declaration of a type with this definition.
+#[tactic(auto, unfolding(ctype_bin::specs::View::decl_view, ctype_bin::specs::View::type_view))]
+fn definition_decl(defined: RawDefinedType) -> RawDecl
+    ensures { decl_view result ≡ Entry (Define (defined_view defined)) }
+{
+    RawDecl::Type(RawType::Defined(defined))
+}
+
+#[tactic(auto, unfolding(ctype_bin::specs::View::decl_view))]
+fn outer_alias(index: u32) -> RawDecl
+    ensures { decl_view result ≡ outer_alias index }
+{
+    RawDecl::Alias(RawAlias::Outer { count: 1, index })
+}
+
+#[tactic(auto, unfolding(ctype_bin::specs::View::decl_view))]
+fn export_decl(
+    alloc: Global,
+    name: &Label,
+    description: RawDescription,
+) -> Result<RawDecl, AllocError>
+    ensures { IfOk result (λ d. decl_view d ≡ Export name.now description) }
+{
+    let name = ExternName::Label(name.copy(alloc)?);
+    Ok(RawDecl::Export(name, description))
+}
+
+#[tactic(auto, unfolding(ctype_bin::specs::View::decl_view, ctype_bin::specs::View::type_view))]
+fn signature_decl(
+    alloc: Global,
+    indices: &[u32],
+    function: &Function,
+) -> Result<RawDecl, AllocError>
+    ensures { IfOk result (λ d. decl_view d ≡ Entry (Func (signature_of indices.now function.now))) }
+{
+    let params = parameters_of(alloc, indices, function.params.as_slice())?;
+    let result = optional_of(indices, function.result);
+    Ok(RawDecl::Type(RawType::Function(RawFunction { params, result })))
+}
+
+fn defined_types(kind: &TypeDefKind) -> u32
+    ensures value { result ≡ defined_types kind.now }
+    ensures few { result ≤ 1 }
+{
+    match kind {
+        TypeDefKind::Alias(ValType::Id(_)) => 0,
+        _ => 1,
+    }
+}
+
+/// The type indices that a row takes.
+fn row_types(row: &Definition) -> u32
+    ensures value { result ≡ row_types row.now }
+    ensures few { result ≤ 2 }
+{
+    match row {
+        Definition::Type(definition) => match definition.name {
+            Some(_) => defined_types(&definition.kind) + 1,
+            None => defined_types(&definition.kind),
+        },
+        Definition::Function(_) => 1,
+    }
+}
+
+/// How many of a row's type indices stand before the one by which it is referred to.
+fn row_offset(row: &Definition) -> u32
+    ensures value { result ≡ row_offset row.now }
+    ensures few { result ≤ 1 }
+{
+    match row {
+        Definition::Type(definition) => match definition.name {
+            Some(_) => defined_types(&definition.kind),
+            None => 0,
+        },
+        Definition::Function(_) => 0,
+    }
+}
+
+impl RowPlace {
+    /// The place of an interface's first row, whose used types begin at this index of the component type.
+    pub fn first(indices: Vec<u32>, used: u32) -> RowPlace
+        ensures { result ≡ record { indices = indices.items; types = 0; used = used } }
+    {
+        RowPlace {
+            indices,
+            types: 0,
+            used,
+        }
+    }
+
+    /// The type index of each row before it.
+    pub fn into_indices(self) -> Vec<u32>
+        ensures { result.items ≡ self.indices }
+    {
+        self.indices
+    }
+
+    /// Appends what stands before a type's export.
+    fn push_definition(
+        &self,
+        alloc: Global,
+        decls: &mut Vec<RawDecl>,
+        kind: &TypeDefKind,
+    ) -> Result<(), AllocError>
+        ensures { OnOk result (map decl_view decls.new.items ≡ map decl_view decls.old.items ++ definition_of self.now kind.now) }
+    {
+        if is_use(kind) {
+            decls.push(outer_alias(self.used))?;
+            return Ok(());
+        }
+        if let Some(defined) = defined_of(alloc, &self.indices, kind)? {
+            decls.push(definition_decl(defined))?;
+        }
+        Ok(())
+    }
+
+    /// The index of what a type is.
+    fn definition_index(&self, kind: &TypeDefKind) -> u32
+        ensures { result ≡ definition_index self.now kind.now }
+    {
+        match kind {
+            TypeDefKind::Alias(ValType::Id(id)) => index_of(&self.indices, *id),
+            _ => self.types,
+        }
+    }
+
+    /// Appends a row's declarations.
+    fn push_row(
+        &self,
+        alloc: Global,
+        decls: &mut Vec<RawDecl>,
+        row: &Definition,
+    ) -> Result<(), AllocError>
+        ensures { OnOk result (map decl_view decls.new.items ≡ map decl_view decls.old.items ++ row_declarations self.now row.now) }
+    {
+        match row {
+            Definition::Type(definition) => {
+                self.push_definition(alloc, decls, &definition.kind)?;
+                if let Some(name) = &definition.name {
+                    let index = self.definition_index(&definition.kind);
+                    let description = RawDescription::TypeEqual(index);
+                    decls.push(export_decl(alloc, &name.name, description)?)?;
+                }
+            }
+            Definition::Function(function) => {
+                decls.push(signature_decl(alloc, &self.indices, function)?)?;
+                let description = RawDescription::Function(self.types);
+                decls.push(export_decl(alloc, &function.name, description)?)?;
+            }
+        }
+        Ok(())
+    }
+
+    /// Goes on behind a row.
+    fn pass(&mut self, row: &Definition) -> Result<(), AllocError>
+        requires types { self.old.types ≤ 131070 }
+        requires used { self.old.used ≤ 262143 }
+        ensures passed { OnOk result (self.new ≡ place_after self.old row.now) }
+        ensures few { OnOk result (self.new.types ≤ self.old.types + 2) }
+    {
+        self.indices.push(self.types + row_offset(row))?;
+        self.types += row_types(row);
+        self.used += 1;
+        Ok(())
+    }
+}
+
+/// The declarations of an interface's rows, and the place behind them.
+pub fn declarations_of(
+    alloc: Global,
+    first: RowPlace,
+    rows: &[Definition],
+) -> Result<(Vec<RawDecl>, RowPlace), AllocError>
+    requires types { first.types ≡ 0 }
+    requires used { first.used ≤ 196606 }
+    requires rows { length rows.now ≤ 65535 }
+    ensures declarations { IfOk result (λ x. map decl_view x.0.items ≡ declarations_of first rows.now) }
+    ensures place { IfOk result (λ x. x.1 ≡ places_after first rows.now) }
+{
+    let mut place = first;
+    let mut decls = Vec::new(alloc);
+    for row in rows {
+        place.push_row(alloc, &mut decls, row)?;
+        place.pass(row)?;
+    }
+    Ok((decls, place))
+}

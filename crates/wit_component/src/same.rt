@@ -1,0 +1,54 @@
+//! Whether raw components are the same, and whether one is empty.
+ghost use Rattle.std.specs.Prelude.{◌≡◌, true, IfOk, map};
+ghost use Rattle.std.specs.Bool.{OnTrue};
+ghost use Rattle.ctype_bin.specs.View.{type_view};
+ghost use Rattle.ctype_bin.specs.FileView.{file_view};
+ghost use Rattle.ctype_bin.specs.File.{file};
+ghost use Rattle.ctype_bin.specs.Writing.{file_bytes};
+ghost use Rattle.wit_component.specs.Reads.{has_no_decls, is_empty_package};
+
+use ctype_bin::{RawComponent, RawType, encode, files_are_read_exactly};
+use std::alloc::{AllocError, Global};
+
+/// The shortest bytes that spell a component.
+fn spelling(alloc: Global, raw: &RawComponent) -> Result<Vec<u8>, AllocError>
+    ensures spelt { IfOk result (λ v. ∥ file.spells v.items (file_view raw.now) ∥₁) }
+    ensures exact { IfOk result (λ v. v.items ≡ file_bytes (file_view raw.now)) }
+{
+    let mut bytes = Vec::new(alloc);
+    match encode(alloc, raw, &mut bytes) {
+        Ok(()) => Ok(bytes),
+        Err(_) => Err(AllocError),
+    }
+}
+
+/// Whether two components are the same.
+pub fn is_same(alloc: Global, a: &RawComponent, b: &RawComponent) -> Result<bool, AllocError>
+    ensures same { IfOk result (λ s. OnTrue s ∥ file_view a.now ≡ file_view b.now ∥₁) }
+    ensures all { IfOk result (λ s. file_view a.now ≡ file_view b.now → s ≡ true) }
+{
+    files_are_read_exactly();
+    let first = spelling(alloc, a)?;
+    let second = spelling(alloc, b)?;
+    Ok(first.as_slice() == second.as_slice())
+}
+
+#[tactic(auto, using(ctype_bin::proofs::Views::views), unfolding(ctype_bin::specs::View::type_view))]
+fn has_no_decls(ty: &RawType) -> bool
+    ensures { result ≡ has_no_decls (type_view ty.now) }
+{
+    match ty {
+        RawType::Component(decls) => decls.as_slice().is_empty(),
+        RawType::Defined(_) | RawType::Function(_) | RawType::Instance(_) => false,
+    }
+}
+
+/// Whether the one type of the component is a component type without declarations.
+pub fn is_empty_package(raw: &RawComponent) -> bool
+    ensures { result ≡ is_empty_package (file_view raw.now).types }
+{
+    match raw.types() {
+        [ty] => has_no_decls(ty),
+        _ => false,
+    }
+}
