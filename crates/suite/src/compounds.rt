@@ -258,7 +258,7 @@ fn numbers_and_flags(rt: HostRuntime) -> Result<(), Fail> {
 #[test]
 fn faults_of_lifting(rt: HostRuntime) -> Result<(), Fail> {
     let alloc = rt.alloc();
-    let mut guest = filled(alloc, 16)?;
+    let mut guest = filled(alloc, 32)?;
     if guest.len() >= 2 {
         guest.write(0, b"\xc0\x80");
     }
@@ -270,7 +270,7 @@ fn faults_of_lifting(rt: HostRuntime) -> Result<(), Fail> {
         ),
         (
             "type t = list<u32>;",
-            [Flat::I32(20), Flat::I32(0)].as_slice(),
+            [Flat::I32(36), Flat::I32(0)].as_slice(),
             TrapKind::Bounds,
         ),
         (
@@ -311,7 +311,7 @@ fn faults_of_lifting(rt: HostRuntime) -> Result<(), Fail> {
         assert_eq!(rt; told, fault(kind, Step::Take));
     }
     let empty = package(alloc, "type t = list<u32>;")?;
-    let Ok(values) = lifted(alloc, &empty, &[Flat::I32(16), Flat::I32(0)], &guest)? else {
+    let Ok(values) = lifted(alloc, &empty, &[Flat::I32(32), Flat::I32(0)], &guest)? else {
         return Err(Fail::from("a fault"));
     };
     let [Val::List(items)] = values.as_slice() else {
