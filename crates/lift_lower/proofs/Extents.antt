@@ -15,10 +15,12 @@ use Rattle.tables.proofs.Rows.{length-closed_rows}
 use Rattle.lift_lower.specs.Shape.{IsInside}
 
 -- a type of the package has a row
+pub row-count : (r : Resolve) (table : Table) → table ≡ layouts_of r → length table.rows ≡ length r.definitions
+row-count r table is = ap (λ t. length t.rows) is ∙ length-map _ _ ∙ length-closed_rows [] r.definitions ∙ omega arith
+
 pub has-row : (r : Resolve) (table : Table) (v : ValType) → table ≡ layouts_of r → IsInside r v → IsTrue (is_below (length table.rows) v)
 has-row r table v is inside =
-    let n : length table.rows ≡ length r.definitions = ap (λ t. length t.rows) is ∙ length-map _ _ ∙ length-closed_rows [] r.definitions ∙ omega arith in
-    rw n inside
+    rw (row-count r table is) inside
 
 pub align-pos : (t : ClosedType) → 0 < align t
 align-pos t = elim (is-alignment t) [

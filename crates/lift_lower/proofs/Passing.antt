@@ -34,9 +34,9 @@ pub list-faulty : (f : ℕ → Result Value TrapKind) (m : List ℕ) (start n al
 list-faulty f m start n al sz al' sz' e1 e2 k h = rw (← e1, ← e2, h) refl
 
 -- a list stands in the block that its header tells
-pub read-list : (s t u : ClosedType) (m : List ℕ) (at start n : ℕ) → s ≡ t → s ≡ list_type u → start ≡ number_at m at w32 → n ≡ number_at m (at + 4) w32
+pub read-list : (t u : ClosedType) (m : List ℕ) (at start n : ℕ) → t ≡ list_type u → start ≡ number_at m at w32 → n ≡ number_at m (at + 4) w32
     → reading t m at ≡ list_at (reading u m) m (align u) (size u) start n
-read-list s t u m at start n same is e1 e2 = rw (← same, is, e1, e2) refl
+read-list t u m at start n is e1 e2 = rw (is, e1, e2) refl
 
 -- what stands in a block is read behind the block's test
 pub block-tells : (t : ClosedType) (m : List ℕ) (at : ℕ) → Tells (reading_block t m at) (HoldsInBlock t m at) (FaultyInBlock t m at)

@@ -6,7 +6,7 @@ use Rattle.tables.specs.Closed.{closed_type}
 use Rattle.tables.specs.Tables.{is_below, is_type}
 use Rattle.tables.specs.declared.tables.Resolve.{Resolve}
 use Rattle.tables.specs.declared.tables.ValType.{ValType}
-use Rattle.lift_lower.specs.Shape.{IsInside, IsFollowed}
+use Rattle.lift_lower.specs.Shape.{IsInside}
 use Rattle.lift_lower.specs.declared.shape.Members.{Members}
 use Rattle.lift_lower.specs.declared.shape.Members.TheVariants.{Of, Listed}
 
@@ -21,7 +21,7 @@ AreAllInside r types = list_all (is_below (length r.definitions)) types ≡ true
 
 -- members that stand in the package's table
 abbrev pub AreInside : Resolve → Members → Type 0
-AreInside r (Of ty) = IsInside r ty × IsFollowed r ty
+AreInside r (Of ty) = IsInside r ty
 AreInside r (Listed types) = AreAllInside r types.now
 
 -- types of the package

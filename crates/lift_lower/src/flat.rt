@@ -9,7 +9,7 @@ ghost use Rattle.layout.specs.Layout.{layouts_of};
 ghost use Rattle.tables.specs.Closed.{prim_of, closed_type};
 ghost use Rattle.lift_lower.specs.Gives.{Gives};
 ghost use Rattle.lift_lower.specs.Members.{AreInside, members_fields};
-ghost use Rattle.lift_lower.specs.Shape.{IsInside, IsFollowed};
+ghost use Rattle.lift_lower.specs.Shape.{IsInside};
 ghost use Rattle.lift_lower.specs.Val.{value_of};
 
 use crate::bytes::low_flags;
@@ -17,10 +17,10 @@ use crate::extent::kind_count;
 use crate::loading::{load_list, load_text};
 use crate::refusal::Refusal;
 use crate::scalar::lift_scalar;
-use crate::shape::{Members, Shape, case_payload, followed, member_type, shape_of};
+use crate::shape::{Members, case_payload, member_type, shape_of};
 use crate::val::Val;
 use canonical_abi::{Flat, TrapKind};
-use layout::Layouts;
+use layout::{Layouts, Shape};
 use std::alloc::Global;
 use tables::{Primitive, Resolve, ValType};
 
@@ -62,8 +62,7 @@ pub(crate) fn lift_at(
     ensures value { Gives value_of result (lifting (closed_type resolve.now ty) memory.now (map number_of flats.now)) }
     ensures plain { IsPlain (closed_type resolve.now ty) → result ≢ Err Refusal.NoMemory }
 {
-    let ty = followed(resolve, ty);
-    match shape_of(resolve, ty) {
+    match shape_of(resolve, layouts, ty) {
         Shape::Primitive(primitive) => lift_primitive(primitive, flats),
         Shape::String => {
             let start = low_word(flats, 0) as usize;
@@ -108,7 +107,7 @@ pub(crate) fn lift_fields(
     let mut fields = Vec::new(alloc);
     let mut used: usize = 0;
     for index in 0..count {
-        let Some(member) = member_type(resolve, members, index) else {
+        let Some(member) = member_type(resolve, layouts, members, index) else {
             unreachable!()
         };
         let rest = &flats[used..];
@@ -131,7 +130,6 @@ fn lift_variant(
 ) -> Result<Val, Refusal>
     requires laid_out { layouts.now ≡ layouts_of resolve.now }
     requires inside { IsInside resolve.now ty }
-    requires followed { IsFollowed resolve.now ty }
     requires variant { variant_type (variant_cases (closed_type resolve.now ty)) ≡ closed_type resolve.now ty }
     requires carried { length (payload_kinds (variant_cases (closed_type resolve.now ty))) < length flats.now }
     requires few { length flats.now ≤ 16 }
@@ -140,7 +138,7 @@ fn lift_variant(
     ensures plain { AllPlain (variant_cases (closed_type resolve.now ty)) → result ≢ Err Refusal.NoMemory }
 {
     let case = low_word(flats, 0);
-    let Some(payload) = case_payload(resolve, ty, case as usize) else {
+    let Some(payload) = case_payload(resolve, layouts, ty, case as usize) else {
         return Err(Refusal::Trap(TrapKind::Case));
     };
     let Some(member) = payload else {

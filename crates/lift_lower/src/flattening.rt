@@ -12,18 +12,18 @@ ghost use Rattle.tables.specs.Closed.{closed_type};
 ghost use Rattle.lift_lower.specs.Lowered.{LowersInto, LowersBy, FieldsLowerInto, FieldsLowerBy};
 ghost use Rattle.lift_lower.specs.Members.{AreInside, members_fields};
 ghost use Rattle.lift_lower.specs.Scripts.{IsDone, HasEnded};
-ghost use Rattle.lift_lower.specs.Shape.{IsInside, IsFollowed};
+ghost use Rattle.lift_lower.specs.Shape.{IsInside};
 ghost use Rattle.lift_lower.specs.Val.{value_of, variant_value};
 
 use crate::extent::kinds_of;
 use crate::scalar::{Scalar, lower_scalar};
 use crate::scalars::Flats;
-use crate::shape::{Members, Shape, case_payload, followed, member_type, shape_of};
+use crate::shape::{Members, case_payload, member_type, shape_of};
 use crate::storing::{ask_elements, store_items};
 use crate::val::Val;
 use crate::writing::put_text;
 use canonical_abi::{CoreKind, Flat, Guest, TrapKind};
-use layout::Layouts;
+use layout::{Layouts, Shape};
 use tables::{Resolve, ValType};
 
 /// Lowers a value.
@@ -47,11 +47,10 @@ fn lower_at<G: Guest>(
     ensures fault { IfErr result (λ k. HasEnded limit G.allocates (LowersBy (closed_type resolve.now ty) (value_of value.now))
         (G.memory guest.old) k (G.memory guest.new)) }
 {
-    let ty = followed(resolve, ty);
     match value {
         Val::String(text) => lower_text(limit, text.as_str(), guest, flats),
         Val::List(items) => {
-            let Shape::List(element) = shape_of(resolve, ty) else {
+            let Shape::List(element) = shape_of(resolve, layouts, ty) else {
                 unreachable!()
             };
             let items = items.as_slice();
@@ -159,7 +158,7 @@ pub(crate) fn lower_fields<G: Guest>(
         (G.memory guest.old) k (G.memory guest.new)) }
 {
     for index in 0..values.len() {
-        let Some(member) = member_type(resolve, members, index) else {
+        let Some(member) = member_type(resolve, layouts, members, index) else {
             unreachable!()
         };
         let value = &values[index];
@@ -182,7 +181,6 @@ fn lower_variant<G: Guest>(
 ) -> Result<(), TrapKind>
     requires laid_out { layouts.now ≡ layouts_of resolve.now }
     requires inside { IsInside resolve.now ty }
-    requires followed { IsFollowed resolve.now ty }
     requires variant { variant_type (variant_cases (closed_type resolve.now ty)) ≡ closed_type resolve.now ty }
     requires standard { IsStandard (closed_type resolve.now ty) }
     requires typed { HasType (variant_value case payload.now) (closed_type resolve.now ty) }
@@ -198,7 +196,7 @@ fn lower_variant<G: Guest>(
         push_joined(&kinds.as_slice()[1..], &[], flats);
         return Ok(());
     };
-    let Some(known) = case_payload(resolve, ty, case as usize) else {
+    let Some(known) = case_payload(resolve, layouts, ty, case as usize) else {
         unreachable!()
     };
     let Some(member) = known else { unreachable!() };

@@ -14,7 +14,7 @@ ghost use Rattle.tables.specs.Closed.{prim_of, closed_type};
 ghost use Rattle.lift_lower.specs.Gives.{Gives, AnswerStands};
 ghost use Rattle.lift_lower.specs.Loading.{reading_block, AreBytes};
 ghost use Rattle.lift_lower.specs.Members.{AreInside, members_fields};
-ghost use Rattle.lift_lower.specs.Shape.{IsInside, IsFollowed};
+ghost use Rattle.lift_lower.specs.Shape.{IsInside};
 ghost use Rattle.lift_lower.specs.Val.{value_of};
 
 use crate::bytes::{
@@ -23,11 +23,11 @@ use crate::bytes::{
 };
 use crate::extent::{align_of, size_of};
 use crate::refusal::Refusal;
-use crate::shape::{Members, Shape, case_payload, followed, member_type, shape_of};
+use crate::shape::{Members, case_payload, member_type, shape_of};
 use crate::text::text_in;
 use crate::val::Val;
 use canonical_abi::{Fault, Guest, Step, TrapKind};
-use layout::Layouts;
+use layout::{Layouts, Shape};
 use std::alloc::Global;
 use tables::{Primitive, Resolve, ValType};
 
@@ -102,8 +102,7 @@ pub(crate) fn load_at(
     ensures value { Gives value_of result (reading (closed_type resolve.now ty) memory.now at) }
     ensures plain { IsPlain (closed_type resolve.now ty) → result ≢ Err Refusal.NoMemory }
 {
-    let ty = followed(resolve, ty);
-    match shape_of(resolve, ty) {
+    match shape_of(resolve, layouts, ty) {
         Shape::Primitive(primitive) => load_primitive(primitive, memory, at),
         Shape::String => {
             let start = u32_at(memory, at) as usize;
@@ -187,7 +186,7 @@ pub(crate) fn load_fields(
     let mut fields = Vec::new(alloc);
     let mut end: usize = 0;
     for index in 0..count {
-        let Some(member) = member_type(resolve, members, index) else {
+        let Some(member) = member_type(resolve, layouts, members, index) else {
             unreachable!()
         };
         let place = end.next_multiple_of(align_of(resolve, layouts, member));
@@ -211,7 +210,6 @@ fn load_variant(
 ) -> Result<Val, Refusal>
     requires laid_out { layouts.now ≡ layouts_of resolve.now }
     requires inside { IsInside resolve.now ty }
-    requires followed { IsFollowed resolve.now ty }
     requires variant { variant_type (variant_cases (closed_type resolve.now ty)) ≡ closed_type resolve.now ty }
     requires counted { case_count (variant_cases (closed_type resolve.now ty)) ≡ count }
     requires fits { at + size (closed_type resolve.now ty) ≤ length memory.now }
@@ -221,7 +219,7 @@ fn load_variant(
     ensures plain { AllPlain (variant_cases (closed_type resolve.now ty)) → result ≢ Err Refusal.NoMemory }
 {
     let case = number_of_size(memory, at, discriminant_bytes(count));
-    let Some(payload) = case_payload(resolve, ty, case as usize) else {
+    let Some(payload) = case_payload(resolve, layouts, ty, case as usize) else {
         return Err(Refusal::Trap(TrapKind::Case));
     };
     let Some(member) = payload else {

@@ -15,17 +15,17 @@ ghost use Rattle.tables.specs.Closed.{closed_type};
 ghost use Rattle.lift_lower.specs.Crossing.{IsStoredAt, StoreFails};
 ghost use Rattle.lift_lower.specs.Members.{AreInside, members_fields};
 ghost use Rattle.lift_lower.specs.Scripts.{IsDone, HasEnded, GrantsBlock, AsksBlock};
-ghost use Rattle.lift_lower.specs.Shape.{IsInside, IsFollowed};
+ghost use Rattle.lift_lower.specs.Shape.{IsInside};
 ghost use Rattle.lift_lower.specs.Val.{value_of, variant_value};
 
 use crate::bytes::{discriminant_bytes, flags_bytes, test_block};
 use crate::extent::{align_of, size_of};
 use crate::scalar::Scalar;
-use crate::shape::{Members, Shape, case_payload, followed, member_type, shape_of};
+use crate::shape::{Members, case_payload, member_type, shape_of};
 use crate::val::Val;
 use crate::writing::{ask_block, put_text, write_header, write_number, write_scalar};
 use canonical_abi::{Fault, Guest, Step, Trap, TrapKind};
-use layout::Layouts;
+use layout::{Layouts, Shape};
 use tables::{Resolve, ValType};
 
 /// The most bytes that a text or a list of typed values may need.
@@ -93,11 +93,10 @@ pub(crate) fn store_at<G: Guest>(
     ensures fault { IfErr result (λ k. HasEnded limit G.allocates (Stores (closed_type resolve.now ty) at (value_of value.now))
         (G.memory guest.old) k (G.memory guest.new)) }
 {
-    let ty = followed(resolve, ty);
     match value {
         Val::String(text) => store_text(limit, text.as_str(), guest, at),
         Val::List(items) => {
-            let Shape::List(element) = shape_of(resolve, ty) else {
+            let Shape::List(element) = shape_of(resolve, layouts, ty) else {
                 unreachable!()
             };
             let items = items.as_slice();
@@ -112,7 +111,7 @@ pub(crate) fn store_at<G: Guest>(
             store_variant(resolve, layouts, limit, ty, *case, payload, guest, at)
         }
         Val::Flags(bits) => {
-            let Shape::Flags(labels) = shape_of(resolve, ty) else {
+            let Shape::Flags(labels) = shape_of(resolve, layouts, ty) else {
                 unreachable!()
             };
             write_number(guest, at, flags_bytes(labels), *bits);
@@ -261,7 +260,7 @@ pub(crate) fn store_fields<G: Guest>(
 {
     let mut end: usize = 0;
     for index in 0..values.len() {
-        let Some(member) = member_type(resolve, members, index) else {
+        let Some(member) = member_type(resolve, layouts, members, index) else {
             unreachable!()
         };
         let place = end.next_multiple_of(align_of(resolve, layouts, member));
@@ -286,7 +285,6 @@ fn store_variant<G: Guest>(
 ) -> Result<(), TrapKind>
     requires laid_out { layouts.now ≡ layouts_of resolve.now }
     requires inside { IsInside resolve.now ty }
-    requires followed { IsFollowed resolve.now ty }
     requires standard { IsStandard (closed_type resolve.now ty) }
     requires typed { HasType (variant_value case payload.now) (closed_type resolve.now ty) }
     requires room { at + size (closed_type resolve.now ty) ≤ length (G.memory guest.old).bytes }
@@ -296,14 +294,14 @@ fn store_variant<G: Guest>(
     ensures fault { IfErr result (λ k. HasEnded limit G.allocates (Stores (closed_type resolve.now ty) at (variant_value case payload.now))
         (G.memory guest.old) k (G.memory guest.new)) }
 {
-    let Shape::Variant(count) = shape_of(resolve, ty) else {
+    let Shape::Variant(count) = shape_of(resolve, layouts, ty) else {
         unreachable!()
     };
     write_number(guest, at, discriminant_bytes(count), case);
     let Some(value) = payload else {
         return Ok(());
     };
-    let Some(known) = case_payload(resolve, ty, case as usize) else {
+    let Some(known) = case_payload(resolve, layouts, ty, case as usize) else {
         unreachable!()
     };
     let Some(member) = known else { unreachable!() };

@@ -7,22 +7,22 @@ ghost use Rattle.layout.specs.Layout.{layouts_of};
 ghost use Rattle.tables.specs.Closed.{closed_type};
 ghost use Rattle.lift_lower.specs.Members.{AreInside, members_fields};
 ghost use Rattle.lift_lower.specs.Scalar.{prim_in, value_in};
-ghost use Rattle.lift_lower.specs.Shape.{HasShapeIn, IsInside, IsFollowed};
+ghost use Rattle.lift_lower.specs.Shape.{HasShapeIn, IsInside};
 ghost use Rattle.lift_lower.specs.Val.{value_of, variant_value};
 
 use crate::scalar::Scalar;
-use crate::shape::{Members, Shape, case_payload, followed, member_type, shape_of};
+use crate::shape::{Members, case_payload, member_type, shape_of};
 use crate::val::Val;
-use layout::Layouts;
+use layout::{Layouts, Shape};
 use tables::{Resolve, ValType};
 
 /// Whether a value is of a type of this package. Takes no memory of the host.
-pub fn has_type(resolve: &Resolve, _layouts: &Layouts, ty: ValType, value: &Val) -> bool
-    requires laid_out { _layouts.now ≡ layouts_of resolve.now }
+pub fn has_type(resolve: &Resolve, layouts: &Layouts, ty: ValType, value: &Val) -> bool
+    requires laid_out { layouts.now ≡ layouts_of resolve.now }
     requires inside { IsInside resolve.now ty }
     ensures { IsTrue result ↔ HasType (value_of value.now) (closed_type resolve.now ty) }
 {
-    is_of(resolve, ty, value)
+    is_of(resolve, layouts, ty, value)
 }
 
 /// Whether a scalar is of a type of this shape.
@@ -47,27 +47,27 @@ fn has_labels(bits: u32, labels: usize) -> bool
 }
 
 #[cycle(typing)]
-fn is_of(resolve: &Resolve, ty: ValType, value: &Val) -> bool
-    requires { IsInside resolve.now ty }
+fn is_of(resolve: &Resolve, layouts: &Layouts, ty: ValType, value: &Val) -> bool
+    requires laid_out { layouts.now ≡ layouts_of resolve.now }
+    requires inside { IsInside resolve.now ty }
     ensures { IsTrue result ↔ HasType (value_of value.now) (closed_type resolve.now ty) }
 {
-    let ty = followed(resolve, ty);
-    let shape = shape_of(resolve, ty);
+    let shape = shape_of(resolve, layouts, ty);
     match value {
         Val::String(_) => matches!(shape, Shape::String),
         Val::List(items) => match shape {
-            Shape::List(element) => are_of(resolve, element, items.as_slice()),
+            Shape::List(element) => are_of(resolve, layouts, element, items.as_slice()),
             _ => false,
         },
         Val::Record(fields) => match shape {
             Shape::Record(count) => {
                 let members = Members::Of(ty);
-                have_types(resolve, &members, count, fields.as_slice())
+                have_types(resolve, layouts, &members, count, fields.as_slice())
             }
             _ => false,
         },
         Val::Variant(case, payload) => match shape {
-            Shape::Variant(_) => is_of_case(resolve, ty, *case, payload),
+            Shape::Variant(_) => is_of_case(resolve, layouts, ty, *case, payload),
             _ => false,
         },
         Val::Flags(bits) => match shape {
@@ -83,12 +83,13 @@ fn is_of(resolve: &Resolve, ty: ValType, value: &Val) -> bool
 
 /// Whether all these are of one type.
 #[cycle(typing)]
-fn are_of(resolve: &Resolve, element: ValType, items: &[Val]) -> bool
-    requires { IsInside resolve.now element }
+fn are_of(resolve: &Resolve, layouts: &Layouts, element: ValType, items: &[Val]) -> bool
+    requires laid_out { layouts.now ≡ layouts_of resolve.now }
+    requires inside { IsInside resolve.now element }
     ensures { IsTrue result ↔ AllByRecursion (λ w. HasType w (closed_type resolve.now element)) (map value_of items.now) }
 {
     for item in items {
-        if !is_of(resolve, element, item) {
+        if !is_of(resolve, layouts, element, item) {
             return false;
         }
     }
@@ -97,7 +98,14 @@ fn are_of(resolve: &Resolve, element: ValType, items: &[Val]) -> bool
 
 /// Whether there are as many values as members, each of its member's type.
 #[cycle(typing)]
-pub(crate) fn have_types(resolve: &Resolve, members: &Members, count: usize, values: &[Val]) -> bool
+pub(crate) fn have_types(
+    resolve: &Resolve,
+    layouts: &Layouts,
+    members: &Members,
+    count: usize,
+    values: &[Val],
+) -> bool
+    requires laid_out { layouts.now ≡ layouts_of resolve.now }
     requires inside { AreInside resolve.now members.now }
     requires counted { field_count (members_fields resolve.now members.now) ≡ count }
     ensures { IsTrue result ↔ HaveTypes (map value_of values.now) (members_fields resolve.now members.now) }
@@ -106,10 +114,10 @@ pub(crate) fn have_types(resolve: &Resolve, members: &Members, count: usize, val
         return false;
     }
     for index in 0..count {
-        let Some(member) = member_type(resolve, members, index) else {
+        let Some(member) = member_type(resolve, layouts, members, index) else {
             unreachable!()
         };
-        if !is_of(resolve, member, &values[index]) {
+        if !is_of(resolve, layouts, member, &values[index]) {
             return false;
         }
     }
@@ -118,13 +126,19 @@ pub(crate) fn have_types(resolve: &Resolve, members: &Members, count: usize, val
 
 /// Whether this is a case of the variant, with a payload of its type where the case has one.
 #[cycle(typing)]
-fn is_of_case(resolve: &Resolve, ty: ValType, case: u32, payload: &Option<Box<Val>>) -> bool
+fn is_of_case(
+    resolve: &Resolve,
+    layouts: &Layouts,
+    ty: ValType,
+    case: u32,
+    payload: &Option<Box<Val>>,
+) -> bool
+    requires laid_out { layouts.now ≡ layouts_of resolve.now }
     requires inside { IsInside resolve.now ty }
-    requires followed { IsFollowed resolve.now ty }
     requires variant { variant_type (variant_cases (closed_type resolve.now ty)) ≡ closed_type resolve.now ty }
     ensures { IsTrue result ↔ HasType (variant_value case payload.now) (closed_type resolve.now ty) }
 {
-    let Some(known) = case_payload(resolve, ty, case as usize) else {
+    let Some(known) = case_payload(resolve, layouts, ty, case as usize) else {
         return false;
     };
     match payload {
@@ -133,7 +147,7 @@ fn is_of_case(resolve: &Resolve, ty: ValType, case: u32, payload: &Option<Box<Va
             Some(_) => false,
         },
         Some(value) => match known {
-            Some(member) => is_of(resolve, member, value),
+            Some(member) => is_of(resolve, layouts, member, value),
             None => false,
         },
     }

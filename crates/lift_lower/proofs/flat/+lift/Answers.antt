@@ -16,7 +16,7 @@ use Rattle.lift_lower.proofs.flat.+lift.Goals as goal
 
 pub lift_at-returns-in-Primitive-clause-value : goal.lift_at-returns-in-Primitive-clause-value
 lift_at-returns-in-Primitive-clause-value t c =
-    rw (← c.followed-ty.ensures.same, c.in-Primitive.ensures.shape.0) (c.lift_primitive.ensures.value c.args.memory.now)
+    rw (c.in-Primitive.ensures.shape.0) (c.lift_primitive.ensures.value c.args.memory.now)
 
 pub lift_fields-unreachable-requires : goal.lift_fields-unreachable-requires
 lift_fields-unreachable-requires t c =

@@ -1,4 +1,4 @@
-use Rattle.std.proofs.Common.{◌≡◌, suc, ◌-◌, ◌<◌, List, [], length, map, take, drop, Some, None, option_map, sym, ap, ◌∙◌, subst, arith}
+use Rattle.std.proofs.Common.{◌≡◌, suc, ◌-◌, ◌<◌, List, [], length, map, take, drop, Some, None, option_map, refl, sym, ap, ◌∙◌, subst, arith}
 use Rattle.std.proofs.lemmas.List.{length-map, get_or-map, drop_all}
 use Rattle.std.proofs.lemmas.Result.{err_from_is_err_and}
 use Rattle.std.specs.List.{AllByRecursion}
@@ -29,15 +29,15 @@ pub lower_at-unreachable-requires : goal.lower_at-unreachable-requires
 lower_at-unreachable-requires g t c =
     let r = c.args.resolve.now in
     let P : ClosedType → Type 0 = λ x. HasType (list_value (values_of (map value_of c.in-List.items.items))) x in
-    let typed = subst P (sym c.followed-ty.ensures.same) (rw (c.in-List.is, value_of-List) at c.requires.typed) in
-    not-list (closed_types r) (closed_type r c.followed-ty.result) c.shape_of.result (values_of (map value_of c.in-List.items.items)) c.shape_of.ensures.shape.0 c.in_default-shape_of.not-List typed
+    let typed = (rw (c.in-List.is, value_of-List) at c.requires.typed) in
+    not-list (closed_types r) (closed_type r c.args.ty) c.shape_of.result (values_of (map value_of c.in-List.items.items)) c.shape_of.ensures.shape.0 c.in_default-shape_of.not-List typed
 
 pub lower_at-lower_list-requires-clause-typed : goal.lower_at-lower_list-requires-clause-typed
 lower_at-lower_list-requires-clause-typed g t c =
     let r = c.args.resolve.now in
     let T = closed_type r c.args.ty in
     let u = closed_type r c.in-List-shape_of.element in
-    let e : T ≡ list_type u = sym c.followed-ty.ensures.same ∙ c.in-List-shape_of.ensures.shape.0 in
+    let e : T ≡ list_type u = c.in-List-shape_of.ensures.shape.0 in
     let P : List Value → Type 0 = λ xs. AllByRecursion (λ w. HasType w u) xs in
     let typed = is-list (map value_of c.in-List.items.items) T u e (rw (c.in-List.is, value_of-List) at c.requires.typed) in
     subst P (sym (ap (map value_of) c.as_slice-items.ensures.value)) typed
@@ -46,8 +46,8 @@ pub lower_at-lower_fields-requires : goal.lower_at-lower_fields-requires
 lower_at-lower_fields-requires g t c κs within =
     let r = c.args.resolve.now in
     let T = closed_type r c.args.ty in
-    let F = closed_type r c.followed-ty.result in
-    let same : T ≡ F = sym c.followed-ty.ensures.same in
+    let F = closed_type r c.args.ty in
+    let same : T ≡ F = refl in
     let vs = map value_of c.in-Record.fields.items in
     let P : ClosedType → Type 0 = λ x. HasType (record_value (values_of vs)) x in
     let typed : P F = subst P same (rw (c.in-Record.is, value_of-Record) at c.requires.typed) in
@@ -58,7 +58,7 @@ lower_at-lower_fields-requires g t c κs within =
     let standard = subst IsStandard (same ∙ only) c.requires.standard in
     let Q : List Value → Type 0 = λ xs. HaveTypes xs fs in
     let values = subst Q (sym (ap (map value_of) c.as_slice-fields.ensures.value)) (is-record vs F fs only typed) in
-    (omega (arith, deep, c.decreases), (within, (c.requires.laid_out, ((c.followed-ty.ensures.inside, c.followed-ty.ensures.followed), (standard.1, (values, omega (arith, wide, c.requires.room)))))))
+    (omega (arith, deep, c.decreases), (within, (c.requires.laid_out, (c.requires.inside, (standard.1, (values, omega (arith, wide, c.requires.room)))))))
 
 pub lower_at-returns-in-String-clause-ok : goal.lower_at-returns-in-String-clause-ok
 lower_at-returns-in-String-clause-ok g t c =
@@ -76,8 +76,8 @@ pub lower_at-returns-in-Record-clause-ok : goal.lower_at-returns-in-Record-claus
 lower_at-returns-in-Record-clause-ok g t c =
     let r = c.args.resolve.now in
     let T = closed_type r c.args.ty in
-    let F = closed_type r c.followed-ty.result in
-    let same : T ≡ F = sym c.followed-ty.ensures.same in
+    let F = closed_type r c.args.ty in
+    let same : T ≡ F = refl in
     let vs = map value_of c.in-Record.fields.items in
     let P : ClosedType → Type 0 = λ x. HasType (record_value (values_of vs)) x in
     let typed : P F = subst P same (rw (c.in-Record.is, value_of-Record) at c.requires.typed) in
@@ -89,8 +89,8 @@ pub lower_at-returns-in-Record-clause-fault : goal.lower_at-returns-in-Record-cl
 lower_at-returns-in-Record-clause-fault g t c =
     let r = c.args.resolve.now in
     let T = closed_type r c.args.ty in
-    let F = closed_type r c.followed-ty.result in
-    let same : T ≡ F = sym c.followed-ty.ensures.same in
+    let F = closed_type r c.args.ty in
+    let same : T ≡ F = refl in
     let vs = map value_of c.in-Record.fields.items in
     let P : ClosedType → Type 0 = λ x. HasType (record_value (values_of vs)) x in
     let typed : P F = subst P same (rw (c.in-Record.is, value_of-Record) at c.requires.typed) in

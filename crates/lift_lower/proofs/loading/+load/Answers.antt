@@ -18,14 +18,14 @@ use Rattle.lift_lower.proofs.loading.+load.Goals as goal
 pub load_at-returns-in_err-items-in-List-clause-value : goal.load_at-returns-in_err-items-in-List-clause-value
 load_at-returns-in_err-items-in-List-clause-value t c =
     let r = c.args.resolve.now in
-    let opened = read-list (closed_type r c.followed-ty.result) (closed_type r c.args.ty) (closed_type r c.in-List.element) c.args.memory.now c.args.at c.u32_at-start-in-List.result c.u32_at-count.result c.followed-ty.ensures.same c.in-List.ensures.shape.0 c.u32_at-start-in-List.ensures c.u32_at-count.ensures in
+    let opened = read-list (closed_type r c.args.ty) (closed_type r c.in-List.element) c.args.memory.now c.args.at c.u32_at-start-in-List.result c.u32_at-count.result c.in-List.ensures.shape.0 c.u32_at-start-in-List.ensures c.u32_at-count.ensures in
     let p = err_from_is_err_and c.from_residual.result c.from_residual.ensures.1 in
     rw (p.1, p.2) (fails-pass c.in_err-items-in-List.field-0.0 _ _ c.in_err-items-in-List.ensures (λ k e. opened ∙ e))
 
 pub load_at-returns-in_ok-items-in-List-clause-value : goal.load_at-returns-in_ok-items-in-List-clause-value
 load_at-returns-in_ok-items-in-List-clause-value t c =
     let r = c.args.resolve.now in
-    let opened = read-list (closed_type r c.followed-ty.result) (closed_type r c.args.ty) (closed_type r c.in-List.element) c.args.memory.now c.args.at c.u32_at-start-in-List.result c.u32_at-count.result c.followed-ty.ensures.same c.in-List.ensures.shape.0 c.u32_at-start-in-List.ensures c.u32_at-count.ensures in
+    let opened = read-list (closed_type r c.args.ty) (closed_type r c.in-List.element) c.args.memory.now c.args.at c.u32_at-start-in-List.result c.u32_at-count.result c.in-List.ensures.shape.0 c.u32_at-start-in-List.ensures c.u32_at-count.ensures in
     rw value_of-List (opened ∙ c.in_ok-items-in-List.ensures)
 
 pub load_list-returns-in_err-item : goal.load_list-returns-in_err-item

@@ -1,19 +1,11 @@
-use Rattle.std.proofs.Common.{◌∙◌, sym, ap, arith}
-use Rattle.canonical_abi.specs.Types.{variant_cases, nth_case}
-use Rattle.tables.specs.Closed.{closed_types}
-use Rattle.lift_lower.proofs.ShapeLemmas.{row-at, closed-of, later-case}
+use Rattle.lift_lower.proofs.Extents.{has-row}
+use Rattle.lift_lower.proofs.ShapeLemmas.{inside-told}
 use Rattle.lift_lower.proofs.shape.case_payload.Goals as goal
 
-pub returns-in-Id-clause-found : goal.returns-in-Id-clause-found
-returns-in-Id-clause-found c =
-    let r = c.args.resolve.now in
-    let d = c.index-as_slice-id.result in
-    let at = row-at r c.args.ty c.in-Id.id c.as_slice.result.now d c.requires.inside c.in-Id.is c.as_slice.ensures c.index-as_slice-id.is in
-    c.definition_case.ensures.found (closed_types r) ∙ ap (λ t. nth_case (variant_cases t) c.args.index) (sym (closed-of r c.args.ty c.in-Id.id d c.in-Id.is at))
+pub case_info-requires : goal.case_info-requires
+case_info-requires c = has-row c.args._resolve.now c.args.layouts.now c.args.ty c.requires.laid_out c.requires.inside
 
-pub returns-in-Id-clause-inside : goal.returns-in-Id-clause-inside
-returns-in-Id-clause-inside c =
-    let r = c.args.resolve.now in
-    let d = c.index-as_slice-id.result in
-    let at = row-at r c.args.ty c.in-Id.id c.as_slice.result.now d c.requires.inside c.in-Id.is c.as_slice.ensures c.index-as_slice-id.is in
-    later-case r c.in-Id.id.0 c.definition_case.result (omega (arith, at.in_range)) (c.definition_case.ensures.below c.in-Id.id.0 at.below)
+pub returns-clause-inside : goal.returns-clause-inside
+returns-clause-inside c =
+    let r = c.args._resolve.now in
+    inside-told r c.args.layouts.now c.in_ok-case_info.field-0.payload c.requires.laid_out (c.in_ok-case_info.ensures r c.requires.laid_out).2

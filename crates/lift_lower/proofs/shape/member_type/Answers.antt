@@ -7,4 +7,4 @@ pub returns-in-Listed-clause-found : goal.returns-in-Listed-clause-found
 returns-in-Listed-clause-found c = rw (c.type_at.ensures, c.in-Listed.is) (sym (field-Tuple (closed_types c.args.resolve.now) c.in-Listed.types.now c.args.index))
 
 pub returns-in-Listed-clause-inside : goal.returns-in-Listed-clause-inside
-returns-in-Listed-clause-inside c = rw c.type_at.ensures (below-Tuple (length c.args.resolve.now.definitions) c.in-Listed.types.now c.args.index (rw c.in-Listed.is at c.requires))
+returns-in-Listed-clause-inside c = rw c.type_at.ensures (below-Tuple (length c.args.resolve.now.definitions) c.in-Listed.types.now c.args.index (rw c.in-Listed.is at c.requires.inside))

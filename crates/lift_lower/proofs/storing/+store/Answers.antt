@@ -36,15 +36,15 @@ pub store_at-unreachable-requires : goal.store_at-unreachable-requires
 store_at-unreachable-requires g t c =
     let r = c.args.resolve.now in
     let P : ClosedType → Type 0 = λ x. HasType (list_value (values_of (map value_of c.in-List.items.items))) x in
-    let typed = subst P (sym c.followed-ty.ensures.same) (rw (c.in-List.is, value_of-List) at c.requires.typed) in
-    not-list (closed_types r) (closed_type r c.followed-ty.result) c.shape_of.result (values_of (map value_of c.in-List.items.items)) c.shape_of.ensures.shape.0 c.in_default-shape_of.not-List typed
+    let typed = (rw (c.in-List.is, value_of-List) at c.requires.typed) in
+    not-list (closed_types r) (closed_type r c.args.ty) c.shape_of.result (values_of (map value_of c.in-List.items.items)) c.shape_of.ensures.shape.0 c.in_default-shape_of.not-List typed
 
 pub store_at-store_list-requires : goal.store_at-store_list-requires
 store_at-store_list-requires g t c κs within =
     let r = c.args.resolve.now in
     let T = closed_type r c.args.ty in
     let u = closed_type r c.in-List-shape_of.element in
-    let e : T ≡ list_type u = sym c.followed-ty.ensures.same ∙ c.in-List-shape_of.ensures.shape.0 in
+    let e : T ≡ list_type u = c.in-List-shape_of.ensures.shape.0 in
     let deep : depth T ≡ suc (depth u) = ap depth e in
     let wide : size T ≡ 8 = ap size e in
     let P : List Value → Type 0 = λ xs. AllByRecursion (λ w. HasType w u) xs in
@@ -56,8 +56,8 @@ pub store_at-store_fields-requires : goal.store_at-store_fields-requires
 store_at-store_fields-requires g t c κs within =
     let r = c.args.resolve.now in
     let T = closed_type r c.args.ty in
-    let F = closed_type r c.followed-ty.result in
-    let same : T ≡ F = sym c.followed-ty.ensures.same in
+    let F = closed_type r c.args.ty in
+    let same : T ≡ F = refl in
     let vs = map value_of c.in-Record.fields.items in
     let P : ClosedType → Type 0 = λ x. HasType (record_value (values_of vs)) x in
     let typed : P F = subst P same (rw (c.in-Record.is, value_of-Record) at c.requires.typed) in
@@ -68,14 +68,14 @@ store_at-store_fields-requires g t c κs within =
     let standard = subst IsStandard (same ∙ only) c.requires.standard in
     let Q : List Value → Type 0 = λ xs. HaveTypes xs fs in
     let values = subst Q (sym (ap (map value_of) c.as_slice-fields.ensures.value)) (is-record vs F fs only typed) in
-    (omega (arith, deep, c.decreases), (within, (c.requires.laid_out, ((c.followed-ty.ensures.inside, c.followed-ty.ensures.followed), (standard.1, (values, (omega (arith, wide, fields-fit fs, c.requires.room), omega (arith, wide, fields-fit fs, c.requires.small))))))))
+    (omega (arith, deep, c.decreases), (within, (c.requires.laid_out, (c.requires.inside, (standard.1, (values, (omega (arith, wide, fields-fit fs, c.requires.room), omega (arith, wide, fields-fit fs, c.requires.small))))))))
 
 pub store_at-unreachable-requires-in_default-shape_of-2 : goal.store_at-unreachable-requires-in_default-shape_of-2
 store_at-unreachable-requires-in_default-shape_of-2 g t c =
     let r = c.args.resolve.now in
     let P : ClosedType → Type 0 = λ x. HasType (flags_value c.in-Flags.bits) x in
-    let typed = subst P (sym c.followed-ty.ensures.same) (rw (c.in-Flags.is, value_of-Flags) at c.requires.typed) in
-    not-flags (closed_types r) (closed_type r c.followed-ty.result) c.shape_of-in-Flags.result c.in-Flags.bits c.shape_of-in-Flags.ensures.shape.0 c.in_default-shape_of-2.not-Flags typed
+    let typed = (rw (c.in-Flags.is, value_of-Flags) at c.requires.typed) in
+    not-flags (closed_types r) (closed_type r c.args.ty) c.shape_of-in-Flags.result c.in-Flags.bits c.shape_of-in-Flags.ensures.shape.0 c.in_default-shape_of-2.not-Flags typed
 
 pub store_at-write_scalar-requires : goal.store_at-write_scalar-requires
 store_at-write_scalar-requires g t c =
@@ -101,8 +101,8 @@ pub store_at-returns-in-Record-clause-ok : goal.store_at-returns-in-Record-claus
 store_at-returns-in-Record-clause-ok g t c =
     let r = c.args.resolve.now in
     let T = closed_type r c.args.ty in
-    let F = closed_type r c.followed-ty.result in
-    let same : T ≡ F = sym c.followed-ty.ensures.same in
+    let F = closed_type r c.args.ty in
+    let same : T ≡ F = refl in
     let vs = map value_of c.in-Record.fields.items in
     let P : ClosedType → Type 0 = λ x. HasType (record_value (values_of vs)) x in
     let typed : P F = subst P same (rw (c.in-Record.is, value_of-Record) at c.requires.typed) in
@@ -116,8 +116,8 @@ pub store_at-returns-in-Record-clause-fault : goal.store_at-returns-in-Record-cl
 store_at-returns-in-Record-clause-fault g t c =
     let r = c.args.resolve.now in
     let T = closed_type r c.args.ty in
-    let F = closed_type r c.followed-ty.result in
-    let same : T ≡ F = sym c.followed-ty.ensures.same in
+    let F = closed_type r c.args.ty in
+    let same : T ≡ F = refl in
     let vs = map value_of c.in-Record.fields.items in
     let P : ClosedType → Type 0 = λ x. HasType (record_value (values_of vs)) x in
     let typed : P F = subst P same (rw (c.in-Record.is, value_of-Record) at c.requires.typed) in
@@ -132,7 +132,7 @@ store_at-returns-in-Flags-shape_of-clause-ok g t c =
     let r = c.args.resolve.now in
     let n = c.in-Flags-shape_of.labels in
     let bits = c.in-Flags.bits in
-    let e : closed_type r c.args.ty ≡ flags_type n = sym c.followed-ty.ensures.same ∙ c.in-Flags-shape_of.ensures.shape.0 in
+    let e : closed_type r c.args.ty ≡ flags_type n = c.in-Flags-shape_of.ensures.shape.0 in
     let P : ClosedType → Type 0 = λ x. HasType (flags_value bits) x in
     let few = typed-flags n bits (subst P e (rw (c.in-Flags.is, value_of-Flags) at c.requires.typed)) in
     let old = g.G.Guest.memory c.args.guest.now in

@@ -74,14 +74,14 @@ have_types-returns t c =
 pub is_of-returns-in-String-matches : goal.is_of-returns-in-String-matches
 is_of-returns-in-String-matches t c =
     let r = c.args.resolve.now in
-    rw (c.in-String.is, value_of-String, ← c.followed-ty.ensures.same)
-    (λ yes. string-is c.in-String.field-0.bytes.items (closed_type r c.followed-ty.result) c.in-String-matches.ensures.shape.0 (IsUtf8-string_bytes c.in-String.field-0), λ typed. refl)
+    rw (c.in-String.is, value_of-String)
+    (λ yes. string-is c.in-String.field-0.bytes.items (closed_type r c.args.ty) c.in-String-matches.ensures.shape.0 (IsUtf8-string_bytes c.in-String.field-0), λ typed. refl)
 
 pub is_of-returns-in_default-matches : goal.is_of-returns-in_default-matches
 is_of-returns-in_default-matches t c =
     let r = c.args.resolve.now in
-    rw (c.in-String.is, value_of-String, ← c.followed-ty.ensures.same)
-    (λ no. cc, λ typed. absurd (not-string (closed_types r) (closed_type r c.followed-ty.result) c.shape_of-shape.result c.in-String.field-0.bytes.items c.shape_of-shape.ensures.shape.0 c.in_default-matches.not-String typed))
+    rw (c.in-String.is, value_of-String)
+    (λ no. cc, λ typed. absurd (not-string (closed_types r) (closed_type r c.args.ty) c.shape_of-shape.result c.in-String.field-0.bytes.items c.shape_of-shape.ensures.shape.0 c.in_default-matches.not-String typed))
 
 pub is_of-returns-in-List-shape : goal.is_of-returns-in-List-shape
 is_of-returns-in-List-shape t c =
@@ -90,26 +90,26 @@ is_of-returns-in-List-shape t c =
     let u = closed_type r c.in-List-shape.element in
     let P : List Value → Type 0 = λ xs. AllByRecursion (λ w. HasType w u) xs in
     let same = ap (map value_of) c.as_slice.ensures.value in
-    rw (c.in-List.is, value_of-List, ← c.followed-ty.ensures.same) (
-      λ yes. list-is vs (closed_type r c.followed-ty.result) u c.in-List-shape.ensures.shape.0 (subst P same (c.are_of.ensures.0 yes)),
-      λ typed. c.are_of.ensures.1 (subst P (sym same) (is-list vs (closed_type r c.followed-ty.result) u c.in-List-shape.ensures.shape.0 typed)),
+    rw (c.in-List.is, value_of-List) (
+      λ yes. list-is vs (closed_type r c.args.ty) u c.in-List-shape.ensures.shape.0 (subst P same (c.are_of.ensures.0 yes)),
+      λ typed. c.are_of.ensures.1 (subst P (sym same) (is-list vs (closed_type r c.args.ty) u c.in-List-shape.ensures.shape.0 typed)),
     )
 
 pub is_of-returns-in_default-shape : goal.is_of-returns-in_default-shape
 is_of-returns-in_default-shape t c =
     let r = c.args.resolve.now in
-    rw (c.in-List.is, value_of-List, ← c.followed-ty.ensures.same)
-    (λ no. cc, λ typed. absurd (not-list (closed_types r) (closed_type r c.followed-ty.result) c.shape_of-shape.result (values_of (map value_of c.in-List.items.items)) c.shape_of-shape.ensures.shape.0 c.in_default-shape.not-List typed))
+    rw (c.in-List.is, value_of-List)
+    (λ no. cc, λ typed. absurd (not-list (closed_types r) (closed_type r c.args.ty) c.shape_of-shape.result (values_of (map value_of c.in-List.items.items)) c.shape_of-shape.ensures.shape.0 c.in_default-shape.not-List typed))
 
 pub is_of-returns-in-Record-shape : goal.is_of-returns-in-Record-shape
 is_of-returns-in-Record-shape t c =
     let r = c.args.resolve.now in
     let vs = map value_of c.in-Record.fields.items in
-    let T = closed_type r c.followed-ty.result in
+    let T = closed_type r c.args.ty in
     let shaped = c.in-Record-shape.ensures.shape.0 in
     let P : List Value → Type 0 = λ xs. HaveTypes xs (record_fields T) in
     let same = ap (map value_of) c.as_slice-in-Record-shape.ensures.value in
-    rw (c.in-Record.is, value_of-Record, ← c.followed-ty.ensures.same) (
+    rw (c.in-Record.is, value_of-Record) (
       λ yes. record-is vs T shaped.0 shaped.1 (subst P same (c.have_types.ensures.0 yes)),
       λ typed. c.have_types.ensures.1 (subst P (sym same) (is-record vs T shaped.0 shaped.1 typed)),
     )
@@ -117,19 +117,19 @@ is_of-returns-in-Record-shape t c =
 pub is_of-returns-in_default-shape-2 : goal.is_of-returns-in_default-shape-2
 is_of-returns-in_default-shape-2 t c =
     let r = c.args.resolve.now in
-    rw (c.in-Record.is, value_of-Record, ← c.followed-ty.ensures.same)
-    (λ no. cc, λ typed. absurd (not-record (closed_types r) (closed_type r c.followed-ty.result) c.shape_of-shape.result (values_of (map value_of c.in-Record.fields.items)) c.shape_of-shape.ensures.shape.0 c.in_default-shape-2.not-Record typed))
+    rw (c.in-Record.is, value_of-Record)
+    (λ no. cc, λ typed. absurd (not-record (closed_types r) (closed_type r c.args.ty) c.shape_of-shape.result (values_of (map value_of c.in-Record.fields.items)) c.shape_of-shape.ensures.shape.0 c.in_default-shape-2.not-Record typed))
 
 pub is_of-returns-in_default-shape-4 : goal.is_of-returns-in_default-shape-4
 is_of-returns-in_default-shape-4 t c =
     let r = c.args.resolve.now in
-    rw (c.in-Flags.is, value_of-Flags, ← c.followed-ty.ensures.same)
-    (λ no. cc, λ typed. absurd (not-flags (closed_types r) (closed_type r c.followed-ty.result) c.shape_of-shape.result c.in-Flags.bits c.shape_of-shape.ensures.shape.0 c.in_default-shape-4.not-Flags typed))
+    rw (c.in-Flags.is, value_of-Flags)
+    (λ no. cc, λ typed. absurd (not-flags (closed_types r) (closed_type r c.args.ty) c.shape_of-shape.result c.in-Flags.bits c.shape_of-shape.ensures.shape.0 c.in_default-shape-4.not-Flags typed))
 
 pub is_of-returns-in-Some : goal.is_of-returns-in-Some
 is_of-returns-in-Some t c =
     let r = c.args.resolve.now in
-    rw (← c.followed-ty.ensures.same, ← c.in-Some.ensures.value) (c.scalar_is_of.ensures (closed_types r) (closed_type r c.followed-ty.result) c.shape_of-shape.ensures.shape.0)
+    rw (← c.in-Some.ensures.value) (c.scalar_is_of.ensures (closed_types r) (closed_type r c.args.ty) c.shape_of-shape.ensures.shape.0)
 
 pub is_of_case-returns-in_default : goal.is_of_case-returns-in_default
 is_of_case-returns-in_default t c =
