@@ -7,3 +7,4 @@ pub mod Fronts
 pub mod Postfix
 pub mod OneReading
 pub mod Naming
+pub mod Found

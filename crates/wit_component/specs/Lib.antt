@@ -6,3 +6,4 @@ pub mod Form
 pub mod Naming
 pub mod Standing
 pub mod Reads
+pub mod Reading
