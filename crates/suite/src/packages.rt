@@ -183,3 +183,54 @@ fn other_components_are_refused(rt: HostRuntime) -> Result<(), Fail> {
     )?;
     Ok(())
 }
+
+/// `a:b/c` and `a:b/C`, instances without declarations.
+const TWICE: [u8; 26] = [
+    0x01, 0x42, 0x00, 0x04, 0x00, 0x05, 0x61, 0x3a, 0x62, 0x2f, 0x63, 0x05, 0x00, 0x01, 0x42, 0x00,
+    0x04, 0x00, 0x05, 0x61, 0x3a, 0x62, 0x2f, 0x43, 0x05, 0x01,
+];
+
+#[test]
+fn repeated_names_are_refused(rt: HostRuntime) -> Result<(), Fail> {
+    let alloc = rt.alloc();
+    // `record r { a-b: u8, A-b: u8 }`
+    let fields = [
+        0x01, 0x72, 0x02, 0x03, 0x61, 0x2d, 0x62, 0x7d, 0x03, 0x41, 0x2d, 0x62, 0x7d, 0x04, 0x00,
+        0x01, 0x72, 0x03, 0x00, 0x00,
+    ];
+    let refused = interface_of(alloc, 2, &fields)?;
+    assert_refused(&rt, alloc, &refused, "error 40 duplicate A-b")?;
+    // `type t = u8;` and an enum of that name; its labels stand before its name.
+    let members = [
+        0x01, 0x7d, 0x04, 0x00, 0x01, 0x74, 0x03, 0x00, 0x00, 0x01, 0x6d, 0x02, 0x01, 0x61, 0x01,
+        0x41, 0x04, 0x00, 0x01, 0x54, 0x03, 0x00, 0x02,
+    ];
+    let refused = interface_of(alloc, 4, &members)?;
+    assert_refused(&rt, alloc, &refused, "error 40 duplicate A")?;
+    // `type t = u8; t: func();`
+    let function = [
+        0x01, 0x7d, 0x04, 0x00, 0x01, 0x74, 0x03, 0x00, 0x00, 0x01, 0x40, 0x00, 0x01, 0x00, 0x04,
+        0x00, 0x01, 0x74, 0x01, 0x02,
+    ];
+    let refused = interface_of(alloc, 4, &function)?;
+    assert_refused(&rt, alloc, &refused, "error 40 duplicate t")?;
+    let refused = file_of(alloc, 4, &TWICE)?;
+    assert_refused(&rt, alloc, &refused, "error 40 duplicate C")?;
+    // Names of two interfaces stand in two scopes, as a parameter's and a function's do.
+    let apart =
+        "package a:b; interface c { type t = u8; f: func(f: t, t: u8); } interface d { type t = u8; }";
+    assert_kept(&rt, alloc, apart)?;
+    Ok(())
+}
+
+#[test]
+fn the_shape_is_tested_before_names(rt: HostRuntime) -> Result<(), Fail> {
+    let alloc = rt.alloc();
+    // A function before a type, and an enum of the labels `a` and `A`.
+    let decls = [
+        0x01, 0x40, 0x00, 0x01, 0x00, 0x04, 0x00, 0x01, 0x66, 0x01, 0x00, 0x01, 0x6d, 0x02, 0x01,
+        0x61, 0x01, 0x41, 0x04, 0x00, 0x01, 0x74, 0x03, 0x00, 0x01,
+    ];
+    assert_refused(&rt, alloc, &interface_of(alloc, 4, &decls)?, SHAPE)?;
+    Ok(())
+}

@@ -6,3 +6,5 @@ pub mod Forms
 pub mod Fronts
 pub mod Postfix
 pub mod OneReading
+pub mod Naming
+pub mod Found

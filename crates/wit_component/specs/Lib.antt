@@ -3,5 +3,7 @@ pub mod Component
 pub mod References
 pub mod Unused
 pub mod Form
+pub mod Naming
 pub mod Standing
 pub mod Reads
+pub mod Reading

@@ -5,6 +5,9 @@ use Rattle.ctype_bin.specs.FileView.{file_view}
 use Rattle.ctype_bin.specs.declared.component.RawComponent.{RawComponent}
 use Rattle.tables.specs.declared.error.ResolveError.{ResolveError}
 use Rattle.tables.specs.declared.error.ResolveError.TheVariants as error
+use Rattle.tables.specs.declared.tables.Resolve.{Resolve}
+use Rattle.wit_component.specs.Standing.{Stands}
+use Rattle.wit_component.specs.Naming.{Repeats}
 
 abbrev pub is_none : Decls → Bool
 is_none none = true
@@ -22,12 +25,13 @@ is_empty_package [] = false
 is_empty_package (t ∷ []) = has_no_decls t
 is_empty_package (t ∷ u ∷ ts) = false
 
--- Why a component is refused: 43 looks at its one type alone. The package of 44 would have to be of this component.
+-- Why a component is refused: 43 looks at its one type alone. The package of 44 would have to be of this component. A name is told as one
+-- that stands twice only of a package whose component this is.
 abbrev pub Refuses : RawComponent → ResolveError → Type 0
 Refuses raw error.EmptyPackage = is_empty_package (file_view raw).types ≡ true
 Refuses raw error.NotThisShape = is_empty_package (file_view raw).types ≡ false
 Refuses raw error.NoMemory = Unit {0}
-Refuses raw (error.Duplicate n) = ⊥
+Refuses raw (error.Duplicate n) = ∥ ((r : Resolve) × Stands raw r × Repeats r n) ∥₁
 Refuses raw (error.Unknown n) = ⊥
 Refuses raw error.Cycle = ⊥
 Refuses raw error.Limit = ⊥

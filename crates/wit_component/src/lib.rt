@@ -1,11 +1,12 @@
 //! A package as a component type binary: its tables to a raw component, and back.
 //!
 //! Each interface of a package is an instance type in one component type, as `wit-component` writes them. It
-//! stands on `tables`, `ctype_bin` and `atoms`, and on the definitions of `resolve`.
+//! stands on `tables`, `ctype_bin` and `atoms`, and on `Scope` and the definitions of `resolve`.
 #![tactic(auto)]
 
 mod candidate;
 mod component;
+mod distinct;
 mod form;
 mod from_component;
 mod interfaces;

@@ -1,4 +1,7 @@
 //! Types with indices as types of the table.
+ghost use Rattle.std.specs.Prelude.{◌≡◌, Some, IfOk};
+ghost use Rattle.ctype_bin.specs.View.{defined_view};
+ghost use Rattle.wit_component.specs.Reading.{Reads, all_found, primitive_type, row_at, val_type, optional_type, field_read, parameter_read, case_read, kind_of};
 
 use crate::unread::Unread;
 use atoms::Label;
@@ -6,7 +9,9 @@ use ctype_bin::{RawCase, RawDefinedType, RawField, RawValType};
 use std::alloc::{AllocError, Global};
 use tables::{Case, Field, Parameter, Primitive, Sequence, TypeDefKind, TypeId, ValType};
 
-fn primitive_type(primitive: ctype_bin::Primitive) -> ValType {
+fn primitive_type(primitive: ctype_bin::Primitive) -> ValType
+    ensures { result ≡ primitive_type primitive }
+{
     match primitive {
         ctype_bin::Primitive::Bool => ValType::Primitive(Primitive::Bool),
         ctype_bin::Primitive::S8 => ValType::Primitive(Primitive::S8),
@@ -23,14 +28,18 @@ fn primitive_type(primitive: ctype_bin::Primitive) -> ValType {
 }
 
 /// The row of a type index, if it has one.
-pub fn row_at(rows: &[Option<TypeId>], index: u32) -> Result<TypeId, Unread> {
+pub fn row_at(rows: &[Option<TypeId>], index: u32) -> Result<TypeId, Unread>
+    ensures { Reads (row_at rows.now index) result }
+{
     match rows.get(index as usize) {
         Some(Some(id)) => Ok(*id),
         _ => Err(Unread::NotThisShape),
     }
 }
 
-fn val_type(rows: &[Option<TypeId>], ty: RawValType) -> Result<ValType, Unread> {
+fn val_type(rows: &[Option<TypeId>], ty: RawValType) -> Result<ValType, Unread>
+    ensures { Reads (val_type rows.now ty) result }
+{
     match ty {
         RawValType::Primitive(primitive) => Ok(primitive_type(primitive)),
         RawValType::Index(index) => Ok(ValType::Id(row_at(rows, index)?)),
@@ -40,7 +49,9 @@ fn val_type(rows: &[Option<TypeId>], ty: RawValType) -> Result<ValType, Unread> 
 pub fn optional_type(
     rows: &[Option<TypeId>],
     ty: Option<RawValType>,
-) -> Result<Option<ValType>, Unread> {
+) -> Result<Option<ValType>, Unread>
+    ensures { Reads (optional_type rows.now ty) result }
+{
     match ty {
         Some(ty) => Ok(Some(val_type(rows, ty)?)),
         None => Ok(None),
@@ -51,7 +62,9 @@ fn members(
     alloc: Global,
     rows: &[Option<TypeId>],
     types: &[RawValType],
-) -> Result<Sequence<ValType>, Unread> {
+) -> Result<Sequence<ValType>, Unread>
+    ensures { Reads (all_found (val_type rows.now) types.now) result }
+{
     let mut members = Vec::new(alloc);
     for ty in types {
         members.push(val_type(rows, *ty)?)?;
@@ -63,7 +76,9 @@ fn fields(
     alloc: Global,
     rows: &[Option<TypeId>],
     raw: &[RawField],
-) -> Result<Sequence<Field>, Unread> {
+) -> Result<Sequence<Field>, Unread>
+    ensures { Reads (all_found (field_read rows.now) raw.now) result }
+{
     let mut fields = Vec::new(alloc);
     for field in raw {
         fields.push(Field {
@@ -78,7 +93,9 @@ pub fn parameters(
     alloc: Global,
     rows: &[Option<TypeId>],
     raw: &[RawField],
-) -> Result<Sequence<Parameter>, Unread> {
+) -> Result<Sequence<Parameter>, Unread>
+    ensures { Reads (all_found (parameter_read rows.now) raw.now) result }
+{
     let mut params = Vec::new(alloc);
     for param in raw {
         params.push(Parameter {
@@ -89,11 +106,9 @@ pub fn parameters(
     Ok(Sequence::new(params))
 }
 
-fn cases(
-    alloc: Global,
-    rows: &[Option<TypeId>],
-    raw: &[RawCase],
-) -> Result<Sequence<Case>, Unread> {
+fn cases(alloc: Global, rows: &[Option<TypeId>], raw: &[RawCase]) -> Result<Sequence<Case>, Unread>
+    ensures { Reads (all_found (case_read rows.now) raw.now) result }
+{
     let mut cases = Vec::new(alloc);
     for case in raw {
         cases.push(Case {
@@ -104,7 +119,9 @@ fn cases(
     Ok(Sequence::new(cases))
 }
 
-fn labels(alloc: Global, raw: &[Label]) -> Result<Sequence<Label>, AllocError> {
+fn labels(alloc: Global, raw: &[Label]) -> Result<Sequence<Label>, AllocError>
+    ensures { IfOk result (λ names. names ≡ raw.now) }
+{
     let mut labels = Vec::new(alloc);
     for label in raw {
         labels.push(label.copy(alloc)?)?;
@@ -117,7 +134,9 @@ pub fn kind_of(
     alloc: Global,
     rows: &[Option<TypeId>],
     defined: &RawDefinedType,
-) -> Result<TypeDefKind, Unread> {
+) -> Result<TypeDefKind, Unread>
+    ensures { Reads (kind_of rows.now (defined_view defined.now)) result }
+{
     match defined {
         RawDefinedType::Primitive(primitive) => Ok(TypeDefKind::Alias(primitive_type(*primitive))),
         RawDefinedType::Record(raw) => Ok(TypeDefKind::Record(fields(alloc, rows, raw)?)),
