@@ -279,16 +279,6 @@ fn faults_of_lifting(rt: HostRuntime) -> Result<(), Fail> {
             TrapKind::Utf8,
         ),
         (
-            "type t = string;",
-            [Flat::I32(4294967295), Flat::I32(1)].as_slice(),
-            TrapKind::Bounds,
-        ),
-        (
-            "type t = list<u64>;",
-            [Flat::I32(8), Flat::I32(536870912)].as_slice(),
-            TrapKind::Bounds,
-        ),
-        (
             "type t = char;",
             [Flat::I32(0xd800)].as_slice(),
             TrapKind::Char,
@@ -318,6 +308,29 @@ fn faults_of_lifting(rt: HostRuntime) -> Result<(), Fail> {
         return Err(Fail::from("no list"));
     };
     assert!(rt; items.is_empty());
+    Ok(())
+}
+
+#[test]
+fn ends_past_32_bits(rt: HostRuntime) -> Result<(), Fail> {
+    let alloc = rt.alloc();
+    let guest = filled(alloc, 16)?;
+    for (definition, flats) in [
+        (
+            "type t = string;",
+            [Flat::I32(4294967295), Flat::I32(1)].as_slice(),
+        ),
+        (
+            "type t = list<u64>;",
+            [Flat::I32(8), Flat::I32(536870912)].as_slice(),
+        ),
+    ] {
+        let package = package(alloc, definition)?;
+        let Err(told) = lifted(alloc, &package, flats, &guest)? else {
+            return Err(Fail::from("no fault"));
+        };
+        assert_eq!(rt; told, fault(TrapKind::Bounds, Step::Take));
+    }
     Ok(())
 }
 
