@@ -1,2 +1,5 @@
 pub mod Links
 pub mod Functions
+pub mod Signatures
+pub mod Crossings
+pub mod Chains

@@ -1,5 +1,5 @@
--- The links of a call of a scalar function: no block is asked for, and no byte of either memory is written.
-use Rattle.std.proofs.Common.{◌≡◌, ◌≤◌, inl, inr, ℕ, true, List, [], ◌∷◌, Some, None, Ok, Err, length, map, take, drop, slice_index, refl, sym, ap, ◌∙◌, subst, arith}
+-- The two ways of a call of a scalar function: no block is asked for, and no byte of either memory is written.
+use Rattle.std.proofs.Common.{◌≡◌, ◌≤◌, inl, inr, ℕ, true, List, [], ◌∷◌, length, map, drop, slice_index, refl, sym, ap, ◌∙◌, subst, arith}
 use Rattle.std.specs.List.{list_all}
 use Rattle.std.proofs.lemmas.Bool.{both_ways}
 use Rattle.std.proofs.lemmas.List.{length-map, take_all}
@@ -8,23 +8,22 @@ use Rattle.canonical_abi.specs.Values.{Value, HasPrimType}
 use Rattle.canonical_abi.specs.Layout.{max_flat_params, max_flat_results, fits_flat, passed_kinds, lowered_signature}
 use Rattle.canonical_abi.specs.Reading.{low_bits, kind_of, number_of}
 use Rattle.canonical_abi.specs.Flat.{Denotes, DenotesFault, Lifts, FieldsLiftFaulty}
-use Rattle.canonical_abi.specs.Guest.{Memory}
+use Rattle.canonical_abi.specs.Guest.{Memory, Allocation}
 use Rattle.canonical_abi.specs.Trace.{Event, node}
 use Rattle.canonical_abi.specs.Script.{FieldsLowerUntil, ParamsUntil}
-use Rattle.canonical_abi.specs.Call.{either, Parties, World, Enters, Answered, Returned, ResultFaulty, Traps, Calls}
+use Rattle.canonical_abi.specs.Call.{either, Parties, World, ArgumentsFaulty, ResultFaulty}
 use Rattle.canonical_abi.specs.declared.flat.Flat.{Flat}
 use Rattle.canonical_abi.specs.declared.trap.Fault.{Fault}
 use Rattle.canonical_abi.specs.declared.trap.Fault.TheVariants as ended
-use Rattle.canonical_abi.specs.declared.trap.Step.{Step}
 use Rattle.canonical_abi.specs.declared.trap.Step.TheVariants as step
 use Rattle.canonical_abi.specs.declared.trap.TrapKind.{TrapKind}
-use Rattle.canonical_abi.specs.declared.trap.TrapKind.TheVariants as trap
 use Rattle.tables.specs.declared.tables.ValType.{ValType}
 use Rattle.tables.specs.declared.tables.ValType.TheVariants as val
 use Rattle.tables.specs.Closed.{prim_of, is_scalar}
 use Rattle.lift_lower.specs.Scalars.{AreScalar, fields_in, AreCarried}
 use Rattle.lift_lower.proofs.ScalarLists.{scalars_fit, prim_typed, quiet_leads}
 use Rattle.adapter.specs.Carrying.{CarriesOn, IsFaultAt}
+use Rattle.adapter.specs.Crossing.{guests, memories, argument_flats, HasEntered, EntryFails, HasReturned, ReturnFails}
 
 -- a function whose parameters and result are of these scalar types
 pub record IsOfTypes (f : FunctionType) (rows : List ClosedType) (params results : List ValType) : Type 0 where
@@ -55,10 +54,13 @@ until_of rows types ts is a m ns k =
     let P : Fields → Type 0 = λ us. FieldsLiftFaulty us m ns k → (es : List Event) × FieldsLowerUntil us m ns k es in
     subst P (sym is) (until rows types m ns k a)
 
-abbrev world : Memory → Memory → List ℕ → World
-world caller callee body = record { caller = caller; callee = callee; body = body }
+module _ (caller_allocates callee_allocates : Allocation) (f : FunctionType) (flats : List Flat) (rows : List ClosedType) (params results : List ValType) (fits : IsOfTypes f rows params results) (caller callee : Memory) where
+  abbrev parties : Parties
+  parties = guests caller_allocates callee_allocates
 
-module _ (parties : Parties) (f : FunctionType) (flats : List Flat) (rows : List ClosedType) (params results : List ValType) (fits : IsOfTypes f rows params results) (caller callee : Memory) (body : List ℕ) where
+  abbrev old : World
+  old = memories caller callee
+
   params_fit : fits_flat max_flat_params f.params ≡ true
   params_fit = rw fits.params_are (scalars_fit rows params 16 fits.scalar_params.primitive fits.scalar_params.few)
 
@@ -69,18 +71,12 @@ module _ (parties : Parties) (f : FunctionType) (flats : List Flat) (rows : List
   signature = rw result_fits refl
 
   -- the flat values that carry the arguments are all of them
-  abbrev arguments : List Flat
-  arguments = take (length (passed_kinds max_flat_params f.params)) flats
-
-  all_flats : map kind_of flats ≡ passed_kinds max_flat_params f.params → flats ≡ arguments
+  all_flats : map kind_of flats ≡ passed_kinds max_flat_params f.params → flats ≡ argument_flats f flats
   all_flats kinds =
       let n : length flats ≡ length (passed_kinds max_flat_params f.params) = sym (length-map flats kind_of) ∙ ap length kinds in
       sym (take_all _ flats (omega (arith, n)))
 
-  abbrev before : World
-  before = world caller callee body
-
-  args_denote : (k : TrapKind) → DenotesFault max_flat_params f.params caller.bytes flats k → Traps parties either f flats before step.LiftArgs k before
+  args_denote : (k : TrapKind) → DenotesFault max_flat_params f.params caller.bytes flats k → ArgumentsFaulty parties either f flats old k old
   args_denote k (inl (other, is)) = inl (λ kinds. other (kinds ∙ signature), is, refl)
   args_denote k (inr (kinds, inr (spilled, h))) = absurd (both_ways _ spilled params_fit)
   args_denote k (inr (kinds, inl (flat, h))) =
@@ -89,91 +85,58 @@ module _ (parties : Parties) (f : FunctionType) (flats : List Flat) (rows : List
       let stops : P flats = ((kinds, inl flat), inl (flat, es.1)) in
       inr (inr (kinds ∙ sym signature, es.0, [], subst P (all_flats kinds) stops, (es.0, refl), ([], refl, refl), refl, refl))
 
-  pub args_fault : (fault : Fault) → IsFaultAt step.LiftArgs params flats fault → Calls parties either f flats before (Err fault) before
-  args_fault ended.NoMemory h = absurd h
+  pub args_fault : (fault : Fault) → IsFaultAt step.LiftArgs params flats fault → EntryFails parties f flats old fault old
+  args_fault ended.NoMemory h = refl
   args_fault (ended.Trap t) h =
-      let P : Step → Type 0 = λ s. Traps parties either f flats before s t.kind before in
       let Q : Fields → Type 0 = λ ts. DenotesFault max_flat_params ts caller.bytes flats t.kind in
-      subst P (sym h.0) (args_denote t.kind (subst Q (sym fits.params_are) (h.1 rows max_flat_params caller.bytes fits.scalar_params.few)))
+      inl (h.0, args_denote t.kind (subst Q (sym fits.params_are) (h.1 rows max_flat_params caller.bytes fits.scalar_params.few)))
 
-  module _ (handed : List Flat) (carried : CarriesOn params flats handed) (callee' : Memory) (body' : List ℕ) where
-    enters : Enters parties either f flats before carried.0 handed before
-    enters =
-        let P : Fields → Type 0 = λ ts. Denotes max_flat_params ts caller.bytes flats carried.0 in
-        let Q : Fields → Type 0 = λ ts. AreCarried ts carried.0 handed in
-        let R : List Flat → Type 0 = λ xs. Denotes max_flat_params f.params caller.bytes xs carried.0 in
-        let denoted = subst P (sym fits.params_are) (carried.1 rows max_flat_params caller.bytes fits.scalar_params.few) in
-        let lowered = subst Q (sym fits.params_are) (carried.2 rows) in
+  pub enters : (handed : List Flat) → CarriesOn params flats handed → HasEntered parties f flats old handed old
+  enters handed carried =
+      let P : Fields → Type 0 = λ ts. Denotes max_flat_params ts caller.bytes flats carried.0 in
+      let Q : Fields → Type 0 = λ ts. AreCarried ts carried.0 handed in
+      let R : List Flat → Type 0 = λ xs. Denotes max_flat_params f.params caller.bytes xs carried.0 in
+      let denoted = subst P (sym fits.params_are) (carried.1 rows max_flat_params caller.bytes fits.scalar_params.few) in
+      let lowered = subst Q (sym fits.params_are) (carried.2 rows) in (
+        carried.0,
         record {
           kinds = denoted.0 ∙ sym signature;
           denoted = subst R (all_flats denoted.0) denoted;
           events = lowered.0;
           passes = inl (params_fit, lowered.2);
-          leads = quiet_leads parties.callee_allocates callee lowered.0 lowered.1;
+          leads = quiet_leads callee_allocates callee lowered.0 lowered.1;
           same_caller = refl;
           same_body = refl;
-        }
+        },
+      )
 
-    pub body_stops : parties.runs body callee handed body' callee' None → (fault : Fault) → fault ≡ ended.Trap (record { kind = trap.Body; step = step.Body }) → Calls parties either f flats before (Err fault) (world caller callee' body')
-    body_stops run fault is =
-        rw is (carried.0, handed, before, refl, enters, record { run = run; same_caller = refl })
+  module _ (answer : List Flat) where
+    result_denotes : (k : TrapKind) → DenotesFault max_flat_results (result_fields f.result) callee.bytes answer k → ResultFaulty parties either f flats old answer k old
+    result_denotes k (inl (other, is)) = inl (inl (other, is), refl)
+    result_denotes k (inr (kinds, inr (spilled, h))) = absurd (both_ways _ spilled result_fits)
+    result_denotes k (inr (kinds, inl (flat, h))) =
+        let es = until_of rows results (result_fields f.result) fits.results_are fits.scalar_results.primitive callee.bytes (map number_of answer) k h in
+        inr (tt, es.0, [], ((kinds, inl flat), inl (flat, es.1)), (es.0, refl), ([], refl, refl), refl, refl)
 
-    module _ (answer : List Flat) (run : parties.runs body callee handed body' callee' (Some answer)) where
-      abbrev after : World
-      after = world caller callee' body'
+    pub result_fault : (fault : Fault) → IsFaultAt step.LiftResult results answer fault → ReturnFails parties f flats old answer fault old
+    result_fault ended.NoMemory h = refl
+    result_fault (ended.Trap t) h =
+        let Q : Fields → Type 0 = λ ts. DenotesFault max_flat_results ts callee.bytes answer t.kind in
+        inl (h.0, result_denotes t.kind (subst Q (sym fits.results_are) (h.1 rows max_flat_results callee.bytes fits.one)))
 
-      answered : Answered parties either f flats before answer after
-      answered = record {
-        values = carried.0;
-        handed = handed;
-        entered = before;
-        enters = enters;
-        runs = record { run = run; same_caller = refl };
-      }
-
-      result_denotes : (k : TrapKind) → DenotesFault max_flat_results (result_fields f.result) callee'.bytes answer k → ResultFaulty parties either f flats after answer k after
-      result_denotes k (inl (other, is)) = inl (inl (other, is), refl)
-      result_denotes k (inr (kinds, inr (spilled, h))) = absurd (both_ways _ spilled result_fits)
-      result_denotes k (inr (kinds, inl (flat, h))) =
-          let es = until_of rows results (result_fields f.result) fits.results_are fits.scalar_results.primitive callee'.bytes (map number_of answer) k h in
-          inr (tt, es.0, [], ((kinds, inl flat), inl (flat, es.1)), (es.0, refl), ([], refl, refl), refl, refl)
-
-      pub result_fault : (fault : Fault) → IsFaultAt step.LiftResult results answer fault → Calls parties either f flats before (Err fault) after
-      result_fault ended.NoMemory h = absurd h
-      result_fault (ended.Trap t) h =
-          let P : Step → Type 0 = λ s. Traps parties either f flats before s t.kind after in
-          let Q : Fields → Type 0 = λ ts. DenotesFault max_flat_results ts callee'.bytes answer t.kind in
-          subst P (sym h.0) (answer, after, answered, result_denotes t.kind (subst Q (sym fits.results_are) (h.1 rows max_flat_results callee'.bytes fits.one)))
-
-      module _ (back : List Flat) (carried_back : CarriesOn results answer back) (callee'' : Memory) (body'' : List ℕ) where
-        returned : Returned parties either f flats before answer back after
-        returned =
-            let P : Fields → Type 0 = λ ts. Denotes max_flat_results ts callee'.bytes answer carried_back.0 in
-            let Q : Fields → Type 0 = λ ts. AreCarried ts carried_back.0 back in
-            let lowered = subst Q (sym fits.results_are) (carried_back.2 rows) in
-            record {
-              values = carried_back.0;
-              answered = after;
-              answers = answered;
-              returns = record {
-                denoted = subst P (sym fits.results_are) (carried_back.1 rows max_flat_results callee'.bytes fits.one);
-                area_stands = inl result_fits;
-                events = lowered.0;
-                passes = inl (result_fits, lowered.2);
-                leads = quiet_leads parties.caller_allocates caller lowered.0 lowered.1;
-                same_callee = refl;
-                same_body = refl;
-              };
-            }
-
-        pub post_stops : parties.posts body' callee' answer body'' callee'' None → (fault : Fault) → fault ≡ ended.Trap (record { kind = trap.Body; step = step.Post }) → Calls parties either f flats before (Err fault) (world caller callee'' body'')
-        post_stops post fault is =
-            rw is (answer, back, after, refl, returned, record { run = post; same_caller = refl })
-
-        pub completes : parties.posts body' callee' answer body'' callee'' (Some tt) → Calls parties either f flats before (Ok back) (world caller callee'' body'')
-        completes post = record {
-          answer = answer;
-          returned = after;
-          returns = returned;
-          finishes = record { run = post; same_caller = refl };
-        }
+    pub returned : (back : List Flat) → CarriesOn results answer back → HasReturned parties f flats old answer back old
+    returned back carried =
+        let P : Fields → Type 0 = λ ts. Denotes max_flat_results ts callee.bytes answer carried.0 in
+        let Q : Fields → Type 0 = λ ts. AreCarried ts carried.0 back in
+        let lowered = subst Q (sym fits.results_are) (carried.2 rows) in (
+          carried.0,
+          record {
+            denoted = subst P (sym fits.results_are) (carried.1 rows max_flat_results callee.bytes fits.one);
+            area_stands = inl result_fits;
+            events = lowered.0;
+            passes = inl (result_fits, lowered.2);
+            leads = quiet_leads caller_allocates caller lowered.0 lowered.1;
+            same_callee = refl;
+            same_body = refl;
+          },
+        )

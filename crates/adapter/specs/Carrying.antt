@@ -1,5 +1,5 @@
 -- Flat values of one component that carry what flat values of another denote.
-use Rattle.std.specs.Prelude.{◌≡◌, List, Result, Ok, Err}
+use Rattle.std.specs.Prelude.{◌≡◌, List, [], ◌∷◌, map, Option, Some, None, Result, Ok, Err}
 use Rattle.arrayvec.specs.ArrayVec.{ArrayVec}
 use Rattle.canonical_abi.specs.Types.{ClosedType}
 use Rattle.canonical_abi.specs.Values.{Value}
@@ -7,8 +7,22 @@ use Rattle.canonical_abi.specs.declared.flat.Flat.{Flat}
 use Rattle.canonical_abi.specs.declared.trap.Fault.{Fault}
 use Rattle.canonical_abi.specs.declared.trap.Fault.TheVariants.{Trap, NoMemory}
 use Rattle.canonical_abi.specs.declared.trap.Step.{Step}
+use Rattle.tables.specs.declared.tables.Function.{Function}
 use Rattle.tables.specs.declared.tables.ValType.{ValType}
 use Rattle.lift_lower.specs.Scalars.{fields_in, StandFor, FailAs, AreCarried}
+
+-- the types of a function's parameters, and of its result as a list of at most one
+abbrev pub params_of : Option Function → List ValType
+params_of None = []
+params_of (Some s) = map (λ p. p.ty) s.params
+
+abbrev pub types_in : Option ValType → List ValType
+types_in None = []
+types_in (Some t) = t ∷ []
+
+abbrev pub results_of : Option Function → List ValType
+results_of None = []
+results_of (Some s) = types_in s.result
 
 -- the values that the first denote are carried by the second
 abbrev pub CarriesOn : List ValType → List Flat → List Flat → Type 0

@@ -5,8 +5,13 @@
 //! chosen when the program runs. Stands on `lift_lower` (values), `memory` (guests) and `tables` (types).
 #![tactic(auto)]
 
+mod arguments;
 mod body;
+mod fault;
 mod link;
+mod results;
+mod scalars;
+mod signature;
 
 pub use body::{Body, BoxedBody, Export, Stopped};
 pub use link::Link;

@@ -1,23 +1,28 @@
 //! The call itself.
-ghost use Rattle.std.specs.Prelude.{◌≡◌, ◌≢◌, ◌≤◌, length, map, take, IfOk, IfErr, Err};
+ghost use Rattle.std.specs.Prelude.{◌≡◌, ◌≢◌, Err};
 ghost use Rattle.canonical_abi.specs.Call.{Calls, either, AllowsSameRuns, AllowsSamePosts};
-ghost use Rattle.tables.specs.Closed.{function_type, IsScalarFunction};
-ghost use Rattle.layout.specs.Layout.{layouts_of};
-ghost use Rattle.lift_lower.specs.Scalars.{AreScalar};
-ghost use Rattle.adapter.specs.Carrying.{CarriesOn, IsFaultAt, answer_of};
+ghost use Rattle.tables.specs.Closed.{function_type, IsFunction, IsScalarFunction};
+ghost use Rattle.layout.specs.Layout.{layouts_of, AreWithin};
+ghost use Rattle.adapter.specs.Carrying.{answer_of};
 
+use crate::arguments::pass_arguments;
 use crate::body::Body;
-use canonical_abi::{Fault, Flat, Guest, Step, Trap, TrapKind};
+use crate::fault::trap;
+use crate::results::pass_answer;
+use canonical_abi::{Fault, Flat, Guest, Step, TrapKind};
 use layout::Layouts;
-use lift_lower::{Flats, lift_scalars, lower_scalars};
+use lift_lower::Flats;
+use std::alloc::Global;
 use std::marker::Model;
-use tables::{FunctionId, Parameter, Primitive, Resolve, ValType};
+use tables::{FunctionId, Resolve};
 
 /// Calls functions of one component from another, whose package is the same.
 #[derive(Drop)]
 pub struct Link<'a> {
     resolve: &'a Resolve,
     layouts: &'a Layouts,
+    ghost laid_out: { layouts.now ≡ layouts_of resolve.now },
+    ghost within: { ∥ AreWithin resolve.now ∥₁ },
 }
 
 impl<'a> Model for Link<'a> {
@@ -32,6 +37,7 @@ impl<'a> Link<'a> {
     /// A link over a package and its layouts.
     pub fn new(resolve: &'a Resolve, layouts: &'a Layouts) -> Link<'a>
         requires laid_out { layouts.now ≡ layouts_of resolve.now }
+        requires within { ∥ AreWithin resolve.now ∥₁ }
         ensures package { result.resolve ≡ resolve.now }
         ensures layouts { result.layouts ≡ layouts.now }
     {
@@ -40,16 +46,19 @@ impl<'a> Link<'a> {
 
     /// Calls a function of the package: the flat values are lifted from the caller and lowered into the
     /// callee, the body makes one run on them, and its answer goes the same way back. Then its post-return
-    /// runs, unless there was a trap. After a fault the link can be used again.
+    /// runs, unless there was a trap. Where the host has no memory for the arguments' tree, nothing was done;
+    /// where it has none for the result's, the body has answered. The call of a scalar function asks for
+    /// none. After a fault the link can be used again.
     pub fn call<C: Guest, E: Guest, B: Body<E>>(
         &mut self,
+        alloc: Global,
         func: FunctionId,
         flats: &[Flat],
         caller: &mut C,
         callee: &mut E,
         body: &mut B,
     ) -> Result<Flats, Fault>
-        requires scalar { IsScalarFunction self.old.resolve func }
+        requires function { IsFunction self.old.resolve func }
         ensures call { Calls
             (record { caller_allocates = C.allocates; callee_allocates = E.allocates; runs = B.runs body.old; posts = B.posts body.old })
             either
@@ -60,51 +69,20 @@ impl<'a> Link<'a> {
             (record { caller = C.memory caller.new; callee = E.memory callee.new; body = B.state body.new }) }
         ensures same_runs { AllowsSameRuns (B.runs body.old) (B.runs body.new) }
         ensures same_posts { AllowsSamePosts (B.posts body.old) (B.posts body.new) }
-        ensures no_memory { result ≢ Err Fault.NoMemory }
+        ensures no_memory { IsScalarFunction self.old.resolve func → result ≢ Err Fault.NoMemory }
         ensures same_link { self.new ≡ self.old }
     {
-        let function = self.resolve.signature(func);
-        let types = types_of(function.params.as_slice());
-        let params = &types[..function.params.len()];
-        let handed = carry(Step::LiftArgs, params, flats)?;
+        let resolve = self.resolve;
+        let layouts = self.layouts;
+        let handed = pass_arguments(alloc, resolve, layouts, func, flats, caller, callee)?;
         let Ok(answer) = body.call(callee, handed.as_slice()) else {
             return Err(trap(TrapKind::Body, Step::Body));
         };
-        let results = function.result.as_slice();
-        let back = carry(Step::LiftResult, results, answer.as_slice())?;
-        let Ok(()) = body.post_return(callee, answer.as_slice()) else {
+        let answer = answer.as_slice();
+        let back = pass_answer(alloc, resolve, layouts, func, flats, answer, caller, callee)?;
+        let Ok(()) = body.post_return(callee, answer) else {
             return Err(trap(TrapKind::Body, Step::Post));
         };
         Ok(back)
     }
-}
-
-/// The flat values that carry what these denote, or a trap in this step where they denote nothing.
-fn carry(step: Step, types: &[ValType], flats: &[Flat]) -> Result<Flats, Fault>
-    requires { AreScalar types.now }
-    ensures carried { IfOk result (λ handed. CarriesOn types.now flats.now handed.items) }
-    ensures fault { IfErr result (IsFaultAt step types.now flats.now) }
-{
-    match lift_scalars(types, flats) {
-        Ok(values) => Ok(lower_scalars(values.as_slice())),
-        Err(kind) => Err(trap(kind, step)),
-    }
-}
-
-fn trap(kind: TrapKind, step: Step) -> Fault
-    ensures { result ≡ Fault.Trap (record { kind = kind; step = step }) }
-{
-    Fault::Trap(Trap { kind, step })
-}
-
-/// The parameters' types, at the front.
-fn types_of(params: &[Parameter]) -> [ValType; 16]
-    requires { length params.now ≤ 16 }
-    ensures { take (length params.now) result ≡ map (λ p. p.ty) params.now }
-{
-    let mut types = [ValType::Primitive(Primitive::Bool); 16];
-    for (i, parameter) in params.iter().enumerate() {
-        types[i] = parameter.ty;
-    }
-    types
 }

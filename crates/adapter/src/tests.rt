@@ -69,7 +69,14 @@ fn carries_low_bits(rt: HostRuntime) -> Result<(), Fail> {
     let layouts = Layouts::of(rt.alloc(), &resolve)?;
     let mut link = Link::new(&resolve, &layouts);
     let flats = [Flat::I32(255)];
-    let answer = link.call(FunctionId(0), &flats, &mut caller, &mut callee, &mut body);
+    let answer = link.call(
+        rt.alloc(),
+        FunctionId(0),
+        &flats,
+        &mut caller,
+        &mut callee,
+        &mut body,
+    );
     let Ok(back) = answer else {
         return Err(Fail::from("a trap"));
     };

@@ -206,3 +206,6 @@ module _ (m : List ℕ) (bytes : AreBytes m) (short : length m < 2 ^ 32) where
 
   pub holds-typed : (t : ClosedType) (a : ℕ) (v : Value) → Holds t m a v → HasType v t
   holds-typed t a v h = (holds-sound t a v h).0
+
+  pub lifts-typed : (t : ClosedType) (fs : List ℕ) (v : Value) → Lifts t m fs v → HasType v t
+  lifts-typed t fs v h = (lifts-sound t fs v h).0

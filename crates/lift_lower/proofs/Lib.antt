@@ -14,6 +14,7 @@ pub mod Typings
 pub mod ScalarTypes
 pub mod Scripting
 pub mod Scripted
+pub mod Stopping
 pub mod Storings
 pub mod Lowerings
 pub mod Unlimited

@@ -1,13 +1,17 @@
 -- What passes values on in a call: there no limit stands but that of addresses.
-use Rattle.std.specs.Prelude.{◌≡◌, ◌⊎◌, ℕ, ◌+◌, ◌^◌, ◌<◌, ◌≤◌, true, List, length}
+use Rattle.std.specs.Prelude.{◌≡◌, ◌⊎◌, ℕ, ◌+◌, ◌^◌, ◌<◌, ◌≤◌, true, false, List, length}
 use Rattle.std.specs.List.{AllByRecursion}
 use Rattle.canonical_abi.specs.Types.{Fields, record_type}
 use Rattle.canonical_abi.specs.Values.{Value}
-use Rattle.canonical_abi.specs.Layout.{size, fits_flat}
+use Rattle.canonical_abi.specs.Layout.{size, align, fits_flat}
 use Rattle.canonical_abi.specs.Guest.{Memory, Allocation}
 use Rattle.canonical_abi.specs.Lowering.{PassesParams, PassesResult}
+use Rattle.canonical_abi.specs.Memory.{BlockHolds, BlockFaulty}
+use Rattle.canonical_abi.specs.Script.{AddressFaulty, ParamsUntil, ResultUntil}
 use Rattle.canonical_abi.specs.Trace.{Event, Request, TraceLeads, TraceBreaks}
 use Rattle.canonical_abi.specs.declared.flat.Flat.{Flat}
+use Rattle.canonical_abi.specs.declared.trap.Fault.{Fault}
+use Rattle.canonical_abi.specs.declared.trap.Fault.TheVariants.{Trap, NoMemory}
 use Rattle.canonical_abi.specs.declared.trap.TrapKind.{TrapKind}
 
 -- each block's size is a number of 32 bits
@@ -18,6 +22,14 @@ AreAddressable qs = AllByRecursion (λ q. q.size < 2 ^ 32) qs
 abbrev pub HasArea : ℕ → Fields → ℕ → List ℕ → Type 0
 HasArea limit ts area m =
     (fits_flat limit ts ≡ true) ⊎ ((area + size (record_type ts) ≤ length m) × (area + size (record_type ts) < 2 ^ 32))
+
+-- where the result does not go flat, the return area is aligned and ends inside the memory
+abbrev pub AreaHolds : ℕ → Fields → ℕ → List ℕ → Type 0
+AreaHolds limit ts area m =
+    (fits_flat limit ts ≡ true) ⊎ ((fits_flat limit ts ≡ false) × BlockHolds m area (align (record_type ts)) (size (record_type ts)))
+
+abbrev pub AreaIsFaulty : ℕ → Fields → ℕ → List ℕ → TrapKind → Type 0
+AreaIsFaulty limit ts area m k = (fits_flat limit ts ≡ false) × BlockFaulty m area (align (record_type ts)) (size (record_type ts)) k
 
 -- the parameters stand in the memory, and these core values carry them
 abbrev pub ParamsPassed : ℕ → Allocation → Fields → List Value → Memory → List Flat → Memory → Type 0
@@ -33,3 +45,18 @@ ResultPassed limit allocates ts area vs old flats new = (es : List Event) × Pas
 
 abbrev pub ResultFailed : ℕ → Allocation → Fields → ℕ → List Value → Memory → TrapKind → Memory → Type 0
 ResultFailed limit allocates ts area vs old k new = (es : List Event) × (flats : List Flat) × PassesResult limit ts area vs es flats × TraceBreaks allocates old es k new
+
+-- ---- faults of what is lifted
+
+-- a trap of a kind that P allows, or want of memory
+abbrev pub IsTrapOf : (TrapKind → Type 0) → Fault → Type 0
+IsTrapOf P (Trap t) = P t.kind
+IsTrapOf P NoMemory = Unit {0}
+
+-- the parameters' kinds or their address are at fault, or one of their nodes is, and these events come before it
+abbrev pub ParamsStop : ℕ → Fields → List ℕ → List Flat → TrapKind → Type 0
+ParamsStop limit ts m flats k = AddressFaulty limit ts m flats k ⊎ ((es : List Event) × ParamsUntil limit ts m flats k es)
+
+-- the same of a result, which would be stored at `area` where it does not go flat
+abbrev pub ResultStops : ℕ → Fields → List ℕ → List Flat → ℕ → TrapKind → Type 0
+ResultStops limit ts m flats area k = AddressFaulty limit ts m flats k ⊎ ((es : List Event) × ResultUntil limit ts m flats area k es)

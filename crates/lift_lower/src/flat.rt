@@ -26,7 +26,7 @@ use tables::{Primitive, Resolve, ValType};
 
 /// The low 32 bits of a flat value.
 #[tactic(auto, unfolding(canonical_abi::specs::Reading::low_bits))]
-pub(crate) fn low_word(flats: &[Flat], index: usize) -> u32
+pub fn low_word(flats: &[Flat], index: usize) -> u32
     requires { index < length flats.now }
     ensures { result ≡ low_bits (map number_of flats.now) index 32 }
 {

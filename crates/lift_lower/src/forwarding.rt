@@ -1,20 +1,23 @@
 //! Lowering inside a call: parameters into the callee, and a result into the caller. No limit stands there
 //! but that of addresses.
-ghost use Rattle.std.specs.Prelude.{◌≡◌, ◌≤◌, map, IfOk, IfErr};
-ghost use Rattle.canonical_abi.specs.Types.{record_type, AreStandardFields};
+ghost use Rattle.std.specs.Prelude.{◌≡◌, ◌≤◌, map, IfOk, IfErr, OnOk, IfSome, option_map};
+ghost use Rattle.canonical_abi.specs.Types.{record_type, result_fields, AreStandardFields};
 ghost use Rattle.canonical_abi.specs.Values.{HaveTypes};
 ghost use Rattle.canonical_abi.specs.Layout.{size, max_flat_params, max_flat_results};
 ghost use Rattle.canonical_abi.specs.Lowering.{PassesResult};
 ghost use Rattle.canonical_abi.specs.Requests.{params_requests, fields_requests};
 ghost use Rattle.layout.specs.Layout.{layouts_of};
+ghost use Rattle.tables.specs.Closed.{closed_type};
 ghost use Rattle.lift_lower.specs.Crossing.{fields_of_types};
 ghost use Rattle.lift_lower.specs.Lowered.{PassesResultBy};
 ghost use Rattle.lift_lower.specs.Members.{AreAllInside, AreTypesOf};
-ghost use Rattle.lift_lower.specs.Passing.{AreAddressable, HasArea, ParamsPassed, ParamsFailed, ResultPassed, ResultFailed};
+ghost use Rattle.lift_lower.specs.Passing.{AreAddressable, AreaHolds, AreaIsFaulty, HasArea, ParamsPassed, ParamsFailed, ResultPassed, ResultFailed};
 ghost use Rattle.lift_lower.specs.Scripts.{IsDone, HasEnded};
+ghost use Rattle.lift_lower.specs.Shape.{IsInside};
 ghost use Rattle.lift_lower.specs.Val.{value_of};
 
-use crate::extent::kinds_within;
+use crate::bytes::test_block;
+use crate::extent::{align_of, kinds_within, size_of};
 use crate::flattening::lower_fields;
 use crate::lowering::lower_params;
 use crate::scalars::Flats;
@@ -45,6 +48,34 @@ pub fn pass_params<G: Guest>(
         (map value_of values.now) (G.memory guest.old) k (G.memory guest.new)) }
 {
     lower_params(resolve, layouts, u32::MAX, types, values, guest)
+}
+
+/// Tests the return area of a call: where the result does not go flat, its alignment, then its end.
+pub fn check_area<G: Guest>(
+    resolve: &Resolve,
+    layouts: &Layouts,
+    ty: Option<ValType>,
+    guest: &G,
+    area: u32,
+) -> Result<(), TrapKind>
+    requires laid_out { layouts.now ≡ layouts_of resolve.now }
+    requires inside { IfSome ty (IsInside resolve.now) }
+    ensures holds { OnOk result (AreaHolds max_flat_results (result_fields (option_map (closed_type resolve.now) ty))
+        area (G.memory guest.now).bytes) }
+    ensures area { OnOk result (HasArea max_flat_results (result_fields (option_map (closed_type resolve.now) ty))
+        area (G.memory guest.now).bytes) }
+    ensures fault { IfErr result (AreaIsFaulty max_flat_results (result_fields (option_map (closed_type resolve.now) ty))
+        area (G.memory guest.now).bytes) }
+{
+    let Some(ty) = ty else {
+        return Ok(());
+    };
+    let Some(_) = kinds_within(resolve, layouts, &[ty], 1) else {
+        let size = size_of(resolve, layouts, ty);
+        let align = align_of(resolve, layouts, ty);
+        return test_block(guest.len() as usize, area as usize, align, size);
+    };
+    Ok(())
 }
 
 /// Lowers the result of a call into the caller: flat, or into the return area, which lies inside the memory.

@@ -23,8 +23,9 @@ mod typing;
 mod val;
 mod writing;
 
-pub use forwarding::{pass_params, pass_result};
-pub use lifting::{lift, lift_result};
+pub use flat::low_word;
+pub use forwarding::{check_area, pass_params, pass_result};
+pub use lifting::{are_kinds, lift, lift_result};
 pub use loading::load;
 pub use lowering::lower;
 pub use scalar::{Scalar, core_kind, lift_scalar, lower_scalar};

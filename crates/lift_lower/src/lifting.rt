@@ -14,7 +14,7 @@ ghost use Rattle.lift_lower.specs.Crossing.{fields_of_types, LiftFails};
 ghost use Rattle.lift_lower.specs.Gives.{Gives, AnswerStands};
 ghost use Rattle.lift_lower.specs.Loading.{reading_members, AreBytes};
 ghost use Rattle.lift_lower.specs.Members.{AreAllInside};
-ghost use Rattle.lift_lower.specs.Passing.{AreAddressable};
+ghost use Rattle.lift_lower.specs.Passing.{AreAddressable, IsTrapOf, ParamsStop, ResultStops};
 ghost use Rattle.lift_lower.specs.Shape.{IsInside};
 ghost use Rattle.lift_lower.specs.Val.{value_of};
 
@@ -49,6 +49,8 @@ pub fn lift<G: Guest>(
         (params_requests max_flat_params (fields_of_types resolve.now types.now) (map value_of values.items))) }
     ensures fault { IfErr result
         (LiftFails (fields_of_types resolve.now types.now) (G.memory guest.now).bytes flats.now) }
+    ensures stops { IfErr result (IsTrapOf
+        (ParamsStop max_flat_params (fields_of_types resolve.now types.now) (G.memory guest.now).bytes flats.now)) }
 {
     // A memory's length is a number of 32 bits, and so is that of each of its blocks.
     let _len = guest.len();
@@ -79,6 +81,8 @@ pub fn lift_result<G: Guest>(
         (result_fields (option_map (closed_type resolve.now) ty))) }
     ensures addressable { IfOk result (λ v. AreAddressable
         (fields_requests (result_fields (option_map (closed_type resolve.now) ty)) (as_list (option_map value_of v)))) }
+    ensures stops { (area : ℕ) → IfErr result (IsTrapOf
+        (ResultStops max_flat_results (result_fields (option_map (closed_type resolve.now) ty)) (G.memory guest.now).bytes flats.now area)) }
 {
     let Some(ty) = ty else {
         if flats.is_empty() {
@@ -186,7 +190,7 @@ fn load_spilled(
 }
 
 /// Whether the flat values have these kinds.
-fn are_kinds(kinds: &[CoreKind], flats: &[Flat]) -> bool
+pub fn are_kinds(kinds: &[CoreKind], flats: &[Flat]) -> bool
     ensures { IsTrue result ↔ (map kind_of flats.now ≡ kinds.now) }
 {
     if flats.len() != kinds.len() {

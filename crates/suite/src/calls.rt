@@ -99,10 +99,17 @@ fn called(
     let mut callee = Space::Bump(Bump::new(alloc, 16)?);
     let mut link = Link::new(package.resolve(), package.layouts());
     let mut body = BoxedBody::new(Box::new(alloc, body)?);
-    let answer = link.call(f, flats, &mut caller, &mut callee, &mut body);
+    let answer = link.call(alloc, f, flats, &mut caller, &mut callee, &mut body);
     let memory = callee.bytes().to_vec(alloc)?;
     let mut plain = BoxedBody::new(Box::new(alloc, Telling::answering(Flat::I32(8)))?);
-    let again = link.call(g, &[Flat::I32(7)], &mut caller, &mut callee, &mut plain);
+    let again = link.call(
+        alloc,
+        g,
+        &[Flat::I32(7)],
+        &mut caller,
+        &mut callee,
+        &mut plain,
+    );
     let Ok(back) = again else {
         return Err(Fail::from("the link does not carry the next call"));
     };

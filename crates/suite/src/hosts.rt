@@ -87,7 +87,14 @@ fn calls_of_a_host(rt: HostRuntime) -> Result<(), Fail> {
     };
     let mut body = Constant(Flat::I32(8));
     let mut link = Link::new(package.resolve(), package.layouts());
-    let answer = link.call(f, &[Flat::I32(7)], &mut caller, &mut callee, &mut body);
+    let answer = link.call(
+        alloc,
+        f,
+        &[Flat::I32(7)],
+        &mut caller,
+        &mut callee,
+        &mut body,
+    );
     let Ok(back) = answer else {
         return Err(Fail::from("a trap"));
     };

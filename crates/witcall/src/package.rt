@@ -103,6 +103,7 @@ impl Package {
     pub fn layouts(&self) -> &Layouts
         ensures layouts { result.now ≡ self.now.layouts }
         ensures laid_out { result.now ≡ layouts_of self.now.resolve }
+        ensures within { ∥ AreWithin self.now.resolve ∥₁ }
     {
         &self.layouts
     }

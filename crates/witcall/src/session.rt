@@ -114,6 +114,7 @@ impl<'a, C: Guest, E: Guest, B: Body<E>> Session<'a, C, E, B> {
         )?;
         let mut link = Link::new(resolve, layouts);
         let back = link.call(
+            alloc,
             func,
             flats.as_slice(),
             &mut self.caller,

@@ -4,6 +4,7 @@ use Rattle.canonical_abi.proofs.Tells.{denoting-tells}
 use Rattle.lift_lower.specs.Crossing.{fields_of_types}
 use Rattle.lift_lower.specs.Val.{value_of}
 use Rattle.lift_lower.proofs.Denoting.{lift-fails}
+use Rattle.lift_lower.proofs.Stopping.{lift-stops}
 use Rattle.lift_lower.proofs.lifting.lift.Goals as goal
 use Rattle.lift_lower.proofs.Denoted.{denotes-typed, params-addressable}
 
@@ -32,3 +33,10 @@ returns-in-Ok-clause-addressable g c =
     let bytes : (i : ℕ) → get_or m i 0 < 256 = rw (← c.bytes.ensures) c.lift_values.ensures.bytes in
     let short : length m < 2 ^ 32 = rw (← c.len-len.ensures) c.len-len.type_inv in
     params-addressable m bytes short max_flat_params ts c.args.flats.now (map value_of c.in-Ok.values.items) (omega (arith, c.requires.small)) (returns-in-Ok-clause-values g c)
+
+pub returns-in-Err-clause-stops : goal.returns-in-Err-clause-stops
+returns-in-Err-clause-stops g c =
+    let m = (g.G.Guest.memory c.args.guest.now).bytes in
+    let bytes : (i : ℕ) → get_or m i 0 < 256 = rw (← c.bytes.ensures) c.lift_values.ensures.bytes in
+    let short : length m < 2 ^ 32 = rw (← c.len-len.ensures) c.len-len.type_inv in
+    lift-stops m bytes short (fields_of_types c.args.resolve.now c.args.types.now) c.args.flats.now c.at.result (returns-in-Err-clause-fault g c)

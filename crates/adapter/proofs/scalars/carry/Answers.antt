@@ -1,7 +1,7 @@
 use Rattle.std.proofs.Common.{map}
 use Rattle.lift_lower.specs.Scalar.{value_in}
 use Rattle.lift_lower.specs.Scalars.{AreOfTypes, StandFor}
-use Rattle.adapter.proofs.link.carry.Goals as goal
+use Rattle.adapter.proofs.scalars.carry.Goals as goal
 
 pub returns-in-Ok-clause-carried : goal.returns-in-Ok-clause-carried
 returns-in-Ok-clause-carried c =

@@ -1,0 +1,86 @@
+-- A function of a package: where it stands in the layouts, and what is known of the types that it names.
+use Rattle.std.proofs.Common.{◌≡◌, ◌<◌, ◌≤◌, Bool, true, false, List, [], Option, Some, None, IfSome, length, map, get_or, refl, sym, ap, ◌∙◌, subst, arith}
+use Rattle.std.specs.List.{list_all}
+use Rattle.std.specs.Option.{option_map}
+use Rattle.std.proofs.Math.Bridge.{le_prop}
+use Rattle.std.proofs.Math.Logic.{∥∥₁_elim}
+use Rattle.std.proofs.lemmas.Bool.{and_parts}
+use Rattle.std.proofs.lemmas.List.{length-map}
+use Rattle.std.proofs.lemmas.List.Folds.{list_all-map, list_all_at}
+use Rattle.canonical_abi.specs.Types.{ClosedType, string_type, record_type, fields_of}
+use Rattle.canonical_abi.specs.Layout.{size}
+use Rattle.layout.specs.Layout.{Table, row_of, layouts_of, AreWithin, IsWithin}
+use Rattle.tables.specs.Tables.{option_all, definition_all, is_type}
+use Rattle.tables.specs.Closed.{closed_types, closed_type, closed_params, function_at, function_type, type_of_function, IsFunction}
+use Rattle.tables.specs.Standard.{IsTypeOf}
+use Rattle.tables.specs.declared.tables.Definition.{Definition}
+use Rattle.tables.specs.declared.tables.Definition.TheVariants as row
+use Rattle.tables.specs.declared.tables.Function.{Function}
+use Rattle.tables.specs.declared.tables.FunctionId.{FunctionId}
+use Rattle.tables.specs.declared.tables.Resolve.{Resolve}
+use Rattle.tables.specs.declared.tables.ValType.{ValType}
+use Rattle.tables.proofs.Rows.{length-closed_rows, stands, function-row}
+use Rattle.lift_lower.specs.Crossing.{fields_of_types}
+use Rattle.lift_lower.specs.Members.{AreTypesOf}
+use Rattle.lift_lower.specs.Shape.{IsInside}
+use Rattle.lift_lower.proofs.Known.{known-inside}
+use Rattle.adapter.proofs.Functions.{params_in}
+
+-- a function has a row
+pub function-stands : (r : Resolve) (table : Table) (f : FunctionId) → table ≡ layouts_of r → IsFunction r f → f.0 < length table.rows
+function-stands r table f is h =
+    omega (arith, (stands r f h).in_range, ap (λ t. length t.rows) is, length-map (closed_types r) row_of, length-closed_rows [] r.definitions)
+
+-- what holds of each holds of the one at a place
+at-true : {A : Type 0} (p : A → Bool) (xs : List A) (i : _) (d : A) → i < length xs → list_all p xs ≡ true → p (get_or xs i d) ≡ true
+at-true p xs i d l h = by (p (get_or xs i d)) refl
+  where
+    by : (b : Bool) → p (get_or xs i d) ≡ b → b ≡ true
+    by true e = refl
+    by false e = sym (list_all_at p xs i d l e) ∙ h
+
+module _ (r : Resolve) (f : FunctionId) (h : IsFunction r f) (s : Function) (found : function_at r f ≡ Some s) where
+  own : (stands r f h).function ≡ s
+  own = let st = stands r f h in let both : Some st.function ≡ Some s = sym st.at ∙ found in cc
+
+  names : definition_all (is_type r.definitions) (row.Function s) ≡ true
+  names =
+      let st = stands r f h in
+      let P : Definition → Type 0 = λ e. definition_all (is_type r.definitions) e ≡ true in
+      subst P (st.is (row.Function s) ∙ ap row.Function own) (at-true (definition_all (is_type r.definitions)) r.definitions f.0 (row.Function s) st.in_range r.typed)
+
+  pub params-known : AreTypesOf r (map (λ p. p.ty) s.params)
+  params-known = list_all-map (is_type r.definitions) (λ p. p.ty) s.params ∙ (and_parts _ _ names).0
+
+  result-of : (o : Option ValType) → option_all (is_type r.definitions) o ≡ true → IfSome o (IsTypeOf r)
+  result-of None e = tt
+  result-of (Some v) e = e
+
+  pub result-known : IfSome s.result (IsTypeOf r)
+  result-known = result-of s.result (and_parts _ _ names).1
+
+  inside-of : (o : Option ValType) → IfSome o (IsTypeOf r) → IfSome o (IsInside r)
+  inside-of None e = tt
+  inside-of (Some v) e = known-inside r v e
+
+  pub result-inside : IfSome s.result (IsInside r)
+  result-inside = inside-of s.result result-known
+
+  pub params-are : (function_type r f).params ≡ fields_of_types r (map (λ p. p.ty) s.params)
+  params-are = ap (λ o. (type_of_function (closed_types r) o).params) found ∙ ap fields_of (params_in (closed_types r) s.params)
+
+  pub result-is : (function_type r f).result ≡ option_map (closed_type r) s.result
+  result-is = ap (λ o. (type_of_function (closed_types r) o).result) found
+
+  small-within : AreWithin r → size (record_type (fields_of_types r (map (λ p. p.ty) s.params))) ≤ 16777216
+  small-within within =
+      let st = stands r f h in
+      let d = row.Function st.function in
+      let here : IsWithin d (get_or (closed_types r) f.0 string_type) = within.each f.0 d st.in_range (st.is d) in
+      let same : get_or (closed_types r) f.0 string_type ≡ record_type (fields_of_types r (map (λ p. p.ty) s.params)) =
+      function-row r f st ∙ ap (λ u. record_type (fields_of (closed_params (closed_types r) u.params))) own ∙ ap (λ ts. record_type (fields_of ts)) (params_in (closed_types r) s.params) in
+      let P : ClosedType → Type 0 = λ t. size t ≤ 16777216 in
+      subst P same here
+
+  pub params-small : ∥ AreWithin r ∥₁ → size (record_type (fields_of_types r (map (λ p. p.ty) s.params))) ≤ 16777216
+  params-small within = ∥∥₁_elim within le_prop small-within

@@ -1,0 +1,36 @@
+//! The types of a function's parameters.
+ghost use Rattle.std.specs.Prelude.{◌≡◌, ◌≤◌, map, IfOk};
+ghost use Rattle.canonical_abi.specs.Types.{record_type};
+ghost use Rattle.canonical_abi.specs.Layout.{size};
+ghost use Rattle.layout.specs.Layout.{AreWithin};
+ghost use Rattle.lift_lower.specs.Crossing.{fields_of_types};
+ghost use Rattle.lift_lower.specs.Members.{AreTypesOf};
+ghost use Rattle.tables.specs.Closed.{IsFunction, function_type};
+
+use std::alloc::{AllocError, Global};
+use tables::{FunctionId, Parameter, Resolve, ValType};
+
+/// The types of a function's parameters, in their order.
+pub(crate) fn parameter_types(
+    alloc: Global,
+    resolve: &Resolve,
+    func: FunctionId,
+) -> Result<Vec<ValType>, AllocError>
+    requires function { IsFunction resolve.now func }
+    requires within { ∥ AreWithin resolve.now ∥₁ }
+    ensures types { IfOk result (λ types. (function_type resolve.now func).params ≡ fields_of_types resolve.now types.items) }
+    ensures known { IfOk result (λ types. AreTypesOf resolve.now types.items) }
+    ensures small { IfOk result (λ types. size (record_type (fields_of_types resolve.now types.items)) ≤ 16777216) }
+{
+    types_of(alloc, resolve.signature(func).params.as_slice())
+}
+
+fn types_of(alloc: Global, params: &[Parameter]) -> Result<Vec<ValType>, AllocError>
+    ensures { IfOk result (λ types. types.items ≡ map (λ p. p.ty) params.now) }
+{
+    let mut types = Vec::new(alloc);
+    for parameter in params {
+        types.push(parameter.ty)?;
+    }
+    Ok(types)
+}
