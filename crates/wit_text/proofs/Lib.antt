@@ -7,3 +7,4 @@ pub mod Results
 pub mod Exactness
 pub mod Limits
 pub mod Parsed
+pub mod FullNames

@@ -1,12 +1,13 @@
 -- What holds of the definitions, whatever the text.
-use Rattle.std.specs.Prelude.{◌≡◌, ℕ, List, Err}
+use Rattle.std.specs.Prelude.{◌≡◌, IsTrue, ℕ, List, Err}
 use Rattle.productions.specs.Exactness.{Exact, AtEnd}
 use Rattle.wit_tokens.specs.declared.error.TextError.{TextError}
 use Rattle.wit_tokens.specs.Tokens.{Lexeme}
 use Rattle.wit_syntax.specs.Syntax.{File}
+use Rattle.wit_syntax.specs.FullNames.{has_full_names}
 use Rattle.wit_text.specs.Lookahead.{lookahead, NoneBegins}
 use Rattle.wit_text.specs.Grammar.{nesting, file}
-use Rattle.wit_text.specs.Reading.{IsFile, IsDepth}
+use Rattle.wit_text.specs.Reading.{IsRead, IsFile, IsDepth}
 
 -- reading a file finds just what its production spells, or its first fault
 abbrev pub FilesAreExact : ℕ → ℕ → Type 0
@@ -23,3 +24,7 @@ NoneAtAnyNesting end = (ts : List Lexeme) (e : TextError) → (IsDepth e → ⊥
 -- tokens spell at most one file
 abbrev pub OneFile : ℕ → Type 0
 OneFile end = (ts : List Lexeme) (f g : File) → IsFile end ts f → IsFile end ts g → f ≡ g
+
+-- what a text's package and its interfaces are named makes full names
+abbrev pub HasFullNames : List ℕ → Type 0
+HasFullNames text = (f : File) → IsRead text f → IsTrue (has_full_names f)

@@ -1,6 +1,6 @@
 //! What holds of the grammar, whatever the text.
-ghost use Rattle.std.specs.Prelude.{ℕ};
-ghost use Rattle.wit_text.specs.Laws.{FilesAreExact, FaultsAreFinal, NoneAtAnyNesting, OneFile};
+ghost use Rattle.std.specs.Prelude.{ℕ, List};
+ghost use Rattle.wit_text.specs.Laws.{FilesAreExact, FaultsAreFinal, NoneAtAnyNesting, OneFile, HasFullNames};
 
 /// Reading a file finds just what its production spells, or its first fault; where a fault is met no file begins with the
 /// tokens up to there; and tokens spell at most one file.
@@ -9,4 +9,9 @@ pub fn files_are_read_exactly()
     ensures begun { (end : ℕ) → FaultsAreFinal end }
     ensures anyhow { (end : ℕ) → NoneAtAnyNesting end }
     ensures one { (end : ℕ) → OneFile end }
+{}
+
+/// What a text's package and its interfaces are named makes full names.
+pub fn texts_have_full_names()
+    ensures { (text : List ℕ) → HasFullNames text }
 {}

@@ -1,0 +1,14 @@
+-- WIT.md, "Package Names": what full names are made of.
+use Rattle.std.specs.Prelude.{Bool, true, ◌&&◌}
+use Rattle.std.specs.List.{list_all}
+use Rattle.atoms.specs.Label.{is_label}
+use Rattle.atoms.specs.FullName.{is_package_label, is_version_or_none}
+use Rattle.wit_syntax.specs.Syntax.{FileEntry, AnInterface, AWorld, File}
+
+abbrev pub has_label : FileEntry → Bool
+has_label (AnInterface n es) = is_label n
+has_label (AWorld at n es) = true
+
+-- the namespace and the package are labels in lower case, the version is one of SemVer, and interfaces have labels
+abbrev pub has_full_names : File → Bool
+has_full_names f = is_package_label f.namespace && (is_package_label f.name && (is_version_or_none f.version && list_all has_label f.entries))

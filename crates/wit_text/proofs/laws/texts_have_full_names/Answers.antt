@@ -1,0 +1,5 @@
+use Rattle.wit_text.proofs.FullNames.{full-names}
+use Rattle.wit_text.proofs.laws.texts_have_full_names.Goals as goal
+
+pub returns : goal.returns
+returns c = full-names
