@@ -25,3 +25,7 @@ pub mod RereadDecls
 pub mod RereadFile
 pub mod Made
 pub mod InRange
+pub mod Spelt
+pub mod SpeltTypes
+pub mod SpeltDecls
+pub mod SpeltFile

@@ -1,8 +1,10 @@
 -- What is read of a written component: it is that component, or its parts are wrong.
-use Rattle.std.proofs.Common.{◌≡◌, List, ℕ, [], Result, Ok, Err, sym, ap, subst, ◌∙◌}
+use Rattle.std.proofs.Common.{◌≡◌, List, ℕ, [], Result, Ok, Err, refl, sym, ap, subst, ◌∙◌}
 use Rattle.ctype_bin.specs.declared.error.Fault.{Fault}
 use Rattle.ctype_bin.specs.declared.error.Stuck.{Stuck}
 use Rattle.ctype_bin.specs.declared.error.Stuck.TheVariants.{End, At, Past}
+use Rattle.ctype_bin.specs.declared.error.BinError.{BinError}
+use Rattle.ctype_bin.specs.declared.error.BinError.TheVariants as errors
 use Rattle.ctype_bin.specs.declared.error.ItemError.{ItemError}
 use Rattle.ctype_bin.specs.declared.error.ItemError.TheVariants as items
 use Rattle.ctype_bin.specs.Bytes.{Stops}
@@ -12,12 +14,14 @@ use Rattle.ctype_bin.specs.Exactness.{IsBytes}
 use Rattle.ctype_bin.specs.Writing.{file_bytes}
 use Rattle.ctype_bin.specs.Spellable.{IsSpellable}
 use Rattle.ctype_bin.specs.Formed.{FormedFile}
-use Rattle.ctype_bin.specs.Parts.{IsWrong}
+use Rattle.ctype_bin.specs.Parts.{IsWrong, Refuses}
+use Rattle.ctype_bin.specs.Accepted.{IsAccepted}
 use Rattle.ctype_bin.proofs.Decoded.{spellable, read_all}
 use Rattle.ctype_bin.proofs.File.{exact-file}
 use Rattle.ctype_bin.proofs.Reread.{Again}
 use Rattle.ctype_bin.proofs.RereadFile.{reread-file}
 use Rattle.ctype_bin.proofs.RewrittenFile.{file_rewritten}
+use Rattle.ctype_bin.proofs.SpeltFile.{file_spelt}
 
 abbrev stuck_at : Stuck → Result (File × List ℕ) Stuck
 stuck_at s = Err s
@@ -58,3 +62,9 @@ module _ (f : File) (bytes : List ℕ) (written : bytes ≡ file_bytes f) (forme
         first = subst (λ (l : List ℕ). file.fails l (At fault left)) written (exact-file.faulty bytes (At fault left) fits e);
         kind = met (At fault left) e formed;
       }
+
+-- accepted parts are refused for want of memory alone
+pub only_memory : (f : File) (e : BinError) → FormedFile f → IsAccepted f → Refuses f e → e ≡ errors.NoMemory
+only_memory f (errors.At fault place) formed accepted h = absurd (h.1.unspellable (file_bytes f, file_spelt f formed accepted))
+only_memory f (errors.Read place) formed accepted h = absurd h
+only_memory f errors.NoMemory formed accepted h = refl

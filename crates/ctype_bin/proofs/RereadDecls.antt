@@ -25,16 +25,16 @@ use Rattle.ctype_bin.proofs.RereadTypes.{of_index, of_limit, reread-index, rerea
 
 -- ---- aliases
 
-abbrev alias_back : RawAlias → List ℕ
+abbrev pub alias_back : RawAlias → List ℕ
 alias_back (aliases.InstanceExport i text) = 0 ∷ (u32_bytes i ++ name_bytes text)
 alias_back (aliases.Outer n i) = 2 ∷ (u32_bytes n ++ u32_bytes i)
 
-alias_front : (a : RawAlias) → alias_bytes a ≡ (3 ∷ []) ++ alias_back a
+pub alias_front : (a : RawAlias) → alias_bytes a ≡ (3 ∷ []) ++ alias_back a
 alias_front (aliases.InstanceExport i text) = refl
 alias_front (aliases.Outer n i) = refl
 
 -- what stands behind the first byte of an alias
-abbrev target : List ℕ → Scope → Bytes (Decl × Scope)
+abbrev pub target : List ℕ → Scope → Bytes (Decl × Scope)
 target around scope = do
   t ← only byte (λ b. unless (b == 0 || b == 2) (UnknownOpcode b))
   a ← when (t == 0) (g.instance_export scope) (g.outer_type around scope)

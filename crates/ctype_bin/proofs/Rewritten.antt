@@ -103,10 +103,10 @@ primitive_opens prim.String = refl
 pub no_fault : (p : Primitive) → g.valtype_fault (primitive_byte p) ≡ None
 no_fault p = rw (primitive_back p) refl
 
-placed_none : (o : Option Fault) (left : ℕ) → o ≡ None → placed_at o left ≡ None
+pub placed_none : (o : Option Fault) (left : ℕ) → o ≡ None → placed_at o left ≡ None
 placed_none o left e = rw e refl
 
-primitive_spelt : (p : Primitive) → g.primitive.spells (primitive_byte p ∷ []) (valtypes.Primitive p)
+pub primitive_spelt : (p : Primitive) → g.primitive.spells (primitive_byte p ∷ []) (valtypes.Primitive p)
 unfolding g.primitive
 primitive_spelt p =
     let same : valtypes.Primitive p ≡ valtypes.Primitive (g.primitive_at (primitive_byte p)) = rw (primitive_back p) refl in

@@ -107,7 +107,7 @@ module _ (types : List Definition × Scope) (exports : List Exported) where
   abbrev all : File
   all = record { types = types.0; exports = exports }
 
-  file_from : f.type_section.spells T types → (f.export_section types.1.types).spells E exports → length T < 2 ^ 32 → length E < 2 ^ 32 → f.file.spells (file_bytes all) all
+  pub file_from : f.type_section.spells T types → (f.export_section types.1.types).spells E exports → length T < 2 ^ 32 → length E < 2 ^ 32 → f.file.spells (file_bytes all) all
   unfolding f.file file_bytes
   file_from st se lt le =
       let first : section_bytes 7 T ++ section_bytes 11 E ≡ (7 ∷ u32_bytes (length T)) ++ (T ++ section_bytes 11 E) = ap (λ (l : List ℕ). 7 ∷ l) (append_assoc (u32_bytes (length T)) T (section_bytes 11 E)) in

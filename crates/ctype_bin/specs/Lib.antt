@@ -14,3 +14,4 @@ pub mod Encoding
 pub mod Formed
 pub mod Parts
 pub mod InRange
+pub mod Accepted

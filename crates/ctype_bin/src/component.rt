@@ -6,6 +6,7 @@ ghost use Rattle.ctype_bin.specs.Writing.{file_bytes};
 ghost use Rattle.ctype_bin.specs.Formed.{FormedFile};
 ghost use Rattle.ctype_bin.specs.Spellable.{IsSpellable};
 ghost use Rattle.ctype_bin.specs.Parts.{Refuses};
+ghost use Rattle.ctype_bin.specs.Accepted.{IsAccepted};
 
 use crate::encoding::spelling;
 use crate::error::{BinError, ItemError, Stuck};
@@ -23,9 +24,9 @@ pub struct RawComponent {
 }
 
 impl RawComponent {
-    /// A component of these parts, exactly where bytes of some length spell it. Else the first fault in the order of
-    /// the bytes, with place 0: 13 with `03` for an import in an instance type, 15, 16 or 17; 21 where memory is wanting.
-    /// The length of 1,048,576 bytes is no limit here. (Binary.md)
+    /// A component of these parts, exactly where bytes of some length spell it, as some do where validation accepts the
+    /// parts. Else the first fault in the order of the bytes, with place 0: 13 with `03` for an import in an instance type,
+    /// 15, 16 or 17; 21 where memory is wanting. The length of 1,048,576 bytes is no limit here. (Binary.md)
     pub fn new(
         alloc: Global,
         types: Vec<RawType>,
@@ -34,6 +35,7 @@ impl RawComponent {
         ensures types { IfOk result (λ c. c.types ≡ types) }
         ensures exports { IfOk result (λ c. c.exports ≡ exports) }
         ensures only { IsSpellable (file_of types exports) → MatchResult result (λ _. Unit {0}) (λ e. e ≡ BinError.NoMemory) }
+        ensures accepted { IsAccepted (file_of types exports) → MatchResult result (λ _. Unit {0}) (λ e. e ≡ BinError.NoMemory) }
         ensures err { IfErr result (λ e. Refuses (file_of types exports) e) }
     {
         let Ok(bytes) = spelling(alloc, types.as_slice(), exports.as_slice()) else {
