@@ -30,7 +30,7 @@ differ ns a b d l m e =
     let at : get_or (take b ns) a (get_or ns b []) ≡ get_or ns b [] = get_or-take b ns a (get_or ns b []) l ∙ get_or_default ns a (get_or ns b []) [] (omega (arith, l, m)) ∙ e in
     d.each b m (contains-map lowered (take b ns) (get_or ns b []) (a, omega (arith, l, long), at))
 
-compared : (a b : ℕ) → (a < b) ⊎ ((b < a) ⊎ (a ≡ b))
+pub compared : (a b : ℕ) → (a < b) ⊎ ((b < a) ⊎ (a ≡ b))
 compared zero zero = inr (inr refl)
 compared zero (suc b) = inl (omega arith)
 compared (suc a) zero = inr (inl (omega arith))

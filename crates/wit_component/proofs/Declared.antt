@@ -1,8 +1,12 @@
 -- Declarations of rows, one row after the other.
-use Rattle.std.proofs.Common.{◌≡◌, ℕ, ◌+◌, ◌<◌, List, [], ◌∷◌, ◌++◌, length, take, get_or, refl, ap, sym, ◌∙◌, append_assoc, append-nil}
+use Rattle.std.proofs.Common.{◌≡◌, ℕ, ◌+◌, ◌<◌, true, ◌&&◌, IsTrue, List, [], ◌∷◌, ◌++◌, length, take, get_or, refl, ap, sym, ◌∙◌, append_assoc, append-nil}
+use Rattle.std.specs.List.{list_all}
 use Rattle.std.proofs.lemmas.Grind.{take_at_read}
+use Rattle.std.proofs.lemmas.List.Folds.{list_all-append}
 use Rattle.tables.specs.declared.tables.Definition.{Definition}
 use Rattle.wit_component.specs.Rows.{Place, row_declarations, place_after, declarations_of, places_after}
+use Rattle.wit_component.specs.Standing.{is_labelled}
+use Rattle.wit_component.proofs.Postfixed.{both}
 
 places-append : (at : Place) (ds es : List Definition) → places_after at (ds ++ es) ≡ places_after (places_after at ds) es
 places-append at [] es = refl
@@ -25,3 +29,7 @@ module _ (at : Place) (rows : List Definition) (k : ℕ) (d : Definition) (l : k
   declarations-more =
       ap (declarations_of at) more ∙ declarations-append at (take k rows) (d ∷ [])
       ∙ ap (λ xs. declarations_of at (take k rows) ++ xs) (append-nil (row_declarations (places_after at (take k rows)) d))
+
+  pub labels-more : IsTrue (list_all is_labelled (take k rows)) → IsTrue (is_labelled d) → IsTrue (list_all is_labelled (take (k + 1) rows))
+  labels-more before own =
+      ap (list_all is_labelled) more ∙ list_all-append is_labelled (take k rows) (d ∷ []) ∙ both (list_all is_labelled (take k rows)) (is_labelled d && true) before (both (is_labelled d) true own refl)

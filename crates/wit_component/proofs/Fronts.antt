@@ -3,7 +3,7 @@ use Rattle.std.proofs.Common.{◌≡◌, ℕ, zero, suc, ◌<◌, Bool, true, na
 use Rattle.std.specs.List.{list_all}
 use Rattle.std.proofs.lemmas.List.Folds.{list_all-append}
 use Rattle.std.proofs.lemmas.Bool.Decides.{nat_tests}
-use Rattle.tables.specs.Tables.{is_below, option_below, kind_below, definition_below}
+use Rattle.tables.specs.Tables.{is_below, option_all, kind_all, definition_all, definition_below}
 use Rattle.tables.specs.declared.tables.TypeId.{TypeId}
 use Rattle.tables.specs.declared.tables.ValType.{ValType}
 use Rattle.tables.specs.declared.tables.ValType.TheVariants as val
@@ -19,45 +19,49 @@ use Rattle.wit_component.proofs.Postfixed.{split, both}
 abbrev pub stands_before : ℕ → TypeId → Bool
 stands_before n t = nat_lt t.0 n
 
-module _ (n : ℕ) where
-  val-before : (v : ValType) → is_below n v ≡ true → list_all (stands_before n) (references v) ≡ true
-  val-before (val.Primitive p) h = refl
-  val-before val.String h = refl
-  val-before (val.Id t) h = both (nat_lt t.0 n) true h refl
+-- what holds of each type that a row names holds of each row that it is made of
+module _ (p : ValType → Bool) (q : TypeId → Bool) (e : (t : TypeId) → p (val.Id t) ≡ true → q t ≡ true) where
+  val-all : (v : ValType) → p v ≡ true → list_all q (references v) ≡ true
+  val-all (val.Primitive x) h = refl
+  val-all val.String h = refl
+  val-all (val.Id t) h = both (q t) true (e t h) refl
 
-  if-before : (v : Option ValType) → option_below n v ≡ true → list_all (stands_before n) (references_if v) ≡ true
-  if-before None h = refl
-  if-before (Some v) h = val-before v h
+  if-all : (v : Option ValType) → option_all p v ≡ true → list_all q (references_if v) ≡ true
+  if-all None h = refl
+  if-all (Some v) h = val-all v h
 
-  join-before : (ts us : List TypeId) → list_all (stands_before n) ts ≡ true → list_all (stands_before n) us ≡ true → list_all (stands_before n) (ts ++ us) ≡ true
-  join-before ts us h q = list_all-append (stands_before n) ts us ∙ both (list_all (stands_before n) ts) (list_all (stands_before n) us) h q
+  join-all : (ts us : List TypeId) → list_all q ts ≡ true → list_all q us ≡ true → list_all q (ts ++ us) ≡ true
+  join-all ts us h r = list_all-append q ts us ∙ both (list_all q ts) (list_all q us) h r
 
-  all-before : {X : Type 0} (g : X → List TypeId) (p : X → Bool) → ((x : X) → p x ≡ true → list_all (stands_before n) (g x) ≡ true) → (xs : List X) → list_all p xs ≡ true
-      → list_all (stands_before n) (flat_map g xs) ≡ true
-  all-before g p e [] h = refl
-  all-before g p e (x ∷ xs) h = let s = split (p x) (list_all p xs) h in join-before (g x) (flat_map g xs) (e x s.0) (all-before g p e xs s.1)
+  each-all : {X : Type 0} (g : X → List TypeId) (o : X → Bool) → ((x : X) → o x ≡ true → list_all q (g x) ≡ true) → (xs : List X) → list_all o xs ≡ true
+      → list_all q (flat_map g xs) ≡ true
+  each-all g o f [] h = refl
+  each-all g o f (x ∷ xs) h = let s = split (o x) (list_all o xs) h in join-all (g x) (flat_map g xs) (f x s.0) (each-all g o f xs s.1)
 
-  kind-before : (k : TypeDefKind) → kind_below n k ≡ true → list_all (stands_before n) (kind_references k) ≡ true
-  kind-before (kind.Use t) h = refl
-  kind-before (kind.Alias v) h = val-before v h
-  kind-before (kind.List v) h = val-before v h
-  kind-before (kind.Option v) h = val-before v h
-  kind-before (kind.Result v w) h =
-      let s = split (option_below n v) (option_below n w) h in
-      join-before (references_if v) (references_if w) (if-before v s.0) (if-before w s.1)
-  kind-before (kind.Tuple vs) h = all-before references (is_below n) val-before vs h
-  kind-before (kind.Record fs) h = all-before field_references (λ f. is_below n f.ty) (λ f q. val-before f.ty q) fs h
-  kind-before (kind.Variant cs) h = all-before case_references (λ c. option_below n c.ty) (λ c q. if-before c.ty q) cs h
-  kind-before (kind.Enum ns) h = refl
-  kind-before (kind.Flags ns) h = refl
+  kind-all : (k : TypeDefKind) → kind_all p k ≡ true → list_all q (kind_references k) ≡ true
+  kind-all (kind.Use t) h = refl
+  kind-all (kind.Alias v) h = val-all v h
+  kind-all (kind.List v) h = val-all v h
+  kind-all (kind.Option v) h = val-all v h
+  kind-all (kind.Result v w) h =
+      let s = split (option_all p v) (option_all p w) h in
+      join-all (references_if v) (references_if w) (if-all v s.0) (if-all w s.1)
+  kind-all (kind.Tuple vs) h = each-all references p val-all vs h
+  kind-all (kind.Record fs) h = each-all field_references (λ f. p f.ty) (λ f r. val-all f.ty r) fs h
+  kind-all (kind.Variant cs) h = each-all case_references (λ c. option_all p c.ty) (λ c r. if-all c.ty r) cs h
+  kind-all (kind.Enum ns) h = refl
+  kind-all (kind.Flags ns) h = refl
 
-  pub row-before : (d : Definition) → definition_below n d ≡ true → list_all (stands_before n) (row_references d) ≡ true
-  row-before (row.Type d) h = kind-before d.kind h
-  row-before (row.Function f) h =
-      let s = split (list_all (λ p. is_below n p.ty) f.params) (option_below n f.result) h in
-      join-before (flat_map parameter_references f.params) (references_if f.result)
-      (all-before parameter_references (λ p. is_below n p.ty) (λ p q. val-before p.ty q) f.params s.0)
-      (if-before f.result s.1)
+  pub row-all : (d : Definition) → definition_all p d ≡ true → list_all q (row_references d) ≡ true
+  row-all (row.Type d) h = kind-all d.kind h
+  row-all (row.Function f) h =
+      let s = split (list_all (λ x. p x.ty) f.params) (option_all p f.result) h in
+      join-all (flat_map parameter_references f.params) (references_if f.result)
+      (each-all parameter_references (λ x. p x.ty) (λ x r. val-all x.ty r) f.params s.0)
+      (if-all f.result s.1)
+
+pub row-before : (n : ℕ) (d : Definition) → definition_below n d ≡ true → list_all (stands_before n) (row_references d) ≡ true
+row-before n d h = row-all (is_below n) (stands_before n) (λ t q. q) d h
 
 pub get-front : (pre rest : List Definition) (n : ℕ) → n < length pre → slice_get (pre ++ rest) n ≡ slice_get pre n
 get-front [] rest n h = absurd (omega arith)

@@ -19,7 +19,7 @@ use Rattle.wit_component.proofs.Fronts.{front-inner}
 
 -- ---- ends of lists
 
-ends : (u p : List ℕ) → ends_with nat_eq u p ≡ true → u ≡ take (length u - length p) u ++ p
+pub ends : (u p : List ℕ) → ends_with nat_eq u p ≡ true → u ≡ take (length u - length p) u ++ p
 ends u p h =
     sym (take-append-drop (length u - length p) u)
     ∙ ap (λ x. take (length u - length p) u ++ x) (sym ((bytes_eq-Decides p (drop (length u - length p) u)).0 h))
@@ -33,13 +33,13 @@ ends-append u p = (bytes_eq-Decides p (drop (length (u ++ p) - length p) (u ++ p
 front-append : (u p : List ℕ) → take (length (u ++ p) - length p) (u ++ p) ≡ u
 front-append u p = ap (λ n. take n (u ++ p)) (front-length u p) ∙ take-append_seam u p
 
-is-none : (n : ℕ) → (n == 0) ≡ true → n ≡ 0
+pub is-none : (n : ℕ) → (n == 0) ≡ true → n ≡ 0
 is-none n h = grind (arith, nat_tests)
 
 none-is : (n : ℕ) → n ≡ 0 → (n == 0) ≡ true
 none-is n h = grind (arith, nat_tests)
 
-no-length : (xs : List ℕ) → length xs ≡ 0 → xs ≡ []
+pub no-length : (xs : List ℕ) → length xs ≡ 0 → xs ≡ []
 no-length [] h = refl
 no-length (x ∷ xs) h = absurd (omega arith)
 

@@ -7,3 +7,7 @@ pub mod Naming
 pub mod Standing
 pub mod Reads
 pub mod Reading
+pub mod Laws
+pub mod Candidate
+pub mod Readers
+pub mod ExportNames

@@ -20,10 +20,24 @@ use Rattle.tables.specs.declared.tables.Case.{Case}
 use Rattle.wit_component.specs.declared.unread.Unread.{Unread}
 use Rattle.wit_component.specs.declared.unread.Unread.TheVariants as unread
 
+-- there was no memory, or what should be read isn't there
+abbrev pub IsUnread : {A : Type 0} → Unread → Option A → Type 0
+IsUnread e found = (e ≡ unread.NoMemory) ⊎ ((e ≡ unread.NotThisShape) × (found ≡ None))
+
 -- what was read is this; where it is none, the component isn't of a package's shape
 abbrev pub Reads : {A : Type 0} → Option A → Result A Unread → Type 0
 Reads found (Ok x) = found ≡ Some x
-Reads found (Err e) = (e ≡ unread.NoMemory) ⊎ ((e ≡ unread.NotThisShape) × (found ≡ None))
+Reads found (Err e) = IsUnread e found
+
+-- .. and what was read is seen so
+abbrev pub ReadsAs : {A B : Type 0} → (B → A) → Option A → Result B Unread → Type 0
+ReadsAs view found (Ok x) = found ≡ Some (view x)
+ReadsAs view found (Err e) = IsUnread e found
+
+-- .. and has become this
+abbrev pub Becomes : {A B : Type 0} → Option A → A → Result B Unread → Type 0
+Becomes found new (Ok x) = found ≡ Some new
+Becomes found new (Err e) = IsUnread e found
 
 -- ---- options
 

@@ -25,11 +25,11 @@ is_empty_package [] = false
 is_empty_package (t ∷ []) = has_no_decls t
 is_empty_package (t ∷ u ∷ ts) = false
 
--- Why a component is refused: 43 looks at its one type alone. The package of 44 would have to be of this component. A name is told as one
--- that stands twice only of a package whose component this is.
+-- Why a component is refused: 43 looks at its one type alone, 44 tells that it stands for no package, and 40 names one that stands twice in
+-- a scope of a package that it stands for.
 abbrev pub Refuses : RawComponent → ResolveError → Type 0
 Refuses raw error.EmptyPackage = is_empty_package (file_view raw).types ≡ true
-Refuses raw error.NotThisShape = is_empty_package (file_view raw).types ≡ false
+Refuses raw error.NotThisShape = (is_empty_package (file_view raw).types ≡ false) × ((r : Resolve) → Stands raw r → ⊥)
 Refuses raw error.NoMemory = Unit {0}
 Refuses raw (error.Duplicate n) = ∥ ((r : Resolve) × Stands raw r × Repeats r n) ∥₁
 Refuses raw (error.Unknown n) = ⊥

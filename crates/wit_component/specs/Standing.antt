@@ -1,12 +1,33 @@
 -- What a raw component stands for.
-use Rattle.std.specs.Prelude.{◌≡◌}
+use Rattle.std.specs.Prelude.{◌≡◌, ℕ, Bool, true, ◌&&◌, List, [], ◌∷◌, IsTrue, Option, None, Some}
+use Rattle.std.specs.List.{list_all}
+use Rattle.atoms.specs.Label.{is_label}
 use Rattle.ctype_bin.specs.FileView.{file_view}
 use Rattle.ctype_bin.specs.declared.component.RawComponent.{RawComponent}
+use Rattle.tables.specs.declared.tables.TypeName.{TypeName}
+use Rattle.tables.specs.declared.tables.Definition.{Definition}
+use Rattle.tables.specs.declared.tables.Definition.TheVariants as row
+use Rattle.tables.specs.declared.tables.Interface.{Interface}
 use Rattle.tables.specs.declared.tables.Resolve.{Resolve}
-use Rattle.wit_component.specs.Component.{component_of}
+use Rattle.wit_component.specs.Component.{component_of, end_of, rows_of}
 use Rattle.wit_component.specs.Form.{IsInPackageForm}
+
+abbrev pub is_label_if : Option TypeName → Bool
+is_label_if None = true
+is_label_if (Some n) = is_label n.name
+
+-- a row's name, if it has one, is a label
+abbrev pub is_labelled : Definition → Bool
+is_labelled (row.Type d) = is_label_if d.name
+is_labelled (row.Function f) = is_label f.name
+
+-- so are the names of these interfaces, the first of whose rows begin at start
+abbrev pub are_labelled : List Definition → ℕ → List Interface → Bool
+are_labelled rows start [] = true
+are_labelled rows start (i ∷ is) = (is_label i.name && list_all is_labelled (rows_of rows start i)) && are_labelled rows (end_of start i) is
 
 -- the component is the package's, in the layout of packages
 pub record Stands (raw : RawComponent) (r : Resolve) : Type 0 where
   pub component : file_view raw ≡ component_of r
   pub form : IsInPackageForm r
+  pub labels : IsTrue (are_labelled r.definitions 0 r.interfaces)

@@ -1,5 +1,7 @@
 //! A package as one component type.
 ghost use Rattle.std.specs.Prelude.{◌≡◌, ◌≤◌, ◌<◌, ◌+◌, ◌++◌, ◌∷◌, [], ◌-◌, map, length, IsTrue, IfOk, OnOk};
+ghost use Rattle.std.specs.List.{list_all};
+ghost use Rattle.atoms.specs.Label.{IsLabel};
 ghost use Rattle.ctype_bin.specs.Names.{name_view};
 ghost use Rattle.ctype_bin.specs.View.{decl_view};
 ghost use Rattle.ctype_bin.specs.Raw.{Export};
@@ -7,10 +9,12 @@ ghost use Rattle.ctype_bin.specs.declared.raw.RawDescription.TheVariants.{Instan
 ghost use Rattle.tables.specs.Names.{full_name};
 ghost use Rattle.wit_component.specs.Component.{Front, first_place, interface_declarations, front_after, is_parted, interfaces_declared, no_front};
 ghost use Rattle.wit_component.specs.Form.{has_full_names};
+ghost use Rattle.wit_component.specs.Standing.{is_labelled, are_labelled};
 
 use crate::interfaces::{aliases_of, end_of, instance_decl};
+use crate::names::copy_version;
 use crate::rows::{RowPlace, declarations_of};
-use atoms::FullName;
+use atoms::{FullName, Label};
 use ctype_bin::{ExternName, RawDecl, RawDescription};
 use std::alloc::{AllocError, Global};
 use std::marker::Model;
@@ -40,17 +44,14 @@ fn full_name(
     interface: &Interface,
 ) -> Result<ExternName, AllocError>
     requires { IsTrue (has_full_names resolve.now) }
-    ensures { IfOk result (λ n. name_view n ≡ full_name resolve.now interface.now) }
+    ensures name { IfOk result (λ n. name_view n ≡ full_name resolve.now interface.now) }
+    ensures label { OnOk result (IsLabel interface.now.name) }
 {
-    let version = match &resolve.version {
-        Some(version) => Some(version.clone()?),
-        None => None,
-    };
     Ok(ExternName::FullName(FullName {
         namespace: resolve.namespace.copy(alloc)?,
         package: resolve.name.copy(alloc)?,
-        name: interface.name.copy(alloc)?,
-        version,
+        name: Label::from_bytes(alloc, interface.name.as_bytes())?,
+        version: copy_version(&resolve.version)?,
     }))
 }
 
@@ -63,7 +64,8 @@ fn instance_export(
     index: u32,
 ) -> Result<RawDecl, AllocError>
     requires { IsTrue (has_full_names resolve.now) }
-    ensures { IfOk result (λ d. decl_view d ≡ Export (full_name resolve.now interface.now) (Instance index)) }
+    ensures declaration { IfOk result (λ d. decl_view d ≡ Export (full_name resolve.now interface.now) (Instance index)) }
+    ensures label { OnOk result (IsLabel interface.now.name) }
 {
     let name = full_name(alloc, resolve, interface)?;
     Ok(RawDecl::Export(name, RawDescription::Instance(index)))
@@ -83,6 +85,8 @@ fn interface_declarations(
     ensures declarations { IfOk result (λ x. map decl_view x.0.items ≡ interface_declarations resolve.now.definitions place rows.now (full_name resolve.now interface.now)) }
     ensures place { IfOk result (λ x. x.1 ≡ front_after resolve.now.definitions place rows.now) }
     ensures few { IfOk result (λ x. x.1.types ≤ place.types + length rows.now + 1) }
+    ensures label { OnOk result (IsLabel interface.now.name) }
+    ensures labelled { OnOk result (IsTrue (list_all is_labelled rows.now)) }
 {
     let mut decls = aliases_of(alloc, resolve.definitions.as_slice(), rows)?;
     let index = place.types + decls.len() as u32;
@@ -103,7 +107,8 @@ pub fn declarations(alloc: Global, resolve: &Resolve) -> Result<Vec<RawDecl>, Al
     requires parted { IsTrue (is_parted (length resolve.now.definitions) 0 resolve.now.interfaces) }
     requires rows { length resolve.now.definitions ≤ 65535 }
     requires interfaces { length resolve.now.interfaces ≤ 65535 }
-    ensures { IfOk result (λ ds. map decl_view ds.items ≡ interfaces_declared resolve.now no_front 0 resolve.now.interfaces) }
+    ensures declared { IfOk result (λ ds. map decl_view ds.items ≡ interfaces_declared resolve.now no_front 0 resolve.now.interfaces) }
+    ensures labelled { OnOk result (IsTrue (are_labelled resolve.now.definitions 0 resolve.now.interfaces)) }
 {
     let rows = resolve.definitions.as_slice();
     let mut place = InterfacePlace {

@@ -1,7 +1,9 @@
 //! The package that a raw component stands for.
-ghost use Rattle.std.specs.Prelude.{All, IfOk, IfErr};
+ghost use Rattle.std.specs.Prelude.{◌≡◌, ◌⊎◌, All, IfOk, IfErr, MatchResult};
+ghost use Rattle.tables.specs.Same.{IsSamePackage};
 ghost use Rattle.resolve.specs.Scope.{AreDistinct};
 ghost use Rattle.wit_component.specs.Naming.{package_scopes};
+ghost use Rattle.wit_component.specs.Form.{IsInPackageForm};
 ghost use Rattle.wit_component.specs.Standing.{Stands};
 ghost use Rattle.wit_component.specs.Reads.{Refuses};
 
@@ -14,28 +16,43 @@ use ctype_bin::RawComponent;
 use std::alloc::Global;
 use tables::{Resolve, ResolveError};
 
-/// The package that a component stands for: what is read of it is written again, and has to be the same. 43
-/// `EmptyPackage` exactly where its one type is a component type without declarations, whatever is exported; 44
-/// `NotThisShape` where it isn't of the layout of packages. 40 `Duplicate` where it is, and a name of it stands twice in
-/// its scope, but for the case of its letters: the first in the order of the bytes, a definition's members before its
-/// name, an interface's definitions before the interface's. (Binary.md)
-pub fn from_raw(alloc: Global, raw: &RawComponent) -> Result<Resolve, ResolveError>
+/// The package that a component stands for, whose names may stand twice in a scope.
+fn standing(alloc: Global, raw: &RawComponent) -> Result<Resolve, ResolveError>
     ensures ok { IfOk result (λ r. ∥ Stands raw.now r ∥₁) }
-    ensures distinct { IfOk result (λ r. All AreDistinct (package_scopes r)) }
-    ensures err { IfErr result (Refuses raw.now) }
+    ensures form { IfOk result (λ r. IsInPackageForm r) }
+    ensures same { IfOk result (λ p. (r : Resolve) → Stands raw.now r → All AreDistinct (package_scopes r) → IsSamePackage p r) }
+    ensures err { IfErr result (λ e. (e ≡ ResolveError.NoMemory)
+        ⊎ ((e ≡ ResolveError.NotThisShape) × ((r : Resolve) → Stands raw.now r → ⊥))) }
 {
-    if is_empty_package(raw) {
-        return Err(ResolveError::EmptyPackage);
-    }
     let package = match candidate(alloc, raw) {
         Ok(package) => package,
         Err(Unread::NotThisShape) => return Err(ResolveError::NotThisShape),
         Err(Unread::NoMemory) => return Err(ResolveError::NoMemory),
     };
     let written = to_raw(alloc, &package)?;
-    if !is_same(alloc, raw, &written)? {
-        return Err(ResolveError::NotThisShape);
+    if is_same(alloc, raw, &written)? {
+        Ok(package)
+    } else {
+        Err(ResolveError::NotThisShape)
     }
+}
+
+/// The package that a component stands for: what is read of it is written again, and has to be the same. 43
+/// `EmptyPackage` exactly where its one type is a component type without declarations, whatever is exported; 44
+/// `NotThisShape` exactly where it stands for no package otherwise. 40 `Duplicate` where it stands for one, and a name
+/// of it stands twice in its scope, but for the case of its letters: the first in the order of the bytes, a definition's
+/// members before its name, an interface's definitions before the interface's. (Binary.md)
+pub fn from_raw(alloc: Global, raw: &RawComponent) -> Result<Resolve, ResolveError>
+    ensures ok { IfOk result (λ r. ∥ Stands raw.now r ∥₁) }
+    ensures distinct { IfOk result (λ r. All AreDistinct (package_scopes r)) }
+    ensures only { (r : Resolve) → Stands raw.now r → All AreDistinct (package_scopes r)
+        → MatchResult result (λ p. IsSamePackage p r) (λ e. e ≡ ResolveError.NoMemory) }
+    ensures err { IfErr result (Refuses raw.now) }
+{
+    if is_empty_package(raw) {
+        return Err(ResolveError::EmptyPackage);
+    }
+    let package = standing(alloc, raw)?;
     distinct_names(alloc, &package)?;
     Ok(package)
 }

@@ -10,6 +10,8 @@ mod distinct;
 mod form;
 mod from_component;
 mod interfaces;
+pub mod laws;
+mod names;
 mod reading;
 mod references;
 mod rows;

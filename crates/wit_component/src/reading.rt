@@ -1,54 +1,75 @@
-//! A raw component as the table of a package that may be the one that it stands for.
+//! The declarations of an instance type as rows of the table.
+ghost use Rattle.std.specs.Prelude.{◌≡◌, List, length, map, IfOk, OnOk};
+ghost use Rattle.atoms.specs.Label.{IsLabel};
+ghost use Rattle.ctype_bin.specs.View.{decl_view, decls_of, type_view};
+ghost use Rattle.tables.specs.declared.tables.Definition.{Definition};
+ghost use Rattle.wit_component.specs.Reading.{ReadsAs, Becomes, both_found, all_found, parameter_read, optional_type};
+ghost use Rattle.wit_component.specs.Candidate.{AFunction, nothing_read, settled, with_unnamed, with_named, uses_with, types_with, renamed, type_exported, function_exported, exported, use_read, defined, decl_read, instance_read};
+ghost use Rattle.wit_component.specs.Readers.{awaited_view, read_with};
 
+use crate::names::{NameParts, name_parts};
 use crate::types::{kind_of, optional_type, parameters, row_at};
 use crate::unread::Unread;
 use atoms::Label;
-use ctype_bin::{
-    ExternName, RawAlias, RawDecl, RawDefinedType, RawDescription, RawFunction, RawType,
-};
+use ctype_bin::{RawAlias, RawDecl, RawDescription, RawFunction, RawType};
 use indexmap::IndexMap;
-use std::alloc::Global;
+use std::alloc::{AllocError, Global};
 use tables::{
     Definition, Function, FunctionId, Interface, InterfaceId, Owner, Parameter, Sequence, TypeDef,
     TypeDefKind, TypeId, TypeName, ValType,
 };
 
-/// A definition whose export hasn't come yet.
+/// What the last definition or alias defines, while its export may still come.
 #[derive(Drop)]
-enum Pending {
+pub enum Awaited {
     Nothing,
     Type(TypeDefKind),
     Function(Sequence<Parameter>, Option<ValType>),
 }
 
-/// An instance type while it is read.
+/// What was read of an interface's instance type, without its rows.
 #[derive(Drop)]
 pub struct InstanceReader {
-    place: InterfaceId,
     /// The row of each type index.
     indices: Vec<Option<TypeId>>,
-    /// What the last type index is, if its export may come.
-    pending: Pending,
+    awaited: Awaited,
     names: IndexMap<Vec<u8>, TypeId>,
     uses: Vec<TypeId>,
     types: Vec<TypeId>,
     functions: Vec<FunctionId>,
 }
 
-/// The place of the next row.
-fn next_place(rows: &[Definition]) -> Result<u32, Unread> {
+/// The place of the next row. No memory where an id can't tell it.
+fn next_place(rows: &[Definition]) -> Result<u32, AllocError>
+    ensures { IfOk result (λ place. place ≡ length rows.now) }
+{
     match u32::try_from(rows.len()) {
         Ok(place) => Ok(place),
-        Err(_) => Err(Unread::NotThisShape),
+        Err(_) => Err(AllocError),
     }
 }
 
+/// A function's signature, whose export is awaited.
+fn signature(
+    alloc: Global,
+    indices: &[Option<TypeId>],
+    function: &RawFunction,
+) -> Result<Awaited, Unread>
+    ensures { ReadsAs awaited_view (both_found AFunction (all_found (parameter_read indices.now) function.now.params.items) (optional_type indices.now function.now.result)) result }
+{
+    let params = parameters(alloc, indices, &function.params)?;
+    let result = optional_type(indices, function.result)?;
+    Ok(Awaited::Function(params, result))
+}
+
 impl InstanceReader {
-    pub fn new(alloc: Global, place: InterfaceId) -> Self {
+    /// Nothing was read.
+    fn new(alloc: Global) -> Self
+        ensures { (rows : List Definition) → read_with rows result ≡ nothing_read rows }
+    {
         InstanceReader {
-            place,
             indices: Vec::new(alloc),
-            pending: Pending::Nothing,
+            awaited: Awaited::Nothing,
             names: IndexMap::new(alloc),
             uses: Vec::new(alloc),
             types: Vec::new(alloc),
@@ -56,159 +77,241 @@ impl InstanceReader {
         }
     }
 
-    /// A definition that no export follows is a type without a name.
-    fn settle(&mut self, rows: &mut Vec<Definition>) -> Result<(), Unread> {
-        match std::mem::replace(&mut self.pending, Pending::Nothing) {
-            Pending::Nothing => Ok(()),
-            Pending::Type(kind) => {
-                let id = TypeId(next_place(rows)?);
-                rows.push(Definition::Type(TypeDef { name: None, kind }))?;
-                self.indices.pop();
-                self.indices.push(Some(id))?;
-                Ok(())
-            }
-            Pending::Function(_, _) => Err(Unread::NotThisShape),
-        }
-    }
-
-    fn define(&mut self, alloc: Global, defined: &RawDefinedType) -> Result<(), Unread> {
-        let kind = kind_of(alloc, &self.indices, defined)?;
-        self.pending = Pending::Type(kind);
-        self.indices.push(None)?;
-        Ok(())
-    }
-
-    fn declare(&mut self, alloc: Global, function: &RawFunction) -> Result<(), Unread> {
-        let params = parameters(alloc, &self.indices, &function.params)?;
-        let result = optional_type(&self.indices, function.result)?;
-        self.pending = Pending::Function(params, result);
-        self.indices.push(None)?;
-        Ok(())
-    }
-
-    fn alias(&mut self, around: &[Option<TypeId>], alias: &RawAlias) -> Result<(), Unread> {
-        match alias {
-            RawAlias::Outer { count: 1, index } => {
-                self.pending = Pending::Type(TypeDefKind::Use(row_at(around, *index)?));
-                self.indices.push(None)?;
-                Ok(())
-            }
-            _ => Err(Unread::NotThisShape),
-        }
-    }
-
-    /// Puts a type under its name at the end of the table.
-    fn name_type(
+    /// Appends a type without a name.
+    fn push_unnamed(
         &mut self,
-        alloc: Global,
         rows: &mut Vec<Definition>,
-        name: &Label,
         kind: TypeDefKind,
-    ) -> Result<(), Unread> {
+    ) -> Result<(), AllocError>
+        requires { self.old.awaited ≡ Awaited.Nothing }
+        ensures { OnOk result (read_with rows.new.items self.new ≡ with_unnamed (read_with rows.old.items self.old) kind) }
+    {
         let id = TypeId(next_place(rows)?);
-        match kind {
-            TypeDefKind::Use(_) => self.uses.push(id)?,
-            _ => self.types.push(id)?,
-        }
-        rows.push(Definition::Type(TypeDef {
-            name: Some(TypeName {
-                interface: self.place,
-                name: name.copy(alloc)?,
-            }),
-            kind,
-        }))?;
-        self.names
-            .insert(Vec::from_slice(alloc, name.as_bytes())?, id)?;
+        rows.push(Definition::Type(TypeDef { name: None, kind }))?;
         self.indices.push(Some(id))?;
         Ok(())
     }
 
+    /// A definition that no export follows is a type without a name.
+    fn settle(&mut self, rows: &mut Vec<Definition>) -> Result<(), Unread>
+        ensures { Becomes (settled (read_with rows.old.items self.old)) (read_with rows.new.items self.new) result }
+    {
+        match std::mem::replace(&mut self.awaited, Awaited::Nothing) {
+            Awaited::Nothing => Ok(()),
+            Awaited::Type(kind) => Ok(self.push_unnamed(rows, kind)?),
+            Awaited::Function(_, _) => Err(Unread::NotThisShape),
+        }
+    }
+
+    /// Lists a type as a used name or as a type of the interface.
+    fn list_type(&mut self, kind: &TypeDefKind, id: TypeId) -> Result<(), AllocError>
+        ensures uses { OnOk result (self.new.uses.items ≡ uses_with self.old.uses.items id kind.now) }
+        ensures types { OnOk result (self.new.types.items ≡ types_with self.old.types.items id kind.now) }
+        ensures same { (self.new.indices ≡ self.old.indices) × (self.new.awaited ≡ self.old.awaited) × (self.new.names ≡ self.old.names) × (self.new.functions ≡ self.old.functions) }
+    {
+        match kind {
+            TypeDefKind::Use(_) => self.uses.push(id)?,
+            _ => self.types.push(id)?,
+        }
+        Ok(())
+    }
+
+    /// Appends a type of this interface under its name.
+    fn push_named(
+        &mut self,
+        alloc: Global,
+        rows: &mut Vec<Definition>,
+        place: InterfaceId,
+        name: &[u8],
+        kind: TypeDefKind,
+    ) -> Result<(), AllocError>
+        requires awaited { self.old.awaited ≡ Awaited.Nothing }
+        requires label { IsLabel name.now }
+        ensures { OnOk result (read_with rows.new.items self.new ≡ with_named place.0 name.now kind (read_with rows.old.items self.old)) }
+    {
+        let id = TypeId(next_place(rows)?);
+        self.list_type(&kind, id)?;
+        let label = Label::from_bytes(alloc, name)?;
+        rows.push(Definition::Type(TypeDef {
+            name: Some(TypeName {
+                interface: place,
+                name: label,
+            }),
+            kind,
+        }))?;
+        self.names.insert(Vec::from_slice(alloc, name)?, id)?;
+        self.indices.push(Some(id))?;
+        Ok(())
+    }
+
+    /// Gives the type at this index a new name.
+    fn rename(
+        &mut self,
+        alloc: Global,
+        rows: &mut Vec<Definition>,
+        place: InterfaceId,
+        name: &[u8],
+        index: u32,
+    ) -> Result<(), Unread>
+        requires awaited { self.old.awaited ≡ Awaited.Nothing }
+        requires label { IsLabel name.now }
+        ensures { Becomes (renamed place.0 name.now index (read_with rows.old.items self.old)) (read_with rows.new.items self.new) result }
+    {
+        let target = row_at(&self.indices, index)?;
+        let kind = TypeDefKind::Alias(ValType::Id(target));
+        Ok(self.push_named(alloc, rows, place, name, kind)?)
+    }
+
+    /// Names the type that is awaited, if it has this index, or gives another one a new name.
     fn export_type(
         &mut self,
         alloc: Global,
         rows: &mut Vec<Definition>,
-        name: &Label,
+        place: InterfaceId,
+        name: &[u8],
         index: u32,
-    ) -> Result<(), Unread> {
-        if index as usize == self.indices.len().saturating_sub(1) {
-            let pending = std::mem::replace(&mut self.pending, Pending::Nothing);
-            if let Pending::Type(kind) = pending {
-                return self.name_type(alloc, rows, name, kind);
+    ) -> Result<(), Unread>
+        requires { IsLabel name.now }
+        ensures { Becomes (type_exported place.0 name.now index (read_with rows.old.items self.old) (awaited_view self.old.awaited)) (read_with rows.new.items self.new) result }
+    {
+        match std::mem::replace(&mut self.awaited, Awaited::Nothing) {
+            Awaited::Nothing => self.rename(alloc, rows, place, name, index),
+            Awaited::Type(kind) => {
+                if index as usize == self.indices.len() {
+                    self.indices.push(None)?;
+                    return Ok(self.push_named(alloc, rows, place, name, kind)?);
+                }
+                self.push_unnamed(rows, kind)?;
+                self.rename(alloc, rows, place, name, index)
             }
-            self.pending = pending;
+            Awaited::Function(_, _) => Err(Unread::NotThisShape),
         }
-        self.settle(rows)?;
-        let kind = TypeDefKind::Alias(ValType::Id(row_at(&self.indices, index)?));
-        self.name_type(alloc, rows, name, kind)
     }
 
+    /// Appends the function that is awaited.
     fn export_function(
         &mut self,
         alloc: Global,
         rows: &mut Vec<Definition>,
-        name: &Label,
-    ) -> Result<(), Unread> {
-        let pending = std::mem::replace(&mut self.pending, Pending::Nothing);
-        let Pending::Function(params, result) = pending else {
+        place: InterfaceId,
+        name: &[u8],
+    ) -> Result<(), Unread>
+        requires { IsLabel name.now }
+        ensures { Becomes (function_exported place.0 name.now (read_with rows.old.items self.old) (awaited_view self.old.awaited)) (read_with rows.new.items self.new) result }
+    {
+        let awaited = std::mem::replace(&mut self.awaited, Awaited::Nothing);
+        let Awaited::Function(params, result) = awaited else {
             return Err(Unread::NotThisShape);
         };
         let id = FunctionId(next_place(rows)?);
+        let name = Label::from_bytes(alloc, name)?;
         rows.push(Definition::Function(Function {
-            owner: Owner::Interface(self.place),
-            name: name.copy(alloc)?,
+            owner: Owner::Interface(place),
+            name,
             params,
             result,
         }))?;
+        self.indices.push(None)?;
         self.functions.push(id)?;
         Ok(())
     }
 
-    fn read(
+    fn export(
         &mut self,
         alloc: Global,
         rows: &mut Vec<Definition>,
+        place: InterfaceId,
+        name: &[u8],
+        description: &RawDescription,
+    ) -> Result<(), Unread>
+        requires { IsLabel name.now }
+        ensures { Becomes (exported place.0 name.now description.now (read_with rows.old.items self.old)) (read_with rows.new.items self.new) result }
+    {
+        match description {
+            RawDescription::TypeEqual(index) => self.export_type(alloc, rows, place, name, *index),
+            RawDescription::Function(_) => self.export_function(alloc, rows, place, name),
+            RawDescription::Component(_) | RawDescription::Instance(_) => {
+                Err(Unread::NotThisShape)
+            }
+        }
+    }
+
+    /// Awaits the export of a type around the instance type.
+    fn alias(&mut self, around: &[Option<TypeId>], alias: &RawAlias) -> Result<(), Unread>
+        ensures { (rows : List Definition) → Becomes (use_read around.now alias.now (read_with rows self.old)) (read_with rows self.new) result }
+    {
+        let RawAlias::Outer { count: 1, index } = alias else {
+            return Err(Unread::NotThisShape);
+        };
+        self.awaited = Awaited::Type(TypeDefKind::Use(row_at(around, *index)?));
+        Ok(())
+    }
+
+    #[tactic(auto, unfolding(ctype_bin::specs::View::type_view))]
+    fn define(&mut self, alloc: Global, ty: &RawType) -> Result<(), Unread>
+        ensures { (rows : List Definition) → Becomes (defined (type_view ty.now) (read_with rows self.old)) (read_with rows self.new) result }
+    {
+        self.awaited = match ty {
+            RawType::Defined(defined) => Awaited::Type(kind_of(alloc, &self.indices, defined)?),
+            RawType::Function(function) => signature(alloc, &self.indices, function)?,
+            RawType::Component(_) | RawType::Instance(_) => return Err(Unread::NotThisShape),
+        };
+        Ok(())
+    }
+
+    #[tactic(auto, unfolding(ctype_bin::specs::View::decl_view))]
+    fn read_decl(
+        &mut self,
+        alloc: Global,
+        rows: &mut Vec<Definition>,
+        place: InterfaceId,
         around: &[Option<TypeId>],
         decl: &RawDecl,
-    ) -> Result<(), Unread> {
+    ) -> Result<(), Unread>
+        ensures { Becomes (decl_read around.now place.0 (decl_view decl.now) (read_with rows.old.items self.old)) (read_with rows.new.items self.new) result }
+    {
         match decl {
-            RawDecl::Export(ExternName::Label(name), RawDescription::TypeEqual(index)) => {
-                self.export_type(alloc, rows, name, *index)
-            }
-            RawDecl::Export(ExternName::Label(name), RawDescription::Function(_)) => {
-                self.export_function(alloc, rows, name)
+            RawDecl::Export(name, description) => {
+                let NameParts::Label(name) = name_parts(name) else {
+                    return Err(Unread::NotThisShape);
+                };
+                self.export(alloc, rows, place, name, description)
             }
             RawDecl::Alias(alias) => {
                 self.settle(rows)?;
                 self.alias(around, alias)
             }
-            RawDecl::Type(RawType::Defined(defined)) => {
+            RawDecl::Type(ty) => {
                 self.settle(rows)?;
-                self.define(alloc, defined)
+                self.define(alloc, ty)
             }
-            RawDecl::Type(RawType::Function(function)) => {
-                self.settle(rows)?;
-                self.declare(alloc, function)
-            }
-            _ => Err(Unread::NotThisShape),
+            RawDecl::Import(_, _) => Err(Unread::NotThisShape),
         }
     }
 
-    /// Reads the declarations of an instance type.
-    pub fn read_all(
-        &mut self,
+    /// What the declarations of this interface's instance type are, behind these rows.
+    pub fn read(
         alloc: Global,
         rows: &mut Vec<Definition>,
+        place: InterfaceId,
         around: &[Option<TypeId>],
         decls: &[RawDecl],
-    ) -> Result<(), Unread> {
+    ) -> Result<Self, Unread>
+        ensures { ReadsAs (read_with rows.new.items) (instance_read around.now place.0 (decls_of (map decl_view decls.now)) rows.old.items) result }
+    {
+        let mut reader = InstanceReader::new(alloc);
         for decl in decls {
-            self.read(alloc, rows, around, decl)?;
+            reader.read_decl(alloc, rows, place, around, decl)?;
         }
-        self.settle(rows)
+        reader.settle(rows)?;
+        Ok(reader)
     }
 
     /// The interface of this name, and the types that it exports by their names.
-    pub fn into_interface(self, name: Label) -> (Interface, IndexMap<Vec<u8>, TypeId>) {
+    pub fn into_interface(self, name: Label) -> (Interface, IndexMap<Vec<u8>, TypeId>)
+        ensures interface { result.0 ≡ record { name = name; uses = self.uses.items; types = self.types.items; functions = self.functions.items } }
+        ensures names { result.1 ≡ self.names }
+    {
         let interface = Interface {
             name,
             uses: Sequence::new(self.uses),

@@ -1,9 +1,12 @@
 //! The rows of an interface as declarations of its instance type.
-ghost use Rattle.std.specs.Prelude.{◌≡◌, ◌≤◌, ◌<◌, ◌+◌, ◌++◌, map, option_map, length, vec_len, IfOk, OnOk, OnErr};
+ghost use Rattle.std.specs.Prelude.{◌≡◌, ◌≤◌, ◌<◌, ◌+◌, ◌++◌, map, option_map, length, vec_len, IsTrue, IfOk, OnOk, OnErr};
+ghost use Rattle.std.specs.List.{list_all};
+ghost use Rattle.atoms.specs.Label.{IsLabel};
 ghost use Rattle.ctype_bin.specs.View.{decl_view, decls_of, defined_view};
 ghost use Rattle.ctype_bin.specs.Raw.{Define, Func, Entry, Export};
 ghost use Rattle.resolve.specs.Resolves.{is_use};
 ghost use Rattle.wit_component.specs.Rows.{Place, signature_of, defined_of, definition_of, definition_index, type_export, row_declarations, outer_alias, defined_types, row_types, row_offset, place_after, declarations_of, places_after};
+ghost use Rattle.wit_component.specs.Standing.{is_labelled};
 
 use crate::valtypes::{
     cases_of, fields_of, index_of, labels_of, members_of, optional_of, parameters_of,
@@ -100,10 +103,11 @@ fn export_decl(
     name: &Label,
     description: RawDescription,
 ) -> Result<RawDecl, AllocError>
-    ensures { IfOk result (λ d. decl_view d ≡ Export name.now description) }
+    ensures declaration { IfOk result (λ d. decl_view d ≡ Export name.now description) }
+    ensures label { IsLabel name.now }
 {
-    let name = ExternName::Label(name.copy(alloc)?);
-    Ok(RawDecl::Export(name, description))
+    let name = Label::from_bytes(alloc, name.as_bytes())?;
+    Ok(RawDecl::Export(ExternName::Label(name), description))
 }
 
 #[tactic(auto, unfolding(ctype_bin::specs::View::decl_view, ctype_bin::specs::View::type_view))]
@@ -212,7 +216,8 @@ impl RowPlace {
         decls: &mut Vec<RawDecl>,
         row: &Definition,
     ) -> Result<(), AllocError>
-        ensures { OnOk result (map decl_view decls.new.items ≡ map decl_view decls.old.items ++ row_declarations self.now row.now) }
+        ensures declarations { OnOk result (map decl_view decls.new.items ≡ map decl_view decls.old.items ++ row_declarations self.now row.now) }
+        ensures labelled { OnOk result (IsTrue (is_labelled row.now)) }
     {
         match row {
             Definition::Type(definition) => {
@@ -257,6 +262,7 @@ pub fn declarations_of(
     requires rows { length rows.now ≤ 65535 }
     ensures declarations { IfOk result (λ x. map decl_view x.0.items ≡ declarations_of first rows.now) }
     ensures place { IfOk result (λ x. x.1 ≡ places_after first rows.now) }
+    ensures labelled { OnOk result (IsTrue (list_all is_labelled rows.now)) }
 {
     let mut place = first;
     let mut decls = Vec::new(alloc);

@@ -1,10 +1,9 @@
 //! A package as a raw component.
-ghost use Rattle.std.specs.Prelude.{◌≡◌, ◌⊎◌, [], ◌∷◌, IsTrue, true, IfOk, IfErr};
+ghost use Rattle.std.specs.Prelude.{◌≡◌, ◌⊎◌, [], ◌∷◌, IsTrue, true, IfOk, OnOk, IfErr};
 ghost use Rattle.ctype_bin.specs.View.{file_of, export_view};
-ghost use Rattle.ctype_bin.specs.Spellable.{IsSpellable};
 ghost use Rattle.wit_component.specs.Component.{component_of, package_export};
 ghost use Rattle.wit_component.specs.Form.{IsInPackageForm, is_in_form};
-ghost use Rattle.wit_component.specs.Standing.{Stands};
+ghost use Rattle.wit_component.specs.Standing.{Stands, are_labelled};
 
 use crate::component::declarations;
 use crate::form::is_in_form;
@@ -28,7 +27,8 @@ fn package_export(alloc: Global) -> Result<RawExport, AllocError>
 #[tactic(auto, using(ctype_bin::proofs::Views::views))]
 fn parts_of(alloc: Global, resolve: &Resolve) -> Result<(Vec<RawType>, Vec<RawExport>), AllocError>
     requires { IsTrue (is_in_form resolve.now) }
-    ensures { IfOk result (λ x. file_of x.0 x.1 ≡ component_of resolve.now) }
+    ensures file { IfOk result (λ x. file_of x.0 x.1 ≡ component_of resolve.now) }
+    ensures labelled { OnOk result (IsTrue (are_labelled resolve.now.definitions 0 resolve.now.interfaces)) }
 {
     let decls = declarations(alloc, resolve)?;
     let mut types = Vec::new(alloc);
@@ -38,12 +38,12 @@ fn parts_of(alloc: Global, resolve: &Resolve) -> Result<(Vec<RawType>, Vec<RawEx
     Ok((types, exports))
 }
 
-/// The component type that a package is, in the layout of packages. 44 `NotThisShape` where the table isn't one that
-/// packages have. (Binary.md)
+/// The component type that a package is, in the layout of packages. 44 `NotThisShape` exactly where the table isn't one
+/// that packages have, unless memory is wanting before that is known. (Binary.md)
 pub fn to_raw(alloc: Global, resolve: &Resolve) -> Result<RawComponent, ResolveError>
     ensures ok { IfOk result (λ raw. Stands raw resolve.now) }
     ensures err { IfErr result (λ e. (e ≡ ResolveError.NoMemory)
-        ⊎ ((e ≡ ResolveError.NotThisShape) × (IsInPackageForm resolve.now → IsSpellable (component_of resolve.now) → ⊥))) }
+        ⊎ ((e ≡ ResolveError.NotThisShape) × (IsInPackageForm resolve.now → ⊥))) }
 {
     if !is_in_form(alloc, resolve)? {
         return Err(ResolveError::NotThisShape);
@@ -52,6 +52,7 @@ pub fn to_raw(alloc: Global, resolve: &Resolve) -> Result<RawComponent, ResolveE
     match RawComponent::new(alloc, types, exports) {
         Ok(raw) => Ok(raw),
         Err(BinError::NoMemory) => Err(ResolveError::NoMemory),
-        Err(_) => Err(ResolveError::NotThisShape),
+        Err(BinError::At(_, _)) => unreachable!(),
+        Err(BinError::Read(_)) => unreachable!(),
     }
 }

@@ -1,6 +1,7 @@
 use Rattle.std.proofs.Common.{◌≡◌, ◌≤◌, ◌+◌, ◌++◌, IsTrue, map, drop, length}
 use Rattle.ctype_bin.specs.View.{decl_view}
 use Rattle.wit_component.specs.Component.{is_parted, interfaces_declared, no_front}
+use Rattle.wit_component.specs.Standing.{are_labelled}
 use Rattle.wit_component.proofs.component.declarations.Given as goal
 
 abbrev pub invariant-loop-interface : goal.invariant-loop-interface
@@ -8,4 +9,5 @@ invariant-loop-interface l = record {
   declared : map decl_view l.decls.items ++ interfaces_declared l.fn.resolve l.place l.start (drop l.interface-index l.fn.resolve.interfaces) ≡ interfaces_declared l.fn.resolve no_front 0 l.fn.resolve.interfaces;
   parted : IsTrue (is_parted (length l.fn.resolve.definitions) l.start (drop l.interface-index l.fn.resolve.interfaces));
   types : l.place.types ≤ l.start + l.interface-index;
+  labelled : are_labelled l.fn.resolve.definitions l.start (drop l.interface-index l.fn.resolve.interfaces) ≡ are_labelled l.fn.resolve.definitions 0 l.fn.resolve.interfaces;
 }

@@ -1,21 +1,24 @@
-use Rattle.std.proofs.Common.{◌∙◌}
-use Rattle.std.proofs.Math.Logic.{∥∥₁_map}
-use Rattle.std.proofs.lemmas.Bool.{OnTrue_at}
 use Rattle.std.proofs.lemmas.Result.{err_from_is_err_and}
 use Rattle.wit_component.proofs.Naming.{refuses-package}
+use Rattle.wit_component.proofs.Candidates.{not-empty, no-duplicate}
 use Rattle.wit_component.proofs.from_component.from_raw.Goals as goal
 
-pub returns-clause-ok : goal.returns-clause-ok
-returns-clause-ok c =
-    let stands = c.in_ok-written.ensures.ok in
-    let test = c.if-not-branch.false in
-    ∥∥₁_map (OnTrue_at test c.in_ok-is_same.ensures.same) (λ same. record { component = same ∙ stands.component; form = stands.form })
+pub returns-then-is_empty_package-clause-only : goal.returns-then-is_empty_package-clause-only
+returns-then-is_empty_package-clause-only c = λ r s d.
+    let some = not-empty c.args.raw.now r s in
+    let none = c.is_empty_package.ensures in
+    let test = c.if-is_empty_package.true in
+    absurd (cc)
+
+pub distinct_names-requires : goal.distinct_names-requires
+distinct_names-requires c = c.in_ok-package.ensures.form.parted
+
+pub returns-in_err-distinct_names-clause-only : goal.returns-in_err-distinct_names-clause-only
+returns-in_err-distinct_names-clause-only c = λ r s d.
+    let p = err_from_is_err_and c.from_residual-in_err-distinct_names.result c.from_residual-in_err-distinct_names.ensures.1 in
+    rw (p.1, p.2) (no-duplicate c.in_ok-package.package r _ (c.in_ok-package.ensures.same r s d) d c.in_err-distinct_names.ensures.err)
 
 pub returns-in_err-distinct_names-clause-err : goal.returns-in_err-distinct_names-clause-err
 returns-in_err-distinct_names-clause-err c =
     let p = err_from_is_err_and c.from_residual-in_err-distinct_names.result c.from_residual-in_err-distinct_names.ensures.1 in
-    let stands = c.in_ok-written.ensures.ok in
-    let test = c.if-not-branch.false in
-    let same = OnTrue_at test c.in_ok-is_same.ensures.same in
-    rw (p.1, p.2) (refuses-package c.args.raw.now _ _
-    (∥∥₁_map same (λ e. record { component = e ∙ stands.component; form = stands.form })) c.in_err-distinct_names.ensures.err)
+    rw (p.1, p.2) (refuses-package c.args.raw.now c.in_ok-package.package _ c.in_ok-package.ensures.ok c.in_err-distinct_names.ensures.err)

@@ -1,6 +1,6 @@
 use Rattle.std.proofs.Common.{◌≡◌, ◌++◌, ◌+◌, take, sym, ap, ◌∙◌, arith}
 use Rattle.wit_component.specs.Rows.{Place, row_declarations, place_after, declarations_of}
-use Rattle.wit_component.proofs.Declared.{places-more, declarations-more}
+use Rattle.wit_component.proofs.Declared.{places-more, declarations-more, labels-more}
 use Rattle.wit_component.proofs.rows.declarations_of.Goals as goal
 
 pub loop-row-preserved : goal.loop-row-preserved
@@ -13,11 +13,12 @@ loop-row-preserved c =
     let used : c.pass.new.self.used ≡ c.loop-row.place.used + 1 = ap (λ (p : Place). p.used) passed in
     record {
       declarations =
-          c.in_ok-push_row.ensures
+          c.in_ok-push_row.ensures.declarations
           ∙ ap (λ xs. xs ++ row_declarations c.loop-row.place row) inv.declarations
           ∙ ap (λ (p : Place). declarations_of c.args.first (take k c.args.rows.now) ++ row_declarations p row) inv.place
           ∙ sym (declarations-more c.args.first c.args.rows.now k row c.loop-row-test.true c.row-item.is);
       place = passed ∙ ap (λ (p : Place). place_after p row) inv.place ∙ sym (places-more c.args.first c.args.rows.now k row c.loop-row-test.true c.row-item.is);
       types = omega (arith, few, inv.types);
       used = omega (arith, used, inv.used);
+      labelled = labels-more c.args.first c.args.rows.now k row c.loop-row-test.true c.row-item.is inv.labelled c.in_ok-push_row.ensures.labelled;
     }

@@ -1,6 +1,8 @@
-use Rattle.std.proofs.Common.{◌≡◌, ◌≤◌, ◌+◌, ◌*◌, map, take}
+use Rattle.std.proofs.Common.{◌≡◌, ◌≤◌, ◌+◌, ◌*◌, IsTrue, map, take}
+use Rattle.std.specs.List.{list_all}
 use Rattle.ctype_bin.specs.View.{decl_view}
 use Rattle.wit_component.specs.Rows.{declarations_of, places_after}
+use Rattle.wit_component.specs.Standing.{is_labelled}
 use Rattle.wit_component.proofs.rows.declarations_of.Given as goal
 
 abbrev pub invariant-loop-row : goal.invariant-loop-row
@@ -9,4 +11,5 @@ invariant-loop-row l = record {
   place : l.place ≡ places_after l.initial.place (take l.row-index l.rows);
   types : l.place.types ≤ 2 * l.row-index;
   used : l.place.used ≡ l.initial.place.used + l.row-index;
+  labelled : IsTrue (list_all is_labelled (take l.row-index l.rows));
 }

@@ -1,0 +1,340 @@
+-- The component of a table in the form of packages is accepted.
+use Rattle.std.proofs.Common.{◌≡◌, ℕ, suc, ◌+◌, ◌-◌, ◌<◌, ◌≤◌, Bool, true, false, not, ◌&&◌, nat_lt, nat_le, List, [], ◌∷◌, ◌++◌, map, drop, sum, length, slice_get, Option, None, Some, refl, sym, ap, subst, ◌∙◌, append_assoc, arith, inl, inr}
+use Rattle.std.specs.List.{list_all}
+use Rattle.std.proofs.lemmas.Bool.Decides.{nat_tests}
+use Rattle.std.proofs.lemmas.Bool.{leb-true}
+use Rattle.std.proofs.lemmas.List.{length-append, length-map, length-take, length-drop, take-append-drop, drop-drop, map-append}
+use Rattle.std.proofs.lemmas.List.Folds.{list_all-append, list_all-map}
+use Rattle.std.proofs.lemmas.List.Sums.{sum_by-cons, sum_by-append}
+use Rattle.std.proofs.lemmas.Slice.Eq.{bytes_eq-Decides}
+use Rattle.ctype_bin.specs.Raw.{Instance, Decl, Entry, Export}
+use Rattle.ctype_bin.specs.View.{decls_of}
+use Rattle.ctype_bin.specs.Formed.{All}
+use Rattle.ctype_bin.specs.InRange.{DeclsInRange}
+use Rattle.ctype_bin.specs.Accepted.{AllowedDecls, entries_of_decls, IsAccepted}
+use Rattle.ctype_bin.specs.declared.raw.RawDescription.TheVariants as described
+use Rattle.tables.specs.Tables.{type_of, function_of, is_function_id, is_placed, are_placed, is_standard, are_earlier, is_there}
+use Rattle.tables.specs.Names.{full_name}
+use Rattle.tables.specs.declared.tables.TypeId.{TypeId}
+use Rattle.tables.specs.declared.tables.FunctionId.{FunctionId}
+use Rattle.tables.specs.declared.tables.TypeDef.{TypeDef}
+use Rattle.tables.specs.declared.tables.TypeDefKind.{TypeDefKind}
+use Rattle.tables.specs.declared.tables.TypeDefKind.TheVariants as kind
+use Rattle.tables.specs.declared.tables.TypeName.{TypeName}
+use Rattle.tables.specs.declared.tables.Definition.{Definition}
+use Rattle.tables.specs.declared.tables.Definition.TheVariants as row
+use Rattle.tables.specs.declared.tables.Interface.{Interface}
+use Rattle.tables.specs.declared.tables.Resolve.{Resolve}
+use Rattle.resolve.specs.Resolves.{places_where, entries_of}
+use Rattle.wit_component.specs.References.{row_references}
+use Rattle.wit_component.specs.Rows.{Place, declarations_of, places_after, place_after}
+use Rattle.wit_component.specs.Component.{behind_types, behind_functions, end_of, rows_of, is_parted, used_by, used_in, name_of, name_at, instance_export, row_alias, aliases_of, Front, first_place, interface_declarations, front_after, interfaces_declared, no_front, component_of}
+use Rattle.wit_component.specs.Form.{is_own, is_own_name, is_earlier_name, is_earlier_type, uses_earlier, is_owned, is_local, is_named, ids_of, is_use_type, is_use_at, has_ids, are_interfaces, IsInPackageForm}
+use Rattle.wit_component.specs.Unused.{inner_rows, can_use, is_next, unused_after, are_used}
+use Rattle.wit_component.proofs.Postfixed.{split, both}
+use Rattle.wit_component.proofs.Postfix.{postfix-used}
+use Rattle.wit_component.proofs.AcceptedRows.{all-split, CanStand, row-allowed, row-entries}
+use Rattle.wit_component.proofs.AcceptedStates.{named_at, closed-stands}
+use Rattle.wit_component.proofs.AcceptedWalk.{behind, is_use_place, Walk, Walked, walked}
+
+-- ---- all rows
+
+stand : (rows ds : List Definition) (n : ℕ) (unused : List ℕ) → are_used rows n unused ds ≡ true → All CanStand ds
+stand rows [] n unused h = tt
+stand rows (d ∷ ds) n unused h =
+    let s = split (is_next unused (inner_rows rows d) d) (are_used rows (n + 1) (unused_after n unused (inner_rows rows d) d) ds) h in
+    let c = split _ _ (split (can_use d (inner_rows rows d)) _ s.0).1 in
+    (closed-stands d (length unused - length (inner_rows rows d)) c.1, stand rows ds (n + 1) (unused_after n unused (inner_rows rows d) d) s.1)
+
+-- ---- aliases of used types, in interface k
+
+module _ (rows : List Definition) (k : ℕ) where
+  -- what is declared of a component type that has so many types and k instances
+  abbrev Ranged : ℕ → List Decl → Type 0
+  Ranged types ds = DeclsInRange (0 ∷ []) types k (decls_of ds)
+
+  no-alias : (types : ℕ) (rest : List Decl) → Ranged (types + 0) rest → Ranged types rest
+  no-alias types rest h = let e : types + 0 ≡ types = omega arith in subst (λ (c : ℕ). Ranged c rest) e h
+
+  name-range : (o : Option TypeName) (types : ℕ) (rest : List Decl) → is_earlier_name k o ≡ true → Ranged (types + length (instance_export o)) rest → Ranged types (instance_export o ++ rest)
+  unfolding DeclsInRange
+  name-range None types rest is h = absurd (cc)
+  name-range (Some n) types rest is h = (let b : nat_lt n.interface.0 k ≡ true = is in grind (arith, nat_tests), h)
+
+  earlier-range : (o : Option TypeDef) (types : ℕ) (rest : List Decl) → is_earlier_type k o ≡ true → Ranged (types + length (instance_export (name_of o))) rest → Ranged types (instance_export (name_of o) ++ rest)
+  earlier-range None types rest is h = absurd (cc)
+  earlier-range (Some d) types rest is h = name-range d.name types rest is h
+
+  kind-range : (x : TypeDefKind) (types : ℕ) (rest : List Decl) → uses_earlier rows k x ≡ true → Ranged (types + length (instance_export (name_at rows (used_by x)))) rest → Ranged types (instance_export (name_at rows (used_by x)) ++ rest)
+  kind-range (kind.Use t) types rest is h = earlier-range (type_of (slice_get rows t.0)) types rest is h
+  kind-range (kind.Alias v) types rest is h = no-alias types rest h
+  kind-range (kind.List v) types rest is h = no-alias types rest h
+  kind-range (kind.Option v) types rest is h = no-alias types rest h
+  kind-range (kind.Result v w) types rest is h = no-alias types rest h
+  kind-range (kind.Tuple vs) types rest is h = no-alias types rest h
+  kind-range (kind.Record fs) types rest is h = no-alias types rest h
+  kind-range (kind.Variant cs) types rest is h = no-alias types rest h
+  kind-range (kind.Enum ns) types rest is h = no-alias types rest h
+  kind-range (kind.Flags ns) types rest is h = no-alias types rest h
+
+  alias-range : (d : Definition) (types : ℕ) (rest : List Decl) → is_local rows k d ≡ true → Ranged (types + length (row_alias rows d)) rest → Ranged types (row_alias rows d ++ rest)
+  alias-range (row.Type d) types rest is h =
+      let owned = (split (is_owned rows k (row.Type d)) (list_all (is_own rows k) (row_references (row.Type d))) is).0 in
+      kind-range d.kind types rest (split (is_own_name k d.name) (uses_earlier rows k d.kind) owned).1 h
+  alias-range (row.Function f) types rest is h = no-alias types rest h
+
+  aliases-range : (ds : List Definition) (types : ℕ) (rest : List Decl) → list_all (is_local rows k) ds ≡ true → Ranged (types + length (aliases_of rows ds)) rest → Ranged types (aliases_of rows ds ++ rest)
+  aliases-range [] types rest is h = no-alias types rest h
+  aliases-range (d ∷ ds) types rest is h =
+      let s = split (is_local rows k d) (list_all (is_local rows k) ds) is in
+      let all : types + length (aliases_of rows (d ∷ ds)) ≡ types + length (row_alias rows d) + length (aliases_of rows ds) = omega (arith, length-append (row_alias rows d) (aliases_of rows ds)) in
+      subst (λ (xs : List Decl). Ranged types xs) (sym (append_assoc (row_alias rows d) (aliases_of rows ds) rest))
+      (alias-range d types (aliases_of rows ds ++ rest) s.0 (aliases-range ds (types + length (row_alias rows d)) rest s.1 (subst (λ (c : ℕ). Ranged c rest) all h)))
+
+-- ---- ids
+
+behind-append : (start : ℕ) (ps qs : List ℕ) → behind start (ps ++ qs) ≡ behind (behind start ps) qs
+behind-append start [] qs = refl
+behind-append start (p ∷ ps) qs = behind-append (p + 1) ps qs
+
+types-behind : (start : ℕ) (ts : List TypeId) → behind start (map (λ t. t.0) ts) ≡ behind_types start ts
+types-behind start [] = refl
+types-behind start (t ∷ ts) = types-behind (t.0 + 1) ts
+
+functions-behind : (start : ℕ) (fs : List FunctionId) → behind start (map (λ f. f.0) fs) ≡ behind_functions start fs
+functions-behind start [] = refl
+functions-behind start (f ∷ fs) = functions-behind (f.0 + 1) fs
+
+abbrev use_places : Interface → List ℕ
+use_places i = map (λ t. t.0) i.uses
+
+abbrev other_places : Interface → List ℕ
+other_places i = map (λ t. t.0) i.types ++ map (λ f. f.0) i.functions
+
+ids-behind : (start : ℕ) (i : Interface) → behind start (use_places i ++ other_places i) ≡ end_of start i
+ids-behind start i =
+    behind-append start (use_places i) (other_places i)
+    ∙ ap (λ m. behind m (other_places i)) (types-behind start i.uses)
+    ∙ behind-append (behind_types start i.uses) (map (λ t. t.0) i.types) (map (λ f. f.0) i.functions)
+    ∙ ap (λ m. behind m (map (λ f. f.0) i.functions)) (types-behind (behind_types start i.uses) i.types)
+    ∙ functions-behind (behind_types (behind_types start i.uses) i.types) i.functions
+
+function-other : (o : Option Definition) → is_there (function_of o) ≡ true → not (is_use_type (type_of o)) ≡ true
+function-other None h = absurd (cc)
+function-other (Some (row.Type d)) h = absurd (let e : false ≡ true = h in cc)
+function-other (Some (row.Function f)) h = refl
+
+functions-other : (rows : List Definition) (fs : List FunctionId) → list_all (is_function_id rows) fs ≡ true → list_all (λ p. not (is_use_type (type_of (slice_get rows p)))) (map (λ f. f.0) fs) ≡ true
+functions-other rows [] h = refl
+functions-other rows (f ∷ fs) h =
+    let s = split (is_function_id rows f) (list_all (is_function_id rows) fs) h in
+    both _ _ (function-other (slice_get rows f.0) s.0) (functions-other rows fs s.1)
+
+-- ---- interfaces
+
+-- before interface k, whose rows begin at place n: each row has an index, and each name is of an earlier interface
+record Before (rows : List Definition) (k n : ℕ) (indices : List ℕ) : Type 0 where
+  long : length indices ≡ n
+  before : (t : ℕ) (m : TypeName) → t < n → named_at rows t ≡ Some m → m.interface.0 < k
+
+module _ (rows : List Definition) (start : ℕ) (i : Interface) (before : start ≤ end_of start i) (within : end_of start i ≤ length rows) where
+  abbrev own_rows : List Definition
+  own_rows = rows_of rows start i
+
+  abbrev later_rows : List Definition
+  later_rows = drop (end_of start i - start) (drop start rows)
+
+  cut : drop start rows ≡ own_rows ++ later_rows
+  cut = sym (take-append-drop (end_of start i - start) (drop start rows))
+
+  own-length : start + length own_rows ≡ end_of start i
+  own-length = omega (arith, before, within, length-take (end_of start i - start) (drop start rows), length-drop start rows)
+
+  later-rows : later_rows ≡ drop (end_of start i) rows
+  later-rows = let e : start + (end_of start i - start) ≡ end_of start i = omega (arith, before) in drop-drop (end_of start i - start) start rows ∙ ap (λ n. drop n rows) e
+
+  module _ (k : ℕ) (at : Front) (rest : List Decl) (name : List ℕ) (front : Before rows k start at.indices) (placed : is_placed rows i ≡ true)
+      (earlier : are_earlier start (drop start rows) ≡ true) (used : are_used rows start [] (drop start rows) ≡ true) (ids : has_ids rows start i ≡ true) (local : list_all (is_local rows k) (rows_of rows start i) ≡ true) where
+    abbrev count : ℕ
+    count = at.types + length (aliases_of rows own_rows)
+
+    places : use_places i ++ other_places i ≡ places_where is_named start own_rows
+    places = (bytes_eq-Decides (ids_of i) (places_where is_named start own_rows)).0 (split _ _ ids).0
+
+    kinds : (list_all (is_use_at rows) i.uses ≡ true) × (list_all (λ t. not (is_use_at rows t)) i.types ≡ true)
+    kinds = split _ _ (split _ _ ids).1
+
+    functions : list_all (is_function_id rows) i.functions ≡ true
+    functions = (split _ _ (split _ _ placed).1).1
+
+    abbrev is_other : ℕ → Bool
+    is_other p = not (is_use_type (type_of (slice_get rows p)))
+
+    others : list_all is_other (other_places i) ≡ true
+    others =
+        list_all-append is_other (map (λ t. t.0) i.types) (map (λ f. f.0) i.functions)
+        ∙ both _ _ (list_all-map is_other (λ (t : TypeId). t.0) i.types ∙ kinds.1) (functions-other rows i.functions functions)
+
+    walk : Walk rows k count start (first_place at) [] (use_places i) (other_places i) start own_rows later_rows
+    walk = record {
+      here = cut;
+      local = local;
+      earlier = subst (λ (ds : List Definition). are_earlier start ds ≡ true) cut earlier;
+      used = subst (λ (ds : List Definition). are_used rows start [] ds ≡ true) cut used;
+      ids = places;
+      are_uses = list_all-map (is_use_place rows k count) (λ (t : TypeId). t.0) i.uses ∙ kinds.0;
+      are_others = others;
+      phase = inr (inl (refl, refl));
+      last_before = omega arith;
+      last_whole = λ e. refl;
+      end = ids-behind start i ∙ sym own-length;
+      state = record {
+        long = front.long;
+        known = λ t m lt named own. let h = front.before t m lt named in absurd (omega (arith, h, own));
+        inner = tt;
+        before = λ t m lt named. let h = front.before t m lt named in omega (arith, h);
+      };
+    }
+
+    ended : DeclsInRange (0 ∷ count ∷ []) 0 0 (decls_of (declarations_of (first_place at) own_rows)) × Walked rows k count (start + length own_rows) (places_after (first_place at) own_rows) later_rows
+    ended = walked rows k count own_rows later_rows start (first_place at) [] (use_places i) (other_places i) start walk
+
+    interface-range : DeclsInRange (0 ∷ []) (count + 1) (k + 1) (decls_of rest) → DeclsInRange (0 ∷ []) at.types k (decls_of (interface_declarations rows at own_rows name ++ rest))
+    unfolding DeclsInRange
+    interface-range h =
+        subst (λ (ds : List Decl). DeclsInRange (0 ∷ []) at.types k (decls_of ds))
+        (sym (append_assoc (aliases_of rows own_rows) (Entry (Instance (decls_of (declarations_of (first_place at) own_rows))) ∷ Export name (described.Instance count) ∷ []) rest))
+        (aliases-range rows k own_rows at.types (Entry (Instance (decls_of (declarations_of (first_place at) own_rows))) ∷ Export name (described.Instance count) ∷ rest) local (ended.0, (omega arith, h)))
+
+    behind-rows : Walked rows k count (end_of start i) (places_after (first_place at) own_rows) (drop (end_of start i) rows)
+    behind-rows =
+        subst (λ (n : ℕ). Walked rows k count n (places_after (first_place at) own_rows) (drop (end_of start i) rows)) own-length
+        (subst (λ (ds : List Definition). Walked rows k count (start + length own_rows) (places_after (first_place at) own_rows) ds) later-rows ended.1)
+
+    front-next : Before rows (k + 1) (end_of start i) (front_after rows at own_rows).indices
+    front-next = record { long = behind-rows.state.long; before = λ t m lt named. let h = behind-rows.state.before t m lt named in omega (arith, h) }
+
+module _ (r : Resolve) where
+  abbrev rows : List Definition
+  rows = r.definitions
+
+  parts : (start : ℕ) (i : Interface) (is : List Interface) → is_parted (length rows) start (i ∷ is) ≡ true → (start ≤ end_of start i) × (end_of start i ≤ length rows) × (is_parted (length rows) (end_of start i) is ≡ true)
+  parts start i is h =
+      let a = split (nat_le start (end_of start i)) _ h in
+      let b = split (nat_le (end_of start i) (length rows)) (is_parted (length rows) (end_of start i) is) a.1 in
+      (leb-true start (end_of start i) a.0, leb-true (end_of start i) (length rows) b.0, b.1)
+
+  interfaces-range : (is : List Interface) (k start : ℕ) (at : Front) → Before rows k start at.indices → are_earlier start (drop start rows) ≡ true → are_used rows start [] (drop start rows) ≡ true
+      → is_parted (length rows) start is ≡ true → are_interfaces rows k start is ≡ true → are_placed rows is ≡ true → DeclsInRange (0 ∷ []) at.types k (decls_of (interfaces_declared r at start is))
+  unfolding DeclsInRange
+  interfaces-range [] k start at front earlier used parted interfaces placed = tt
+  interfaces-range (i ∷ is) k start at front earlier used parted interfaces placed =
+      let p = parts start i is parted in
+      let s = split (has_ids rows start i && list_all (is_local rows k) (rows_of rows start i)) (are_interfaces rows (k + 1) (end_of start i) is) interfaces in
+      let own = split (has_ids rows start i) (list_all (is_local rows k) (rows_of rows start i)) s.0 in
+      let q = split (is_placed rows i) (are_placed rows is) placed in
+      let rest = interfaces_declared r (front_after rows at (rows_of rows start i)) (end_of start i) is in
+      let next = behind-rows rows start i p.0 p.1 k at rest (full_name r i) front q.0 earlier used own.0 own.1 in
+      interface-range rows start i p.0 p.1 k at rest (full_name r i) front q.0 earlier used own.0 own.1
+      (interfaces-range is (k + 1) (end_of start i) (front_after rows at (rows_of rows start i)) (front-next rows start i p.0 p.1 k at rest (full_name r i) front q.0 earlier used own.0 own.1)
+      next.earlier next.used p.2 s.1 q.1)
+
+  -- ---- counts, nesting and type entries
+
+  abbrev entries : List Decl → ℕ
+  entries ds = entries_of_decls (decls_of ds)
+
+  export-entries : (o : Option TypeName) (rest : List Decl) → entries (instance_export o ++ rest) ≡ length (instance_export o) + entries rest
+  unfolding entries_of_decls
+  export-entries None rest = omega arith
+  export-entries (Some n) rest = omega arith
+
+  aliases-entries : (ds : List Definition) (rest : List Decl) → entries (aliases_of rows ds ++ rest) ≡ length (aliases_of rows ds) + entries rest
+  aliases-entries [] rest = omega arith
+  aliases-entries (d ∷ ds) rest =
+      let here : entries (row_alias rows d ++ (aliases_of rows ds ++ rest)) ≡ length (row_alias rows d) + entries (aliases_of rows ds ++ rest) = export-entries (name_at rows (used_in d)) (aliases_of rows ds ++ rest) in
+      let more = aliases-entries ds rest in
+      ap entries (append_assoc (row_alias rows d) (aliases_of rows ds) rest) ∙ omega (arith, here, more, length-append (row_alias rows d) (aliases_of rows ds))
+
+  rows-entries : (ds : List Definition) (at : Place) → All CanStand ds → entries (declarations_of at ds) + length (aliases_of rows ds) ≤ sum (map entries_of ds)
+  unfolding entries_of_decls
+  rows-entries [] at h = omega arith
+  rows-entries (d ∷ ds) at h =
+      let here = row-entries rows at (declarations_of (place_after at d) ds) d h.0 in
+      let more = rows-entries ds (place_after at d) h.1 in
+      let all : sum (map entries_of (d ∷ ds)) ≡ entries_of d + sum (map entries_of ds) = sum_by-cons (λ n. n) (entries_of d) (map entries_of ds) in
+      omega (arith, here, more, all, length-append (row_alias rows d) (aliases_of rows ds))
+
+  interface-entries : (at : Front) (ds : List Definition) (name : List ℕ) (rest : List Decl) → All CanStand ds → entries (interface_declarations rows at ds name ++ rest) ≤ 1 + sum (map entries_of ds) + entries rest
+  unfolding entries_of_decls
+  interface-entries at ds name rest h =
+      let all : entries (interface_declarations rows at ds name ++ rest) ≡ length (aliases_of rows ds) + (1 + entries (declarations_of (first_place at) ds) + (0 + entries rest)) =
+      ap entries (append_assoc (aliases_of rows ds) (Entry (Instance (decls_of (declarations_of (first_place at) ds))) ∷ Export name (described.Instance (at.types + length (aliases_of rows ds))) ∷ []) rest)
+      ∙ aliases-entries ds (Entry (Instance (decls_of (declarations_of (first_place at) ds))) ∷ Export name (described.Instance (at.types + length (aliases_of rows ds))) ∷ rest) in
+      let own = rows-entries ds (first_place at) h in
+      omega (arith, all, own)
+
+  interfaces-entries : (is : List Interface) (start : ℕ) (at : Front) → is_parted (length rows) start is ≡ true → All CanStand (drop start rows) → entries (interfaces_declared r at start is) ≤ length is + sum (map entries_of (drop start rows))
+  unfolding entries_of_decls
+  interfaces-entries [] start at parted h = omega arith
+  interfaces-entries (i ∷ is) start at parted h =
+      let p = parts start i is parted in
+      let is-cut : drop start rows ≡ rows_of rows start i ++ drop (end_of start i) rows = cut rows start i p.0 p.1 ∙ ap (λ (ds : List Definition). rows_of rows start i ++ ds) (later-rows rows start i p.0 p.1) in
+      let s = all-split CanStand (rows_of rows start i) (drop (end_of start i) rows) (subst (λ (ds : List Definition). All CanStand ds) is-cut h) in
+      let sums : sum (map entries_of (drop start rows)) ≡ sum (map entries_of (rows_of rows start i)) + sum (map entries_of (drop (end_of start i) rows)) =
+      ap (λ (ds : List Definition). sum (map entries_of ds)) is-cut ∙ ap sum (map-append entries_of (rows_of rows start i) (drop (end_of start i) rows))
+      ∙ sum_by-append (λ n. n) (map entries_of (rows_of rows start i)) (map entries_of (drop (end_of start i) rows)) in
+      let here = interface-entries at (rows_of rows start i) (full_name r i) (interfaces_declared r (front_after rows at (rows_of rows start i)) (end_of start i) is) s.0 in
+      let more = interfaces-entries is (end_of start i) (front_after rows at (rows_of rows start i)) p.2 s.1 in
+      omega (arith, sums, here, more)
+
+  rows-allowed : (depth : ℕ) (ds : List Definition) (at : Place) → list_all is_standard ds ≡ true → AllowedDecls depth false (decls_of (declarations_of at ds))
+  unfolding AllowedDecls
+  rows-allowed depth [] at h = tt
+  rows-allowed depth (d ∷ ds) at h = let s = split (is_standard d) (list_all is_standard ds) h in row-allowed at depth d (declarations_of (place_after at d) ds) s.0 (rows-allowed depth ds (place_after at d) s.1)
+
+  export-allowed : (o : Option TypeName) (depth : ℕ) (rest : List Decl) → AllowedDecls depth true (decls_of rest) → AllowedDecls depth true (decls_of (instance_export o ++ rest))
+  unfolding AllowedDecls
+  export-allowed None depth rest h = h
+  export-allowed (Some n) depth rest h = (tt, h)
+
+  aliases-allowed : (ds : List Definition) (depth : ℕ) (rest : List Decl) → AllowedDecls depth true (decls_of rest) → AllowedDecls depth true (decls_of (aliases_of rows ds ++ rest))
+  aliases-allowed [] depth rest h = h
+  aliases-allowed (d ∷ ds) depth rest h =
+      subst (λ (xs : List Decl). AllowedDecls depth true (decls_of xs)) (sym (append_assoc (row_alias rows d) (aliases_of rows ds) rest))
+      (export-allowed (name_at rows (used_in d)) depth (aliases_of rows ds ++ rest) (aliases-allowed ds depth rest h))
+
+  interface-allowed : (at : Front) (ds : List Definition) (name : List ℕ) (depth : ℕ) (rest : List Decl) → list_all is_standard ds ≡ true → AllowedDecls (suc depth) true (decls_of rest) → AllowedDecls (suc depth) true (decls_of (interface_declarations rows at ds name ++ rest))
+  unfolding AllowedDecls
+  interface-allowed at ds name depth rest standard h =
+      subst (λ (xs : List Decl). AllowedDecls (suc depth) true (decls_of xs))
+      (sym (append_assoc (aliases_of rows ds) (Entry (Instance (decls_of (declarations_of (first_place at) ds))) ∷ Export name (described.Instance (at.types + length (aliases_of rows ds))) ∷ []) rest))
+      (aliases-allowed ds (suc depth) (Entry (Instance (decls_of (declarations_of (first_place at) ds))) ∷ Export name (described.Instance (at.types + length (aliases_of rows ds))) ∷ rest) (rows-allowed depth ds (first_place at) standard, (tt, h)))
+
+  interfaces-allowed : (is : List Interface) (start : ℕ) (at : Front) (depth : ℕ) → is_parted (length rows) start is ≡ true → list_all is_standard (drop start rows) ≡ true → AllowedDecls (suc depth) true (decls_of (interfaces_declared r at start is))
+  unfolding AllowedDecls
+  interfaces-allowed [] start at depth parted h = tt
+  interfaces-allowed (i ∷ is) start at depth parted h =
+      let p = parts start i is parted in
+      let is-cut : drop start rows ≡ rows_of rows start i ++ drop (end_of start i) rows = cut rows start i p.0 p.1 ∙ ap (λ (ds : List Definition). rows_of rows start i ++ ds) (later-rows rows start i p.0 p.1) in
+      let s = split (list_all is_standard (rows_of rows start i)) (list_all is_standard (drop (end_of start i) rows)) (sym (ap (list_all is_standard) is-cut ∙ list_all-append is_standard (rows_of rows start i) (drop (end_of start i) rows)) ∙ h) in
+      interface-allowed at (rows_of rows start i) (full_name r i) depth (interfaces_declared r (front_after rows at (rows_of rows start i)) (end_of start i) is) s.0
+      (interfaces-allowed is (end_of start i) (front_after rows at (rows_of rows start i)) depth p.2 s.1)
+
+  -- ---- the component
+
+  few-entries : IsInPackageForm r → 1 + entries (interfaces_declared r no_front 0 r.interfaces) ≤ 65535
+  few-entries form =
+      let used = postfix-used rows r.earlier form.postfix in
+      let more = interfaces-entries r.interfaces 0 no_front form.parted (stand rows rows 0 [] used) in
+      let same : length (map (λ (i : Interface). i.name) r.interfaces) ≡ length r.interfaces = length-map r.interfaces (λ (i : Interface). i.name) in
+      let limit = form.entries in
+      omega (arith, more, same, limit)
+
+  pub accepted : IsInPackageForm r → IsAccepted (component_of r)
+  unfolding DeclsInRange AllowedDecls entries_of_decls
+  accepted form = record {
+    in_range = ((interfaces-range r.interfaces 0 0 no_front (record { long = refl; before = λ t m lt named. absurd (omega (arith, lt)) }) r.earlier (postfix-used rows r.earlier form.postfix) form.parted form.interfaces r.placed, tt), (omega arith, tt));
+    allowed = (interfaces-allowed r.interfaces 0 no_front 2 form.parted r.standard, tt);
+    entries = let few = few-entries form in omega (arith, few);
+  }

@@ -1,0 +1,52 @@
+-- The aliases of the types that an interface uses, read again.
+use Rattle.std.proofs.Common.{◌≡◌, ℕ, suc, true, not, List, [], ◌∷◌, ◌++◌, length, Some, refl, ap, sym, ◌∙◌, append_assoc, append-nil}
+use Rattle.std.specs.List.{list_all}
+use Rattle.std.specs.Option.{option_map}
+use Rattle.ctype_bin.specs.Raw.{Decl}
+use Rattle.ctype_bin.specs.View.{decls_of}
+use Rattle.resolve.specs.Scoped.{Entry as Named}
+use Rattle.tables.specs.declared.tables.TypeId.{TypeId}
+use Rattle.tables.specs.declared.tables.TypeDefKind.{TypeDefKind}
+use Rattle.tables.specs.declared.tables.TypeDefKind.TheVariants as kind
+use Rattle.tables.specs.declared.tables.Definition.{Definition}
+use Rattle.tables.specs.declared.tables.Definition.TheVariants as row
+use Rattle.wit_component.specs.Candidate.{if_found, ComponentRead, with_type, exported_type, declarations_read}
+use Rattle.wit_component.specs.Component.{used_by, name_at, instance_export, row_alias, aliases_of}
+use Rattle.wit_component.proofs.Ids.{is_use_def}
+use Rattle.wit_component.proofs.Postfixed.{split}
+use Rattle.wit_component.proofs.UsesFound.{UsesFound, found_none, found_one, all_some}
+
+abbrev pub with_types : ComponentRead → List TypeId → ComponentRead
+with_types s us = record { rows = s.rows; interfaces = s.interfaces; exports = s.exports; indices = s.indices ++ all_some us; awaited = s.awaited }
+
+no-alias : (table : List Definition) (d : Definition) → not (is_use_def d) ≡ true → row_alias table d ≡ []
+no-alias table (row.Function f) h = refl
+no-alias table (row.Type d) h = by d.kind h
+  where
+    by : (what : TypeDefKind) → not (is_use_def (row.Type (record { name = d.name; kind = what }))) ≡ true → instance_export (name_at table (used_by what)) ≡ []
+    by (kind.Use t) h = absurd (cc)
+    by _ h = refl
+
+no-aliases : (table : List Definition) (ds : List Definition) → list_all (λ d. not (is_use_def d)) ds ≡ true → aliases_of table ds ≡ []
+no-aliases table [] h = refl
+no-aliases table (d ∷ ds) h =
+    let s = split (not (is_use_def d)) _ h in
+    ap (λ es. es ++ aliases_of table ds) (no-alias table d s.0) ∙ no-aliases table ds s.1
+
+module _ (table : List Definition) (start k : ℕ) where
+  pub aliases-length : (exports : List (List Named)) (us : List TypeId) (ds : List Definition) → UsesFound table exports start k us ds → length (aliases_of table ds) ≡ length us
+  aliases-length exports _ _ (found_none ds none) = ap length (no-aliases table ds none)
+  aliases-length exports _ _ (found_one x t y us ds named e found) =
+      ap (λ o. length (instance_export o ++ aliases_of table ds)) named ∙ ap suc (aliases-length exports us ds found)
+
+  pub aliases-read : (exports : List (List Named)) (us : List TypeId) (ds : List Definition) → UsesFound table exports start k us ds → (s : ComponentRead) → s.exports ≡ exports → (more : List Decl)
+      → declarations_read (decls_of (aliases_of table ds ++ more)) s ≡ declarations_read (decls_of more) (with_types s us)
+  aliases-read exports _ _ (found_none ds none) s is more =
+      ap (λ es. declarations_read (decls_of (es ++ more)) s) (no-aliases table ds none)
+      ∙ ap (λ xs. declarations_read (decls_of more) (record { rows = s.rows; interfaces = s.interfaces; exports = s.exports; indices = xs; awaited = s.awaited })) (sym (append-nil s.indices))
+  aliases-read exports _ _ (found_one x t y us ds named e found) s is more =
+      ap (λ o. declarations_read (decls_of ((instance_export o ++ aliases_of table ds) ++ more)) s) named
+      ∙ ap (λ o. if_found (option_map (with_type s) o) (declarations_read (decls_of (aliases_of table ds ++ more)))) (ap (λ es. exported_type es y.interface.0 y.name) is ∙ e.found)
+      ∙ aliases-read exports us ds found (with_type s e.id) is more
+      ∙ ap (λ xs. declarations_read (decls_of more) (record { rows = s.rows; interfaces = s.interfaces; exports = s.exports; indices = xs; awaited = s.awaited }))
+      (append_assoc s.indices (Some e.id ∷ []) (all_some us))

@@ -1,0 +1,103 @@
+-- The candidate of a component is the package that it stands for.
+use Rattle.std.proofs.Common.{◌≡◌, ◌≢◌, true, false, cond, List, [], ◌∷◌, ◌++◌, append_assoc, None, Some, Ok, Err, refl, ap, sym, subst, ◌∙◌, All, Contains, inl, inr}
+use Rattle.ctype_bin.specs.Raw.{Decl, File}
+use Rattle.ctype_bin.specs.View.{decls_of}
+use Rattle.ctype_bin.specs.FileView.{file_view}
+use Rattle.ctype_bin.specs.declared.component.RawComponent.{RawComponent}
+use Rattle.tables.specs.Parts.{is_package}
+use Rattle.tables.specs.Same.{IsSamePackage}
+use Rattle.tables.specs.declared.tables.Interface.{Interface}
+use Rattle.tables.specs.declared.tables.Definition.{Definition}
+use Rattle.tables.specs.declared.tables.Resolve.{Resolve}
+use Rattle.tables.specs.declared.error.ResolveError.{ResolveError}
+use Rattle.tables.specs.declared.error.ResolveError.TheVariants as error
+use Rattle.resolve.specs.Scope.{AreDistinct}
+use Rattle.resolve.specs.Distinct.{RefusesScopes}
+use Rattle.resolve.proofs.Lists.{all-contained}
+use Rattle.wit_component.specs.declared.unread.Unread.TheVariants as unread
+use Rattle.wit_component.specs.Component.{end_of, rows_of, aliases_of, front_after, interfaces_declared, no_front, component_of}
+use Rattle.wit_component.specs.Reads.{is_none, is_empty_package}
+use Rattle.wit_component.specs.Naming.{package_scopes, table_scopes}
+use Rattle.wit_component.specs.Form.{IsInPackageForm}
+use Rattle.wit_component.specs.Standing.{Stands}
+use Rattle.wit_component.specs.Candidate.{if_found, namespace_in, package_in, version_in, no_component, declarations_read, candidate_named, candidate_of, Candidate, IsMadeOf, Makes}
+use Rattle.wit_component.proofs.Alike.{AreAlike}
+use Rattle.wit_component.proofs.Reread.{reread, name-reread}
+use Rattle.wit_component.proofs.AlikeForm.{IsAlikePackage, package-same, component-same, form-same}
+use Rattle.wit_component.proofs.OneTarget.{same-package}
+
+module _ (raw : RawComponent) (r : Resolve) (s : Stands raw r) where
+  candidate-is : (c : Candidate) × (candidate_of (file_view raw) ≡ Some c) × ((p : Resolve) → IsMadeOf c p → IsAlikePackage r p)
+  candidate-is =
+      let x = reread r s.form s.labels in
+      let n = name-reread r s.form s.labels in
+      let made = x.0 in
+      let ok : is_package made.rows made.interfaces ≡ true = ap (is_package made.rows) x.2 ∙ package-same r made.rows x.3 in
+      let c : Candidate = record { namespace = namespace_in n.0; name = package_in n.0; version = version_in n.0; interfaces = made.interfaces; definitions = made.rows } in (
+        c,
+        ap candidate_of s.component
+            ∙ ap (λ o. if_found o (λ text. if_found (declarations_read (decls_of (interfaces_declared r no_front 0 r.interfaces)) no_component) (candidate_named text))) n.1
+            ∙ ap (λ o. if_found o (candidate_named n.0)) x.1
+            ∙ ap (λ b. cond b (Some c) None) ok,
+        λ p m. record {
+          namespace = m.namespace ∙ n.2;
+          name = m.name ∙ n.3;
+          version = m.version ∙ n.4;
+          interfaces = m.interfaces ∙ x.2;
+          worlds = m.worlds;
+          definitions = subst (λ (ds : List Definition). AreAlike r.definitions 0 r.definitions ds) (sym m.definitions) x.3;
+        },
+      )
+
+  -- what was read is like it
+  pub is-alike : (p : Resolve) → Makes (candidate_of (file_view raw)) (Ok p) → IsAlikePackage r p
+  is-alike p (c, found, made) =
+      let x = candidate-is in
+      let same : x.0 ≡ c = some-is (sym x.1 ∙ found) in
+      x.2 p (subst (λ (d : Candidate). IsMadeOf d p) (sym same) made)
+    where
+      some-is : {a b : Candidate} → Some a ≡ Some b → a ≡ b
+      some-is e = cc
+
+  -- so it is found
+  pub no-other-shape : Makes (candidate_of (file_view raw)) (Err unread.NotThisShape) → ⊥
+  no-other-shape (inl e) = absurd (cc)
+  no-other-shape (inr e) = absurd (let x = candidate-is in let y : Some x.0 ≡ None = sym x.1 ∙ e.1 in cc)
+
+  pub in-form : (p : Resolve) → Makes (candidate_of (file_view raw)) (Ok p) → IsInPackageForm p
+  in-form p m = form-same r p (is-alike p m) s.form
+
+  -- and it is the same component
+  pub written-again : (p : Resolve) → Makes (candidate_of (file_view raw)) (Ok p) → file_view raw ≡ component_of p
+  written-again p m = s.component ∙ sym (component-same r p (is-alike p m))
+
+  pub is-that-package : All AreDistinct (package_scopes r) → (p : Resolve) → Makes (candidate_of (file_view raw)) (Ok p) → IsSamePackage p r
+  is-that-package d p m = same-package r p (is-alike p m) s.form d
+
+-- a package's component has declarations
+some-decls : (xs : List Decl) (y : Decl) (ys : List Decl) → is_none (decls_of (xs ++ y ∷ ys)) ≡ false
+some-decls [] y ys = refl
+some-decls (x ∷ xs) y ys = refl
+
+some-declared : (r : Resolve) (is : List Interface) → is ≢ [] → is_none (decls_of (interfaces_declared r no_front 0 is)) ≡ false
+some-declared r [] some = absurd (some refl)
+some-declared r (i ∷ is) some =
+    let ds = rows_of r.definitions 0 i in
+    let rest = interfaces_declared r (front_after r.definitions no_front ds) (end_of 0 i) is in
+    ap (λ (xs : List Decl). is_none (decls_of xs)) (append_assoc (aliases_of r.definitions ds) _ rest) ∙ some-decls (aliases_of r.definitions ds) _ _
+
+pub not-empty : (raw : RawComponent) (r : Resolve) → Stands raw r → is_empty_package (file_view raw).types ≡ false
+not-empty raw r s = ap (λ (f : File). is_empty_package f.types) s.component ∙ some-declared r r.interfaces s.form.some
+
+-- the same tables have the same scopes
+pub same-scopes : (p r : Resolve) → IsSamePackage p r → package_scopes p ≡ package_scopes r
+same-scopes p r e =
+    ap (λ (ds : List Definition). table_scopes ds p.interfaces) e.definitions ∙ ap (λ (is : List Interface). table_scopes r.definitions is) e.interfaces
+
+-- names that differ are not told as standing twice
+pub no-duplicate : (p r : Resolve) (e : ResolveError) → IsSamePackage p r → All AreDistinct (package_scopes r) → RefusesScopes (package_scopes p) e → e ≡ error.NoMemory
+no-duplicate p r (error.Duplicate n) same d h =
+    let distinct = all-contained AreDistinct (package_scopes r) h.0 d (subst (λ scopes. Contains scopes h.0) (same-scopes p r same) h.1) in
+    absurd (distinct.each h.2.0 h.2.1 h.2.3)
+no-duplicate p r error.NoMemory same d h = refl
+no-duplicate p r _ same d h = absurd h

@@ -1,0 +1,181 @@
+-- The declarations of one interface, read again.
+use Rattle.std.proofs.Common.{◌≡◌, ◌≤◌, ◌<◌, ◌⊎◌, inl, inr, ℕ, suc, ◌+◌, Bool, true, false, cond, nat_lt, List, [], ◌∷◌, ◌++◌, map, take, drop, length, slice_get, None, Some, refl, ap, sym, subst, ◌∙◌, arith, append_assoc, length-append}
+use Rattle.std.specs.Option.{option_map}
+use Rattle.std.proofs.lemmas.Bool.Decides.{nat_tests}
+use Rattle.std.proofs.lemmas.List.{length-map}
+use Rattle.atoms.specs.Label.{is_label}
+use Rattle.ctype_bin.specs.Raw.{Decl, Instance, Entry, Export}
+use Rattle.ctype_bin.specs.View.{decls_of}
+use Rattle.ctype_bin.specs.declared.raw.RawDescription.TheVariants as described
+use Rattle.resolve.proofs.Typing.{get-front}
+use Rattle.resolve.specs.Resolves.{places_where, type_id, function_id}
+use Rattle.tables.specs.declared.tables.TypeId.{TypeId}
+use Rattle.tables.specs.declared.tables.FunctionId.{FunctionId}
+use Rattle.tables.specs.declared.tables.TypeName.{TypeName}
+use Rattle.tables.specs.declared.tables.Definition.{Definition}
+use Rattle.tables.specs.declared.tables.Interface.{Interface}
+use Rattle.wit_component.specs.Candidate.{if_found, InstanceRead, ComponentRead, nothing_read, instance_read, type_named, with_instance, interface_in, interface_named, with_interface, instance_exported, declarations_read}
+use Rattle.wit_component.specs.Component.{name_at, end_of, rows_of, aliases_of, Front, first_place, interface_declarations, front_after}
+use Rattle.wit_component.specs.Rows.{declarations_of, places_after}
+use Rattle.wit_component.proofs.AfterRows.{is_use_row, is_type_row, is_function_row, rows-rows, rows-uses, rows-types, rows-functions, alike-places, alike-length}
+use Rattle.wit_component.proofs.Alike.{AreAlike, none, one_more}
+use Rattle.wit_component.proofs.AliasesRead.{with_types, aliases-length, aliases-read}
+use Rattle.wit_component.proofs.InterfaceFacts.{IsInterfaceAt, stand, facts, first, ids-own}
+use Rattle.wit_component.proofs.Located.{rows-end, rows-front}
+use Rattle.wit_component.proofs.Readable.{rows_after, AreRowsOf, AreReadable, HasRead}
+use Rattle.wit_component.proofs.RowFacts.{NameEarlier}
+use Rattle.wit_component.proofs.RowsReading.{instance-reread}
+use Rattle.wit_component.proofs.UsesFound.{IsExported, NamesFound, UsesFound, own-names, uses-found, all_some, found-readable}
+
+alike-append : (table : List Definition) (n : ℕ) (ds es fs gs : List Definition) → AreAlike table n ds es → AreAlike table (n + length ds) fs gs → AreAlike table n (ds ++ fs) (es ++ gs)
+alike-append table _ _ _ fs gs (none n) more = let e : n + 0 ≡ n = omega arith in subst (λ m. AreAlike table m fs gs) e more
+alike-append table _ _ _ fs gs (one_more n d e ds es one all) more =
+    let same : n + suc (length ds) ≡ n + 1 + length ds = omega arith in
+    one_more n d e (ds ++ fs) (es ++ gs) one (alike-append table (n + 1) ds es fs gs all (subst (λ m. AreAlike table m fs gs) same more))
+
+get-last : {A : Type 0} (xs : List A) (y : A) → slice_get (xs ++ y ∷ []) (length xs) ≡ Some y
+get-last [] y = refl
+get-last (x ∷ xs) y = get-last xs y
+
+-- what was read of the interfaces before interface k, whose rows end before start
+pub record HasReadTo (table : List Definition) (at : Front) (k start : ℕ) (done : List Interface) (s : ComponentRead) : Type 0 where
+  pub rows : AreAlike table 0 (take start table) s.rows
+  pub count : length at.indices ≡ start
+  pub row_count : length s.rows ≡ start
+  pub types : length s.indices ≡ at.types
+  pub interfaces : s.interfaces ≡ done
+  pub index : length s.interfaces ≡ k
+  pub exports : length s.exports ≡ k
+  pub names : NamesFound table s.exports start
+  pub lows : NameEarlier table start k
+
+below-or-from : (i n : ℕ) → (i < n) ⊎ (n ≤ i)
+below-or-from i n = by (nat_lt i n) refl
+  where
+    by : (b : Bool) → nat_lt i n ≡ b → (i < n) ⊎ (n ≤ i)
+    by true e = inl (grind (arith, nat_tests))
+    by false e = inr (grind (arith, nat_tests))
+
+same-interface : (i : Interface) (n : List ℕ) (us ts : List TypeId) (fs : List FunctionId) → n ≡ i.name → us ≡ i.uses → ts ≡ i.types → fs ≡ i.functions
+    → record { name = n; uses = us; types = ts; functions = fs } ≡ i
+same-interface i n us ts fs a b c d =
+    ap (λ (x : List ℕ). record { name = x; uses = us; types = ts; functions = fs }) a
+    ∙ ap (λ (x : List TypeId). record { name = i.name; uses = x; types = ts; functions = fs }) b
+    ∙ ap (λ (x : List TypeId). record { name = i.name; uses = i.uses; types = x; functions = fs }) c
+    ∙ ap (λ (x : List FunctionId). record { name = i.name; uses = i.uses; types = i.types; functions = x }) d
+
+module _ (table : List Definition) (at : Front) (k start : ℕ) (i : Interface) (is : IsInterfaceAt table start k i) where
+  -- rows like the interface's give it again
+  interface-again : (es rows : List Definition) (text : List ℕ) → length rows ≡ start → AreRowsOf k es → AreAlike table start (rows_of table start i) es → interface_in text ≡ i.name
+      → interface_named text (rows_after k es (nothing_read rows)) ≡ i
+  interface-again es rows text len own alike name =
+      let ids = ids-own table start k i is in
+      same-interface i (interface_in text) (rows_after k es (nothing_read rows)).uses (rows_after k es (nothing_read rows)).types (rows_after k es (nothing_read rows)).functions name
+      (rows-uses k es own (nothing_read rows)
+      ∙ ap (λ n. map type_id (places_where is_use_row n es)) len ∙ ap (map type_id) (sym (alike-places table is_use_row (λ x t u. refl) start (rows_of table start i) es alike)) ∙ ids.uses)
+      (rows-types k es own (nothing_read rows)
+      ∙ ap (λ n. map type_id (places_where is_type_row n es)) len ∙ ap (map type_id) (sym (alike-places table is_type_row (λ x t u. refl) start (rows_of table start i) es alike)) ∙ ids.types)
+      (rows-functions k es own (nothing_read rows)
+      ∙ ap (λ n. map function_id (places_where is_function_row n es)) len ∙ ap (map function_id) (sym (alike-places table is_function_row (λ x t u. refl) start (rows_of table start i) es alike)) ∙ ids.functions)
+
+  module _ (done : List Interface) (s : ComponentRead) (has : HasReadTo table at k start done s) where
+    own : (t : TypeId) (y : TypeName) → start ≤ t.0 → t.0 < end_of start i → name_at table (Some t) ≡ Some y → y.interface.0 ≡ k
+    own t y low up e = own-names table start k start (rows_of table start i) (stand table start k i is) is.local t y low (omega (arith, up, rows-end table start i is.low is.high)) e
+
+    found : (us : List TypeId) × UsesFound table s.exports start k us (rows_of table start i)
+    found = uses-found table start k s.exports has.names (end_of start i) own start [] (rows_of table start i) (drop (end_of start i) table)
+        (rows-end table start i is.low is.high) (first table start k i is) (facts table start k i is)
+
+    reread : (es : List Definition) × AreAlike table start (rows_of table start i) es × AreRowsOf k es
+        × (instance_read (s.indices ++ all_some found.0) k (decls_of (declarations_of (first_place at) (rows_of table start i))) s.rows ≡ Some (rows_after k es (nothing_read s.rows)))
+        × HasRead table start k (places_after (first_place at) (rows_of table start i)) (rows_after k es (nothing_read s.rows))
+    reread = instance-reread table (s.indices ++ all_some found.0) start k at.indices at.types (rows_of table start i) s.rows
+        (subst (λ m. AreReadable table (s.indices ++ all_some found.0) start k start m (rows_of table start i)) has.types
+        (found-readable table s.exports start k (s.indices ++ all_some found.0) found.0 (rows_of table start i) found.1 s.indices refl start [] (drop (end_of start i) table)
+        has.lows (stand table start k i is) (facts table start k i is)))
+        has.count has.row_count
+
+    abbrev inside : InstanceRead
+    inside = rows_after k reread.0 (nothing_read s.rows)
+
+    -- the state behind the interface
+    abbrev after : List ℕ → ComponentRead
+    after text = with_interface text (with_instance (with_types s found.0) inside) inside
+
+    rows-told : inside.rows ≡ s.rows ++ reread.0
+    rows-told = rows-rows k reread.0 reread.2 (nothing_read s.rows)
+
+    ends : length inside.rows ≡ end_of start i
+    ends = ap length rows-told
+        ∙ omega (arith, length-append s.rows reread.0, has.row_count, alike-length table start (rows_of table start i) reread.0 reread.1, rows-end table start i is.low is.high)
+
+    kept : HasRead table start k (places_after (first_place at) (rows_of table start i)) inside
+    kept = reread.4
+
+    names-after : NamesFound table (s.exports ++ inside.names ∷ []) (end_of start i)
+    names-after t y up e = by (below-or-from t.0 start)
+      where
+        by : (t.0 < start) ⊎ (start ≤ t.0) → IsExported table (s.exports ++ inside.names ∷ []) (end_of start i) y
+        by (inl l) =
+            let q = has.names t y l e in
+            let early = has.lows t y l e in
+            record {
+              id = q.id;
+              found = ap (λ o. if_found o (λ es. type_named es y.name)) (get-front s.exports (inside.names ∷ []) y.interface.0 (omega (arith, early, has.exports))) ∙ q.found;
+              named = q.named;
+              below = omega (arith, q.below, is.low);
+            }
+        by (inr low) =
+            let q = kept.names t y low (omega (arith, up, ends, kept.rows)) e in
+            record {
+              id = q.id;
+              found = ap (λ n. if_found (slice_get (s.exports ++ inside.names ∷ []) n) (λ es. type_named es y.name)) (q.here ∙ sym has.exports)
+                  ∙ ap (λ o. if_found o (λ es. type_named es y.name)) (get-last s.exports inside.names) ∙ q.found;
+              named = q.named;
+              below = omega (arith, q.upper, ends, kept.rows);
+            }
+
+    lows-after : NameEarlier table (end_of start i) (k + 1)
+    lows-after t y up e = by (below-or-from t.0 start)
+      where
+        by : (t.0 < start) ⊎ (start ≤ t.0) → y.interface.0 < k + 1
+        by (inl l) = let early = has.lows t y l e in omega (arith, early)
+        by (inr low) = let same = own t y low up e in omega (arith, same)
+
+    has-after : (text : List ℕ) → interface_in text ≡ i.name
+        → HasReadTo table (front_after table at (rows_of table start i)) (k + 1) (end_of start i) (done ++ i ∷ []) (after text)
+    has-after text name = record {
+      rows = subst (λ ds. AreAlike table 0 ds inside.rows) (rows-front table start i is.low is.high)
+          (subst (λ es. AreAlike table 0 (take start table ++ rows_of table start i) es) (sym rows-told)
+          (alike-append table 0 (take start table) s.rows (rows_of table start i) reread.0 has.rows
+          (subst (λ n. AreAlike table n (rows_of table start i) reread.0) front reread.1)));
+      count = sym kept.rows ∙ ends;
+      row_count = ends;
+      types = length-append (s.indices ++ all_some found.0) (None ∷ [])
+          ∙ omega (arith, length-append s.indices (all_some found.0), length-map found.0 (λ (u : TypeId). Some u), has.types, aliases-length table start k s.exports found.0 (rows_of table start i) found.1);
+      interfaces = ap (λ xs. s.interfaces ++ xs ∷ []) (interface-again reread.0 s.rows text has.row_count reread.2 reread.1 name) ∙ ap (λ xs. xs ++ i ∷ []) has.interfaces;
+      index = length-append s.interfaces (interface_named text inside ∷ []) ∙ ap (λ n. n + 1) has.index;
+      exports = length-append s.exports (inside.names ∷ []) ∙ ap (λ n. n + 1) has.exports;
+      names = names-after;
+      lows = lows-after;
+    }
+      where
+        front : start ≡ 0 + length (take start table)
+        front = omega (arith, alike-length table 0 (take start table) s.rows has.rows, has.row_count)
+
+    interface-read : (text : List ℕ) → is_label text ≡ false → (more : List Decl)
+        → declarations_read (decls_of (interface_declarations table at (rows_of table start i) text ++ more)) s ≡ declarations_read (decls_of more) (after text)
+    interface-read text full more =
+        let ds = rows_of table start i in
+        let body = decls_of (declarations_of (first_place at) ds) in
+        let export = Export text (described.Instance (at.types + length (aliases_of table ds))) in
+        ap (λ es. declarations_read (decls_of es) s) (append_assoc (aliases_of table ds) (Entry (Instance body) ∷ export ∷ []) more)
+        ∙ aliases-read table start k s.exports found.0 ds found.1 s refl (Entry (Instance body) ∷ export ∷ more)
+        ∙ ap (λ n. if_found (option_map (with_instance (with_types s found.0)) (instance_read (s.indices ++ all_some found.0) n body s.rows)) (declarations_read (decls_of (export ∷ more)))) has.index
+        ∙ ap (λ o. if_found (option_map (with_instance (with_types s found.0)) o) (declarations_read (decls_of (export ∷ more)))) reread.3
+        ∙ ap (λ b. if_found (cond b None (instance_exported text (with_instance (with_types s found.0) inside))) (declarations_read (decls_of more))) full
+
+    pub interface-reread : (text : List ℕ) → is_label text ≡ false → interface_in text ≡ i.name
+        → (s2 : ComponentRead) × HasReadTo table (front_after table at (rows_of table start i)) (k + 1) (end_of start i) (done ++ i ∷ []) s2
+        × ((more : List Decl) → declarations_read (decls_of (interface_declarations table at (rows_of table start i) text ++ more)) s ≡ declarations_read (decls_of more) s2)
+    interface-reread text full name = (after text, has-after text name, interface-read text full)

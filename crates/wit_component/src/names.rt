@@ -1,0 +1,48 @@
+//! The parts of exports' names.
+ghost use Rattle.std.specs.Prelude.{◌≡◌, option_map, string_bytes, IfOk};
+ghost use Rattle.ctype_bin.specs.Names.{name_view};
+ghost use Rattle.wit_component.specs.ExportNames.{IsNamed};
+
+use ctype_bin::ExternName;
+use std::alloc::AllocError;
+
+/// A full name, by the bytes of its labels.
+#[derive(Clone, Copy)]
+pub struct FullNameParts<'a> {
+    pub namespace: &'a [u8],
+    pub package: &'a [u8],
+    pub name: &'a [u8],
+    pub version: &'a Option<String>,
+}
+
+/// A name, by the bytes of its labels.
+#[derive(Clone, Copy)]
+pub enum NameParts<'a> {
+    Label(&'a [u8]),
+    FullName(FullNameParts<'a>),
+}
+
+/// The parts of a name.
+pub fn name_parts(name: &ExternName) -> NameParts<'_>
+    ensures { IsNamed (name_view name.now) result }
+{
+    match name {
+        ExternName::Label(label) => NameParts::Label(label.as_bytes()),
+        ExternName::FullName(name) => NameParts::FullName(FullNameParts {
+            namespace: name.namespace.as_bytes(),
+            package: name.package.as_bytes(),
+            name: name.name.as_bytes(),
+            version: &name.version,
+        }),
+    }
+}
+
+/// A copy of a version, if there is one.
+pub fn copy_version(version: &Option<String>) -> Result<Option<String>, AllocError>
+    ensures { IfOk result (λ copy. option_map string_bytes copy ≡ option_map string_bytes version.now) }
+{
+    match version {
+        Some(version) => Ok(Some(version.clone()?)),
+        None => Ok(None),
+    }
+}
