@@ -1,5 +1,5 @@
 //! The call itself.
-ghost use Rattle.std.specs.Prelude.{◌≡◌, ◌≢◌, Err};
+ghost use Rattle.std.specs.Prelude.{◌≡◌, ◌≢◌, ◌≤◌, Err, length, IfOk};
 ghost use Rattle.canonical_abi.specs.Call.{Calls, either, AllowsSameRuns, AllowsSamePosts};
 ghost use Rattle.tables.specs.Closed.{function_type, IsFunction, IsScalarFunction};
 ghost use Rattle.layout.specs.Layout.{layouts_of, AreWithin};
@@ -70,6 +70,7 @@ impl<'a> Link<'a> {
         ensures same_runs { AllowsSameRuns (B.runs body.old) (B.runs body.new) }
         ensures same_posts { AllowsSamePosts (B.posts body.old) (B.posts body.new) }
         ensures no_memory { IsScalarFunction self.old.resolve func → result ≢ Err Fault.NoMemory }
+        ensures no_shorter { IfOk result (λ _. length (C.memory caller.old).bytes ≤ length (C.memory caller.new).bytes) }
         ensures same_link { self.new ≡ self.old }
     {
         let resolve = self.resolve;

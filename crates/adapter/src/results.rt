@@ -1,5 +1,5 @@
 //! The second way of a call: the result, from the callee into the caller.
-ghost use Rattle.std.specs.Prelude.{◌≡◌, ◌≢◌, Err, map, IfOk, IfErr, IfSome, IsTrue, option_map};
+ghost use Rattle.std.specs.Prelude.{◌≡◌, ◌≢◌, ◌≤◌, Err, length, map, IfOk, IfErr, IfSome, IsTrue, option_map};
 ghost use Rattle.canonical_abi.specs.Types.{result_fields};
 ghost use Rattle.canonical_abi.specs.Layout.{max_flat_results};
 ghost use Rattle.canonical_abi.specs.Reading.{low_bits, number_of};
@@ -39,6 +39,7 @@ pub(crate) fn pass_answer<C: Guest, E: Guest>(
         (memories (C.memory caller.old) (E.memory callee.now)) answer.now back.items (memories (C.memory caller.new) (E.memory callee.now))) }
     ensures fault { IfErr result (λ fault. ReturnFails (guests C.allocates E.allocates) (function_type resolve.now func) flats.now
         (memories (C.memory caller.old) (E.memory callee.now)) answer.now fault (memories (C.memory caller.new) (E.memory callee.now))) }
+    ensures no_shorter { IfOk result (λ _. length (C.memory caller.old).bytes ≤ length (C.memory caller.new).bytes) }
     ensures no_memory { IsScalarFunction resolve.now func → result ≢ Err Fault.NoMemory }
 {
     if resolve.is_scalar(func) {
@@ -64,6 +65,7 @@ fn pass_tree<C: Guest, E: Guest>(
         (memories (C.memory caller.old) (E.memory callee.now)) answer.now back.items (memories (C.memory caller.new) (E.memory callee.now))) }
     ensures fault { IfErr result (λ fault. ReturnFails (guests C.allocates E.allocates) (function_type resolve.now func) flats.now
         (memories (C.memory caller.old) (E.memory callee.now)) answer.now fault (memories (C.memory caller.new) (E.memory callee.now))) }
+    ensures no_shorter { IfOk result (λ _. length (C.memory caller.old).bytes ≤ length (C.memory caller.new).bytes) }
 {
     let ty = resolve.signature(func).result;
     match lift_result(alloc, resolve, layouts, ty, answer, callee) {
@@ -93,6 +95,7 @@ fn hand_back<C: Guest>(
         (as_list (option_map value_of value.now)) (C.memory caller.old) back.items (C.memory caller.new)) }
     ensures fault { IfErr result (λ fault. HandingBackFails C.allocates (result_fields (option_map (closed_type resolve.now) ty)) area
         (as_list (option_map value_of value.now)) (C.memory caller.old) fault (C.memory caller.new)) }
+    ensures no_shorter { IfOk result (λ _. length (C.memory caller.old).bytes ≤ length (C.memory caller.new).bytes) }
 {
     if let Err(kind) = check_area(resolve, layouts, ty, caller, area) {
         return Err(trap(kind, Step::LowerResult));

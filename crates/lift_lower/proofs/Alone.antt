@@ -44,7 +44,7 @@ size-multiple (record_type fs) = next-multiple _ (align (record_type fs)) (is-al
 size-multiple (variant_type cs) = next-multiple _ (align (variant_type cs)) (is-alignment (variant_type cs))
 size-multiple (flags_type n) = mod_self (flags_size n)
 
-first-place : (t : ClosedType) → next_multiple_of 0 (align t) ≡ 0
+pub first-place : (t : ClosedType) → next_multiple_of 0 (align t) ≡ 0
 first-place t = next-same 0 (align t) (is-alignment t) (by (align t) (is-alignment t))
   where
     by : (g : ℕ) → IsAlignment g → 0 % g ≡ 0

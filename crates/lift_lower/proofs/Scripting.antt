@@ -6,13 +6,13 @@ use Rattle.canonical_abi.specs.Trace.{Grant, Event, node, grant, write, EventLea
 use Rattle.canonical_abi.specs.declared.trap.TrapKind.{TrapKind}
 use Rattle.lift_lower.specs.Scripts.{AreWithin, RequestEnds, IsDone, HasEnded, IsBegun, AsksBlock, GrantsBlock, PutsText, PutsTextAt}
 
-within-both : (limit : ℕ) (es fs : List Event) → AreWithin limit es → AreWithin limit fs → AreWithin limit (es ++ fs)
+pub within-both : (limit : ℕ) (es fs : List Event) → AreWithin limit es → AreWithin limit fs → AreWithin limit (es ++ fs)
 within-both limit [] fs p q = q
 within-both limit (node ∷ es) fs p q = within-both limit es fs p q
 within-both limit (grant g ∷ es) fs p q = (p.0, within-both limit es fs p.1 q)
 within-both limit (write a bs ∷ es) fs p q = within-both limit es fs p q
 
-leads-both : (allocates : Allocation) (es fs : List Event) (s m s' : Memory) → TraceLeads allocates s es m → TraceLeads allocates m fs s' → TraceLeads allocates s (es ++ fs) s'
+pub leads-both : (allocates : Allocation) (es fs : List Event) (s m s' : Memory) → TraceLeads allocates s es m → TraceLeads allocates m fs s' → TraceLeads allocates s (es ++ fs) s'
 leads-both allocates [] fs s m s' r q = subst (λ x. TraceLeads allocates x fs s') r q
 leads-both allocates (e ∷ es) fs s m s' r q = (r.0, r.1, leads-both allocates es fs r.0 m s' r.2 q)
 

@@ -4,6 +4,7 @@ pub mod Loading
 pub mod Lowered
 pub mod Members
 pub mod Passing
+pub mod Placing
 pub mod Scalar
 pub mod Scalars
 pub mod Scripts

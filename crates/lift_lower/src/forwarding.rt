@@ -1,6 +1,6 @@
 //! Lowering inside a call: parameters into the callee, and a result into the caller. No limit stands there
 //! but that of addresses.
-ghost use Rattle.std.specs.Prelude.{◌≡◌, ◌≤◌, map, IfOk, IfErr, OnOk, IfSome, option_map};
+ghost use Rattle.std.specs.Prelude.{◌≡◌, ◌≤◌, length, map, IfOk, IfErr, OnOk, IfSome, option_map};
 ghost use Rattle.canonical_abi.specs.Types.{record_type, result_fields, AreStandardFields};
 ghost use Rattle.canonical_abi.specs.Values.{HaveTypes};
 ghost use Rattle.canonical_abi.specs.Layout.{size, max_flat_params, max_flat_results};
@@ -96,6 +96,7 @@ pub fn pass_result<G: Guest>(
         area (map value_of values.now) (G.memory guest.old) flats.items (G.memory guest.new)) }
     ensures fault { IfErr result (λ k. ResultFailed max_flat_results G.allocates (fields_of_types resolve.now types.now)
         area (map value_of values.now) (G.memory guest.old) k (G.memory guest.new)) }
+    ensures no_shorter { IfOk result (λ _. length (G.memory guest.old).bytes ≤ length (G.memory guest.new).bytes) }
 {
     lower_result(resolve, layouts, u32::MAX, types, values, guest, area)
 }

@@ -4,7 +4,7 @@ ghost use Rattle.std.specs.List.{AllByRecursion};
 ghost use Rattle.canonical_abi.specs.Types.{ClosedType, variant_cases, variant_type, field_count};
 ghost use Rattle.canonical_abi.specs.Values.{HasType, HaveTypes, HasPrimType};
 ghost use Rattle.layout.specs.Layout.{layouts_of};
-ghost use Rattle.tables.specs.Closed.{closed_type};
+ghost use Rattle.tables.specs.Closed.{closed_type, function_type, IsFunction};
 ghost use Rattle.lift_lower.specs.Members.{AreInside, members_fields};
 ghost use Rattle.lift_lower.specs.Scalar.{prim_in, value_in};
 ghost use Rattle.lift_lower.specs.Shape.{HasShapeIn, IsInside};
@@ -14,7 +14,7 @@ use crate::scalar::Scalar;
 use crate::shape::{Members, case_payload, member_type, shape_of};
 use crate::val::Val;
 use layout::{Layouts, Shape};
-use tables::{Resolve, ValType};
+use tables::{FunctionId, Resolve, TypeId, ValType};
 
 /// Whether a value is of a type of this package. Takes no memory of the host.
 pub fn has_type(resolve: &Resolve, layouts: &Layouts, ty: ValType, value: &Val) -> bool
@@ -23,6 +23,19 @@ pub fn has_type(resolve: &Resolve, layouts: &Layouts, ty: ValType, value: &Val) 
     ensures { IsTrue result ↔ HasType (value_of value.now) (closed_type resolve.now ty) }
 {
     is_of(resolve, layouts, ty, value)
+}
+
+/// Whether these are arguments of a function, as many as its parameters and each of its type. Takes no memory
+/// of the host.
+pub fn has_arguments(resolve: &Resolve, layouts: &Layouts, func: FunctionId, values: &[Val]) -> bool
+    requires laid_out { layouts.now ≡ layouts_of resolve.now }
+    requires function { IsFunction resolve.now func }
+    ensures { IsTrue result ↔ HaveTypes (map value_of values.now) (function_type resolve.now func).params }
+{
+    // A function's row is the record of its parameters.
+    let members = Members::Of(ValType::Id(TypeId(func.0)));
+    let count = resolve.signature(func).params.len();
+    have_types(resolve, layouts, &members, count, values)
 }
 
 /// Whether a scalar is of a type of this shape.

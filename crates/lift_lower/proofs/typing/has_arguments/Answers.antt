@@ -1,0 +1,16 @@
+use Rattle.std.proofs.Common.{◌↔◌, map, ap, subst, ◌∙◌, sym}
+use Rattle.std.specs.Prelude.{IsTrue}
+use Rattle.canonical_abi.specs.Types.{record_fields}
+use Rattle.canonical_abi.specs.Values.{HaveTypes}
+use Rattle.lift_lower.specs.Val.{value_of}
+use Rattle.lift_lower.proofs.Placings.{closed-row, count-params}
+use Rattle.lift_lower.proofs.typing.has_arguments.Goals as goal
+
+pub have_types-requires-clause-counted : goal.have_types-requires-clause-counted
+have_types-requires-clause-counted c =
+    count-params c.args.resolve.now c.args.func c.signature.result.now c.requires.function c.signature.ensures ∙ sym c.len-count.ensures
+
+pub returns : goal.returns
+returns c =
+    let own = ap record_fields (closed-row c.args.resolve.now c.args.func c.requires.function) in
+    subst (λ ts. IsTrue c.have_types.result ↔ HaveTypes (map value_of c.args.values.now) ts) own c.have_types.ensures
