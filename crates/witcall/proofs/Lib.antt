@@ -1,10 +1,14 @@
 pub mod Arrays
+pub mod Binaries
+pub mod Made
 pub mod OneChar
 pub mod Packages
-pub mod Promised
+pub mod Prepared
 pub mod Printing
+pub mod Promised
 pub mod Results
 pub mod ScalarFunctions
 pub mod Typed
 pub mod TypedCalls
 pub mod TypedLists
+pub mod Written

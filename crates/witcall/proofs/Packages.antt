@@ -1,5 +1,5 @@
--- The same package as one that is within the limits is laid out too.
-use Rattle.std.proofs.Common.{◌≡◌, ◌≤◌, ◌<◌, ℕ, length, sym, ap, subst, arith}
+-- The same package as one that is within the limits is laid out too, and in the form of packages where that one is.
+use Rattle.std.proofs.Common.{◌≡◌, ◌≤◌, ◌<◌, ℕ, length, sym, ap, subst, ◌∙◌, arith}
 use Rattle.std.specs.Prelude.{slice_index_or}
 use Rattle.canonical_abi.specs.Types.{ClosedType, string_type}
 use Rattle.tables.specs.Closed.{closed_types}
@@ -7,6 +7,10 @@ use Rattle.tables.specs.Same.{IsSamePackage}
 use Rattle.tables.specs.declared.tables.Definition.{Definition}
 use Rattle.tables.specs.declared.tables.Definition.TheVariants as row
 use Rattle.tables.specs.declared.tables.Resolve.{Resolve}
+use Rattle.resolve.specs.Postfix.{IsPostfix}
+use Rattle.resolve.specs.Resolves.{type_entries, table_of}
+use Rattle.wit_component.specs.Component.{is_parted}
+use Rattle.wit_component.specs.Form.{IsInPackageForm, has_full_names, are_interfaces}
 use Rattle.layout.specs.Layout.{IsWithin, Refuses, StandsAt, AreWithin}
 use Rattle.layout.specs.declared.error.LayoutError.TheVariants.{TooDeep, TooLarge}
 
@@ -33,3 +37,20 @@ not_deep a b same all (k, stands) = deep_apart stands.definition _ stands.refuse
 
 pub not_large : (a b : Resolve) → IsSamePackage a b → AreWithin b → ((k : ℕ) × StandsAt TooLarge a k) → ⊥
 not_large a b same all (k, stands) = large_apart stands.definition _ stands.refused (within a b k stands.definition same all stands.in_range stands.is)
+
+same_full_names : (a b : Resolve) → IsSamePackage a b → has_full_names a ≡ has_full_names b
+same_full_names a b same = cc
+
+same_entries : (a b : Resolve) → IsSamePackage a b → type_entries (table_of a) ≡ type_entries (table_of b)
+same_entries a b same = cc
+
+pub same_form : (a b : Resolve) → IsSamePackage a b → IsInPackageForm b → IsInPackageForm a
+same_form a b same form = record {
+  some = λ e. form.some (sym same.interfaces ∙ e);
+  worlds = same.worlds ∙ form.worlds;
+  names = same_full_names a b same ∙ form.names;
+  parted = ap (λ ds. is_parted (length ds) 0 a.interfaces) same.definitions ∙ (ap (is_parted (length b.definitions) 0) same.interfaces ∙ form.parted);
+  interfaces = ap (λ ds. are_interfaces ds 0 0 a.interfaces) same.definitions ∙ (ap (are_interfaces b.definitions 0 0) same.interfaces ∙ form.interfaces);
+  postfix = subst IsPostfix (sym same.definitions) form.postfix;
+  entries = subst (λ n. n ≤ 65535) (sym (same_entries a b same)) form.entries;
+}

@@ -1,5 +1,5 @@
 -- The parts of a call whose output is printed.
-use Rattle.std.proofs.Common.{◌≡◌, ℕ, List, Option, Result, Ok, Err, map, sym, ap, ◌∙◌, subst}
+use Rattle.std.proofs.Common.{◌≡◌, ℕ, List, Option, Result, Err, map, sym, ap, ◌∙◌, subst}
 use Rattle.canonical_abi.specs.Values.{Value}
 use Rattle.canonical_abi.specs.Guest.{Memory}
 use Rattle.canonical_abi.specs.Call.{Run, PostRun, World, either}
@@ -53,6 +53,7 @@ pub refuses : (r : Resolve) (iface func args : List ℕ) (runs : Run) (posts : P
 refuses r iface func args runs posts state f vs (refused.Words e) asked g = elim g [ ]
 refuses r iface func args runs posts state f vs refused.File asked g = elim g [ ]
 refuses r iface func args runs posts state f vs (refused.Open e) asked g = elim g [ ]
+refuses r iface func args runs posts state f vs (refused.Binary e) asked g = elim g [ ]
 refuses r iface func args runs posts state f vs refused.NoFunction asked g = elim g [ ]
 refuses r iface func args runs posts state f vs (refused.Json e) asked g = elim g [ ]
 refuses r iface func args runs posts state f vs (refused.Memory e) asked is = (f, vs, asked, is)

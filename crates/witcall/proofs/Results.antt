@@ -1,26 +1,14 @@
 -- The one value of a scalar function's result.
-use Rattle.std.proofs.Common.{◌≡◌, ◌≤◌, ◌<◌, ◌+◌, ℕ, suc, true, false, List, [], ◌∷◌, ◌++◌, Option, Some, None, length, map, inl, inr, refl, sym, ap, ◌∙◌, arith}
+use Rattle.std.proofs.Common.{◌≡◌, ◌≤◌, ◌<◌, ◌+◌, suc, true, false, List, [], ◌∷◌, ◌++◌, Option, Some, None, length, map, refl, sym, ap, ◌∙◌, arith}
 use Rattle.std.specs.Prelude.{option_to_list, IsSome, ◌↔◌}
-use Rattle.std.specs.Option.{option_map}
 use Rattle.std.proofs.lemmas.List.{length_push}
 use Rattle.canonical_abi.specs.Types.{ClosedType, fields_of}
 use Rattle.canonical_abi.specs.Values.{Value, HaveTypes}
-use Rattle.canonical_abi.specs.Layout.{fits_flat}
 use Rattle.tables.specs.Closed.{closed_val}
 use Rattle.tables.specs.declared.tables.ValType.{ValType}
-use Rattle.tables.specs.declared.tables.ValType.TheVariants as val
-use Rattle.lift_lower.specs.Scalars.{AreScalar}
 
 not_scalar : false ≡ true → ⊥
 not_scalar h = cc
-
--- a scalar result goes flat
-pub result_flat : (rows : List ClosedType) (o : Option ValType) → AreScalar (option_to_list o)
-    → fits_flat 1 (fields_of (map (closed_val rows) (option_to_list o))) ≡ true
-result_flat rows None scalar = refl
-result_flat rows (Some (val.Primitive p)) scalar = refl
-result_flat rows (Some val.String) scalar = absurd (not_scalar scalar.primitive)
-result_flat rows (Some (val.Id i)) scalar = absurd (not_scalar scalar.primitive)
 
 -- of at most one value the last is all
 pub popped : {A : Type 0} (o : Option A) (xs rest : List A) → length xs ≤ 1 → xs ≡ rest ++ option_to_list o

@@ -1,24 +1,21 @@
 -- The types of a scalar function, as the fields of records.
 use Rattle.std.proofs.Common.{◌≡◌, true, List, [], ◌∷◌, Option, Some, None, map, refl, sym, ap, ◌∙◌, subst, arith}
-use Rattle.std.specs.Option.{option_map}
-use Rattle.std.specs.Prelude.{IsTrue, IfSome, option_to_list, slice_get}
-use Rattle.std.proofs.lemmas.Bool.{and_parts, leb-true}
+use Rattle.std.specs.Prelude.{IsTrue, IfSome, slice_get}
+use Rattle.std.proofs.lemmas.Bool.{and_parts, false≢true, leb-true}
 use Rattle.std.proofs.lemmas.List.{length-map}
 use Rattle.std.proofs.lemmas.List.Folds.{list_all-map}
-use Rattle.canonical_abi.specs.Types.{ClosedType, IsPlain, fields_of, result_fields}
-use Rattle.tables.specs.Closed.{closed_val, closed_types, closed_params, function_at, function_type, type_of_function, is_scalar, is_scalar_function, IsScalarFunction}
+use Rattle.canonical_abi.specs.Types.{ClosedType, IsPlain, fields_of}
+use Rattle.tables.specs.Closed.{closed_val, closed_type, closed_types, closed_params, function_at, function_type, type_of_function, is_scalar, is_scalar_result, is_scalar_function, IsScalarFunction}
 use Rattle.tables.specs.declared.tables.Function.{Function}
 use Rattle.tables.specs.declared.tables.FunctionId.{FunctionId}
 use Rattle.tables.specs.declared.tables.Parameter.{Parameter}
 use Rattle.tables.specs.declared.tables.Resolve.{Resolve}
 use Rattle.tables.specs.declared.tables.ValType.{ValType}
+use Rattle.tables.specs.declared.tables.ValType.TheVariants as val
 use Rattle.lift_lower.specs.Scalars.{AreScalar}
 use Rattle.lift_lower.specs.Crossing.{fields_of_types}
 use Rattle.tables.specs.Same.{IsSamePackage}
 use Rattle.tables.specs.Tables.{function_of}
-use Rattle.lift_lower.specs.Members.{AreAllInside}
-use Rattle.lift_lower.specs.Shape.{IsInside}
-use Rattle.witcall.specs.Session.{ArePlain}
 use Rattle.witcall.specs.Signature.{signature_of}
 
 params_closed : (rows : List ClosedType) (ps : List Parameter) → map (closed_val rows) (map (λ p. p.ty) ps) ≡ closed_params rows ps
@@ -49,25 +46,16 @@ params_are_scalar r f h = scalar_params (function_at r f) h
 pub same_scalar : (a b : Resolve) (f : FunctionId) → IsSamePackage a b → IsScalarFunction b f → IsScalarFunction a f
 same_scalar a b f same h = subst (λ ds. IsTrue (is_scalar_function (function_of (slice_get ds f.0)))) (sym same.definitions) h
 
--- the same, told of a package that is this one
-pub own_params : (r own : Resolve) (f : FunctionId) (ts params : List ValType) → own ≡ r → params ≡ ts
-    → fields_of_types own ts ≡ (function_type own f).params → fields_of_types own params ≡ (function_type r f).params
-own_params r own f ts params same are is = ap (fields_of_types own) are ∙ is ∙ ap (λ q. (function_type q f).params) same
+-- ---- a result
 
-pub own_results : (r own : Resolve) (f : FunctionId) (ts : List ValType) → own ≡ r
-    → fields_of_types own ts ≡ result_fields (function_type own f).result → fields_of_types own ts ≡ result_fields (function_type r f).result
-own_results r own f ts same is = is ∙ ap (λ q. result_fields (function_type q f).result) same
+scalar_result : (rows : List ClosedType) (o : Option ValType) → is_scalar_result o ≡ true → IfSome o (λ t. IsPlain (closed_val rows t))
+scalar_result rows None h = tt
+scalar_result rows (Some (val.Primitive p)) h = tt
+scalar_result rows (Some val.String) h = absurd (false≢true h)
+scalar_result rows (Some (val.Id t)) h = absurd (false≢true h)
 
--- ---- a result, as fields and as the list of its type
-
-pub result_as_fields : (rows : List ClosedType) (o : Option ValType) → fields_of (map (closed_val rows) (option_to_list o)) ≡ result_fields (option_map (closed_val rows) o)
-result_as_fields rows None = refl
-result_as_fields rows (Some t) = refl
-
-pub plain_result : (rows : List ClosedType) (o : Option ValType) → ArePlain (fields_of (map (closed_val rows) (option_to_list o))) → IfSome o (λ t. IsPlain (closed_val rows t))
-plain_result rows None h = tt
-plain_result rows (Some t) h = h.0
-
-pub inside_result : (r : Resolve) (o : Option ValType) → AreAllInside r (option_to_list o) → IfSome o (IsInside r)
-inside_result r None h = tt
-inside_result r (Some t) h = (and_parts _ _ h).0
+-- the result of a scalar function is plain
+pub result_plain : (r : Resolve) (f : FunctionId) (s : Function) → function_at r f ≡ Some s → IsScalarFunction r f → IfSome s.result (λ t. IsPlain (closed_type r t))
+result_plain r f s found h =
+    let scalar : is_scalar_function (Some s) ≡ true = subst (λ o. is_scalar_function o ≡ true) found h in
+    scalar_result (closed_types r) s.result (and_parts _ _ (and_parts _ _ scalar).1).1

@@ -1,31 +1,87 @@
 -- Which bytes are opened as a package, and why others are refused.
-use Rattle.std.specs.Prelude.{◌≡◌, ◌⊎◌, ◌==◌, ℕ, true, List, [], ◌∷◌, Option, None, Some}
+use Rattle.std.specs.Prelude.{◌≡◌, ◌<◌, ◌⊎◌, ◌==◌, ℕ, Bool, true, MatchBool, All, List, [], ◌∷◌, length, Option, None, Some, Ok}
 use Rattle.std.specs.List.{starts_with}
 use Rattle.std.specs.Str.{IsUtf8, IsValidUpTo}
 use Rattle.wit_tokens.specs.declared.token.Span.{Span}
 use Rattle.wit_tokens.specs.declared.error.Feature.TheVariants.{LaterStage}
-use Rattle.wit_tokens.specs.declared.error.TextError.{TextError}
 use Rattle.wit_tokens.specs.declared.error.TextError.TheVariants.{Unsupported}
 use Rattle.wit_syntax.specs.Syntax.{File, FileEntry, AnInterface, AWorld}
-use Rattle.wit_text.specs.Reading.{IsRead, Faulty}
-use Rattle.resolve.specs.Resolves.{HasNoFaults, IsPackageOf, Refuses}
+use Rattle.wit_text.specs.Reading as text
+use Rattle.wit_text.specs.Reading.{IsRead}
+use Rattle.ctype_bin.specs.File as binary
+use Rattle.ctype_bin.specs.File.{decoded, max_length}
+use Rattle.ctype_bin.specs.FileView.{file_view}
+use Rattle.ctype_bin.specs.Writing.{file_bytes}
+use Rattle.ctype_bin.specs.declared.component.RawComponent.{RawComponent}
+use Rattle.ctype_bin.specs.declared.error.BinError.{BinError}
+use Rattle.ctype_bin.specs.declared.error.BinError.TheVariants as binary_error
+use Rattle.ctype_bin.specs.declared.error.BinError.TheVariants.{At}
+use Rattle.ctype_bin.specs.declared.error.Fault.TheVariants.{Limit}
+use Rattle.resolve.specs.Scope.{AreDistinct}
+use Rattle.resolve.specs.Resolves as tree
+use Rattle.resolve.specs.Resolves.{HasNoFaults, IsPackageOf}
 use Rattle.tables.specs.declared.tables.Resolve.{Resolve}
+use Rattle.tables.specs.declared.error.ResolveError.TheVariants as resolve_error
+use Rattle.layout.specs.declared.error.LayoutError.TheVariants as layout_error
+use Rattle.wit_component.specs.Component.{component_of}
+use Rattle.wit_component.specs.Naming.{package_scopes}
+use Rattle.wit_component.specs.Reads as component
+use Rattle.wit_component.specs.Standing.{Stands}
 use Rattle.layout.specs.Layout.{AreWithin, RefusesFirst}
 use Rattle.witcall.specs.declared.package.OpenError.{OpenError}
 use Rattle.witcall.specs.declared.package.OpenError.TheVariants as error
 
--- The bytes are a text that is read, whose names differ in each scope and each stand for something; these are its tables, within the
--- limits of layout.
-pub record IsOpened (bytes : List ℕ) (r : Resolve) : Type 0 where
+-- ---- packages
+
+-- they begin as a binary does
+abbrev pub is_binary : List ℕ → Bool
+is_binary bytes = starts_with (λ a b. a == b) bytes (0x00 ∷ 0x61 ∷ 0x73 ∷ 0x6d ∷ [])
+
+-- The bytes are a text that is read, whose names differ in each scope and each stand for something; these are its tables.
+pub record IsOfText (bytes : List ℕ) (r : Resolve) : Type 0 where
   pub file : File
   pub read : IsRead bytes file
   pub named : HasNoFaults file
   pub tables : IsPackageOf file r
+
+-- The bytes, of which there are at most 1,048,576, spell a component, and it stands for this package.
+pub record IsBinaryOf (bytes : List ℕ) (r : Resolve) : Type 0 where
+  pub raw : RawComponent
+  pub spelt : decoded bytes ≡ Ok (file_view raw)
+  pub stands : Stands raw r
+
+-- the bytes are a binary of this package, whose names differ in each scope
+pub record IsOfBinary (bytes : List ℕ) (r : Resolve) : Type 0 where
+  pub binary : ∥ IsBinaryOf bytes r ∥₁
+  pub distinct : All AreDistinct (package_scopes r)
+
+-- the package of the bytes, which are a binary where they begin as one, and else a text
+abbrev pub IsOfBytes : List ℕ → Resolve → Type 0
+IsOfBytes bytes r = MatchBool (is_binary bytes) (IsOfBinary bytes r) (IsOfText bytes r)
+
+-- and it is within the limits of layout
+pub record IsOpened (bytes : List ℕ) (r : Resolve) : Type 0 where
+  pub source : IsOfBytes bytes r
   pub within : AreWithin r
 
--- they begin as a binary does
-abbrev pub IsBinary : List ℕ → Type 0
-IsBinary bytes = starts_with (λ a b. a == b) bytes (0x00 ∷ 0x61 ∷ 0x73 ∷ 0x6d ∷ []) ≡ true
+-- The bytes are a binary of the package, whose names differ in each scope and which is within the limits of layout: what `to_binary` gives.
+pub record IsWrittenAs (bytes : List ℕ) (r : Resolve) : Type 0 where
+  pub begins : is_binary bytes ≡ true
+  pub binary : IsBinaryOf bytes r
+  pub distinct : All AreDistinct (package_scopes r)
+  pub within : AreWithin r
+
+-- ---- refusals
+
+-- for want of memory alone
+abbrev pub IsWantOfMemory : OpenError → Type 0
+IsWantOfMemory (error.Binary e) = e ≡ binary_error.NoMemory
+IsWantOfMemory (error.Resolve e) = e ≡ resolve_error.NoMemory
+IsWantOfMemory (error.Layout e) = e ≡ layout_error.NoMemory
+IsWantOfMemory error.NoMemory = Unit {0}
+IsWantOfMemory (error.Text e) = ⊥
+IsWantOfMemory (error.NotUtf8 place) = ⊥
+IsWantOfMemory (error.Read place) = ⊥
 
 -- where the first world of a text begins
 abbrev pub first_world : List FileEntry → Option Span
@@ -33,19 +89,33 @@ first_world [] = None
 first_world (AnInterface n es ∷ rest) = first_world rest
 first_world (AWorld at n es ∷ rest) = Some at
 
--- they are a text that is read, and its first world begins there
+-- they are a text that is read, and its first world begins there: worlds are not opened yet
 abbrev pub HasWorldAt : List ℕ → Span → Type 0
 HasWorldAt bytes s = (f : File) × IsRead bytes f × (first_world f.entries ≡ Some s)
 
--- binaries and worlds are not opened yet
-abbrev pub IsLater : List ℕ → Span → Type 0
-IsLater bytes s = (IsBinary bytes × (s ≡ record { start = 0; end = 4 })) ⊎ HasWorldAt bytes s
+-- the cause of each refusal of a text
+abbrev pub TextRefuses : List ℕ → OpenError → Type 0
+TextRefuses bytes (error.Text e) = text.Faulty bytes e ⊎ ((s : Span) × (e ≡ Unsupported LaterStage s) × HasWorldAt bytes s)
+TextRefuses bytes (error.NotUtf8 place) = ¬ (IsUtf8 bytes) × IsValidUpTo bytes place
+TextRefuses bytes (error.Resolve e) = (f : File) × IsRead bytes f × tree.Refuses f e
+TextRefuses bytes (error.Layout e) = (r : Resolve) × IsOfText bytes r × RefusesFirst e r
+TextRefuses bytes (error.Binary e) = ⊥
+TextRefuses bytes (error.Read place) = ⊥
+TextRefuses bytes error.NoMemory = ⊥
 
--- the cause of each refusal
+-- the cause of each refusal of a binary
+abbrev pub BinaryRefuses : List ℕ → OpenError → Type 0
+BinaryRefuses bytes (error.Binary e) = binary.Faulty bytes e
+BinaryRefuses bytes (error.Resolve e) = (raw : RawComponent) × (decoded bytes ≡ Ok (file_view raw)) × component.Refuses raw e
+BinaryRefuses bytes (error.Layout e) = (r : Resolve) × IsOfBinary bytes r × RefusesFirst e r
+BinaryRefuses bytes (error.Text e) = ⊥
+BinaryRefuses bytes (error.NotUtf8 place) = ⊥
+BinaryRefuses bytes (error.Read place) = ⊥
+BinaryRefuses bytes error.NoMemory = ⊥
+
 abbrev pub OpenRefuses : List ℕ → OpenError → Type 0
-OpenRefuses bytes (error.Text e) = Faulty bytes e ⊎ ((s : Span) × (e ≡ Unsupported LaterStage s) × IsLater bytes s)
-OpenRefuses bytes (error.NotUtf8 place) = ¬ (IsUtf8 bytes) × IsValidUpTo bytes place
-OpenRefuses bytes (error.Resolve e) = (f : File) × IsRead bytes f × Refuses f e
-OpenRefuses bytes (error.Layout e) = (f : File) × (r : Resolve) × IsRead bytes f × IsPackageOf f r × RefusesFirst e r
-OpenRefuses bytes (error.Read place) = ⊥
-OpenRefuses bytes error.NoMemory = ⊥
+OpenRefuses bytes e = MatchBool (is_binary bytes) (BinaryRefuses bytes e) (TextRefuses bytes e)
+
+-- the shortest bytes of the package are more than a binary may have
+abbrev pub IsTooLong : Resolve → BinError → Type 0
+IsTooLong r e = (e ≡ At Limit max_length) × (max_length < length (file_bytes (component_of r)))

@@ -16,8 +16,9 @@ use crate::package::Package;
 use crate::refused::Refused;
 use crate::session::Session;
 use crate::signature::{ScalarTypes, scalar_function};
+use crate::writing::write_bytes;
 use adapter::{BoxedBody, Export};
-use atoms::{Sink, write_all};
+use atoms::Sink;
 use lift_lower::Val;
 use memory::{Bump, Guest, MemoryError, Space};
 use resolve::FunctionId;
@@ -54,7 +55,7 @@ pub fn run_call<W: Sink>(
     let arguments = values_from_json(alloc, package, types.params(), args)?;
     let answer = call_once(alloc, package, func, arguments.as_slice(), body)?;
     let output = output_of(alloc, package, func, answer)?;
-    write_text(writer, &output)?;
+    write_bytes(writer, output.as_bytes())?;
     Ok(())
 }
 
@@ -112,17 +113,4 @@ fn output_of(
     let mut line = to_json(alloc, package, ty, &value)?;
     line.push('\n')?;
     Ok(line)
-}
-
-fn write_text<W: Sink>(writer: &mut W, text: &String) -> Result<(), Refused>
-    requires { W.has_failed writer.old ≡ false }
-    ensures ok { OnOk result (Appends (W.contents writer.old) (W.contents writer.new) (string_bytes text.now)) }
-    ensures begun { OnErr result ((count : ℕ) × (count ≤ length (string_bytes text.now))
-        × Appends (W.contents writer.old) (W.contents writer.new) (take count (string_bytes text.now))) }
-    ensures err { IfErr result (λ e. e ≡ Refused.Write) }
-{
-    match write_all(writer, text.as_bytes()) {
-        Ok(()) => Ok(()),
-        Err(_failed) => Err(Refused::Write),
-    }
 }

@@ -1,20 +1,26 @@
 //! Packages, typed calls and JSON: the library of the program.
 //!
-//! `open` reads a package, `Session` carries typed calls between two components, `run_call` makes one call
-//! whose arguments and result are JSON, and `report` tells why it was refused. It stands on all layers
-//! below and shows their types; `Session::call` carries the promise of a call.
+//! `open` reads a package from its text or its binary, and `Package::to_binary` writes it. `Session` carries typed
+//! calls between two components, `run_call` makes one call whose arguments and result are JSON, `run` does what needs a
+//! file alone, and `report` tells why something was refused. It stands on all layers below and shows their types;
+//! `Session::call` carries the promise of a call.
 #![tactic(auto)]
 
+mod binary;
 mod calling;
 mod json;
 mod line;
 mod package;
+mod placing;
 mod reading;
 mod refused;
 mod reply;
+mod running;
 mod session;
 mod signature;
+mod text;
 mod typing;
+mod writing;
 
 pub use calling::run_call;
 pub use json::{JsonError, from_json, to_json};
@@ -22,4 +28,5 @@ pub use package::{OpenError, Package, open};
 pub use reading::read_all;
 pub use refused::{Refused, report};
 pub use reply::Reply;
+pub use running::run;
 pub use session::Session;

@@ -1,24 +1,26 @@
 //! Packages, and how they are opened.
 
-ghost use Rattle.std.specs.Prelude.{◌≡◌, map, IfOk, IfErr};
+ghost use Rattle.std.specs.Prelude.{◌≡◌, All, IfOk, IfErr, MatchResult};
+ghost use Rattle.resolve.specs.Scope.{AreDistinct};
+ghost use Rattle.wit_component.specs.Naming.{package_scopes};
 ghost use Rattle.layout.specs.Layout.{layouts_of, AreWithin};
-ghost use Rattle.wit_syntax.specs.View.{item_view};
-ghost use Rattle.witcall.specs.Opening.{IsOpened, OpenRefuses, first_world};
 ghost use Rattle.tables.specs.Same.{IsSamePackage};
+ghost use Rattle.wit_component.specs.Form.{IsInPackageForm};
+ghost use Rattle.witcall.specs.Opening.{IsOfBytes, IsOpened, IsWrittenAs, IsWantOfMemory, OpenRefuses};
 
+use crate::binary::{binary_tables, is_binary};
+use crate::text::text_tables;
+use ctype_bin::BinError;
 use layout::{LayoutError, Layouts};
-use resolve::{Resolve, ResolveError, from_ast};
+use resolve::{Resolve, ResolveError};
 use std::alloc::{AllocError, Global};
 use thiserror::Error;
-use wit_text::{Feature, Item, Span, TextError, parse};
+use wit_text::TextError;
 
 /// The greatest number of bytes that a text or a binary may have.
 pub const MAX_INPUT: usize = 1_048_576;
 
-/// The bytes that a binary begins with.
-static BINARY_FRONT: [u8; 4] = [0x00, 0x61, 0x73, 0x6d];
-
-/// Why an input is no package: 20 where it could not be read, then the refusals of the text, of its
+/// Why an input is no package: 20 where it could not be read, then the refusals of the text or of the binary, of its
 /// names and of its layouts.
 #[derive(Debug, Drop, Error)]
 pub enum OpenError {
@@ -27,6 +29,8 @@ pub enum OpenError {
     Read(usize),
     #[error(transparent)]
     Text(TextError),
+    #[error(transparent)]
+    Binary(BinError),
     #[error(transparent)]
     Resolve(ResolveError),
     #[error(transparent)]
@@ -60,6 +64,17 @@ impl From<TextError> for OpenError {
     }
 }
 
+impl From<BinError> for OpenError {
+    ghost use Rattle.std.specs.Prelude.{◌≡◌};
+    ghost use Rattle.witcall.specs.declared.package.OpenError.TheVariants.{Binary};
+
+    ghost from_gives = { λ error e. e ≡ Binary error };
+
+    fn from(error: BinError) -> OpenError {
+        OpenError::Binary(error)
+    }
+}
+
 impl From<ResolveError> for OpenError {
     ghost use Rattle.std.specs.Prelude.{◌≡◌};
     ghost use Rattle.witcall.specs.declared.package.OpenError.TheVariants.{Resolve};
@@ -82,11 +97,14 @@ impl From<LayoutError> for OpenError {
     }
 }
 
-/// A package: its tables, and the layouts of its types.
+/// A package: its tables, and the layouts of its types. Its tables are in the form of packages and their names differ, so
+/// what is written of it is opened as the same package.
 #[derive(Debug, Drop)]
 pub struct Package {
     resolve: Resolve,
     layouts: Layouts,
+    ghost form: { ∥ IsInPackageForm resolve ∥₁ },
+    ghost distinct: { ∥ All AreDistinct (package_scopes resolve) ∥₁ },
     ghost laid_out: { layouts ≡ layouts_of resolve },
     ghost within: { ∥ AreWithin resolve ∥₁ },
 }
@@ -122,49 +140,32 @@ impl Package {
     }
 }
 
-/// Opens a package. Bytes that begin `00 61 73 6d` are a binary, and refused for now (33); others are a
-/// text: its length comes first (36), then whether it is UTF-8 (60), then the text's own refusals, its
-/// first world (33, for now), the refusals of its names, and those of its layouts.
+/// Opens a package. Bytes that begin `00 61 73 6d` are a binary: its own refusals come first (10 to 19, 22, 23), then 43,
+/// 44 and 40. Others are a text: its length comes first (36), then whether it is UTF-8 (60), then the text's own refusals,
+/// its first world (33, for now), and the refusals of its names. Those of layouts come last.
 pub fn open(alloc: Global, bytes: &[u8]) -> Result<Package, OpenError>
     ensures ok { IfOk result (λ p. IsOpened bytes.now p.resolve) }
+    ensures written { (p : Resolve) → IsWrittenAs bytes.now p
+        → MatchResult result (λ q. IsSamePackage q.resolve p) IsWantOfMemory }
     ensures err { IfErr result (OpenRefuses bytes.now) }
 {
-    let text = text_of(bytes)?;
-    let ast = parse(alloc, text)?;
-    if let Some(span) = first_world(&ast.items) {
-        return Err(OpenError::Text(TextError::Unsupported(Feature::LaterStage, span)));
-    }
-    let resolve = from_ast(alloc, &ast)?;
+    let resolve = tables_of(alloc, bytes)?;
     let layouts = Layouts::of(alloc, &resolve)?;
     Ok(Package { resolve, layouts })
 }
 
-/// Where the first world of these begins.
-fn first_world(items: &[Item]) -> Option<Span>
-    ensures { result ≡ first_world (map item_view items.now) }
-{
-    for item in items {
-        if let Item::World(world) = item {
-            return Some(world.span);
-        }
-    }
-    None
-}
-
-/// The bytes as a text.
-fn text_of(bytes: &[u8]) -> Result<&str, OpenError>
-    ensures ok { IfOk result (λ text. text.now ≡ bytes.now) }
+/// The tables of the package that the bytes are.
+fn tables_of(alloc: Global, bytes: &[u8]) -> Result<Resolve, OpenError>
+    ensures ok { IfOk result (IsOfBytes bytes.now) }
+    ensures form { IfOk result (λ r. ∥ IsInPackageForm r ∥₁) }
+    ensures distinct { IfOk result (λ r. All AreDistinct (package_scopes r)) }
+    ensures written { (p : Resolve) → IsWrittenAs bytes.now p
+        → MatchResult result (λ q. IsSamePackage q p) IsWantOfMemory }
     ensures err { IfErr result (OpenRefuses bytes.now) }
 {
-    if bytes.starts_with(BINARY_FRONT.as_slice()) {
-        let front = Span { start: 0, end: 4 };
-        return Err(OpenError::Text(TextError::Unsupported(Feature::LaterStage, front)));
-    }
-    if bytes.len() > MAX_INPUT {
-        return Err(OpenError::Text(TextError::Limit));
-    }
-    match simdutf8::compat::from_utf8(bytes) {
-        Ok(text) => Ok(text),
-        Err(error) => Err(OpenError::NotUtf8(error.valid_up_to())),
+    if is_binary(bytes) {
+        binary_tables(alloc, bytes)
+    } else {
+        text_tables(alloc, bytes)
     }
 }

@@ -1,7 +1,8 @@
 //! Reading a whole input.
 
-ghost use Rattle.std.specs.Prelude.{◌≡◌, ℕ, true, false, Err, IfOk};
+ghost use Rattle.std.specs.Prelude.{◌≡◌, ℕ, true, false, Err, IfOk, IfErr};
 ghost use Rattle.atoms.specs.Streams.{ReadsUpTo, ConsumesMany};
+ghost use Rattle.witcall.specs.Running.{IsReadFault};
 
 use crate::package::{MAX_INPUT, OpenError};
 use atoms::{ReadUpToError, Source, read_up_to};
@@ -12,6 +13,7 @@ use std::alloc::Global;
 pub fn read_all<R: Source>(alloc: Global, reader: &mut R) -> Result<Vec<u8>, OpenError>
     requires { R.has_failed reader.old ≡ false }
     ensures bytes { IfOk result (λ v. ReadsUpTo 1048576 (R.remaining reader.old) v.items) }
+    ensures err { IfErr result IsReadFault }
     ensures failed { (n : ℕ) → result ≡ Err (OpenError.Read n) →
         ((R.has_failed reader.new ≡ true) × ConsumesMany (R.remaining reader.old) (R.remaining reader.new) n) }
 {

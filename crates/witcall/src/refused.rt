@@ -8,6 +8,7 @@ use crate::line::Line;
 use crate::package::OpenError;
 use atoms::Sink;
 use canonical_abi::{Fault, Step, Trap, TrapKind};
+use ctype_bin::BinError;
 use memory::MemoryError;
 use std::alloc::AllocError;
 use std::fmt::Write;
@@ -23,7 +24,10 @@ pub enum Refused {
     #[error("error 64 file")]
     File,
     #[error(transparent)]
-    Open(#[from] OpenError),
+    Open(OpenError),
+    /// The binary of a package is too long.
+    #[error(transparent)]
+    Binary(BinError),
     #[error("error 63 no function")]
     NoFunction,
     #[error(transparent)]
@@ -46,6 +50,28 @@ impl From<AllocError> for Refused {
 
     fn from(_error: AllocError) -> Refused {
         Refused::NoMemory
+    }
+}
+
+impl From<OpenError> for Refused {
+    ghost use Rattle.std.specs.Prelude.{◌≡◌};
+    ghost use Rattle.witcall.specs.declared.refused.Refused.TheVariants.{Open};
+
+    ghost from_gives = { λ error e. e ≡ Open error };
+
+    fn from(error: OpenError) -> Refused {
+        Refused::Open(error)
+    }
+}
+
+impl From<BinError> for Refused {
+    ghost use Rattle.std.specs.Prelude.{◌≡◌};
+    ghost use Rattle.witcall.specs.declared.refused.Refused.TheVariants.{Binary};
+
+    ghost from_gives = { λ error e. e ≡ Binary error };
+
+    fn from(error: BinError) -> Refused {
+        Refused::Binary(error)
     }
 }
 

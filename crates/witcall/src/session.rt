@@ -4,7 +4,7 @@ ghost use Rattle.std.specs.Prelude.{◌≡◌, ◌≢◌, ◌≤◌, ℕ, List, 
 ghost use Rattle.std.specs.Option.{option_map};
 ghost use Rattle.canonical_abi.specs.Values.{HaveTypes};
 ghost use Rattle.canonical_abi.specs.Types.{result_fields};
-ghost use Rattle.tables.specs.Closed.{IsScalarFunction, function_type};
+ghost use Rattle.tables.specs.Closed.{IsFunction, IsScalarFunction, function_type};
 ghost use Rattle.canonical_abi.specs.Layout.{max_flat_results};
 ghost use Rattle.canonical_abi.specs.Flat.{Denotes};
 ghost use Rattle.canonical_abi.specs.Call.{either, AllowsSameRuns, AllowsSamePosts};
@@ -15,13 +15,13 @@ ghost use Rattle.lift_lower.specs.Crossing.{fields_of_types};
 ghost use Rattle.lift_lower.specs.Scalars.{AreScalar};
 ghost use Rattle.lift_lower.specs.Scalar.{value_in};
 ghost use Rattle.tables.specs.declared.tables.Resolve.{Resolve};
-ghost use Rattle.witcall.specs.Session.{typed_answer, IsPlainFunction};
+ghost use Rattle.witcall.specs.Session.{typed_answer};
 
 use crate::package::Package;
-use crate::signature::ScalarTypes;
+use crate::placing::place_call;
 use adapter::{Body, Link};
 use canonical_abi::{Fault, Guest};
-use lift_lower::{Val, lift_result, lower};
+use lift_lower::{Val, take_result};
 use resolve::FunctionId;
 use std::alloc::Global;
 
@@ -64,8 +64,9 @@ impl<'a, C: Guest, E: Guest, B: Body<E>> Session<'a, C, E, B> {
         &self.callee
     }
 
-    /// Calls a function of the package: lowers the arguments into the caller (step `place`), calls the
-    /// link, and lifts the result (step `take`). The blocks that it asked for stay live. Over honest guests
+    /// Calls a function of the package: lowers the arguments into the caller and asks for the return area
+    /// where the result does not go flat (step `place`), calls the link, and lifts the result (step `take`).
+    /// The blocks that it asked for stay live. Over honest guests
     /// within the limit the callee finds exactly the arguments and is run once, the caller lifts exactly its
     /// answer, no byte outside the blocks is changed, and a trap stands.
     pub fn call(
@@ -74,7 +75,7 @@ impl<'a, C: Guest, E: Guest, B: Body<E>> Session<'a, C, E, B> {
         func: FunctionId,
         arguments: &[Val],
     ) -> Result<Option<Val>, Fault>
-        requires scalar { IsScalarFunction self.old.package.now.resolve func }
+        requires function { IsFunction self.old.package.now.resolve func }
         requires typed { HaveTypes (map value_of arguments.now)
             (function_type self.old.package.now.resolve func).params }
         ensures call { TypedCall
@@ -100,33 +101,27 @@ impl<'a, C: Guest, E: Guest, B: Body<E>> Session<'a, C, E, B> {
         ensures typed { IfOk result (λ v. HaveTypes (as_list (option_map value_of v))
             (result_fields (function_type self.old.package.now.resolve func).result)) }
         ensures package { self.new.package.now ≡ self.old.package.now }
-        ensures plain { IsPlainFunction (function_type self.old.package.now.resolve func) → result ≢ Err Fault.NoMemory }
+        ensures no_memory { IsScalarFunction self.old.package.now.resolve func → result ≢ Err Fault.NoMemory }
     {
         let resolve = self.package.resolve();
         let layouts = self.package.layouts();
-        let types = ScalarTypes::of(resolve, func);
-        let flats = lower(
-            resolve,
-            layouts,
-            types.params(),
-            arguments,
-            &mut self.caller,
-        )?;
+        let placed = place_call(resolve, layouts, func, arguments, &mut self.caller)?;
         let mut link = Link::new(resolve, layouts);
         let back = link.call(
             alloc,
             func,
-            flats.as_slice(),
+            placed.flats.as_slice(),
             &mut self.caller,
             &mut self.callee,
             &mut self.body,
         )?;
-        lift_result(
+        take_result(
             alloc,
             resolve,
             layouts,
-            types.result(),
+            resolve.signature(func).result,
             back.as_slice(),
+            placed.area,
             &self.caller,
         )
     }

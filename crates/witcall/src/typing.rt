@@ -6,24 +6,22 @@ ghost use Rattle.layout.specs.Layout.{layouts_of};
 ghost use Rattle.lift_lower.specs.Crossing.{fields_of_types};
 ghost use Rattle.lift_lower.specs.Scalars.{AreScalar};
 ghost use Rattle.lift_lower.specs.Val.{value_of};
-ghost use Rattle.tables.specs.Closed.{IsScalarFunction, function_type};
+ghost use Rattle.tables.specs.Closed.{IsFunction, function_type};
 
 use crate::package::Package;
-use crate::signature::ScalarTypes;
 use layout::Layouts;
-use lift_lower::{Val, has_type};
+use lift_lower::{Val, has_arguments, has_type};
 use resolve::{FunctionId, Resolve, ValType};
 
 impl Package {
     /// Whether these are arguments of the function, as many as its parameters and each of its type: what
     /// `Session::call` asks for.
     pub fn takes(&self, func: FunctionId, arguments: &[Val]) -> bool
-        requires { IsScalarFunction self.now.resolve func }
+        requires { IsFunction self.now.resolve func }
         ensures { IsTrue result ↔ HaveTypes (map value_of arguments.now)
             (function_type self.now.resolve func).params }
     {
-        let types = ScalarTypes::of(self.resolve(), func);
-        have_types(self.resolve(), self.layouts(), types.params(), arguments)
+        has_arguments(self.resolve(), self.layouts(), func, arguments)
     }
 }
 

@@ -1,136 +1,120 @@
-use Rattle.std.proofs.Common.{ap, sym, map, subst, ◌∙◌, List, Ok, Err}
+use Rattle.std.proofs.Common.{◌≡◌, ap, sym, map, subst, ◌∙◌, List, Ok, Err}
 use Rattle.std.proofs.lemmas.Result.{err_from_is_err_and}
 use Rattle.std.specs.Option.{option_map}
-use Rattle.std.specs.Prelude.{option_to_list, IfOk, IfSome}
-use Rattle.canonical_abi.specs.Flat.{Denotes, DenotesFault}
-use Rattle.canonical_abi.specs.Layout.{fits_flat}
-use Rattle.canonical_abi.specs.Session.{as_list}
-use Rattle.canonical_abi.specs.Types.{Fields, IsPlain, result_fields}
+use Rattle.std.specs.Prelude.{IfOk}
+use Rattle.canonical_abi.specs.Session.{as_list, HasResult, HasResultFault}
+use Rattle.canonical_abi.specs.Types.{Fields, result_fields}
 use Rattle.canonical_abi.specs.Call.{either, Parties, Calls}
 use Rattle.canonical_abi.specs.Values.{HaveTypes}
 use Rattle.canonical_abi.specs.declared.flat.Flat.{Flat}
-use Rattle.tables.specs.Closed.{closed_type, closed_types, function_type}
-use Rattle.lift_lower.specs.Scalars.{AreScalar}
-use Rattle.lift_lower.specs.Val.{value_of}
-use Rattle.lift_lower.proofs.ScalarTypes.{scalars-inside, scalars-small, scalars-known}
-use Rattle.lift_lower.specs.Crossing.{IsLowered, LowerFails}
-use Rattle.lift_lower.specs.Gives.{AnswerStands}
-use Rattle.lift_lower.specs.Shape.{IsInside}
-use Rattle.witcall.specs.Session.{ArePlain}
 use Rattle.canonical_abi.specs.declared.trap.Step.TheVariants.{Take}
-use Rattle.witcall.proofs.Results.{result_flat}
-use Rattle.witcall.proofs.ScalarFunctions.{own_params, own_results, result_as_fields, plain_result, inside_result}
+use Rattle.tables.specs.Closed.{closed_type, function_type, IsFunction}
+use Rattle.lift_lower.specs.Gives.{AnswerStands}
+use Rattle.lift_lower.specs.Placing.{area_at, IsAreaIn}
+use Rattle.lift_lower.specs.Val.{value_of}
+use Rattle.adapter.proofs.Signatures.{result-inside, result-is}
+use Rattle.witcall.specs.Session.{IsReady, IsNotReady}
+use Rattle.witcall.proofs.Prepared.{area_stays}
 use Rattle.witcall.proofs.Promised.{promised}
+use Rattle.witcall.proofs.ScalarFunctions.{result_plain}
 use Rattle.witcall.proofs.TypedCalls.{world, placed, place_fails, link_fails, came_back, takes}
 use Rattle.witcall.proofs.session.Session.call.Goals as goal
 
-pub lower-requires-clause-small : goal.lower-requires-clause-small
-lower-requires-clause-small g c = scalars-small c.resolve-resolve.result.now c.params.result.now (subst AreScalar (sym c.params.ensures) c.of-types.ensures.scalar_params)
-
-pub lower-requires-clause-known : goal.lower-requires-clause-known
-lower-requires-clause-known g c = scalars-known c.resolve-resolve.result.now c.params.result.now (subst AreScalar (sym c.params.ensures) c.of-types.ensures.scalar_params)
-
-pub returns-in_err-flats-clause-call : goal.returns-in_err-flats-clause-call
-returns-in_err-flats-clause-call g c =
-    let r = c.args.self.now.package.now.resolve in
-    let own = c.resolve-resolve.result.now in
-    let o = c.of-types.result.result in
-    let f = function_type r c.args.func in
-    let params = own_params r own c.args.func _ _ c.resolve-resolve.ensures c.params.ensures c.of-types.ensures.fields in
-    let results = own_results r own c.args.func (option_to_list o) c.resolve-resolve.ensures c.of-types.ensures.results in
-    let flat = ap (fits_flat 1) (sym results) ∙ result_flat (closed_types own) o c.of-types.ensures.scalar_result in
+pub returns-in_err-placed-clause-call : goal.returns-in_err-placed-clause-call
+returns-in_err-placed-clause-call g c =
+    let f = function_type c.args.self.now.package.now.resolve c.args.func in
     let parties : Parties = record { caller_allocates = g.C.Guest.allocates; callee_allocates = g.E.Guest.allocates; runs = g.B.Body.runs c.args.self.now.body; posts = g.B.Body.posts c.args.self.now.body } in
     let caller = g.C.Guest.memory c.args.self.now.caller in
     let callee = g.E.Guest.memory c.args.self.now.callee in
     let body = g.B.Body.state c.args.self.now.body in
-    let caller' = g.C.Guest.memory c.lower.new.guest in
+    let caller' = g.C.Guest.memory c.place_call.new.caller in
     let arguments = map value_of c.args.arguments.now in
-    let fails = subst (λ ts. LowerFails g.C.Guest.allocates ts arguments caller c.in_err-flats.field-0.0 caller') params c.in_err-flats.ensures.fault in
+    let fault = c.in_err-placed.field-0.0 in
+    let fails = subst (λ q. IsNotReady g.C.Guest.allocates (function_type q c.args.func) arguments caller fault caller') c.resolve-resolve.ensures c.in_err-placed.ensures.fault in
     let p = err_from_is_err_and c.from_residual.result c.from_residual.ensures.1 in
-    rw (p.1, p.2) (place_fails parties f arguments flat caller caller' callee body c.in_err-flats.field-0.0 fails)
+    rw (p.1, p.2) (place_fails parties f arguments caller caller' callee body fault fails)
 
 pub returns-in_err-back-clause-call : goal.returns-in_err-back-clause-call
 returns-in_err-back-clause-call g c =
-    let r = c.args.self.now.package.now.resolve in
-    let own = c.resolve-resolve.result.now in
-    let o = c.of-types.result.result in
-    let f = function_type r c.args.func in
-    let params = own_params r own c.args.func _ _ c.resolve-resolve.ensures c.params.ensures c.of-types.ensures.fields in
-    let results = own_results r own c.args.func (option_to_list o) c.resolve-resolve.ensures c.of-types.ensures.results in
-    let flat = ap (fits_flat 1) (sym results) ∙ result_flat (closed_types own) o c.of-types.ensures.scalar_result in
+    let f = function_type c.args.self.now.package.now.resolve c.args.func in
     let parties : Parties = record { caller_allocates = g.C.Guest.allocates; callee_allocates = g.E.Guest.allocates; runs = g.B.Body.runs c.args.self.now.body; posts = g.B.Body.posts c.args.self.now.body } in
     let caller = g.C.Guest.memory c.args.self.now.caller in
     let callee = g.E.Guest.memory c.args.self.now.callee in
     let body = g.B.Body.state c.args.self.now.body in
-    let caller' = g.C.Guest.memory c.lower.new.guest in
+    let caller' = g.C.Guest.memory c.place_call.new.caller in
     let arguments = map value_of c.args.arguments.now in
     let flats = c.as_slice.result.now in
-    let lowered = subst (λ ts. IsLowered g.C.Guest.allocates ts arguments caller c.in_ok-flats.flats.items caller') params c.in_ok-flats.ensures.flats in
-    let handed = subst (λ fs. IsLowered g.C.Guest.allocates f.params arguments caller fs caller') (sym c.as_slice.ensures.value) lowered in
-    let places = placed parties f arguments flat caller caller' callee body flats handed in
+    let area = c.in_ok-placed.placed.area in
+    let ready = subst (λ q. IsReady g.C.Guest.allocates (function_type q c.args.func) arguments caller c.in_ok-placed.placed.flats.items area caller') c.resolve-resolve.ensures c.in_ok-placed.ensures.placed in
+    let handed = subst (λ fs. IsReady g.C.Guest.allocates f arguments caller fs area caller') (sym c.as_slice.ensures.value) ready in
+    let places = placed parties f arguments caller caller' callee body flats area handed in
     let new = world (g.C.Guest.memory c.call.new.caller) (g.E.Guest.memory c.call.new.callee) (g.B.Body.state c.call.new.body) in
     let calls = subst (λ q. Calls parties either (function_type q c.args.func) flats (world caller' callee body) (Err c.in_err-back.field-0.0) new)
     (c.new-link.ensures.package ∙ c.resolve-resolve.ensures) c.in_err-back.ensures.call in
     let p = err_from_is_err_and c.from_residual-in_err-back.result c.from_residual-in_err-back.ensures.1 in
-    rw (p.1, p.2) (link_fails parties f arguments flat (world caller callee body) (world caller' callee body) new flats c.in_err-back.field-0.0 places calls)
+    rw (p.1, p.2) (link_fails parties f arguments (area_at area) (world caller callee body) (world caller' callee body) new flats c.in_err-back.field-0.0 places calls)
+
+pub take_result-requires-clause-inside : goal.take_result-requires-clause-inside
+take_result-requires-clause-inside g c =
+    let own = c.resolve-resolve.result.now in
+    let is = subst (λ q. IsFunction q c.args.func) (sym c.resolve-resolve.ensures) c.requires.function in
+    result-inside own c.args.func is c.signature.result.now c.signature.ensures
+
+pub take_result-requires-clause-area : goal.take_result-requires-clause-area
+take_result-requires-clause-area g c =
+    let own = c.resolve-resolve.result.now in
+    let is = subst (λ q. IsFunction q c.args.func) (sym c.resolve-resolve.ensures) c.requires.function in
+    let same = ap result_fields (result-is own c.args.func is c.signature.result.now c.signature.ensures) in
+    let before = (g.C.Guest.memory c.place_call.new.caller).bytes in
+    let after = (g.C.Guest.memory c.call.new.caller).bytes in
+    let ts = result_fields (option_map (closed_type own) c.signature.result.now.result) in
+    area_stays ts before after c.in_ok-placed.placed.area c.in_ok-back.ensures.no_shorter (subst (λ ts. IsAreaIn ts before c.in_ok-placed.placed.area) same c.in_ok-placed.ensures.area)
 
 pub returns-clause-call : goal.returns-clause-call
 returns-clause-call g c =
     let r = c.args.self.now.package.now.resolve in
-    let own = c.resolve-resolve.result.now in
-    let o = c.of-types.result.result in
     let f = function_type r c.args.func in
-    let params = own_params r own c.args.func _ _ c.resolve-resolve.ensures c.params.ensures c.of-types.ensures.fields in
-    let results = own_results r own c.args.func (option_to_list o) c.resolve-resolve.ensures c.of-types.ensures.results in
-    let flat = ap (fits_flat 1) (sym results) ∙ result_flat (closed_types own) o c.of-types.ensures.scalar_result in
     let parties : Parties = record { caller_allocates = g.C.Guest.allocates; callee_allocates = g.E.Guest.allocates; runs = g.B.Body.runs c.args.self.now.body; posts = g.B.Body.posts c.args.self.now.body } in
     let caller = g.C.Guest.memory c.args.self.now.caller in
     let callee = g.E.Guest.memory c.args.self.now.callee in
     let body = g.B.Body.state c.args.self.now.body in
-    let caller' = g.C.Guest.memory c.lower.new.guest in
+    let caller' = g.C.Guest.memory c.place_call.new.caller in
     let arguments = map value_of c.args.arguments.now in
     let flats = c.as_slice.result.now in
-    let lowered = subst (λ ts. IsLowered g.C.Guest.allocates ts arguments caller c.in_ok-flats.flats.items caller') params c.in_ok-flats.ensures.flats in
-    let handed = subst (λ fs. IsLowered g.C.Guest.allocates f.params arguments caller fs caller') (sym c.as_slice.ensures.value) lowered in
-    let places = placed parties f arguments flat caller caller' callee body flats handed in
+    let area = c.in_ok-placed.placed.area in
+    let ready = subst (λ q. IsReady g.C.Guest.allocates (function_type q c.args.func) arguments caller c.in_ok-placed.placed.flats.items area caller') c.resolve-resolve.ensures c.in_ok-placed.ensures.placed in
+    let handed = subst (λ fs. IsReady g.C.Guest.allocates f arguments caller fs area caller') (sym c.as_slice.ensures.value) ready in
+    let places = placed parties f arguments caller caller' callee body flats area handed in
     let new = world (g.C.Guest.memory c.call.new.caller) (g.E.Guest.memory c.call.new.callee) (g.B.Body.state c.call.new.body) in
     let back = c.in_ok-back.back.items in
     let calls = subst (λ q. Calls parties either (function_type q c.args.func) flats (world caller' callee body) (Ok back) new)
     (c.new-link.ensures.package ∙ c.resolve-resolve.ensures) c.in_ok-back.ensures.call in
-    let came = came_back parties f arguments flat (world caller callee body) (world caller' callee body) new flats back places calls in
-    let m = (g.C.Guest.memory c.call.new.caller).bytes in
-    let P : Fields → List Flat → Type 0 = λ ts fs. AnswerStands Take (λ v. Denotes 1 ts m fs (as_list (option_map value_of v))) (DenotesFault 1 ts m fs) c.lift_result.result in
-    let same = ap (λ t. result_fields (option_map (closed_type own) t)) c.result.ensures ∙ sym (result_as_fields (closed_types own) o) ∙ results in
-    let stands = subst (P (result_fields f.result)) c.as_slice-2.ensures.value (subst (λ ts. P ts c.as_slice-2.result.now) same c.lift_result.ensures.value) in
-    takes parties f arguments flat (world caller callee body) new back c.lift_result.result came stands
-
-pub lift_result-requires-clause-inside : goal.lift_result-requires-clause-inside
-lift_result-requires-clause-inside g c =
+    let came = came_back parties f arguments (area_at area) (world caller callee body) (world caller' callee body) new flats back places calls in
     let own = c.resolve-resolve.result.now in
-    let o = c.of-types.result.result in
-    subst (λ t. IfSome t (IsInside own)) (sym c.result.ensures) (inside_result own o (scalars-inside own (option_to_list o) c.of-types.ensures.scalar_result))
+    let is = subst (λ q. IsFunction q c.args.func) (sym c.resolve-resolve.ensures) c.requires.function in
+    let same = ap result_fields (sym (result-is own c.args.func is c.signature.result.now c.signature.ensures)) ∙ ap (λ q. result_fields (function_type q c.args.func).result) c.resolve-resolve.ensures in
+    let m = (g.C.Guest.memory c.call.new.caller).bytes in
+    let P : Fields → List Flat → Type 0 = λ ts fs. AnswerStands Take (λ v. HasResult ts m fs (area_at area) (as_list (option_map value_of v))) (HasResultFault ts m fs (area_at area)) c.take_result.result in
+    let stands = subst (P (result_fields f.result)) c.as_slice-2.ensures.value (subst (λ ts. P ts c.as_slice-2.result.now) same c.take_result.ensures.value) in
+    takes parties f arguments (area_at area) (world caller callee body) new back c.take_result.result came stands
 
 pub returns-clause-typed : goal.returns-clause-typed
 returns-clause-typed g c =
     let own = c.resolve-resolve.result.now in
-    let o = c.of-types.result.result in
-    let results = own_results c.args.self.now.package.now.resolve own c.args.func (option_to_list o) c.resolve-resolve.ensures c.of-types.ensures.results in
-    let same = ap (λ t. result_fields (option_map (closed_type own) t)) c.result.ensures ∙ sym (result_as_fields (closed_types own) o) ∙ results in
-    subst (λ ts. IfOk c.lift_result.result (λ v. HaveTypes (as_list (option_map value_of v)) ts)) same c.lift_result.ensures.typed
+    let is = subst (λ q. IsFunction q c.args.func) (sym c.resolve-resolve.ensures) c.requires.function in
+    let same = ap result_fields (sym (result-is own c.args.func is c.signature.result.now c.signature.ensures)) ∙ ap (λ q. result_fields (function_type q c.args.func).result) c.resolve-resolve.ensures in
+    subst (λ ts. IfOk c.take_result.result (λ v. HaveTypes (as_list (option_map value_of v)) ts)) same c.take_result.ensures.typed
 
-pub returns-clause-plain : goal.returns-clause-plain
-returns-clause-plain g c = λ plain.
+pub returns-clause-no_memory : goal.returns-clause-no_memory
+returns-clause-no_memory g c = λ scalar.
     let own = c.resolve-resolve.result.now in
-    let o = c.of-types.result.result in
-    let results = own_results c.args.self.now.package.now.resolve own c.args.func (option_to_list o) c.resolve-resolve.ensures c.of-types.ensures.results in
-    let here = plain_result (closed_types own) o (subst ArePlain (sym results) plain.1) in
-    c.lift_result.ensures.plain (subst (λ t. IfSome t (λ v. IsPlain (closed_type own v))) (sym c.result.ensures) here)
+    c.take_result.ensures.plain (result_plain own c.args.func c.signature.result.now c.signature.ensures (rw c.resolve-resolve.ensures scalar))
 
-pub returns-in_err-flats-clause-promise : goal.returns-in_err-flats-clause-promise
-returns-in_err-flats-clause-promise g c = promised _ _ _ c.args.self.now.package.now.resolve c.args.func _ _ _ _ c.requires.scalar (returns-in_err-flats-clause-call g c)
+pub returns-in_err-placed-clause-promise : goal.returns-in_err-placed-clause-promise
+returns-in_err-placed-clause-promise g c = promised _ _ _ c.args.self.now.package.now.resolve c.args.func _ _ _ _ c.requires.function (returns-in_err-placed-clause-call g c)
 
 pub returns-in_err-back-clause-promise : goal.returns-in_err-back-clause-promise
-returns-in_err-back-clause-promise g c = promised _ _ _ c.args.self.now.package.now.resolve c.args.func _ _ _ _ c.requires.scalar (returns-in_err-back-clause-call g c)
+returns-in_err-back-clause-promise g c = promised _ _ _ c.args.self.now.package.now.resolve c.args.func _ _ _ _ c.requires.function (returns-in_err-back-clause-call g c)
 
 pub returns-clause-promise : goal.returns-clause-promise
-returns-clause-promise g c = promised _ _ _ c.args.self.now.package.now.resolve c.args.func _ _ _ _ c.requires.scalar (returns-clause-call g c)
+returns-clause-promise g c = promised _ _ _ c.args.self.now.package.now.resolve c.args.func _ _ _ _ c.requires.function (returns-clause-call g c)

@@ -1,0 +1,41 @@
+-- What a job makes of a whole input, and why it is not done.
+use Rattle.std.specs.Prelude.{◌≡◌, ◌≢◌, ◌⊎◌, ℕ, List, Option}
+use Rattle.atoms.specs.Streams.{ReadsUpTo}
+use Rattle.ctype_bin.specs.Writing.{file_bytes}
+use Rattle.ctype_bin.specs.declared.error.BinError.TheVariants as binary
+use Rattle.tables.specs.declared.tables.Resolve.{Resolve}
+use Rattle.wit_component.specs.Component.{component_of}
+use Rattle.witcall.specs.Opening.{IsOpened, IsBinaryOf, IsTooLong, OpenRefuses}
+use Rattle.witcall.specs.declared.package.OpenError.{OpenError}
+use Rattle.witcall.specs.declared.package.OpenError.TheVariants as opening
+use Rattle.witcall.specs.declared.refused.Refused.{Refused}
+use Rattle.witcall.specs.declared.refused.Refused.TheVariants as refused
+use Rattle.words.specs.declared.asked.Job.{Job}
+use Rattle.words.specs.declared.asked.Job.TheVariants.{Bin}
+use Rattle.words.specs.declared.parsing.WordsError.TheVariants.{Usage}
+
+-- what a job makes of a package: its binary, the shortest; no other job is done yet
+abbrev pub IsMadeOf : Job → Resolve → List ℕ → Type 0
+IsMadeOf Bin r output = ∥ IsBinaryOf output r ∥₁ × (output ≡ file_bytes (component_of r))
+IsMadeOf _ r output = ⊥
+
+-- the first bytes of a reader, up to the limit and one more, are opened as a package, and the job makes this of it
+pub record Makes (known : Option (List ℕ)) (job : Job) (output : List ℕ) : Type 0 where
+  pub bytes : List ℕ
+  pub read : ReadsUpTo 1048576 known bytes
+  pub resolve : Resolve
+  pub opened : IsOpened bytes resolve
+  pub made : IsMadeOf job resolve output
+
+-- the reader failed, or memory was wanting for what it gave
+abbrev pub IsReadFault : OpenError → Type 0
+IsReadFault e = ((n : ℕ) × (e ≡ opening.Read n)) ⊎ (e ≡ opening.NoMemory)
+
+-- why a job is not done
+abbrev pub RunRefuses : Option (List ℕ) → Job → Refused → Type 0
+RunRefuses known job (refused.Words e) = (e ≡ Usage) × (job ≢ Bin)
+RunRefuses known job (refused.Open e) = IsReadFault e ⊎ ((bytes : List ℕ) × ReadsUpTo 1048576 known bytes × OpenRefuses bytes e)
+RunRefuses known job (refused.Binary e) =
+    (bytes : List ℕ) × (r : Resolve) × ReadsUpTo 1048576 known bytes × IsOpened bytes r × ((e ≡ binary.NoMemory) ⊎ IsTooLong r e)
+RunRefuses known job refused.Write = (output : List ℕ) × Makes known job output
+RunRefuses known job _ = ⊥

@@ -1,0 +1,45 @@
+//! What is made of a whole input, and written.
+
+ghost use Rattle.std.specs.Prelude.{◌≡◌, ◌≢◌, ◌≤◌, ℕ, List, true, false, length, take, Err, IfErr, OnOk, IsErrOf};
+ghost use Rattle.std.specs.Io.KnownBytes.{Appends, Keeps};
+ghost use Rattle.atoms.specs.Streams.{ConsumesMany};
+ghost use Rattle.witcall.specs.Running.{Makes, RunRefuses};
+
+use crate::package::{OpenError, open};
+use crate::reading::read_all;
+use crate::refused::Refused;
+use crate::writing::write_bytes;
+use atoms::{Sink, Source};
+use std::alloc::Global;
+use words::WordsError;
+use words::asked::Job;
+
+/// Does a job with all the bytes of a reader, and writes what it makes. `Bin` alone is done for now, any other job is a
+/// usage fault, and nothing is read then. Other faults come in this order: 20, those of `open`, 17, 65; only after 65 a
+/// beginning may have been written.
+pub fn run<R: Source, W: Sink>(
+    alloc: Global,
+    job: Job,
+    reader: &mut R,
+    writer: &mut W,
+) -> Result<(), Refused>
+    requires reader { R.has_failed reader.old ≡ false }
+    requires writer { W.has_failed writer.old ≡ false }
+    ensures ok { OnOk result ((output : List ℕ) × Makes (R.remaining reader.old) job output
+        × Appends (W.contents writer.old) (W.contents writer.new) output) }
+    ensures begun { IsErrOf result Refused.Write → (output : List ℕ) × (count : ℕ) × Makes (R.remaining reader.old) job output
+        × (count ≤ length output) × Appends (W.contents writer.old) (W.contents writer.new) (take count output) }
+    ensures err { IfErr result (RunRefuses (R.remaining reader.old) job) }
+    ensures failed { (n : ℕ) → result ≡ Err (Refused.Open (OpenError.Read n)) →
+        ((R.has_failed reader.new ≡ true) × ConsumesMany (R.remaining reader.old) (R.remaining reader.new) n) }
+    ensures unwritten { IfErr result (λ e. e ≢ Refused.Write → Keeps (W.contents writer.old) (W.contents writer.new)) }
+{
+    let Job::Bin = job else {
+        return Err(Refused::Words(WordsError::Usage));
+    };
+    let bytes = read_all(alloc, reader)?;
+    let package = open(alloc, bytes.as_slice())?;
+    let output = package.to_binary(alloc)?;
+    write_bytes(writer, output.as_slice())?;
+    Ok(())
+}

@@ -1,0 +1,59 @@
+//! The package that a text is.
+
+ghost use Rattle.std.specs.Prelude.{◌≡◌, map, All, IfOk, IfErr};
+ghost use Rattle.resolve.specs.Scope.{AreDistinct};
+ghost use Rattle.wit_syntax.specs.View.{item_view};
+ghost use Rattle.wit_component.specs.Form.{IsInPackageForm};
+ghost use Rattle.wit_component.specs.Naming.{package_scopes};
+ghost use Rattle.witcall.specs.Opening.{IsOfText, TextRefuses, first_world};
+
+use crate::package::{MAX_INPUT, OpenError};
+use resolve::{Resolve, from_ast};
+use std::alloc::Global;
+use wit_component::laws::{trees_have_distinct_names, trees_have_form};
+use wit_text::{Feature, Item, Span, TextError, parse, texts_have_full_names};
+
+/// The tables of a text.
+pub fn text_tables(alloc: Global, bytes: &[u8]) -> Result<Resolve, OpenError>
+    ensures ok { IfOk result (IsOfText bytes.now) }
+    ensures form { IfOk result IsInPackageForm }
+    ensures distinct { IfOk result (λ r. All AreDistinct (package_scopes r)) }
+    ensures err { IfErr result (TextRefuses bytes.now) }
+{
+    texts_have_full_names();
+    trees_have_form();
+    trees_have_distinct_names();
+    let text = text_of(bytes)?;
+    let ast = parse(alloc, text)?;
+    if let Some(span) = first_world(&ast.items) {
+        return Err(OpenError::Text(TextError::Unsupported(Feature::LaterStage, span)));
+    }
+    let resolve = from_ast(alloc, &ast)?;
+    Ok(resolve)
+}
+
+/// Where the first world of these begins.
+fn first_world(items: &[Item]) -> Option<Span>
+    ensures { result ≡ first_world (map item_view items.now) }
+{
+    for item in items {
+        if let Item::World(world) = item {
+            return Some(world.span);
+        }
+    }
+    None
+}
+
+/// The bytes as a text.
+fn text_of(bytes: &[u8]) -> Result<&str, OpenError>
+    ensures ok { IfOk result (λ text. text.now ≡ bytes.now) }
+    ensures err { IfErr result (TextRefuses bytes.now) }
+{
+    if bytes.len() > MAX_INPUT {
+        return Err(OpenError::Text(TextError::Limit));
+    }
+    match simdutf8::compat::from_utf8(bytes) {
+        Ok(text) => Ok(text),
+        Err(error) => Err(OpenError::NotUtf8(error.valid_up_to())),
+    }
+}
