@@ -4,12 +4,12 @@
 use atoms::Watched;
 use std::process::ExitCode;
 use std::{env, fs, io};
-use witcall::{Refused, Reply, open, read_all, report, run_call};
-use words::asked::Command;
+use witcall::{Refused, Reply, open, read_all, report, run, run_call};
+use words::asked::{Command, Job};
 use words::{WordsError, command};
 
 fn main(rt: HostRuntime) -> ExitCode {
-    match run(&rt) {
+    match execute(&rt) {
         Ok(()) => ExitCode::SUCCESS,
         Err(refused) => {
             let mut errors = Watched::new(rt.stderr());
@@ -18,10 +18,11 @@ fn main(rt: HostRuntime) -> ExitCode {
     }
 }
 
-/// Does what the words ask for. Only calls are made for now: any other command is a usage fault.
-fn run(rt: &HostRuntime) -> Result<(), Refused> {
+/// Does what the words ask for. Only binaries and calls are made for now: any other command is a usage fault.
+fn execute(rt: &HostRuntime) -> Result<(), Refused> {
     let words = words(rt)?;
     match command(rt.alloc(), words.as_slice())? {
+        Command::Convert(Job::Bin, file) => convert(rt, Job::Bin, file.as_str()),
         Command::Convert(_job, _file) => Err(Refused::Words(WordsError::Usage)),
         Command::Call {
             file,
@@ -38,6 +39,13 @@ fn run(rt: &HostRuntime) -> Result<(), Refused> {
             reply.as_str(),
         ),
     }
+}
+
+/// Does a job with the bytes of a file.
+fn convert(rt: &HostRuntime, job: Job, path: &str) -> Result<(), Refused> {
+    let mut input = Watched::new(opened(rt, path)?);
+    let mut output = Watched::new(rt.stdout());
+    run(rt.alloc(), job, &mut input, &mut output)
 }
 
 /// Calls a function of the package in a file, whose body answers the reply.
@@ -80,8 +88,10 @@ fn words(rt: &HostRuntime) -> Result<Vec<String>, Refused> {
 
 /// The bytes of a file, or more than the limit of them.
 fn read(rt: &HostRuntime, path: &str) -> Result<Vec<u8>, Refused> {
-    match fs::open(rt, path) {
-        Ok(file) => Ok(read_all(rt.alloc(), &mut Watched::new(file))?),
-        Err(_error) => Err(Refused::File),
-    }
+    let mut input = Watched::new(opened(rt, path)?);
+    Ok(read_all(rt.alloc(), &mut input)?)
+}
+
+fn opened(rt: &HostRuntime, path: &str) -> Result<fs::File, Refused> {
+    fs::open(rt, path).map_err(|_error| Refused::File)
 }
