@@ -9,6 +9,8 @@ mod calls;
 #[cfg(test)]
 mod compounds;
 #[cfg(test)]
+mod crossing;
+#[cfg(test)]
 mod hosts;
 #[cfg(test)]
 mod lines;
@@ -18,6 +20,8 @@ mod names;
 mod packages;
 #[cfg(test)]
 mod parts;
+#[cfg(test)]
+mod reopened;
 #[cfg(test)]
 mod sessions;
 #[cfg(test)]

@@ -2,10 +2,12 @@
 
 ghost use Rattle.std.specs.Prelude.{◌≡◌, false};
 
+use crate::packages::SMALLEST;
 use atoms::{Failed, Sink, Source, Watched, read_up_to};
 use std::alloc::Global;
 use std::test::Fail;
-use witcall::{Refused, Reply, open, read_all, run_call};
+use witcall::{Refused, Reply, open, read_all, run, run_call};
+use words::asked::Job;
 
 const P1: &str = "package a:b; interface c { f: func(x: u32) -> u32; }";
 
@@ -119,13 +121,10 @@ fn opened(alloc: Global, bytes: &[u8]) -> Result<String, Fail> {
 fn bytes(rt: HostRuntime) -> Result<(), Fail> {
     let alloc = rt.alloc();
     for (bytes, wanted) in [
-        (
-            b"\x00asm".as_slice(),
-            "error 33 unsupported later-stage at 0..4",
-        ),
+        (b"\x00asm".as_slice(), "error 11 truncated at 4"),
         (
             b"\x00asm\x0d\x00\x01\x00".as_slice(),
-            "error 33 unsupported later-stage at 0..4",
+            "error 11 truncated at 8",
         ),
         (b"\x00as".as_slice(), "error 30 bad character at 0..1"),
         (
@@ -157,6 +156,17 @@ fn bytes(rt: HostRuntime) -> Result<(), Fail> {
 }
 
 #[test]
+fn long_binaries(rt: HostRuntime) -> Result<(), Fail> {
+    let alloc = rt.alloc();
+    let mut long = Vec::from_slice(alloc, b"\x00asm")?;
+    let zeros = vec![in alloc; 0; 1_048_573]?;
+    long.extend_from_slice(zeros.as_slice())?;
+    let line = opened(alloc, long.as_slice())?;
+    assert!(rt; line.as_str() == "error 17 limit at 1048576", "{line}");
+    Ok(())
+}
+
+#[test]
 fn failed_writes(rt: HostRuntime) -> Result<(), Fail> {
     let alloc = rt.alloc();
     let package = open(alloc, P1.as_bytes())?;
@@ -174,6 +184,68 @@ fn failed_writes(rt: HostRuntime) -> Result<(), Fail> {
             Err(refused) => !is_written && matches!(refused, Refused::Write),
         };
         assert!(rt; is_told, "{room}");
+    }
+    Ok(())
+}
+
+/// The line of a job that is refused with nothing written.
+fn refused(alloc: Global, job: Job, reader: &mut Drip) -> Result<String, Fail>
+    requires { reader.old.failed ≡ false }
+{
+    let mut output = Short {
+        room: 0,
+        failed: false,
+    };
+    Ok(match run(alloc, job, reader, &mut output) {
+        Ok(()) => String::new(alloc),
+        Err(refused) => format!(in alloc; "{refused}")?,
+    })
+}
+
+/// What a job writes, or nothing where it is refused.
+fn made(alloc: Global, bytes: &[u8]) -> Result<Vec<u8>, Fail> {
+    let mut output = Watched::new(Vec::new(alloc));
+    match run(alloc, Job::Bin, &mut Watched::new(bytes), &mut output) {
+        Ok(()) => Ok(output.into_inner()),
+        Err(_refused) => Ok(Vec::new(alloc)),
+    }
+}
+
+#[test]
+fn binaries_are_made(rt: HostRuntime) -> Result<(), Fail> {
+    let alloc = rt.alloc();
+    assert!(rt; made(alloc, P1.as_bytes())?.as_slice() == SMALLEST.as_slice());
+    assert!(rt; made(alloc, &SMALLEST)?.as_slice() == SMALLEST.as_slice());
+    Ok(())
+}
+
+/// Whether a job whose output has this much room is done, and what room is left.
+fn done(alloc: Global, room: usize) -> (bool, usize) {
+    let mut output = Short {
+        room,
+        failed: false,
+    };
+    let answer = run(alloc, Job::Bin, &mut dripping(None), &mut output);
+    (answer.is_ok(), output.room)
+}
+
+#[test]
+fn binaries_that_are_cut(rt: HostRuntime) -> Result<(), Fail> {
+    let alloc = rt.alloc();
+    assert!(rt; done(alloc, 54) == (false, 0));
+    assert!(rt; done(alloc, 55) == (true, 0));
+    assert!(rt; done(alloc, 60) == (true, 5));
+    Ok(())
+}
+
+#[test]
+fn jobs_that_are_refused(rt: HostRuntime) -> Result<(), Fail> {
+    let alloc = rt.alloc();
+    let line = refused(alloc, Job::Bin, &mut dripping(Some(20)))?;
+    assert!(rt; line.as_str() == "error 20 read at 20", "{line}");
+    for job in [Job::Show, Job::Text, Job::Layout] {
+        let line = refused(alloc, job, &mut dripping(Some(0)))?;
+        assert!(rt; line.as_str().starts_with("usage: witcall"), "{line}");
     }
     Ok(())
 }
