@@ -48,10 +48,6 @@ MeansAny ns j i x = MeansUse ns j i x ⊎ (MeansType i x ⊎ MeansFunction i x)
 
 -- ---- kinds
 
-used_id : TypeDefKind → TypeId → TypeId
-used_id (kind.Use t) d = t
-used_id _ d = d
-
 pub use-kind : (trees : List Tree) (k : TypeDefKind) (tree : Tree) → meaning_of trees k ≡ IsUse tree → (t : TypeId) × (k ≡ kind.Use t) × (tree_of trees t ≡ tree)
 use-kind trees (kind.Use t) tree e = (t, refl, cc)
 use-kind trees (kind.Alias v) tree e = absurd (cc)
