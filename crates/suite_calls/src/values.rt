@@ -4,10 +4,10 @@
 use canonical_abi::{Fault, Full, Guest, Step, Trap, TrapKind};
 use lift_lower::{Val, has_type, store, str_at};
 use memory::{Bump, Scripted};
-use resolve::ValType;
 use std::alloc::Global;
 use std::process::Abort;
 use std::test::Fail;
+use tables::ValType;
 use witcall::open;
 
 /// Stores a text at an address of sixteen zeros, whose allocator gives these answers, and tells the bytes.

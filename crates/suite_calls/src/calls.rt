@@ -7,10 +7,10 @@ use adapter::{BoxedBody, Export, Link, Stopped};
 use canonical_abi::{Fault, Flat, Full, Guest, Step, Trap, TrapKind};
 use lift_lower::Flats;
 use memory::{Bump, Scripted, Space};
-use resolve::FunctionId;
 use std::alloc::Global;
 use std::process::Abort;
 use std::test::Fail;
+use tables::FunctionId;
 use witcall::{Package, open};
 
 /// A body that writes how often it ran at address 0 and its first argument's number at address 1.

@@ -1,0 +1,14 @@
+//! Tests of reading, as tables of inputs and answers from outside: texts by the grammar, component type binaries,
+//! and the program's words. It has no code of its own.
+#![tactic(auto)]
+
+#[cfg(test)]
+mod binaries;
+#[cfg(test)]
+mod parts;
+#[cfg(test)]
+mod syntax;
+#[cfg(test)]
+mod type_syntax;
+#[cfg(test)]
+mod wording;
