@@ -1,4 +1,5 @@
 pub mod Versions
+pub mod Names
 pub mod Handed
 pub mod KindLemmas
 pub mod FaultLemmas
