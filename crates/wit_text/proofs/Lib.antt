@@ -9,3 +9,4 @@ pub mod Exactness
 pub mod Limits
 pub mod Parsed
 pub mod FullNames
+pub mod Maps
