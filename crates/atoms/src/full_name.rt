@@ -113,6 +113,14 @@ fn has_no_upper_case(text: &[u8]) -> bool
     text.iter().all(|byte| !byte.is_ascii_uppercase())
 }
 
+/// Whether a text is a label all of whose words are in lower case, as namespaces and packages have them.
+#[tactic(auto, unfolding(crate::specs::FullName::is_package_label))]
+pub fn is_package_label(text: &[u8]) -> bool
+    ensures { result ≡ is_package_label text.now }
+{
+    is_label(text) && has_no_upper_case(text)
+}
+
 /// The label of a text, all of whose words are in lower case.
 #[tactic(auto, unfolding(crate::specs::FullName::is_package_label))]
 fn package_label(alloc: Global, text: &str) -> Result<Label, AtomError>
@@ -120,10 +128,7 @@ fn package_label(alloc: Global, text: &str) -> Result<Label, AtomError>
         (λ e. (e ≡ error.NoMemory) ⊎ ((e ≡ error.BadName) × (IsTrue (is_package_label text.now) → ⊥))) }
 {
     let bytes = text.as_bytes();
-    if !is_label(bytes) {
-        return Err(AtomError::BadName);
-    }
-    if !has_no_upper_case(bytes) {
+    if !is_package_label(bytes) {
         return Err(AtomError::BadName);
     }
     Ok(Label::from_bytes(alloc, bytes)?)

@@ -11,7 +11,7 @@ mod watched;
 mod writing;
 
 pub use error::AtomError;
-pub use full_name::{FullName, is_version};
+pub use full_name::{FullName, is_package_label, is_version};
 pub use label::{Label, is_label};
 pub use leb128::{read_s33, read_u32, write_s33, write_u32};
 pub use reading::{ReadUpToError, read_up_to};

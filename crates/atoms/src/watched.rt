@@ -88,3 +88,6 @@ impl<T: Write> Sink for Watched<T> {
         self.failed
     }
 }
+
+#[cfg(test)]
+mod tests;

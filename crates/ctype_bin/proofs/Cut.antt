@@ -1,8 +1,8 @@
 -- Bytes past the limit change nothing but that there are some.
-use Rattle.std.proofs.Common.{◌≡◌, ℕ, ◌+◌, true, ltb, List, length, take, Option, Some, None, Result, Ok, Err, refl, sym, ap, ◌∙◌, arith, inl, inr}
+use Rattle.std.proofs.Common.{◌≡◌, ℕ, ◌+◌, true, ltb, List, [], length, take, Option, Some, None, Result, Ok, Err, refl, sym, ap, ◌∙◌, arith, inl, inr}
 use Rattle.std.specs.Prelude.{IfSome}
 use Rattle.std.proofs.lemmas.Bool.{cases_lt, lt-ltb}
-use Rattle.std.proofs.lemmas.List.{take_all, length-take-le}
+use Rattle.std.proofs.lemmas.List.{take_all, length-take, length-take-le}
 use Rattle.atoms.specs.Streams.{ReadsUpTo}
 use Rattle.ctype_bin.specs.declared.error.BinError.{BinError}
 use Rattle.ctype_bin.specs.declared.error.BinError.TheVariants as errors
@@ -26,6 +26,15 @@ either view (Ok x) bytes xs same h = sym same ∙ h
 either view (Err (errors.At fault place)) bytes xs same h = sym same ∙ h
 either view (Err (errors.Read place)) bytes xs same h = tt
 either view (Err errors.NoMemory) bytes xs same h = tt
+
+-- what was decoded was read
+pub of_read : {X : Type 0} (view : X → File) (r : Result X BinError) (known : Option (List ℕ)) (bytes : List ℕ) → ReadsUpTo max_length known bytes → Decodes view r bytes → (bytes : List ℕ) × ReadsUpTo max_length known bytes × DecodesOrReads view r bytes
+of_read view r known bytes reads h = (bytes, reads, either view r bytes bytes refl h)
+
+-- where nothing was decoded, some bytes can be read
+pub some_read : {X : Type 0} (view : X → File) (r : Result X BinError) (known : Option (List ℕ)) → ((bytes : List ℕ) → DecodesOrReads view r bytes) → (bytes : List ℕ) × ReadsUpTo max_length known bytes × DecodesOrReads view r bytes
+some_read view r None h = ([], (omega arith, tt), h [])
+some_read view r (Some xs) h = (take (max_length + 1) xs, (omega (arith, length-take (max_length + 1) xs), refl), h (take (max_length + 1) xs))
 
 pub of_known : {X : Type 0} (view : X → File) (r : Result X BinError) (known : Option (List ℕ)) (bytes : List ℕ) → ReadsUpTo max_length known bytes → Decodes view r bytes → IfSome known (λ xs. DecodesOrReads view r xs)
 of_known view r None bytes reads h = tt

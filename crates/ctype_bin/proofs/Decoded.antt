@@ -1,10 +1,10 @@
 -- What decoding answers, in the terms of the productions.
-use Rattle.std.proofs.Common.{◌≡◌, inl, inr, ℕ, zero, suc, ◌<◌, ◌≤◌, List, [], ◌∷◌, ◌++◌, Option, Some, None, length, Result, Ok, Err, refl, sym, ap, subst, ◌∙◌}
+use Rattle.std.proofs.Common.{◌≡◌, inl, inr, ℕ, zero, suc, ◌<◌, ◌≤◌, List, [], ◌∷◌, ◌++◌, Option, Some, None, length, Result, Ok, Err, refl, sym, ap, subst, ◌∙◌, arith}
 use Rattle.std.specs.Prelude.{IfOk, IfErr, MatchResult}
 use Rattle.std.proofs.lemmas.Bool.{cases_lt, lt-ltb, le-ltb}
 use Rattle.std.proofs.lemmas.List.{append-nil}
 use Rattle.productions.specs.Production.{at_end, read_end, unless_some}
-use Rattle.productions.proofs.Exact.{after_ok, no_ok}
+use Rattle.productions.proofs.Exact.{after_ok, no_ok, no_err, one-fault}
 use Rattle.ctype_bin.specs.declared.error.Fault.{Fault}
 use Rattle.ctype_bin.specs.declared.error.Fault.TheVariants.{Limit}
 use Rattle.ctype_bin.specs.declared.error.Stuck.{Stuck}
@@ -13,7 +13,7 @@ use Rattle.ctype_bin.specs.Bytes.{sized, ended}
 use Rattle.ctype_bin.specs.declared.error.BinError.{BinError}
 use Rattle.ctype_bin.specs.declared.error.BinError.TheVariants as errors
 use Rattle.ctype_bin.specs.Raw.{File}
-use Rattle.ctype_bin.specs.Exactness.{IsBytes}
+use Rattle.ctype_bin.specs.Exactness.{IsBytes, within}
 use Rattle.ctype_bin.specs.File.{file, exactly, preamble, section, type_section, export_section, trailing, trailing_fault, custom_next, decoded, max_length, placed, at_place, Faulty, Decodes}
 use Rattle.ctype_bin.specs.Writing.{file_bytes}
 use Rattle.ctype_bin.specs.Spellable.{IsSpellable}
@@ -118,6 +118,22 @@ decoded_faulty bytes fault place fits e =
     by : (r : Result (File × List ℕ) Stuck) → file.read bytes ≡ r → at_place (length bytes) r ≡ Err (errors.At fault place) → (stuck : Stuck) × file.fails bytes stuck × (placed (length bytes) stuck ≡ errors.At fault place)
     by (Ok x) is h = absurd (let k : done x.0 ≡ failed (errors.At fault place) = h in cc)
     by (Err d) is h = (d, exact-file.faulty bytes d fits is, err_is (placed (length bytes) d) (errors.At fault place) h)
+
+-- ---- the first fault is the only one
+
+two_parts : (f g : Fault) (m n : ℕ) → errors.At f m ≡ errors.At g n → (f ≡ g) × (m ≡ n)
+two_parts f g m n h = (cc, cc)
+
+pub only_fault : (bytes : List ℕ) (f g : Fault) (m n : ℕ) → IsBytes bytes → Faulty bytes (errors.At f m) → Faulty bytes (errors.At g n) → (f ≡ g) × (m ≡ n)
+only_fault bytes f g m n fits (inl this) (inl that) = (this.1 ∙ sym that.1, this.2 ∙ sym that.2)
+only_fault bytes f g m n fits (inl this) (inr that) = absurd (omega (arith, this.0, that.0))
+only_fault bytes f g m n fits (inr this) (inl that) = absurd (omega (arith, this.0, that.0))
+only_fault bytes f g m n fits (inr (short, (s, here, is))) (inr (short', (t, there, is'))) =
+    two_parts f g m n (sym is ∙ ap (placed (length bytes)) (one-fault within file exact-file bytes s t fits here there) ∙ is')
+
+pub spelt_faultless : (bytes : List ℕ) (x : File) (f : Fault) (n : ℕ) → IsBytes bytes → length bytes ≤ max_length → file.spells bytes x → Faulty bytes (errors.At f n) → ⊥
+spelt_faultless bytes x f n fits short spelt (inl long) = omega (arith, short, long.0)
+spelt_faultless bytes x f n fits short spelt (inr (le, (s, fails, is))) = no_err (x, []) s (sym (read_all bytes x spelt) ∙ exact-file.met bytes s fits fails)
 
 -- ---- what `Decodes` says
 

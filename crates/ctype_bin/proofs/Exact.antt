@@ -58,20 +58,26 @@ several_err n bytes d e =
     ]
 
 -- what is read whatever follows is read again
-pub took : {X : Type 0} (p : Bytes X) → ((text rest : List ℕ) (x : X) → p.spells text x → p.read (text ++ rest) ≡ Ok (x, rest)) → (bytes text rest : List ℕ) (x : X) → bytes ≡ text ++ rest → p.spells text x → Took p bytes x rest
-took p complete bytes text rest x parts spelt = record { text = text; parts = parts; spelt = spelt; again = λ other same. complete text other x spelt }
+pub took : {X : Type 0} (p : Bytes X) → ((text rest : List ℕ) (x : X) → p.spells text x → p.read (text ++ rest) ≡ Ok (x, rest)) → (bytes text rest : List ℕ) (x : X) → bytes ≡ text ++ rest → p.spells text x → p.stops text x (next rest) → Took p bytes x rest
+took p complete bytes text rest x parts spelt stopped = record { text = text; parts = parts; spelt = spelt; stopped = stopped; again = λ other same. complete text other x spelt }
 
 several_complete : (n : ℕ) (text rest x : List ℕ) → (several n).spells text x → (several n).read (text ++ rest) ≡ Ok (x, rest)
 several_complete n text rest x s =
     let long : leb n (length (text ++ rest)) ≡ true = le-leb n (length (text ++ rest)) (omega (arith, length-append text rest, s.0)) in
     rw (long, take_at text rest n s.0, drop_at text rest n s.0, s.1) refl
 
+several_met : (n : ℕ) (bytes : List ℕ) (f : Stuck) → (several n).fails bytes f → (several n).read bytes ≡ Err f
+several_met n bytes f h = rw (lt-leb n (length bytes) h.0, h.1) refl
+
 pub exact-several : (n : ℕ) → Exact (several n)
 exact-several n = record {
   sound = λ bytes x rest fits e.
       let h = several_ok n bytes (x, rest) e in
-      subst (λ (z : List ℕ × List ℕ). Took (several n) bytes z.0 z.1) h.1 (took (several n) (several_complete n) bytes (take n bytes) (drop n bytes) (take n bytes) (sym (take-append-drop n bytes)) (omega (arith, length-take n bytes, h.0), refl));
+      let long : length (take n bytes) ≡ n = omega (arith, length-take n bytes, h.0) in
+      subst (λ (z : List ℕ × List ℕ). Took (several n) bytes z.0 z.1) h.1 (took (several n) (several_complete n) bytes (take n bytes) (drop n bytes) (take n bytes) (sym (take-append-drop n bytes)) (long, refl) (long, refl));
   complete = λ text rest x s end. several_complete n text rest x s;
+  taken = several_complete n;
+  met = λ bytes f fits h. several_met n bytes f h;
   faulty = λ bytes f fits e. several_err n bytes f e;
   stays = λ bytes f fits e. let h = several_err n bytes f e in subst (λ (g : Stuck). Inside g bytes) (sym h.1) tt;
 }
@@ -84,12 +90,14 @@ nothing [] same = refl
 nothing (b ∷ other) same = absurd cc
 
 remaining_took : (bytes : List ℕ) → Took remaining bytes 0 []
-remaining_took bytes = record { text = bytes; parts = sym (append-nil bytes); spelt = refl; again = λ other same. rw (nothing other same) refl }
+remaining_took bytes = record { text = bytes; parts = sym (append-nil bytes); spelt = refl; stopped = (refl, refl); again = λ other same. rw (nothing other same) refl }
 
 pub exact-remaining : ExactToEnd remaining
 exact-remaining = record {
   sound = λ bytes x rest fits e. let is : all_taken ≡ (x, rest) = ok_is all_taken (x, rest) e in subst (λ (z : ℕ × List ℕ). Took remaining bytes z.0 z.1) is (remaining_took bytes);
   complete = λ text rest x s end. rw (s, nothing rest end) refl;
+  taken = λ text rest x s. rw (s.0, nothing rest s.1) refl;
+  met = λ bytes f fits h. absurd h;
   faulty = λ bytes f fits e. absurd (no_err all_taken f e);
   stays = λ bytes f fits e. absurd (no_err all_taken f e);
 }

@@ -55,7 +55,7 @@ module _ (limit : ℕ) (low : 16 ≤ limit) (high : limit ≤ 128) (fault : List
   number_sound bytes x rest fits e =
       let h = number_ok fault bytes (groups_at limit 4 bytes) (x, rest) e in
       let found = is_found limit low high bytes fits (Ok h.0) (sym h.1) in
-      subst (λ (z : ℕ × List ℕ). Took p bytes z.0 z.1) h.2 (took p number_complete bytes (take h.0.1 bytes) (drop h.0.1 bytes) h.0.0 (sym (take-append-drop h.0.1 bytes)) found.1)
+      subst (λ (z : ℕ × List ℕ). Took p bytes z.0 z.1) h.2 (took p number_complete bytes (take h.0.1 bytes) (drop h.0.1 bytes) h.0.0 (sym (take-append-drop h.0.1 bytes)) found.1 found.1)
 
   none_spelt : (bytes : List ℕ) → groups_at limit 4 bytes ≡ Err atoms.Overlong → (n k : ℕ) → Spells limit (take k bytes) n → ⊥
   none_spelt bytes e n k s =
@@ -66,10 +66,30 @@ module _ (limit : ℕ) (low : 16 ≤ limit) (high : limit ≤ 128) (fault : List
   no_number : (bytes : List ℕ) → IsBytes bytes → groups_at limit 4 bytes ≡ Err atoms.Overlong → NoNumber (Spells limit) bytes
   no_number bytes fits e = (none_spelt bytes e, λ early. overlong_early (groups_at limit 4 bytes) ((is_truncated limit low high bytes fits (groups_at limit 4 bytes) refl).1 early) e)
 
+  too_long : (bytes : List ℕ) → IsBytes bytes → NoNumber (Spells limit) bytes → groups_at limit 4 bytes ≡ Err atoms.Overlong
+  too_long bytes fits none = by (groups_at limit 4 bytes) refl (only_errors limit 4 bytes)
+    where
+      by : (r : Result (ℕ × ℕ) AtomError) → r ≡ groups_at limit 4 bytes → IfErr r (λ e. (e ≡ atoms.Truncated) ⊎ (e ≡ atoms.Overlong)) → r ≡ Err atoms.Overlong
+      by (Ok x) is h = absurd (none.0 x.0 x.1 (is_found limit low high bytes fits (Ok x) is).1)
+      by (Err atoms.Truncated) is h = absurd (none.1 ((is_truncated limit low high bytes fits (groups_at limit 4 bytes) refl).0 (sym is)))
+      by (Err atoms.Overlong) is h = refl
+      by (Err atoms.BadLabel) is h = absurd (elim h [ inl k ↦ cc | inr k ↦ cc ])
+      by (Err atoms.BadName) is h = absurd (elim h [ inl k ↦ cc | inr k ↦ cc ])
+      by (Err atoms.NoMemory) is h = absurd (elim h [ inl k ↦ cc | inr k ↦ cc ])
+
+  number_met : (bytes : List ℕ) (f : Stuck) → IsBytes bytes → p.fails bytes f → p.read bytes ≡ Err f
+  number_met bytes f fits h =
+      elim h [
+        | inl k ↦ let early : groups_at limit 4 bytes ≡ Err atoms.Truncated = (is_truncated limit low high bytes fits (groups_at limit 4 bytes) refl).1 k.0 in rw (early, k.1) refl
+        | inr k ↦ rw (too_long bytes fits k.0, k.1) refl
+      ]
+
   pub exact-number : Exact p
   exact-number = record {
     sound = number_sound;
     complete = λ text rest x s end. number_complete text rest x s;
+    taken = number_complete;
+    met = number_met;
     faulty = λ bytes f fits e.
         elim (number_err fault bytes (groups_at limit 4 bytes) f (only_errors limit 4 bytes) e) [
           | inl h ↦ inl ((is_truncated limit low high bytes fits (groups_at limit 4 bytes) refl).0 h.0, h.1)

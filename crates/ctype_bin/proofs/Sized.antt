@@ -3,6 +3,7 @@ use Rattle.std.proofs.Common.{◌≡◌, ℕ, ◌+◌, ◌-◌, ◌<◌, ◌≤�
 use Rattle.std.specs.Prelude.{◌⊎◌}
 use Rattle.std.proofs.lemmas.Bool.{cases_lt, le-leb, lt-leb, ne_eqb}
 use Rattle.std.proofs.lemmas.List.{take_at, drop_at, take-append-drop, length-append, length-take, append-nil}
+use Rattle.productions.specs.Production.{next}
 use Rattle.productions.specs.Exactness as general
 use Rattle.productions.specs.Exactness.{Took}
 use Rattle.productions.proofs.Exact.{no_err, no_ok}
@@ -65,6 +66,14 @@ module _ {X : Type 0} {stops : X → Option ℕ → Type 0} (short : ℕ → Stu
   unfolding sized
   sized_spelt bytes x s = s
 
+  sized_stops : (bytes : List ℕ) (x : X) (after : Option ℕ) → length bytes ≡ size → p.stops bytes x None → (sized short size p).stops bytes x after
+  unfolding sized
+  sized_stops bytes x after is s = (is, s)
+
+  sized_stopped : (bytes : List ℕ) (x : X) (after : Option ℕ) → (sized short size p).stops bytes x after → (length bytes ≡ size) × p.stops bytes x None
+  unfolding sized
+  sized_stopped bytes x after s = s
+
   sized_complete : (text rest : List ℕ) (x : X) → (sized short size p).spells text x → (sized short size p).read (text ++ rest) ≡ Ok (x, rest)
   sized_complete text rest x spelt =
       let s = sized_spelt text x spelt in
@@ -72,13 +81,20 @@ module _ {X : Type 0} {stops : X → Option ℕ → Type 0} (short : ℕ → Stu
       let all : p.read text ≡ Ok (x, []) = ap (λ (t : List ℕ). p.read t) (sym (append-nil text)) ∙ ep.complete text [] x s.1 (ends x) in
       reads_whole (text ++ rest) le ∙ (rw (take_at text rest size s.0, drop_at text rest size s.0, all) refl)
 
-  all_of : (bytes : List ℕ) (x : X) → IsBytes bytes → size ≤ length bytes → p.read (take size bytes) ≡ Ok (x, []) → p.spells (take size bytes) x
+  sized_taken : (text rest : List ℕ) (x : X) → (sized short size p).stops text x (next rest) → (sized short size p).read (text ++ rest) ≡ Ok (x, rest)
+  sized_taken text rest x stopped =
+      let s = sized_stopped text x (next rest) stopped in
+      let le : size ≤ length (text ++ rest) = omega (arith, length-append text rest, s.0) in
+      let all : p.read text ≡ Ok (x, []) = ap (λ (t : List ℕ). p.read t) (sym (append-nil text)) ∙ ep.taken text [] x s.1 in
+      reads_whole (text ++ rest) le ∙ (rw (take_at text rest size s.0, drop_at text rest size s.0, all) refl)
+
+  all_of : (bytes : List ℕ) (x : X) → IsBytes bytes → size ≤ length bytes → p.read (take size bytes) ≡ Ok (x, []) → p.spells (take size bytes) x × p.stops (take size bytes) x None
   all_of bytes x fits le e =
       let t = ep.sound (take size bytes) x [] (IsBytes-take size bytes fits) e in
-      subst (λ (u : List ℕ). p.spells u x) (sym (t.parts ∙ append-nil t.text)) t.spelt
+      subst (λ (u : List ℕ). p.spells u x × p.stops u x None) (sym (t.parts ∙ append-nil t.text)) (t.spelt, t.stopped)
 
   begins : (bytes : List ℕ) (x : X) (more : List ℕ) → IsBytes bytes → p.read bytes ≡ Ok (x, more) → Begins p bytes (length more)
-  begins bytes x more fits e = let t = ep.sound bytes x more fits e in (t.text, more, x, t.parts, refl, t.spelt)
+  begins bytes x more fits e = let t = ep.sound bytes x more fits e in (t.text, more, x, t.parts, refl, t.stopped)
 
   sized_sound : (bytes : List ℕ) (x : X) (rest : List ℕ) → IsBytes bytes → (sized short size p).read bytes ≡ Ok (x, rest) → Took (sized short size p) bytes x rest
   sized_sound bytes x rest fits e =
@@ -87,7 +103,8 @@ module _ {X : Type 0} {stops : X → Option ℕ → Type 0} (short : ℕ → Stu
         | inr le ↦
             let h = section_ok (length bytes - size) (drop size bytes) (p.read (take size bytes)) (x, rest) (sym (reads_whole bytes le) ∙ e) in
             let long : length (take size bytes) ≡ size = omega (arith, length-take size bytes, le) in
-            subst (λ (z : X × List ℕ). Took (sized short size p) bytes z.0 z.1) h.2 (took (sized short size p) sized_complete bytes (take size bytes) (drop size bytes) h.0 (sym (take-append-drop size bytes)) (sized_spells (take size bytes) h.0 long (all_of bytes h.0 fits le h.1)))
+            let all = all_of bytes h.0 fits le h.1 in
+            subst (λ (z : X × List ℕ). Took (sized short size p) bytes z.0 z.1) h.2 (took (sized short size p) sized_complete bytes (take size bytes) (drop size bytes) h.0 (sym (take-append-drop size bytes)) (sized_spells (take size bytes) h.0 long all.0) (sized_stops (take size bytes) h.0 (next (drop size bytes)) long all.1))
       ]
 
   fails_whole : (bytes : List ℕ) (f : Stuck) → IsBytes bytes → size ≤ length bytes → whole_from bytes ≡ Err f → FailsInSection short size p bytes f
@@ -110,6 +127,36 @@ module _ {X : Type 0} {stops : X → Option ℕ → Type 0} (short : ℕ → Stu
         | inl lt ↦ fails_cut bytes f fits lt (sym (reads_cut bytes lt) ∙ e)
         | inr le ↦ fails_whole bytes f fits le (sym (reads_whole bytes le) ∙ e)
       ]
+
+  -- a fault is met
+
+  taken_front : (bytes : List ℕ) (left : ℕ) → Begins p bytes left → (x : X) × (back : List ℕ) × (p.read bytes ≡ Ok (x, back)) × (length back ≡ left)
+  taken_front bytes left (front, back, x, parts, long, stops) = (x, back, ap (λ (t : List ℕ). p.read t) parts ∙ ep.taken front back x stops, long)
+
+  more_left : (left : ℕ) (rest : List ℕ) (x : X) (back : List ℕ) → 0 < length back → section_from left rest (Ok (x, back)) ≡ Err (At SizeMismatch left)
+  more_left left rest x [] lt = absurd (omega (arith, lt))
+  more_left left rest x (b ∷ bs) lt = goes_on left rest x b bs
+
+  met_so : (bytes : List ℕ) (f : Stuck) → IsBytes bytes → FailsInSection short size p bytes f → (sized short size p).read bytes ≡ Err f
+  met_so bytes f fits (inl (le, (inner, fails, is))) =
+      let here : p.read (take size bytes) ≡ Err inner = ep.met (take size bytes) inner (IsBytes-take size bytes fits) fails in
+      reads_whole bytes le ∙ (rw (here, is) refl)
+  met_so bytes f fits (inr (inl (le, (left, some, begins, is)))) =
+      let t = taken_front (take size bytes) left begins in
+      reads_whole bytes le
+      ∙ ap (section_from (length bytes - size) (drop size bytes)) t.2
+      ∙ more_left (length bytes - size) (drop size bytes) t.0 t.1 (omega (arith, t.3, some))
+      ∙ ap (stopped (X × List ℕ)) (sym is)
+  met_so bytes f fits (inr (inr (inl (lt, fails)))) =
+      let here : p.read bytes ≡ Err f = ep.met bytes f fits fails in
+      reads_cut bytes lt ∙ (rw here refl)
+  met_so bytes f fits (inr (inr (inr (lt, (left, begins, is))))) =
+      let t = taken_front bytes left begins in
+      reads_cut bytes lt ∙ ap (cut_section_from (short (size - length bytes))) t.2 ∙ ap (stopped (X × List ℕ)) (sym is)
+
+  sized_met : (bytes : List ℕ) (f : Stuck) → IsBytes bytes → (sized short size p).fails bytes f → (sized short size p).read bytes ≡ Err f
+  unfolding sized
+  sized_met bytes f fits h = met_so bytes f fits h
 
   stays_whole : (bytes : List ℕ) (f : Stuck) → IsBytes bytes → size ≤ length bytes → whole_from bytes ≡ Err f → Inside f bytes
   stays_whole bytes f fits le e =
@@ -141,6 +188,8 @@ module _ {X : Type 0} {stops : X → Option ℕ → Type 0} (short : ℕ → Stu
   exact-sized = record {
     sound = sized_sound;
     complete = λ text rest x s end. sized_complete text rest x s;
+    taken = sized_taken;
+    met = sized_met;
     faulty = λ bytes f fits e. sized_fails bytes f (sized_faulty bytes f fits e);
     stays = sized_stays;
   }

@@ -6,7 +6,7 @@ use Rattle.ctype_bin.specs.declared.error.Stuck.{Stuck}
 use Rattle.ctype_bin.specs.declared.error.Stuck.TheVariants.{End, At, Past}
 use Rattle.ctype_bin.specs.declared.error.ItemError.{ItemError}
 use Rattle.ctype_bin.specs.declared.error.ItemError.TheVariants as errors
-use Rattle.productions.specs.Production.{Production, one}
+use Rattle.productions.specs.Production.{Production, next, one}
 use Rattle.productions.specs.Production as general
 use Rattle.atoms.specs.declared.error.AtomError.{AtomError}
 use Rattle.atoms.specs.declared.error.AtomError.TheVariants as atoms
@@ -42,6 +42,7 @@ unless false fault = Some fault
 abbrev pub several : ℕ → Bytes (List ℕ)
 several n = record {
   spells = λ bytes x. (length bytes ≡ n) × (x ≡ bytes);
+  stops = λ bytes x after. (length bytes ≡ n) × (x ≡ bytes);
   fails = λ bytes f. (length bytes < n) × (f ≡ End);
   read = λ bytes. if nat_le n (length bytes) then Ok (take n bytes, drop n bytes) else Err End;
 }
@@ -50,6 +51,7 @@ several n = record {
 abbrev pub remaining : Bytes ℕ
 remaining = record {
   spells = λ bytes x. x ≡ 0;
+  stops = λ bytes x after. (x ≡ 0) × (after ≡ None);
   fails = λ bytes f. ⊥;
   read = λ bytes. Ok (0, []);
 }
@@ -72,6 +74,7 @@ number_from fault bytes (Err atoms.NoMemory) = Err End
 abbrev pub number : (List ℕ → ℕ → Type 0) → ℕ → (List ℕ → Fault) → Bytes ℕ
 number spells limit fault = record {
   spells = spells;
+  stops = λ bytes x after. spells bytes x;
   fails = λ bytes f. (EndsEarly spells bytes × (f ≡ End)) ⊎ (NoNumber spells bytes × (f ≡ At (fault bytes) (length bytes)));
   read = λ bytes. number_from fault bytes (groups_at limit 4 bytes);
 }
@@ -116,9 +119,9 @@ StaysSmall End left = Unit {0}
 StaysSmall (At fault n) left = n + left < 2 ^ 64
 StaysSmall (Past n) left = Unit {0}
 
--- p spells a front of these bytes, and so many are left
+-- p takes a front of these bytes, and so many are left
 abbrev pub Begins : {X : Type 0} → Bytes X → List ℕ → ℕ → Type 0
-Begins p bytes left = (front back : List ℕ) × (x : _) × (bytes ≡ front ++ back) × (length back ≡ left) × p.spells front x
+Begins p bytes left = (front back : List ℕ) × (x : _) × (bytes ≡ front ++ back) × (length back ≡ left) × p.stops front x (next back)
 
 -- the section is whole, and a fault is in it, or bytes are left; or the input ends before the section does
 abbrev pub FailsInSection : {X : Type 0} → (ℕ → Stuck) → ℕ → Bytes X → List ℕ → Stuck → Type 0
@@ -132,6 +135,7 @@ FailsInSection short size p bytes f =
 unfoldable pub sized : {X : Type 0} → (ℕ → Stuck) → ℕ → Bytes X → Bytes X
 sized short size p = record {
   spells = λ bytes x. (length bytes ≡ size) × p.spells bytes x;
+  stops = λ bytes x after. (length bytes ≡ size) × p.stops bytes x None;
   fails = FailsInSection short size p;
   read = λ bytes. if nat_le size (length bytes) then section_from (length bytes - size) (drop size bytes) (p.read (take size bytes)) else cut_section_from (short (size - length bytes)) (p.read bytes);
 }
@@ -142,6 +146,10 @@ abbrev pub spells_by : {X : Type 0} → (ℕ → Bool) → Bytes X → Bytes X �
 spells_by test p q [] x = ⊥
 spells_by test p q (b ∷ bs) x = MatchBool (test b) (p.spells (b ∷ bs) x) (q.spells (b ∷ bs) x)
 
+abbrev pub stops_by : {X : Type 0} → (ℕ → Bool) → Bytes X → Bytes X → List ℕ → X → Option ℕ → Type 0
+stops_by test p q [] x after = ⊥
+stops_by test p q (b ∷ bs) x after = MatchBool (test b) (p.stops (b ∷ bs) x after) (q.stops (b ∷ bs) x after)
+
 abbrev pub fails_by : {X : Type 0} → (ℕ → Bool) → Bytes X → Bytes X → List ℕ → Stuck → Type 0
 fails_by test p q [] f = f ≡ End
 fails_by test p q (b ∷ bs) f = MatchBool (test b) (p.fails (b ∷ bs) f) (q.fails (b ∷ bs) f)
@@ -151,7 +159,7 @@ read_by test p q [] = Err End
 read_by test p q (b ∷ bs) = if test b then p.read (b ∷ bs) else q.read (b ∷ bs)
 
 abbrev pub choose : {X : Type 0} → (ℕ → Bool) → Bytes X → Bytes X → Bytes X
-choose test p q = record { spells = spells_by test p q; fails = fails_by test p q; read = read_by test p q }
+choose test p q = record { spells = spells_by test p q; stops = stops_by test p q; fails = fails_by test p q; read = read_by test p q }
 
 -- ---- what the code answers
 

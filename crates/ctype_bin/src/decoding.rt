@@ -1,6 +1,6 @@
 //! Decoding a whole input.
-ghost use Rattle.std.specs.Prelude.{◌≡◌, ◌≤◌, ℕ, true, false, length, IfOk, IfErr, IfSome, MatchResult, Err};
-ghost use Rattle.atoms.specs.Streams.{ConsumesMany};
+ghost use Rattle.std.specs.Prelude.{◌≡◌, ◌≤◌, ℕ, List, true, false, length, IfOk, IfErr, IfSome, MatchResult, Err};
+ghost use Rattle.atoms.specs.Streams.{ReadsUpTo, ConsumesMany};
 ghost use Rattle.ctype_bin.specs.File.{file, placed, Faulty, Decodes, DecodesOrReads};
 ghost use Rattle.ctype_bin.specs.Raw.{File};
 ghost use Rattle.ctype_bin.specs.FileView.{file_view};
@@ -51,11 +51,13 @@ pub fn decode(alloc: Global, bytes: &[u8]) -> Result<RawComponent, BinError>
     decode_bytes(alloc, bytes)
 }
 
-/// Reads to the end, or to the first byte past the limit of 1,048,576, and decodes that: the same answer however the
-/// reader cuts the bytes. 20 at the number of bytes got where the reader fails.
+/// Reads to the end, or to the first byte past the limit of 1,048,576, and decodes that: the same answer however a
+/// reader that tells its bytes cuts them. 20 at the number of bytes got where the reader fails.
 pub fn decode_from<R: Source>(alloc: Global, reader: &mut R) -> Result<RawComponent, BinError>
     requires { R.has_failed reader.old ≡ false }
     ensures decoded { IfSome (R.remaining reader.old) (λ bytes. DecodesOrReads file_view result bytes) }
+    ensures cut { (bytes : List ℕ) × ReadsUpTo 1048576 (R.remaining reader.old) bytes × DecodesOrReads file_view result bytes }
+    ensures failed { R.has_failed reader.new ≡ true → (n : ℕ) × (result ≡ Err (BinError.Read n)) }
     ensures read { (n : ℕ) → result ≡ Err (BinError.Read n) →
         ((R.has_failed reader.new ≡ true) × ConsumesMany (R.remaining reader.old) (R.remaining reader.new) n) }
 {

@@ -1,15 +1,16 @@
 //! What holds of the format, whatever the bytes.
-ghost use Rattle.std.specs.Prelude.{ℕ, List};
+ghost use Rattle.std.specs.Prelude.{◌≡◌, ◌≤◌, ℕ, List, length};
 ghost use Rattle.ctype_bin.specs.declared.scope.Scope.{Scope};
-ghost use Rattle.ctype_bin.specs.Exactness.{Exact, ExactToEnd, Written};
+ghost use Rattle.ctype_bin.specs.Exactness.{IsBytes, Exact, ExactToEnd, Written};
 ghost use Rattle.ctype_bin.specs.Writing.{type_bytes, file_bytes};
 ghost use Rattle.ctype_bin.specs.Raw.{File};
 ghost use Rattle.ctype_bin.specs.Grammar.{type};
-ghost use Rattle.ctype_bin.specs.File.{file};
+ghost use Rattle.ctype_bin.specs.File.{file, max_length, Faulty};
 ghost use Rattle.ctype_bin.specs.FileView.{file_view};
 ghost use Rattle.ctype_bin.specs.InRange.{FileInRange};
 
 use crate::component::RawComponent;
+use crate::error::{BinError, Fault};
 
 /// Reading a type finds just what its productions spell, or the first fault, which stands within the bytes.
 pub fn types_are_read_exactly()
@@ -19,6 +20,14 @@ pub fn types_are_read_exactly()
 /// The same of a whole file.
 pub fn files_are_read_exactly()
     ensures { ExactToEnd file }
+{}
+
+/// The first fault of bytes is the only one, with its place, and bytes that spell a file have none.
+pub fn faults_are_first()
+    ensures one { (bytes : List ℕ) (f g : Fault) (m n : ℕ) → IsBytes bytes
+        → Faulty bytes (BinError.At f m) → Faulty bytes (BinError.At g n) → (f ≡ g) × (m ≡ n) }
+    ensures spelled { (bytes : List ℕ) (x : File) (f : Fault) (n : ℕ) → IsBytes bytes → length bytes ≤ max_length
+        → file.spells bytes x → Faulty bytes (BinError.At f n) → ⊥ }
 {}
 
 /// What is written of a type spells it where any bytes do, and is no longer; and what is written of a file spells it

@@ -23,7 +23,8 @@ pub use decoding::{decode, decode_from};
 pub use encoding::encode;
 pub use error::{BinError, Fault, Feature};
 pub use laws::{
-    files_are_read_exactly, indices_are_in_range, spellings_are_rewritten, types_are_read_exactly,
+    faults_are_first, files_are_read_exactly, indices_are_in_range, spellings_are_rewritten,
+    types_are_read_exactly,
 };
 pub use name::ExternName;
 pub use raw::{

@@ -34,7 +34,7 @@ look end p = Exact (lookahead end) Anything p
 
 -- where anything may come next, all the more where less may
 weak : {X : Type 0} (end : ℕ) (stops : X → Option Lexeme → Type 0) (p : Phrase X) → look end p → Exact (lookahead end) stops p
-weak end stops p ep = record { sound = ep.sound; complete = λ text rest x s more. ep.complete text rest x s tt; faulty = ep.faulty; stays = ep.stays }
+weak end stops p ep = record { sound = ep.sound; complete = λ text rest x s more. ep.complete text rest x s tt; taken = ep.taken; faulty = ep.faulty; met = ep.met; stays = ep.stays }
 
 -- what a token of one kind is not
 apart : (a b : TokenKind) (t : Lexeme) → (is a t ≡ true) → is b t ≡ is b (record { token = record { kind = a; span = t.token.span }; text = t.text })

@@ -1,10 +1,8 @@
 -- The names in the header of a text.
 use Rattle.std.proofs.Common.{◌≡◌, IsTrue, ℕ, zero, suc, Bool, true, false, ◌&&◌, List, [], ◌∷◌, length, Option, None, Some, refl, sym, subst}
-use Rattle.std.specs.Prelude.{not, nat_le, is_ok}
 use Rattle.std.specs.List.{list_all}
 use Rattle.std.specs.Str.{is_utf8}
-use Rattle.atoms.specs.Label.{is_label, is_upper}
-use Rattle.semver.specs.Parse.{version_parts}
+use Rattle.atoms.specs.Label.{is_label}
 use Rattle.atoms.specs.FullName.{is_package_label, is_version, is_version_or_none}
 use Rattle.wit_tokens.specs.declared.token.TokenKind.TheVariants as kind
 use Rattle.wit_tokens.specs.Tokens.{Lexeme, lexemes}
@@ -30,22 +28,16 @@ both true b h q = q
 both false b h q = absurd cc
 
 lower-label : (t : Lexeme) → g.is_lower_name t ≡ true → is_package_label t.text ≡ true
-unfolding g.is_lower_name g.is_name is_package_label
-lower-label t h =
-    let name = first (is-kind kind.Identifier t && is_label t.text) (g.is_lower_case t.text) h in
-    both (is_label t.text) (list_all (λ c. not (is_upper c)) t.text) (second (is-kind kind.Identifier t) (is_label t.text) name)
-    (second (is-kind kind.Identifier t && is_label t.text) (g.is_lower_case t.text) h)
+unfolding g.is_lower_name
+lower-label t h = second (is-kind kind.Identifier t) (is_package_label t.text) h
 
 lower-id : (end : ℕ) (ts : List Lexeme) (x : List ℕ) → (g.lower_id end).spells ts x → is_package_label x ≡ true
 unfolding g.lower_id
 lower-id end ts x (front, back, t, e, is, given) = subst (λ (y : List ℕ). is_package_label y ≡ true) (sym given.1) (lower-label t is.1)
 
 version-token : (t : Lexeme) → g.is_version_token t ≡ true → is_version t.text ≡ true
-unfolding g.is_version_token g.is_version is_version
-version-token t h =
-    let v = second (is-kind kind.Version t) (nat_le (length t.text) 255 && (is_utf8 t.text && is_ok (version_parts t.text))) h in
-    both (nat_le (length t.text) 255) (is_ok (version_parts t.text)) (first (nat_le (length t.text) 255) (is_utf8 t.text && is_ok (version_parts t.text)) v)
-    (second (is_utf8 t.text) (is_ok (version_parts t.text)) (second (nat_le (length t.text) 255) (is_utf8 t.text && is_ok (version_parts t.text)) v))
+unfolding g.is_version_token
+version-token t h = second (is_utf8 t.text) (is_version t.text) (second (is-kind kind.Version t) (g.is_version_text t.text) h)
 
 read-version : (ts : List Lexeme) (v : Option (List ℕ)) → g.version.spells ts v → IsTrue (is_version_or_none v)
 unfolding g.version

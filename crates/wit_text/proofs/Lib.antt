@@ -1,4 +1,5 @@
 pub mod Versions
+pub mod Names
 pub mod Handed
 pub mod KindLemmas
 pub mod FaultLemmas
@@ -8,3 +9,4 @@ pub mod Exactness
 pub mod Limits
 pub mod Parsed
 pub mod FullNames
+pub mod Maps

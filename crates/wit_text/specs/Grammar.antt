@@ -1,10 +1,9 @@
 -- The grammar of WIT texts (WIT.md), production by production. `end` is the length of the text; the number behind it says
 -- how deep a type may nest.
-use Rattle.std.specs.Prelude.{ℕ, zero, suc, Bool, true, false, not, ◌&&◌, ◌||◌, is_some, is_ok, nat_le, List, [], ◌∷◌, length, Option, Some, None, if◌then◌else◌}
-use Rattle.std.specs.List.{list_all}
+use Rattle.std.specs.Prelude.{ℕ, zero, suc, Bool, true, false, ◌&&◌, ◌||◌, is_some, List, [], ◌∷◌, Option, Some, None, if◌then◌else◌}
 use Rattle.std.specs.Str.{is_utf8}
-use Rattle.semver.specs.Parse.{version_parts}
-use Rattle.atoms.specs.Label.{is_label, is_upper}
+use Rattle.atoms.specs.Label.{is_label}
+use Rattle.atoms.specs.FullName.{is_package_label, is_version}
 use Rattle.productions.specs.Production.{give, never, ◌>>=◌, one, only, when, optional, unless_some, many, listed, comma_or, entries, all}
 use Rattle.wit_tokens.specs.declared.token.Keyword.{Keyword}
 use Rattle.wit_tokens.specs.declared.token.Keyword.TheVariants as kw
@@ -92,24 +91,20 @@ feature_at k f t = if is k t then Some f else None
 
 -- ---- the package
 
-abbrev pub is_lower_case : List ℕ → Bool
-is_lower_case = list_all (λ c. not (is_upper c))
-
 -- such a word in lower case
 unfoldable pub is_lower_name : Lexeme → Bool
-is_lower_name t = is_name t && is_lower_case t.text
+is_lower_name t = is kind.Identifier t && is_package_label t.text
 
 unfoldable pub lower_id : ℕ → Phrase (List ℕ)
 lower_id end = do
   t ← one is_lower_name (wanted end want.Identifier)
   give t.text
 
--- a version of SemVer 2.0.0 of at most 255 bytes
-unfoldable pub is_version : List ℕ → Bool
-is_version text = nat_le (length text) 255 && (is_utf8 text && is_ok (version_parts text))
+abbrev pub is_version_text : List ℕ → Bool
+is_version_text text = is_utf8 text && is_version text
 
 unfoldable pub is_version_token : Lexeme → Bool
-is_version_token t = is kind.Version t && is_version t.text
+is_version_token t = is kind.Version t && is_version_text t.text
 
 unfoldable pub version : Phrase (Option (List ℕ))
 version = optional is_version_token (λ t. give t.text)

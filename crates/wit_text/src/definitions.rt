@@ -1,14 +1,15 @@
 //! Definitions of types.
-ghost use Rattle.std.specs.Prelude.{◌≡◌, ◌<◌, ◌≤◌, length, map, IfOk};
+ghost use Rattle.std.specs.Prelude.{◌≡◌, ◌<◌, ◌≤◌, length, IfOk};
 ghost use Rattle.wit_tokens.specs.Lexing.{limit};
 ghost use Rattle.wit_tokens.specs.Tokens.{lexemes};
-ghost use Rattle.wit_syntax.specs.View.{ty_view, optional_view, field_view, case_view, definition_view};
+ghost use Rattle.wit_syntax.specs.View.{ty_view, optional_view, case_view, definition_view};
 ghost use Rattle.wit_text.specs.Faults.{Gives};
-ghost use Rattle.wit_text.specs.Grammar.{nesting, alias, field_list, record_fields, payload, optional_payload, case_fault, case_id, variant_case, case_list, variant_cases, name_of_case, name_list, enum_cases, flag_names};
+ghost use Rattle.wit_text.specs.Grammar.{nesting, alias, record_fields, payload, optional_payload, case_fault, case_id, variant_case, variant_cases, enum_cases, flag_names};
 
 use crate::functions::{NESTING, field};
 use crate::header::first_feature;
-use crate::parser::{feature_or, identifier, is_name, label_of, punctuation, same, separator};
+use crate::lists::{EntryReader, entry_list};
+use crate::parser::{feature_or, identifier, is_name, label_of, punctuation, same};
 use crate::types::type_at;
 use atoms::Label;
 use std::alloc::Global;
@@ -32,27 +33,37 @@ pub fn alias<'a>(
     Ok((TypeDefKind::Alias(ty), tokens))
 }
 
-/// Fields, up to the `}` and with it.
-fn field_list<'a>(
-    alloc: Global,
-    source: &[u8],
-    tokens: &'a [Token],
-) -> Result<(Vec<Field>, &'a [Token]), TextError>
-    requires { length tokens.now ≤ limit }
-    ensures gives { Gives (λ x. (map field_view x.0.items, lexemes source.now x.1.now)) result ((field_list (length source.now) nesting limit).read (lexemes source.now tokens.now)) }
-    ensures shorter { IfOk result (λ x. length x.1.now < length tokens.now) }
-{
-    let mut list = Vec::new(alloc);
-    let mut left = tokens;
-    'list: loop {
-        let (entry, after) = field(alloc, source, left)?;
-        let comma = Expected::Punctuation(Punctuation::Comma);
-        list.push(entry)?;
-        let (more, after) = separator(source, after, Punctuation::CloseBrace, comma)?;
-        if !more {
-            return Ok((list, after));
-        }
-        left = after;
+/// The fields of a record.
+struct Fields;
+
+impl EntryReader for Fields {
+    ghost use Rattle.wit_tokens.specs.declared.error.Expected.TheVariants as want;
+    ghost use Rattle.wit_tokens.specs.declared.token.Punctuation.TheVariants.{Comma};
+    ghost use Rattle.wit_syntax.specs.Syntax.{Member};
+    ghost use Rattle.wit_syntax.specs.View.{field_view};
+    ghost use Rattle.wit_text.specs.Grammar.{nesting, member};
+
+    type Entry = Field;
+
+    ghost Meaning = { Member };
+
+    ghost meaning = { field_view };
+
+    ghost production = { λ _ end. member end nesting };
+
+    ghost wanted_behind = { λ _. want.Punctuation Comma };
+
+    fn read<'a>(
+        &self,
+        alloc: Global,
+        source: &[u8],
+        tokens: &'a [Token],
+    ) -> Result<(Field, &'a [Token]), TextError> {
+        field(alloc, source, tokens)
+    }
+
+    fn wanted_behind(&self, _field: &Field) -> Expected {
+        Expected::Punctuation(Punctuation::Comma)
     }
 }
 
@@ -68,7 +79,7 @@ pub fn record_fields<'a>(
     ensures shorter { IfOk result (λ x. length x.1.now < length tokens.now) }
 {
     let (_, tokens) = punctuation(source, tokens, Punctuation::OpenBrace)?;
-    let (fields, tokens) = field_list(alloc, source, tokens)?;
+    let (fields, tokens) = entry_list(&Fields, alloc, source, tokens)?;
     Ok((TypeDefKind::Record(fields), tokens))
 }
 
@@ -155,27 +166,37 @@ fn variant_case<'a>(
     Ok((Case { name, payload }, tokens))
 }
 
-/// Cases, up to the `}` and with it.
-fn case_list<'a>(
-    alloc: Global,
-    source: &[u8],
-    tokens: &'a [Token],
-) -> Result<(Vec<Case>, &'a [Token]), TextError>
-    requires { length tokens.now ≤ limit }
-    ensures gives { Gives (λ x. (map case_view x.0.items, lexemes source.now x.1.now)) result ((case_list (length source.now) nesting limit).read (lexemes source.now tokens.now)) }
-    ensures shorter { IfOk result (λ x. length x.1.now < length tokens.now) }
-{
-    let mut list = Vec::new(alloc);
-    let mut left = tokens;
-    'list: loop {
-        let (entry, after) = variant_case(alloc, source, left)?;
-        let comma = Expected::Punctuation(Punctuation::Comma);
-        list.push(entry)?;
-        let (more, after) = separator(source, after, Punctuation::CloseBrace, comma)?;
-        if !more {
-            return Ok((list, after));
-        }
-        left = after;
+/// The cases of a variant.
+struct Cases;
+
+impl EntryReader for Cases {
+    ghost use Rattle.wit_tokens.specs.declared.error.Expected.TheVariants as want;
+    ghost use Rattle.wit_tokens.specs.declared.token.Punctuation.TheVariants.{Comma};
+    ghost use Rattle.wit_syntax.specs.Syntax.{CaseOf};
+    ghost use Rattle.wit_syntax.specs.View.{case_view};
+    ghost use Rattle.wit_text.specs.Grammar.{nesting, variant_case};
+
+    type Entry = Case;
+
+    ghost Meaning = { CaseOf };
+
+    ghost meaning = { case_view };
+
+    ghost production = { λ _ end. variant_case end nesting };
+
+    ghost wanted_behind = { λ _. want.Punctuation Comma };
+
+    fn read<'a>(
+        &self,
+        alloc: Global,
+        source: &[u8],
+        tokens: &'a [Token],
+    ) -> Result<(Case, &'a [Token]), TextError> {
+        variant_case(alloc, source, tokens)
+    }
+
+    fn wanted_behind(&self, _case: &Case) -> Expected {
+        Expected::Punctuation(Punctuation::Comma)
     }
 }
 
@@ -191,55 +212,52 @@ pub fn variant_cases<'a>(
     ensures shorter { IfOk result (λ x. length x.1.now < length tokens.now) }
 {
     let (_, tokens) = punctuation(source, tokens, Punctuation::OpenBrace)?;
-    let (cases, tokens) = case_list(alloc, source, tokens)?;
+    let (cases, tokens) = entry_list(&Cases, alloc, source, tokens)?;
     Ok((TypeDefKind::Variant(cases), tokens))
 }
 
-/// The name of a case of an enum, where `@` may gate it, or of a flag.
-#[tactic(auto, unfolding(crate::specs::Grammar::name_of_case))]
-fn name_of_case<'a>(
-    alloc: Global,
-    source: &[u8],
+/// The names of an enum's cases, where `@` may gate one, or of flags.
+struct Names {
     gated: bool,
-    tokens: &'a [Token],
-) -> Result<(Label, &'a [Token]), TextError>
-    ensures gives { Gives (λ x. (x.0, lexemes source.now x.1.now)) result ((name_of_case (length source.now) gated).read (lexemes source.now tokens.now)) }
-    ensures shorter { IfOk result (λ x. length x.1.now < length tokens.now) }
-{
-    if gated {
-        case_id(alloc, source, tokens)
-    } else {
-        identifier(alloc, source, tokens)
-    }
 }
 
-/// Such names, up to the `}` and with it.
-fn name_list<'a>(
-    alloc: Global,
-    source: &[u8],
-    gated: bool,
-    tokens: &'a [Token],
-) -> Result<(Vec<Label>, &'a [Token]), TextError>
-    requires { length tokens.now ≤ limit }
-    ensures gives { Gives (λ x. (x.0.items, lexemes source.now x.1.now)) result ((name_list (length source.now) gated limit).read (lexemes source.now tokens.now)) }
-    ensures shorter { IfOk result (λ x. length x.1.now < length tokens.now) }
-{
-    let mut list = Vec::new(alloc);
-    let mut left = tokens;
-    'list: loop {
-        let (entry, after) = name_of_case(alloc, source, gated, left)?;
-        let comma = Expected::Punctuation(Punctuation::Comma);
-        list.push(entry)?;
-        let (more, after) = separator(source, after, Punctuation::CloseBrace, comma)?;
-        if !more {
-            return Ok((list, after));
+impl EntryReader for Names {
+    ghost use Rattle.std.specs.Prelude.{ℕ, List};
+    ghost use Rattle.wit_tokens.specs.declared.error.Expected.TheVariants as want;
+    ghost use Rattle.wit_tokens.specs.declared.token.Punctuation.TheVariants.{Comma};
+    ghost use Rattle.wit_text.specs.Grammar.{name_of_case};
+
+    type Entry = Label;
+
+    ghost Meaning = { List ℕ };
+
+    ghost meaning = { λ name. name };
+
+    ghost production = { λ names end. name_of_case end names.gated };
+
+    ghost wanted_behind = { λ _. want.Punctuation Comma };
+
+    #[tactic(auto, unfolding(crate::specs::Grammar::name_of_case))]
+    fn read<'a>(
+        &self,
+        alloc: Global,
+        source: &[u8],
+        tokens: &'a [Token],
+    ) -> Result<(Label, &'a [Token]), TextError> {
+        if self.gated {
+            case_id(alloc, source, tokens)
+        } else {
+            identifier(alloc, source, tokens)
         }
-        left = after;
+    }
+
+    fn wanted_behind(&self, _name: &Label) -> Expected {
+        Expected::Punctuation(Punctuation::Comma)
     }
 }
 
 /// The cases of an enum in their braces.
-#[tactic(auto, unfolding(crate::specs::Grammar::enum_cases))]
+#[tactic(auto, using(crate::proofs::Maps::same_items), unfolding(crate::specs::Grammar::enum_cases))]
 pub fn enum_cases<'a>(
     alloc: Global,
     source: &[u8],
@@ -250,12 +268,12 @@ pub fn enum_cases<'a>(
     ensures shorter { IfOk result (λ x. length x.1.now < length tokens.now) }
 {
     let (_, tokens) = punctuation(source, tokens, Punctuation::OpenBrace)?;
-    let (names, tokens) = name_list(alloc, source, true, tokens)?;
+    let (names, tokens) = entry_list(&Names { gated: true }, alloc, source, tokens)?;
     Ok((TypeDefKind::Enum(names), tokens))
 }
 
 /// The names of flags in their braces.
-#[tactic(auto, unfolding(crate::specs::Grammar::flag_names))]
+#[tactic(auto, using(crate::proofs::Maps::same_items), unfolding(crate::specs::Grammar::flag_names))]
 pub fn flag_names<'a>(
     alloc: Global,
     source: &[u8],
@@ -266,6 +284,6 @@ pub fn flag_names<'a>(
     ensures shorter { IfOk result (λ x. length x.1.now < length tokens.now) }
 {
     let (_, tokens) = punctuation(source, tokens, Punctuation::OpenBrace)?;
-    let (names, tokens) = name_list(alloc, source, false, tokens)?;
+    let (names, tokens) = entry_list(&Names { gated: false }, alloc, source, tokens)?;
     Ok((TypeDefKind::Flags(names), tokens))
 }

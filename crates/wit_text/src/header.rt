@@ -1,69 +1,43 @@
 //! The package's name and version.
-ghost use Rattle.std.specs.Prelude.{◌≡◌, ◌<◌, ◌≤◌, ℕ, List, length, is_ok, is_some, IfOk, IfSome};
+ghost use Rattle.std.specs.Prelude.{◌≡◌, ◌<◌, ◌≤◌, ℕ, List, length, is_some, IfOk, IfSome};
 ghost use Rattle.std.specs.String.{string_bytes};
-ghost use Rattle.semver.specs.Parse.{version_parts};
 ghost use Rattle.wit_tokens.specs.Tokens.{lexeme, lexemes};
 ghost use Rattle.wit_tokens.specs.declared.token.Span.{Span};
 ghost use Rattle.wit_syntax.specs.View.{version_view};
 ghost use Rattle.wit_text.specs.Faults.{Gives};
-ghost use Rattle.wit_text.specs.Grammar.{is_version, is_version_token, version, is_lower_case, is_lower_name, lower_id, gate, first_feature, first_fault, package_word, header_wanted, header_fault, header_end, header};
+ghost use Rattle.wit_text.specs.Grammar.{is_version_text, is_version_token, version, is_lower_name, lower_id, gate, first_feature, first_fault, package_word, header_wanted, header_fault, header_end, header};
 
-use crate::parser::{feature_or, is_name, label_of, met, name_of, punctuation, same};
-use atoms::Label;
-use semver::{Error, Version};
+use crate::parser::{feature_or, label_of, met, name_of, punctuation, same};
+use atoms::{Label, is_package_label, is_version};
 use std::alloc::{AllocError, Global};
 use wit_syntax::PackageId;
 use wit_tokens::{Expected, Feature, Keyword, Punctuation, TextError, Token, TokenKind};
 
-fn is_semver(alloc: Global, text: &str) -> Result<bool, AllocError>
-    ensures { IfOk result (λ b. b ≡ is_ok (version_parts text.now)) }
-{
-    match Version::parse(alloc, text) {
-        Ok(_) => Ok(true),
-        Err(error) if error == Error::from(AllocError) => Err(AllocError),
-        Err(_) => Ok(false),
-    }
-}
-
 /// The text, where a package's version may be spelled so.
-#[tactic(auto, using(crate::proofs::Versions::long_version, crate::proofs::Versions::bad_version, crate::proofs::Versions::good_version))]
+#[tactic(auto, using(crate::proofs::Versions::bad_version, crate::proofs::Versions::good_version))]
 fn version_text(alloc: Global, text: &[u8]) -> Result<Option<String>, AllocError>
-    ensures is { IfOk result (λ v. is_some v ≡ is_version text.now) }
+    ensures is { IfOk result (λ v. is_some v ≡ is_version_text text.now) }
     ensures text { IfOk result (λ v. IfSome v (λ s. string_bytes s ≡ text.now)) }
 {
-    if text.len() > 255 {
-        return Ok(None);
-    }
     let Ok(text) = std::str::from_utf8(text) else {
         return Ok(None);
     };
-    if is_semver(alloc, text)? {
+    if is_version(alloc, text)? {
         Ok(Some(String::from_str(alloc, text)?))
     } else {
         Ok(None)
     }
 }
 
-fn is_lower_case(text: &[u8]) -> bool
-    ensures { result ≡ is_lower_case text.now }
-{
-    for byte in text {
-        if byte.is_ascii_uppercase() {
-            return false;
-        }
-    }
-    true
-}
-
 #[tactic(auto, unfolding(crate::specs::Grammar::is_lower_name))]
 fn is_lower_name(source: &[u8], token: Token) -> bool
     ensures { result ≡ is_lower_name (lexeme source.now token) }
 {
-    is_name(source, token) && is_lower_case(name_of(source, token))
+    same(token.kind, TokenKind::Identifier) && is_package_label(name_of(source, token))
 }
 
 /// Takes a name in lower case.
-#[tactic(auto, unfolding(crate::specs::Grammar::lower_id, crate::specs::Grammar::is_lower_name))]
+#[tactic(auto, using(crate::proofs::Names::named), unfolding(crate::specs::Grammar::lower_id))]
 fn lower_identifier<'a>(
     alloc: Global,
     source: &[u8],

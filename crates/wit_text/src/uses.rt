@@ -1,12 +1,13 @@
 //! Uses of other interfaces' types.
-ghost use Rattle.std.specs.Prelude.{◌≡◌, ◌<◌, ◌≤◌, length, map, IfOk};
+ghost use Rattle.std.specs.Prelude.{◌≡◌, ◌<◌, ◌≤◌, length, IfOk};
 ghost use Rattle.wit_tokens.specs.Lexing.{limit};
 ghost use Rattle.wit_tokens.specs.Tokens.{lexeme, lexemes};
 ghost use Rattle.wit_syntax.specs.View.{used_view, entry_view};
 ghost use Rattle.wit_text.specs.Faults.{Gives};
-ghost use Rattle.wit_text.specs.Grammar.{local_name, used, after_used, used_list, use_dot, use_item};
+ghost use Rattle.wit_text.specs.Grammar.{local_name, used, use_dot, use_item};
 
-use crate::parser::{identifier, met, punctuation, same, separator};
+use crate::lists::{EntryReader, entry_list};
+use crate::parser::{identifier, met, punctuation, same};
 use atoms::Label;
 use std::alloc::Global;
 use wit_syntax::{InterfaceItem, Path, Use, UsedName};
@@ -47,37 +48,39 @@ fn used<'a>(
     Ok((UsedName { name, local }, tokens))
 }
 
-fn after_used(name: &UsedName) -> Expected
-    ensures { result ≡ after_used (used_view name.now) }
-{
-    if name.local.is_some() {
-        Expected::Punctuation(Punctuation::Comma)
-    } else {
-        Expected::Keyword(Keyword::As)
-    }
-}
+/// Used names.
+struct UsedNames;
 
-/// Used names, up to the `}` and with it.
-fn used_list<'a>(
-    alloc: Global,
-    source: &[u8],
-    tokens: &'a [Token],
-) -> Result<(Vec<UsedName>, &'a [Token]), TextError>
-    requires { length tokens.now ≤ limit }
-    ensures gives { Gives (λ x. (map used_view x.0.items, lexemes source.now x.1.now)) result ((used_list (length source.now) limit).read (lexemes source.now tokens.now)) }
-    ensures shorter { IfOk result (λ x. length x.1.now < length tokens.now) }
-{
-    let mut list = Vec::new(alloc);
-    let mut left = tokens;
-    'list: loop {
-        let (entry, after) = used(alloc, source, left)?;
-        let expected = after_used(&entry);
-        list.push(entry)?;
-        let (more, after) = separator(source, after, Punctuation::CloseBrace, expected)?;
-        if !more {
-            return Ok((list, after));
+impl EntryReader for UsedNames {
+    ghost use Rattle.wit_syntax.specs.Syntax.{UsedAs};
+    ghost use Rattle.wit_syntax.specs.View.{used_view};
+    ghost use Rattle.wit_text.specs.Grammar.{used, after_used};
+
+    type Entry = UsedName;
+
+    ghost Meaning = { UsedAs };
+
+    ghost meaning = { used_view };
+
+    ghost production = { λ _ end. used end };
+
+    ghost wanted_behind = { after_used };
+
+    fn read<'a>(
+        &self,
+        alloc: Global,
+        source: &[u8],
+        tokens: &'a [Token],
+    ) -> Result<(UsedName, &'a [Token]), TextError> {
+        used(alloc, source, tokens)
+    }
+
+    fn wanted_behind(&self, name: &UsedName) -> Expected {
+        if name.local.is_some() {
+            Expected::Punctuation(Punctuation::Comma)
+        } else {
+            Expected::Keyword(Keyword::As)
         }
-        left = after;
     }
 }
 
@@ -117,7 +120,7 @@ pub fn use_item<'a>(
     let (name, tokens) = identifier(alloc, source, tokens)?;
     let (_, tokens) = use_dot(source, tokens)?;
     let (_, tokens) = punctuation(source, tokens, Punctuation::OpenBrace)?;
-    let (names, tokens) = used_list(alloc, source, tokens)?;
+    let (names, tokens) = entry_list(&UsedNames, alloc, source, tokens)?;
     let (_, tokens) = punctuation(source, tokens, Punctuation::Semicolon)?;
     let interface = Path { name };
     let item = Use {

@@ -1,5 +1,5 @@
 -- What a command line asks for, by its command's name and the words that were found for it.
-use Rattle.std.specs.Prelude.{◌≡◌, ℕ, List, Some, codes, string_bytes}
+use Rattle.std.specs.Prelude.{◌≡◌, ◌⊎◌, ℕ, true, List, Some, is_some, codes, string_bytes}
 use Rattle.clap.specs.Words.{first_value}
 use Rattle.clap.specs.declared.parser.matches.Found.{Found}
 use Rattle.words.specs.declared.asked.Job.{Job}
@@ -24,3 +24,14 @@ IsAsked name found (Call file interface function arguments reply) =
     (name ≡ codes "call") × IsWord found (codes "file") (string_bytes file)
     × IsWord found (codes "interface") (string_bytes interface) × IsWord found (codes "function") (string_bytes function)
     × IsWord found (codes "arguments") (string_bytes arguments) × IsWord found (codes "reply") (string_bytes reply)
+
+-- a word of this name was found
+abbrev pub HasWord : Found → List ℕ → Type 0
+HasWord found id = is_some (first_value found id) ≡ true
+
+-- it is the name of a command, all of whose words were found
+abbrev pub IsCommand : List ℕ → Found → Type 0
+IsCommand name found =
+    ((job : Job) × (name ≡ job_name job) × HasWord found (codes "file"))
+    ⊎ ((name ≡ codes "call") × HasWord found (codes "file") × HasWord found (codes "interface") × HasWord found (codes "function")
+    × HasWord found (codes "arguments") × HasWord found (codes "reply"))

@@ -1,8 +1,8 @@
 //! Words by way of `clap`.
 
-ghost use Rattle.std.specs.Prelude.{◌≡◌, IfOk, string_bytes};
+ghost use Rattle.std.specs.Prelude.{◌≡◌, IfOk, IfErr, string_bytes};
 ghost use Rattle.clap.specs.Words.{found_of};
-ghost use Rattle.words.specs.Asked.{IsAsked, IsWord};
+ghost use Rattle.words.specs.Asked.{IsAsked, IsWord, IsCommand, HasWord};
 
 use crate::asked::{Command, Job};
 use clap::error::ErrorKind;
@@ -84,7 +84,8 @@ fn command_of(alloc: Global, matches: &ArgMatches<'_>) -> Result<Command, WordsE
 
 /// The command of a name, with the words that were found for it.
 fn asked(alloc: Global, name: &str, words: &ArgMatches<'_>) -> Result<Command, WordsError>
-    ensures { IfOk result (IsAsked name.now (found_of words.now)) }
+    ensures ok { IfOk result (IsAsked name.now (found_of words.now)) }
+    ensures answered { IfErr result (λ e. IsCommand name.now (found_of words.now) → e ≡ WordsError.NoMemory) }
 {
     let job = match name {
         "show" => Job::Show,
@@ -107,7 +108,8 @@ fn asked(alloc: Global, name: &str, words: &ArgMatches<'_>) -> Result<Command, W
 
 /// The word of a name, copied.
 fn word(alloc: Global, words: &ArgMatches<'_>, id: &str) -> Result<String, WordsError>
-    ensures { IfOk result (λ text. IsWord (found_of words.now) id.now (string_bytes text)) }
+    ensures found { IfOk result (λ text. IsWord (found_of words.now) id.now (string_bytes text)) }
+    ensures answered { IfErr result (λ e. HasWord (found_of words.now) id.now → e ≡ WordsError.NoMemory) }
 {
     match words.get_str(id) {
         Some(text) => Ok(String::from_str(alloc, text)?),

@@ -1,0 +1,94 @@
+//! Calls of std's readers and writers that are interrupted or fail.
+ghost use Rattle.std.specs.Prelude.{◌≡◌, false};
+
+use super::*;
+use crate::{ReadUpToError, read_up_to, write_all};
+use std::io;
+use std::test::*;
+
+/// A reader of sevens and a writer that takes two bytes a call. Its first calls are interrupted, and then it works or
+/// fails.
+#[derive(Drop)]
+struct Interrupted {
+    times: usize,
+    works: bool,
+    taken: usize,
+}
+
+impl Interrupted {
+    fn call(&mut self) -> Result<(), Error> {
+        if self.times > 0 {
+            self.times -= 1;
+            return Err(Error::from(ErrorKind::Interrupted));
+        }
+        if self.works {
+            Ok(())
+        } else {
+            Err(Error::from(ErrorKind::Other))
+        }
+    }
+}
+
+impl Read for Interrupted {
+    fn read(&mut self, buffer: &mut [u8]) -> io::Result<usize> {
+        self.call()?;
+        if buffer.is_empty() {
+            return Ok(0);
+        }
+        buffer[0] = 7;
+        Ok(1)
+    }
+}
+
+impl Write for Interrupted {
+    fn write(&mut self, bytes: &[u8]) -> io::Result<usize> {
+        self.call()?;
+        let count = bytes.len().min(2);
+        self.taken = self.taken.saturating_add(count);
+        Ok(count)
+    }
+
+    fn flush(&mut self) -> io::Result<()> {
+        Ok(())
+    }
+}
+
+fn watched_when(works: bool) -> Watched<Interrupted>
+    ensures { result.failed ≡ false }
+{
+    Watched::new(Interrupted {
+        times: 3,
+        works,
+        taken: 0,
+    })
+}
+
+#[test]
+fn reads(rt: HostRuntime) -> Result<(), Fail> {
+    let mut reader = watched_when(true);
+    let mut buffer = [0; 4];
+    assert_eq!(rt; reader.read(&mut buffer), Ok(1));
+    assert_eq!(rt; buffer, [7, 0, 0, 0]);
+    assert!(rt; !Source::failed(&reader));
+    let bytes = read_up_to(rt.alloc(), &mut reader, 4);
+    assert!(rt; bytes.is_ok_and(|bytes| bytes.as_slice() == [7; 5].as_slice()));
+
+    let mut broken = watched_when(false);
+    let read = read_up_to(rt.alloc(), &mut broken, 4);
+    assert!(rt; matches!(read, Err(ReadUpToError::Failed(0))));
+    assert!(rt; Source::failed(&broken));
+    Ok(())
+}
+
+#[test]
+fn writes(rt: HostRuntime) -> Result<(), Fail> {
+    let mut writer = watched_when(true);
+    assert_eq!(rt; write_all(&mut writer, b"abcde"), Ok(()));
+    assert!(rt; !Sink::failed(&writer));
+    assert_eq!(rt; writer.into_inner().taken, 5);
+
+    let mut broken = watched_when(false);
+    assert_eq!(rt; write_all(&mut broken, b"abcde"), Err(Failed));
+    assert!(rt; Sink::failed(&broken));
+    Ok(())
+}

@@ -1,0 +1,8 @@
+-- A small grammar: perhaps a 0, and then a 1. A fault is told as the items from the one met on.
+use Rattle.std.specs.Prelude.{ℕ, List, ◌==◌}
+use Rattle.productions.specs.Production.{Production, give, one, optional, ◌>>=◌}
+
+abbrev pub zero_one : Production ℕ (List ℕ) ℕ
+zero_one = do
+  o ← optional (λ n. n == 0) give
+  one (λ n. n == 1) (λ ts. ts)
