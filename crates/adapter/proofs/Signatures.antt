@@ -22,7 +22,7 @@ use Rattle.tables.specs.declared.tables.ValType.{ValType}
 use Rattle.tables.proofs.Rows.{length-closed_rows, stands, function-row}
 use Rattle.lift_lower.specs.Crossing.{fields_of_types}
 use Rattle.lift_lower.specs.Members.{AreTypesOf}
-use Rattle.lift_lower.specs.Shape.{IsInside}
+use Rattle.lift_lower.specs.Types.{IsInside}
 use Rattle.lift_lower.proofs.Known.{known-inside}
 use Rattle.adapter.proofs.Functions.{params_in}
 

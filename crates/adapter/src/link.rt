@@ -11,7 +11,7 @@ use crate::fault::trap;
 use crate::results::pass_answer;
 use canonical_abi::{Fault, Flat, Guest, Step, TrapKind};
 use layout::Layouts;
-use lift_lower::Flats;
+use lift_lower::{Flats, Types};
 use std::alloc::Global;
 use std::marker::Model;
 use tables::{FunctionId, Resolve};
@@ -73,14 +73,13 @@ impl<'a> Link<'a> {
         ensures no_shorter { IfOk result (λ _. length (C.memory caller.old).bytes ≤ length (C.memory caller.new).bytes) }
         ensures same_link { self.new ≡ self.old }
     {
-        let resolve = self.resolve;
-        let layouts = self.layouts;
-        let handed = pass_arguments(alloc, resolve, layouts, func, flats, caller, callee)?;
+        let table = &Types::new(self.resolve, self.layouts);
+        let handed = pass_arguments(alloc, table, func, flats, caller, callee)?;
         let Ok(answer) = body.call(callee, handed.as_slice()) else {
             return Err(trap(TrapKind::Body, Step::Body));
         };
         let answer = answer.as_slice();
-        let back = pass_answer(alloc, resolve, layouts, func, flats, answer, caller, callee)?;
+        let back = pass_answer(alloc, table, func, flats, answer, caller, callee)?;
         let Ok(()) = body.post_return(callee, answer) else {
             return Err(trap(TrapKind::Body, Step::Post));
         };

@@ -6,7 +6,6 @@ ghost use Rattle.canonical_abi.specs.Reading.{low_bits, number_of};
 ghost use Rattle.canonical_abi.specs.Requests.{fields_requests};
 ghost use Rattle.canonical_abi.specs.Session.{as_list};
 ghost use Rattle.canonical_abi.specs.Values.{HaveTypes};
-ghost use Rattle.layout.specs.Layout.{layouts_of};
 ghost use Rattle.lift_lower.specs.Passing.{AreAddressable};
 ghost use Rattle.lift_lower.specs.Val.{value_of};
 ghost use Rattle.tables.specs.Closed.{IsFunction, IsScalarFunction, closed_type, function_type};
@@ -16,62 +15,58 @@ ghost use Rattle.adapter.specs.Crossing.{guests, memories, HasReturned, ReturnFa
 use crate::fault::{at_step, trap};
 use crate::scalars::carry_answer;
 use canonical_abi::{Fault, Flat, Guest, Step};
-use layout::Layouts;
-use lift_lower::{Flats, Val, check_area, lift_result, low_word, pass_result};
+use lift_lower::{Flats, Types, Val, check_area, lift_result, low_word, pass_result};
 use std::alloc::Global;
-use tables::{FunctionId, Resolve, ValType};
+use tables::{FunctionId, ValType};
 
 /// Lifts the body's answer from the callee and lowers it into the caller: the flat values that carry it
 /// there. That of a scalar function takes no memory of the host.
 pub(crate) fn pass_answer<C: Guest, E: Guest>(
     alloc: Global,
-    resolve: &Resolve,
-    layouts: &Layouts,
+    table: &Types,
     func: FunctionId,
     flats: &[Flat],
     answer: &[Flat],
     caller: &mut C,
     callee: &E,
 ) -> Result<Flats, Fault>
-    requires laid_out { layouts.now ≡ layouts_of resolve.now }
-    requires function { IsFunction resolve.now func }
-    ensures returned { IfOk result (λ back. HasReturned (guests C.allocates E.allocates) (function_type resolve.now func) flats.now
+    requires function { IsFunction table.now func }
+    ensures returned { IfOk result (λ back. HasReturned (guests C.allocates E.allocates) (function_type table.now func) flats.now
         (memories (C.memory caller.old) (E.memory callee.now)) answer.now back.items (memories (C.memory caller.new) (E.memory callee.now))) }
-    ensures fault { IfErr result (λ fault. ReturnFails (guests C.allocates E.allocates) (function_type resolve.now func) flats.now
+    ensures fault { IfErr result (λ fault. ReturnFails (guests C.allocates E.allocates) (function_type table.now func) flats.now
         (memories (C.memory caller.old) (E.memory callee.now)) answer.now fault (memories (C.memory caller.new) (E.memory callee.now))) }
     ensures no_shorter { IfOk result (λ _. length (C.memory caller.old).bytes ≤ length (C.memory caller.new).bytes) }
-    ensures no_memory { IsScalarFunction resolve.now func → result ≢ Err Fault.NoMemory }
+    ensures no_memory { IsScalarFunction table.now func → result ≢ Err Fault.NoMemory }
 {
+    let resolve = table.resolve();
     if resolve.is_scalar(func) {
         return carry_answer(resolve, func, answer);
     }
-    pass_tree(alloc, resolve, layouts, func, flats, answer, caller, callee)
+    pass_tree(alloc, table, func, flats, answer, caller, callee)
 }
 
 /// Lifts the body's answer from the callee to a tree of values, and lowers it into the caller.
 fn pass_tree<C: Guest, E: Guest>(
     alloc: Global,
-    resolve: &Resolve,
-    layouts: &Layouts,
+    table: &Types,
     func: FunctionId,
     flats: &[Flat],
     answer: &[Flat],
     caller: &mut C,
     callee: &E,
 ) -> Result<Flats, Fault>
-    requires laid_out { layouts.now ≡ layouts_of resolve.now }
-    requires function { IsFunction resolve.now func }
-    ensures returned { IfOk result (λ back. HasReturned (guests C.allocates E.allocates) (function_type resolve.now func) flats.now
+    requires function { IsFunction table.now func }
+    ensures returned { IfOk result (λ back. HasReturned (guests C.allocates E.allocates) (function_type table.now func) flats.now
         (memories (C.memory caller.old) (E.memory callee.now)) answer.now back.items (memories (C.memory caller.new) (E.memory callee.now))) }
-    ensures fault { IfErr result (λ fault. ReturnFails (guests C.allocates E.allocates) (function_type resolve.now func) flats.now
+    ensures fault { IfErr result (λ fault. ReturnFails (guests C.allocates E.allocates) (function_type table.now func) flats.now
         (memories (C.memory caller.old) (E.memory callee.now)) answer.now fault (memories (C.memory caller.new) (E.memory callee.now))) }
     ensures no_shorter { IfOk result (λ _. length (C.memory caller.old).bytes ≤ length (C.memory caller.new).bytes) }
 {
-    let ty = resolve.signature(func).result;
-    match lift_result(alloc, resolve, layouts, ty, answer, callee) {
+    let ty = table.resolve().signature(func).result;
+    match lift_result(alloc, table, ty, answer, callee) {
         Ok(value) => {
-            let area = area_in(flats, layouts.lifted(func).params.len());
-            hand_back(resolve, layouts, ty, &value, caller, area)
+            let area = area_in(flats, table.layouts().lifted(func).params.len());
+            hand_back(table, ty, &value, caller, area)
         }
         Err(fault) => Err(at_step(Step::LiftResult, fault)),
     }
@@ -79,35 +74,26 @@ fn pass_tree<C: Guest, E: Guest>(
 
 /// Lowers a result into the caller, whose return area is tested first.
 fn hand_back<C: Guest>(
-    resolve: &Resolve,
-    layouts: &Layouts,
+    table: &Types,
     ty: Option<ValType>,
     value: &Option<Val>,
     caller: &mut C,
     area: u32,
 ) -> Result<Flats, Fault>
-    requires laid_out { layouts.now ≡ layouts_of resolve.now }
-    requires known { IfSome ty (IsTypeOf resolve.now) }
-    requires typed { HaveTypes (as_list (option_map value_of value.now)) (result_fields (option_map (closed_type resolve.now) ty)) }
+    requires known { IfSome ty (IsTypeOf table.now) }
+    requires typed { HaveTypes (as_list (option_map value_of value.now)) (result_fields (option_map (closed_type table.now) ty)) }
     requires addressable { AreAddressable
-        (fields_requests (result_fields (option_map (closed_type resolve.now) ty)) (as_list (option_map value_of value.now))) }
-    ensures passed { IfOk result (λ back. IsHandedBack C.allocates (result_fields (option_map (closed_type resolve.now) ty)) area
+        (fields_requests (result_fields (option_map (closed_type table.now) ty)) (as_list (option_map value_of value.now))) }
+    ensures passed { IfOk result (λ back. IsHandedBack C.allocates (result_fields (option_map (closed_type table.now) ty)) area
         (as_list (option_map value_of value.now)) (C.memory caller.old) back.items (C.memory caller.new)) }
-    ensures fault { IfErr result (λ fault. HandingBackFails C.allocates (result_fields (option_map (closed_type resolve.now) ty)) area
+    ensures fault { IfErr result (λ fault. HandingBackFails C.allocates (result_fields (option_map (closed_type table.now) ty)) area
         (as_list (option_map value_of value.now)) (C.memory caller.old) fault (C.memory caller.new)) }
     ensures no_shorter { IfOk result (λ _. length (C.memory caller.old).bytes ≤ length (C.memory caller.new).bytes) }
 {
-    if let Err(kind) = check_area(resolve, layouts, ty, caller, area) {
+    if let Err(kind) = check_area(table, ty, caller, area) {
         return Err(trap(kind, Step::LowerResult));
     }
-    match pass_result(
-        resolve,
-        layouts,
-        ty.as_slice(),
-        value.as_slice(),
-        caller,
-        area,
-    ) {
+    match pass_result(table, ty.as_slice(), value.as_slice(), caller, area) {
         Ok(back) => Ok(back),
         Err(kind) => Err(trap(kind, Step::LowerResult)),
     }

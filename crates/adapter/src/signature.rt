@@ -7,22 +7,23 @@ ghost use Rattle.lift_lower.specs.Crossing.{fields_of_types};
 ghost use Rattle.lift_lower.specs.Members.{AreTypesOf};
 ghost use Rattle.tables.specs.Closed.{IsFunction, function_type};
 
+use lift_lower::Types;
 use std::alloc::{AllocError, Global};
-use tables::{FunctionId, Parameter, Resolve, ValType};
+use tables::{FunctionId, Parameter, ValType};
 
 /// The types of a function's parameters, in their order.
 pub(crate) fn parameter_types(
     alloc: Global,
-    resolve: &Resolve,
+    table: &Types,
     func: FunctionId,
 ) -> Result<Vec<ValType>, AllocError>
-    requires function { IsFunction resolve.now func }
-    requires within { ∥ AreWithin resolve.now ∥₁ }
-    ensures types { IfOk result (λ types. (function_type resolve.now func).params ≡ fields_of_types resolve.now types.items) }
-    ensures known { IfOk result (λ types. AreTypesOf resolve.now types.items) }
-    ensures small { IfOk result (λ types. size (record_type (fields_of_types resolve.now types.items)) ≤ 16777216) }
+    requires function { IsFunction table.now func }
+    requires within { ∥ AreWithin table.now ∥₁ }
+    ensures types { IfOk result (λ types. (function_type table.now func).params ≡ fields_of_types table.now types.items) }
+    ensures known { IfOk result (λ types. AreTypesOf table.now types.items) }
+    ensures small { IfOk result (λ types. size (record_type (fields_of_types table.now types.items)) ≤ 16777216) }
 {
-    types_of(alloc, resolve.signature(func).params.as_slice())
+    types_of(alloc, table.resolve().signature(func).params.as_slice())
 }
 
 fn types_of(alloc: Global, params: &[Parameter]) -> Result<Vec<ValType>, AllocError>

@@ -11,16 +11,16 @@ use Rattle.canonical_abi.specs.declared.flat.CoreKind.TheVariants as kind
 use Rattle.canonical_abi.specs.declared.flat.Flat.{Flat}
 use Rattle.canonical_abi.specs.declared.trap.TrapKind.{TrapKind}
 use Rattle.canonical_abi.proofs.Sizes.{is-alignment}
-use Rattle.lift_lower.specs.Gives.{Gives}
+use Rattle.lift_lower.specs.NoValue.{ReadsAs}
 use Rattle.canonical_abi.specs.Memory.{BlockFaulty}
 use Rattle.lift_lower.specs.Passing.{AreaHolds, AreaIsFaulty, HasArea}
 use Rattle.lift_lower.specs.Loading.{reading_block, reading_members}
 use Rattle.lift_lower.specs.Val.{value_of}
-use Rattle.lift_lower.specs.declared.refusal.Refusal.{Refusal}
-use Rattle.lift_lower.specs.declared.refusal.Refusal.TheVariants as refusal
+use Rattle.lift_lower.specs.declared.no_value.NoValue.{NoValue}
+use Rattle.lift_lower.specs.declared.no_value.NoValue.TheVariants as no_value
 use Rattle.lift_lower.specs.declared.val.Val.{Val}
 use Rattle.lift_lower.proofs.Denoting.{denotes-flat, denotes-spilled}
-use Rattle.lift_lower.proofs.Extents.{align-pos}
+use Rattle.lift_lower.proofs.TypesExtents.{align-pos}
 
 -- ---- extents
 
@@ -97,18 +97,18 @@ alone-members t m at =
     ∙ ap (λ x. block_at m at (align t) x >>= λ a. reading t m (a + next_multiple_of 0 (align t)) >>= alone) (alone-size t)
     ∙ alone-behind (block_at m at (align t) (size t)) (reading t m) (next_multiple_of 0 (align t)) (first-place t)
 
-gives-alone : (r : Result Val Refusal) (read : Result Value TrapKind) → Gives value_of r read → Gives (λ v. value_of v ∷ []) r (read >>= alone)
+gives-alone : (r : Result Val NoValue) (read : Result Value TrapKind) → ReadsAs value_of r read → ReadsAs (λ v. value_of v ∷ []) r (read >>= alone)
 gives-alone (Ok v) read h = rw h refl
-gives-alone (Err refusal.NoMemory) read h = tt
-gives-alone (Err (refusal.Trap k)) read h = rw h refl
+gives-alone (Err no_value.NoMemory) read h = tt
+gives-alone (Err (no_value.Trap k)) read h = rw h refl
 
 -- what is read of the value is what its flat values denote
-module _ (t : ClosedType) (m : List ℕ) (flats : List Flat) (r : Result Val Refusal) where
+module _ (t : ClosedType) (m : List ℕ) (flats : List Flat) (r : Result Val NoValue) where
   pub gives-flat : fits_flat max_flat_results (field t no_field) ≡ true → map kind_of flats ≡ field_kinds (field t no_field)
-      → Gives value_of r (lifting t m (map number_of flats)) → Gives (λ v. value_of v ∷ []) r (denoting max_flat_results (field t no_field) m flats)
+      → ReadsAs value_of r (lifting t m (map number_of flats)) → ReadsAs (λ v. value_of v ∷ []) r (denoting max_flat_results (field t no_field) m flats)
   gives-flat fits kinds h = rw (denotes-flat max_flat_results (field t no_field) m flats fits kinds) (gives-alone r _ h)
 
   pub gives-spilled : fits_flat max_flat_results (field t no_field) ≡ false → map kind_of flats ≡ kind.I32 ∷ []
-      → Gives value_of r (reading_block t m (low_bits (map number_of flats) 0 32)) → Gives (λ v. value_of v ∷ []) r (denoting max_flat_results (field t no_field) m flats)
+      → ReadsAs value_of r (reading_block t m (low_bits (map number_of flats) 0 32)) → ReadsAs (λ v. value_of v ∷ []) r (denoting max_flat_results (field t no_field) m flats)
   gives-spilled spilled kinds h =
       rw (denotes-spilled max_flat_results (field t no_field) m flats spilled kinds, alone-members t m (low_bits (map number_of flats) 0 32)) (gives-alone r _ h)

@@ -20,13 +20,13 @@ use Rattle.tables.specs.Tables.{is_below}
 use Rattle.tables.specs.declared.tables.Resolve.{Resolve}
 use Rattle.tables.specs.declared.tables.ValType.{ValType}
 use Rattle.lift_lower.specs.Crossing.{fields_of_types, LiftFails}
-use Rattle.lift_lower.specs.Gives.{Fails, fault_at}
-use Rattle.lift_lower.specs.declared.refusal.Refusal.{Refusal}
-use Rattle.lift_lower.specs.declared.refusal.Refusal.TheVariants as refusal
+use Rattle.lift_lower.specs.NoValue.{FailsAs, fault_at}
+use Rattle.lift_lower.specs.declared.no_value.NoValue.{NoValue}
+use Rattle.lift_lower.specs.declared.no_value.NoValue.TheVariants as no_value
 use Rattle.lift_lower.specs.Loading.{reading_members}
 use Rattle.lift_lower.specs.Members.{AreAllInside}
-use Rattle.lift_lower.proofs.Extents.{has-row}
-use Rattle.lift_lower.proofs.ShapeLemmas.{count-fields}
+use Rattle.lift_lower.proofs.TypesExtents.{has-row}
+use Rattle.lift_lower.proofs.TypesShapes.{count-fields}
 use Rattle.lift_lower.proofs.Steps.{fields_from, fields_end, fields-next, fields-last}
 
 -- ---- kinds
@@ -98,7 +98,7 @@ end-last fs i end h = ap (fields_end end) (fields-last fs i h)
 pub align-last : (fs : Fields) (i n : ℕ) → field_count fs ≡ i → fold (λ k x. max k x.align) n (field_extents (fields_from i fs)) ≡ n
 align-last fs i n h = ap (λ us. fold (λ k x. max k x.align) n (field_extents us)) (fields-last fs i h)
 
--- a refusal that is what flat values denote is a fault of lifting
-pub lift-fails : (ts : Fields) (m : List ℕ) (flats : List Flat) (e : Refusal) (f : Fault) → f ≡ fault_at Take e → Fails e (denoting max_flat_params ts m flats) → LiftFails ts m flats f
-lift-fails ts m flats refusal.NoMemory f is h = rw is tt
-lift-fails ts m flats (refusal.Trap k) f is h = rw is (refl, (denoting-tells max_flat_params ts m flats).err k h)
+-- what flat values do not denote is a fault of lifting
+pub lift-fails : (ts : Fields) (m : List ℕ) (flats : List Flat) (e : NoValue) (f : Fault) → f ≡ fault_at Take e → FailsAs e (denoting max_flat_params ts m flats) → LiftFails ts m flats f
+lift-fails ts m flats no_value.NoMemory f is h = rw is tt
+lift-fails ts m flats (no_value.Trap k) f is h = rw is (refl, (denoting-tells max_flat_params ts m flats).err k h)

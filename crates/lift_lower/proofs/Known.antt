@@ -9,7 +9,7 @@ use Rattle.tables.specs.declared.tables.ValType.{ValType}
 use Rattle.tables.proofs.Standards.{type-below, type-standard, all-standard}
 use Rattle.lift_lower.specs.Crossing.{fields_of_types}
 use Rattle.lift_lower.specs.Members.{AreAllInside, AreTypesOf}
-use Rattle.lift_lower.specs.Shape.{IsInside}
+use Rattle.lift_lower.specs.Types.{IsInside}
 
 pub known-inside : (r : Resolve) (v : ValType) → IsTypeOf r v → IsInside r v
 known-inside r v h = type-below r.definitions v h

@@ -1,10 +1,10 @@
 pub mod ScalarLists
-pub mod ShapeLemmas
-pub mod Extents
+pub mod TypesShapes
+pub mod TypesExtents
 pub mod Texts
 pub mod Views
 pub mod Steps
-pub mod Passing
+pub mod Loadings
 pub mod FlatSteps
 pub mod Denoting
 pub mod Alone

@@ -24,15 +24,15 @@ use Rattle.tables.specs.declared.tables.Function.{Function}
 use Rattle.tables.specs.declared.tables.FunctionId.{FunctionId}
 use Rattle.tables.specs.declared.tables.Resolve.{Resolve}
 use Rattle.tables.proofs.Rows.{stands, function-row, function-type}
-use Rattle.lift_lower.specs.Crossing.{IsLowered, LowerFails}
-use Rattle.lift_lower.specs.Gives.{AnswerStands}
+use Rattle.lift_lower.specs.Crossing.{AreLowered, LowerFails}
+use Rattle.lift_lower.specs.NoValue.{AnswerStands}
 use Rattle.lift_lower.specs.Lowered.{PassesParamsBy}
 use Rattle.lift_lower.specs.Placing.{IsAreaIn, IsAreaAsked, AreaFails}
 use Rattle.lift_lower.specs.Scripts.{IsDone, HasEnded, RequestEnds, GrantsBlock}
 use Rattle.lift_lower.specs.Val.{value_of}
 use Rattle.lift_lower.specs.declared.val.Val.{Val}
 use Rattle.lift_lower.proofs.Alone.{alone-align, alone-size, first-place}
-use Rattle.lift_lower.proofs.ShapeLemmas.{count-fields}
+use Rattle.lift_lower.proofs.TypesShapes.{count-fields}
 
 -- ---- the arguments
 
@@ -59,7 +59,7 @@ passes-few ts vs es flats (inl (fits, l)) =
 passes-few ts vs es flats (inr s) = let one : length flats ≡ 1 = ap length s.1.5 in omega (arith, one)
 
 module _ (allocates : Allocation) (ts us : Fields) (same : ts ≡ us) (vs : List Value) (old new : Memory) where
-  pub is-lowered : (flats : List Flat) → IsDone 16777216 allocates (λ es. PassesParams 16 ts vs es flats) old new → IsLowered allocates us vs old flats new
+  pub is-lowered : (flats : List Flat) → IsDone 16777216 allocates (λ es. PassesParams 16 ts vs es flats) old new → AreLowered allocates us vs old flats new
   is-lowered flats d = (d.events, subst (λ xs. PassesParams 16 xs vs d.events flats) same d.scripted, d.within, d.leads)
 
   pub lower-fails : (k : TrapKind) (fault : Fault) → fault ≡ ended.Trap (record { kind = k; step = step.Place }) → HasEnded 16777216 allocates (PassesParamsBy 16 ts vs) old k new

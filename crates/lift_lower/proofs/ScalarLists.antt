@@ -21,7 +21,7 @@ use Rattle.canonical_abi.specs.declared.trap.TrapKind.TheVariants as trap
 use Rattle.tables.specs.Closed.{prim_of, is_scalar}
 use Rattle.tables.specs.declared.tables.ValType.{ValType}
 use Rattle.tables.specs.declared.tables.ValType.TheVariants as val
-use Rattle.lift_lower.specs.Crossing.{IsLowered}
+use Rattle.lift_lower.specs.Crossing.{AreLowered}
 use Rattle.lift_lower.specs.Scalar.{prim_in, value_in, core_in, ScalarIs}
 use Rattle.lift_lower.specs.Scalars.{AreScalar, fields_in, prim_of_type, KindsFit, Stands, FirstFault, StandFor, FailAs, IsQuiet, AreCarried}
 use Rattle.lift_lower.specs.declared.scalar.Scalar.{Scalar}
@@ -236,7 +236,7 @@ quiet_limit (grant g ∷ es) h = absurd h
 quiet_limit (write at part ∷ es) h = absurd h
 
 -- what is carried flat is lowered
-pub lowered_as : (allocates : Allocation) (m : Memory) (ts : Fields) (vs ws : List Value) (flats : List Flat) → vs ≡ ws → fits_flat max_flat_params ts ≡ true → AreCarried ts vs flats → IsLowered allocates ts ws m flats m
+pub lowered_as : (allocates : Allocation) (m : Memory) (ts : Fields) (vs ws : List Value) (flats : List Flat) → vs ≡ ws → fits_flat max_flat_params ts ≡ true → AreCarried ts vs flats → AreLowered allocates ts ws m flats m
 lowered_as allocates m ts vs ws flats same fits done =
     let P : List Value → Type 0 = λ xs. FieldsLower ts xs done.0 flats in
     (done.0, inl (fits, subst P same done.2), quiet_limit done.0 done.1, quiet_leads allocates m done.0 done.1)

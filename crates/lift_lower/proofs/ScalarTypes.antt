@@ -15,7 +15,7 @@ use Rattle.tables.specs.declared.tables.ValType.TheVariants as val
 use Rattle.lift_lower.specs.Crossing.{fields_of_types}
 use Rattle.lift_lower.specs.Members.{AreAllInside, AreTypesOf}
 use Rattle.lift_lower.specs.Scalars.{AreScalar}
-use Rattle.lift_lower.proofs.Extents.{align-pos}
+use Rattle.lift_lower.proofs.TypesExtents.{align-pos}
 
 all-below : (n : ℕ) (types : List ValType) → list_all is_scalar types ≡ true → list_all (is_below n) types ≡ true
 all-below n [] h = refl

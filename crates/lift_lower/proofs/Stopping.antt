@@ -15,7 +15,7 @@ use Rattle.canonical_abi.specs.declared.trap.Fault.TheVariants as fault
 use Rattle.canonical_abi.specs.declared.trap.Step.TheVariants.{Take}
 use Rattle.canonical_abi.specs.declared.trap.TrapKind.{TrapKind}
 use Rattle.lift_lower.specs.Crossing.{LiftFails}
-use Rattle.lift_lower.specs.Gives.{AnswerStands}
+use Rattle.lift_lower.specs.NoValue.{AnswerStands}
 use Rattle.lift_lower.specs.Loading.{AreBytes}
 use Rattle.lift_lower.specs.Passing.{IsTrapOf, ParamsStop, ResultStops}
 use Rattle.lift_lower.proofs.Denoted.{holds-typed, lifts-typed}

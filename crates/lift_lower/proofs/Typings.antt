@@ -9,7 +9,7 @@ use Rattle.std.proofs.lemmas.Str.{is_utf8-from_IsUtf8}
 use Rattle.canonical_abi.specs.Types.{record_fields, variant_cases}
 use Rattle.lift_lower.specs.Val.{variant_value, value_of}
 use Rattle.lift_lower.specs.declared.val.Val.{Val}
-use Rattle.lift_lower.specs.Shape.{HasShapeIn}
+use Rattle.lift_lower.specs.Types.{HasShapeIn}
 use Rattle.layout.specs.declared.queries.Shape.{Shape}
 use Rattle.layout.specs.declared.queries.Shape.TheVariants as shape
 use Rattle.lift_lower.proofs.Steps.{fields_from, fields-next, fields-last, some-inj}

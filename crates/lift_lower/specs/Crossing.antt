@@ -28,8 +28,8 @@ LiftFails ts m flats (Trap t) = (t.step ≡ step.Take) × DenotesFault max_flat_
 LiftFails ts m flats NoMemory = Unit {0}
 
 -- the values stand in the memory, and these core values carry them
-abbrev pub IsLowered : Allocation → Fields → List Value → Memory → List Flat → Memory → Type 0
-IsLowered allocates ts vs old flats new =
+abbrev pub AreLowered : Allocation → Fields → List Value → Memory → List Flat → Memory → Type 0
+AreLowered allocates ts vs old flats new =
     (es : List Event) × PassesParams max_flat_params ts vs es flats × AreWithinLimit es × TraceLeads allocates old es new
 
 -- a fault of lowering: a request that failed, found in `place`; it takes no memory of the host

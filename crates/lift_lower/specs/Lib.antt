@@ -1,5 +1,5 @@
 pub mod Crossing
-pub mod Gives
+pub mod NoValue
 pub mod Loading
 pub mod Lowered
 pub mod Members
@@ -8,5 +8,5 @@ pub mod Placing
 pub mod Scalar
 pub mod Scalars
 pub mod Scripts
-pub mod Shape
+pub mod Types
 pub mod Val

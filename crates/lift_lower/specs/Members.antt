@@ -6,9 +6,9 @@ use Rattle.tables.specs.Closed.{closed_type}
 use Rattle.tables.specs.Tables.{is_below, is_type}
 use Rattle.tables.specs.declared.tables.Resolve.{Resolve}
 use Rattle.tables.specs.declared.tables.ValType.{ValType}
-use Rattle.lift_lower.specs.Shape.{IsInside}
-use Rattle.lift_lower.specs.declared.shape.Members.{Members}
-use Rattle.lift_lower.specs.declared.shape.Members.TheVariants.{Of, Listed}
+use Rattle.lift_lower.specs.Types.{IsInside}
+use Rattle.lift_lower.specs.declared.members.Members.{Members}
+use Rattle.lift_lower.specs.declared.members.Members.TheVariants.{Of, Listed}
 
 -- the members' closed types
 abbrev pub members_fields : Resolve → Members → Fields

@@ -11,18 +11,18 @@ ghost use Rattle.canonical_abi.specs.declared.trap.Step.TheVariants.{Take};
 ghost use Rattle.layout.specs.Layout.{layouts_of};
 ghost use Rattle.tables.specs.Closed.{closed_type};
 ghost use Rattle.lift_lower.specs.Crossing.{fields_of_types, LiftFails};
-ghost use Rattle.lift_lower.specs.Gives.{Gives, AnswerStands};
+ghost use Rattle.lift_lower.specs.NoValue.{ReadsAs, AnswerStands};
 ghost use Rattle.lift_lower.specs.Loading.{reading_members, AreBytes};
 ghost use Rattle.lift_lower.specs.Members.{AreAllInside};
 ghost use Rattle.lift_lower.specs.Passing.{AreAddressable, IsTrapOf, ParamsStop, ResultStops};
-ghost use Rattle.lift_lower.specs.Shape.{IsInside};
+ghost use Rattle.lift_lower.specs.Types.{IsInside};
 ghost use Rattle.lift_lower.specs.Val.{value_of};
 
-use crate::extent::{kinds_within, record_extent};
-use crate::flat::{lift_at, lift_fields, low_word};
+use crate::lift_flat::{lift_at, lift_fields, low_word};
 use crate::loading::{check_block, load_block, load_fields};
-use crate::refusal::Refusal;
-use crate::shape::Members;
+use crate::members::Members;
+use crate::no_value::NoValue;
+use crate::types::Types;
 use crate::val::Val;
 use canonical_abi::{CoreKind, Fault, Flat, Guest, Step, TrapKind};
 use layout::Layouts;
@@ -52,11 +52,34 @@ pub fn lift<G: Guest>(
     ensures stops { IfErr result (IsTrapOf
         (ParamsStop max_flat_params (fields_of_types resolve.now types.now) (G.memory guest.now).bytes flats.now)) }
 {
+    lift_params(alloc, &Types::new(resolve, layouts), types, flats, guest)
+}
+
+/// `lift` over the types of a package.
+pub fn lift_params<G: Guest>(
+    alloc: Global,
+    table: &Types,
+    types: &[ValType],
+    flats: &[Flat],
+    guest: &G,
+) -> Result<Vec<Val>, Fault>
+    requires inside { AreAllInside table.now types.now }
+    requires small { size (record_type (fields_of_types table.now types.now)) ≤ 16777216 }
+    ensures values { IfOk result (λ values. Denotes max_flat_params (fields_of_types table.now types.now)
+        (G.memory guest.now).bytes flats.now (map value_of values.items)) }
+    ensures typed { IfOk result (λ values. HaveTypes (map value_of values.items) (fields_of_types table.now types.now)) }
+    ensures addressable { IfOk result (λ values. AreAddressable
+        (params_requests max_flat_params (fields_of_types table.now types.now) (map value_of values.items))) }
+    ensures fault { IfErr result
+        (LiftFails (fields_of_types table.now types.now) (G.memory guest.now).bytes flats.now) }
+    ensures stops { IfErr result (IsTrapOf
+        (ParamsStop max_flat_params (fields_of_types table.now types.now) (G.memory guest.now).bytes flats.now)) }
+{
     // A memory's length is a number of 32 bits, and so is that of each of its blocks.
     let _len = guest.len();
-    match lift_values(alloc, resolve, layouts, types, flats, guest.bytes(), 16) {
+    match lift_values(alloc, table, types, flats, guest.bytes(), 16) {
         Ok(values) => Ok(values),
-        Err(refusal) => Err(refusal.at(Step::Take)),
+        Err(no_value) => Err(no_value.at(Step::Take)),
     }
 }
 
@@ -65,128 +88,112 @@ pub fn lift<G: Guest>(
 /// the value, and never where its type is plain: its values have no parts.
 pub fn lift_result<G: Guest>(
     alloc: Global,
-    resolve: &Resolve,
-    layouts: &Layouts,
+    table: &Types,
     ty: Option<ValType>,
     flats: &[Flat],
     guest: &G,
 ) -> Result<Option<Val>, Fault>
-    requires laid_out { layouts.now ≡ layouts_of resolve.now }
-    requires inside { IfSome ty (IsInside resolve.now) }
-    ensures value { let ts = result_fields (option_map (closed_type resolve.now) ty) in
+    requires inside { IfSome ty (IsInside table.now) }
+    ensures value { let ts = result_fields (option_map (closed_type table.now) ty) in
         AnswerStands Take (λ v. Denotes max_flat_results ts (G.memory guest.now).bytes flats.now (as_list (option_map value_of v)))
         (DenotesFault max_flat_results ts (G.memory guest.now).bytes flats.now) result }
-    ensures plain { IfSome ty (λ t. IsPlain (closed_type resolve.now t)) → result ≢ Err Fault.NoMemory }
+    ensures plain { IfSome ty (λ t. IsPlain (closed_type table.now t)) → result ≢ Err Fault.NoMemory }
     ensures typed { IfOk result (λ v. HaveTypes (as_list (option_map value_of v))
-        (result_fields (option_map (closed_type resolve.now) ty))) }
+        (result_fields (option_map (closed_type table.now) ty))) }
     ensures addressable { IfOk result (λ v. AreAddressable
-        (fields_requests (result_fields (option_map (closed_type resolve.now) ty)) (as_list (option_map value_of v)))) }
+        (fields_requests (result_fields (option_map (closed_type table.now) ty)) (as_list (option_map value_of v)))) }
     ensures stops { (area : ℕ) → IfErr result (IsTrapOf
-        (ResultStops max_flat_results (result_fields (option_map (closed_type resolve.now) ty)) (G.memory guest.now).bytes flats.now area)) }
+        (ResultStops max_flat_results (result_fields (option_map (closed_type table.now) ty)) (G.memory guest.now).bytes flats.now area)) }
 {
     let Some(ty) = ty else {
         if flats.is_empty() {
             return Ok(None);
         }
-        return Err(Refusal::Trap(TrapKind::CoreSignature).at(Step::Take));
+        return Err(NoValue::Trap(TrapKind::CoreSignature).at(Step::Take));
     };
     // A memory's length is a number of 32 bits, and so is that of each of its blocks.
     let _len = guest.len();
-    match lift_value(alloc, resolve, layouts, ty, flats, guest.bytes()) {
+    match lift_value(alloc, table, ty, flats, guest.bytes()) {
         Ok(value) => Ok(Some(value)),
-        Err(refusal) => Err(refusal.at(Step::Take)),
+        Err(no_value) => Err(no_value.at(Step::Take)),
     }
 }
 
 /// The value that flat values denote, of which at most one goes flat.
 fn lift_value(
     alloc: Global,
-    resolve: &Resolve,
-    layouts: &Layouts,
+    table: &Types,
     ty: ValType,
     flats: &[Flat],
     memory: &[u8],
-) -> Result<Val, Refusal>
-    requires laid_out { layouts.now ≡ layouts_of resolve.now }
-    requires inside { IsInside resolve.now ty }
-    ensures value { Gives (λ v. value_of v ∷ []) result
-        (denoting max_flat_results (field (closed_type resolve.now ty) no_field) memory.now flats.now) }
-    ensures plain { IsPlain (closed_type resolve.now ty) → result ≢ Err Refusal.NoMemory }
+) -> Result<Val, NoValue>
+    requires inside { IsInside table.now ty }
+    ensures value { ReadsAs (λ v. value_of v ∷ []) result
+        (denoting max_flat_results (field (closed_type table.now ty) no_field) memory.now flats.now) }
+    ensures plain { IsPlain (closed_type table.now ty) → result ≢ Err NoValue.NoMemory }
     ensures bytes { AreBytes memory.now }
 {
-    let Some(kinds) = kinds_within(resolve, layouts, &[ty], 1) else {
+    let Some(kinds) = table.kinds_within(&[ty], 1) else {
         if !are_kinds(&[CoreKind::I32], flats) {
-            return Err(Refusal::Trap(TrapKind::CoreSignature));
+            return Err(NoValue::Trap(TrapKind::CoreSignature));
         }
         let at = low_word(flats, 0);
-        return load_block(alloc, resolve, layouts, ty, memory, at);
+        return load_block(alloc, table, ty, memory, at);
     };
     if !are_kinds(kinds.as_slice(), flats) {
-        return Err(Refusal::Trap(TrapKind::CoreSignature));
+        return Err(NoValue::Trap(TrapKind::CoreSignature));
     }
-    lift_at(alloc, resolve, layouts, ty, memory, flats)
+    lift_at(alloc, table, ty, memory, flats)
 }
 
 /// The values that flat values denote, of which at most `limit` go flat.
 pub(crate) fn lift_values(
     alloc: Global,
-    resolve: &Resolve,
-    layouts: &Layouts,
+    table: &Types,
     types: &[ValType],
     flats: &[Flat],
     memory: &[u8],
     limit: usize,
-) -> Result<Vec<Val>, Refusal>
-    requires laid_out { layouts.now ≡ layouts_of resolve.now }
-    requires inside { AreAllInside resolve.now types.now }
-    requires small { size (record_type (fields_of_types resolve.now types.now)) ≤ 16777216 }
+) -> Result<Vec<Val>, NoValue>
+    requires inside { AreAllInside table.now types.now }
+    requires small { size (record_type (fields_of_types table.now types.now)) ≤ 16777216 }
     requires limit { limit ≤ 16 }
-    ensures value { Gives (λ v. map value_of v.items) result
-        (denoting limit (fields_of_types resolve.now types.now) memory.now flats.now) }
+    ensures value { ReadsAs (λ v. map value_of v.items) result
+        (denoting limit (fields_of_types table.now types.now) memory.now flats.now) }
     ensures bytes { AreBytes memory.now }
 {
-    let Some(kinds) = kinds_within(resolve, layouts, types, limit) else {
+    let Some(kinds) = table.kinds_within(types, limit) else {
         if !are_kinds(&[CoreKind::I32], flats) {
-            return Err(Refusal::Trap(TrapKind::CoreSignature));
+            return Err(NoValue::Trap(TrapKind::CoreSignature));
         }
         let at = low_word(flats, 0) as usize;
-        return load_spilled(alloc, resolve, layouts, types, memory, at);
+        return load_spilled(alloc, table, types, memory, at);
     };
     if !are_kinds(kinds.as_slice(), flats) {
-        return Err(Refusal::Trap(TrapKind::CoreSignature));
+        return Err(NoValue::Trap(TrapKind::CoreSignature));
     }
     let members = Members::Listed(types);
-    lift_fields(
-        alloc,
-        resolve,
-        layouts,
-        &members,
-        types.len(),
-        memory,
-        flats,
-    )
+    lift_fields(alloc, table, &members, types.len(), memory, flats)
 }
 
 /// The values of a record at an address.
 fn load_spilled(
     alloc: Global,
-    resolve: &Resolve,
-    layouts: &Layouts,
+    table: &Types,
     types: &[ValType],
     memory: &[u8],
     at: usize,
-) -> Result<Vec<Val>, Refusal>
-    requires laid_out { layouts.now ≡ layouts_of resolve.now }
-    requires inside { AreAllInside resolve.now types.now }
-    requires small { size (record_type (fields_of_types resolve.now types.now)) ≤ 16777216 }
+) -> Result<Vec<Val>, NoValue>
+    requires inside { AreAllInside table.now types.now }
+    requires small { size (record_type (fields_of_types table.now types.now)) ≤ 16777216 }
     requires at { at < 2 ^ 32 }
-    ensures { Gives (λ v. map value_of v.items) result
-        (reading_members (fields_of_types resolve.now types.now) memory.now at) }
+    ensures { ReadsAs (λ v. map value_of v.items) result
+        (reading_members (fields_of_types table.now types.now) memory.now at) }
 {
-    let (size, align) = record_extent(resolve, layouts, types);
+    let (size, align) = table.record_extent(types);
     check_block(memory, at, align, size)?;
     let members = Members::Listed(types);
-    load_fields(alloc, resolve, layouts, &members, types.len(), memory, at)
+    load_fields(alloc, table, &members, types.len(), memory, at)
 }
 
 /// Whether the flat values have these kinds.

@@ -2,29 +2,28 @@
 //!
 //! The walk goes down the type, whose depth is bounded; long lists are loops.
 ghost use Rattle.std.specs.Prelude.{◌≡◌, ◌≢◌, Err, IfOk, ◌+◌, ◌*◌, ◌<◌, ◌≤◌, ◌^◌, length, map};
-ghost use Rattle.std.specs.Int.{w32};
-ghost use Rattle.canonical_abi.specs.Types.{IsPlain, AllPlain, record_fields, variant_cases, field_count, case_count, prim_type, variant_type};
+ghost use Rattle.canonical_abi.specs.Types.{IsPlain, AllPlain, variant_cases, field_count, case_count, prim_type, variant_type};
 ghost use Rattle.canonical_abi.specs.Values.{HasType, values_of, list_value};
 ghost use Rattle.canonical_abi.specs.Layout.{size, align, payload_place, end_from, field_extents};
 ghost use Rattle.canonical_abi.specs.Memory.{HoldsInBlock, FaultyInBlock};
-ghost use Rattle.canonical_abi.specs.Reading.{reading, number_at, text_at, block_at, list_at, reading_fields, reading_case, case_number};
+ghost use Rattle.canonical_abi.specs.Reading.{reading, text_at, block_at, list_at, reading_fields, reading_case, case_number};
 ghost use Rattle.canonical_abi.specs.declared.trap.Step.TheVariants.{Take};
 ghost use Rattle.layout.specs.Layout.{layouts_of};
 ghost use Rattle.tables.specs.Closed.{prim_of, closed_type};
-ghost use Rattle.lift_lower.specs.Gives.{Gives, AnswerStands};
+ghost use Rattle.lift_lower.specs.NoValue.{ReadsAs, AnswerStands};
 ghost use Rattle.lift_lower.specs.Loading.{reading_block, AreBytes};
 ghost use Rattle.lift_lower.specs.Members.{AreInside, members_fields};
-ghost use Rattle.lift_lower.specs.Shape.{IsInside};
+ghost use Rattle.lift_lower.specs.Types.{IsInside};
 ghost use Rattle.lift_lower.specs.Val.{value_of};
 
 use crate::bytes::{
     discriminant_bytes, flags_bytes, low_flags, number_of_size, test_block, u8_at, u16_at, u32_at,
     u64_at,
 };
-use crate::extent::{align_of, size_of};
-use crate::refusal::Refusal;
-use crate::shape::{Members, case_payload, member_type, shape_of};
+use crate::members::Members;
+use crate::no_value::NoValue;
 use crate::text::text_in;
+use crate::types::Types;
 use crate::val::Val;
 use canonical_abi::{Fault, Guest, Step, TrapKind};
 use layout::{Layouts, Shape};
@@ -37,22 +36,22 @@ pub(crate) fn check_block(
     at: usize,
     align: usize,
     size: usize,
-) -> Result<(), Refusal>
+) -> Result<(), NoValue>
     requires aligned { 0 < align }
     requires fits { at + size < 2 ^ 64 }
-    ensures value { Gives (λ _. at) result (block_at memory.now at align size) }
-    ensures plain { result ≢ Err Refusal.NoMemory }
+    ensures value { ReadsAs (λ _. at) result (block_at memory.now at align size) }
+    ensures plain { result ≢ Err NoValue.NoMemory }
 {
     match test_block(memory.len(), at, align, size) {
         Ok(()) => Ok(()),
-        Err(kind) => Err(Refusal::Trap(kind)),
+        Err(kind) => Err(NoValue::Trap(kind)),
     }
 }
 
-fn load_primitive(primitive: Primitive, memory: &[u8], at: usize) -> Result<Val, Refusal>
+fn load_primitive(primitive: Primitive, memory: &[u8], at: usize) -> Result<Val, NoValue>
     requires { at + size (prim_type (prim_of primitive)) ≤ length memory.now }
-    ensures value { Gives value_of result (reading (prim_type (prim_of primitive)) memory.now at) }
-    ensures plain { result ≢ Err Refusal.NoMemory }
+    ensures value { ReadsAs value_of result (reading (prim_type (prim_of primitive)) memory.now at) }
+    ensures plain { result ≢ Err NoValue.NoMemory }
 {
     match primitive {
         Primitive::Bool => Ok(Val::Bool(u8_at(memory, at) != 0)),
@@ -66,7 +65,7 @@ fn load_primitive(primitive: Primitive, memory: &[u8], at: usize) -> Result<Val,
         Primitive::U64 => Ok(Val::U64(u64_at(memory, at))),
         Primitive::Char => match char::from_u32(u32_at(memory, at)) {
             Some(c) => Ok(Val::Char(c)),
-            None => Err(Refusal::Trap(TrapKind::Char)),
+            None => Err(NoValue::Trap(TrapKind::Char)),
         },
     }
 }
@@ -77,32 +76,30 @@ pub(crate) fn load_text(
     memory: &[u8],
     start: usize,
     size: usize,
-) -> Result<Val, Refusal>
+) -> Result<Val, NoValue>
     requires { start + size < 2 ^ 64 }
-    ensures { Gives value_of result (text_at memory.now start size) }
+    ensures { ReadsAs value_of result (text_at memory.now start size) }
 {
     match text_in(memory, start, size) {
         Ok(text) => Ok(Val::String(String::from_str(alloc, text)?)),
-        Err(kind) => Err(Refusal::Trap(kind)),
+        Err(kind) => Err(NoValue::Trap(kind)),
     }
 }
 
 #[cycle(load)]
 pub(crate) fn load_at(
     alloc: Global,
-    resolve: &Resolve,
-    layouts: &Layouts,
+    table: &Types,
     ty: ValType,
     memory: &[u8],
     at: usize,
-) -> Result<Val, Refusal>
-    requires laid_out { layouts.now ≡ layouts_of resolve.now }
-    requires inside { IsInside resolve.now ty }
-    requires fits { at + size (closed_type resolve.now ty) ≤ length memory.now }
-    ensures value { Gives value_of result (reading (closed_type resolve.now ty) memory.now at) }
-    ensures plain { IsPlain (closed_type resolve.now ty) → result ≢ Err Refusal.NoMemory }
+) -> Result<Val, NoValue>
+    requires inside { IsInside table.now ty }
+    requires fits { at + size (closed_type table.now ty) ≤ length memory.now }
+    ensures value { ReadsAs value_of result (reading (closed_type table.now ty) memory.now at) }
+    ensures plain { IsPlain (closed_type table.now ty) → result ≢ Err NoValue.NoMemory }
 {
-    match shape_of(resolve, layouts, ty) {
+    match table.shape_of(ty) {
         Shape::Primitive(primitive) => load_primitive(primitive, memory, at),
         Shape::String => {
             let start = u32_at(memory, at) as usize;
@@ -112,15 +109,15 @@ pub(crate) fn load_at(
         Shape::List(element) => {
             let start = u32_at(memory, at) as usize;
             let count = u32_at(memory, at + 4) as usize;
-            let items = load_list(alloc, resolve, layouts, element, memory, start, count)?;
+            let items = load_list(alloc, table, element, memory, start, count)?;
             Ok(Val::List(items))
         }
         Shape::Record(count) => {
             let members = Members::Of(ty);
-            let fields = load_fields(alloc, resolve, layouts, &members, count, memory, at)?;
+            let fields = load_fields(alloc, table, &members, count, memory, at)?;
             Ok(Val::Record(fields))
         }
-        Shape::Variant(count) => load_variant(alloc, resolve, layouts, ty, count, memory, at),
+        Shape::Variant(count) => load_variant(alloc, table, ty, count, memory, at),
         Shape::Flags(labels) => {
             let bits = number_of_size(memory, at, flags_bytes(labels));
             Ok(Val::Flags(low_flags(bits, labels)))
@@ -132,34 +129,25 @@ pub(crate) fn load_at(
 #[cycle(load)]
 pub(crate) fn load_list(
     alloc: Global,
-    resolve: &Resolve,
-    layouts: &Layouts,
+    table: &Types,
     element: ValType,
     memory: &[u8],
     start: usize,
     count: usize,
-) -> Result<Vec<Val>, Refusal>
-    requires laid_out { layouts.now ≡ layouts_of resolve.now }
-    requires inside { IsInside resolve.now element }
+) -> Result<Vec<Val>, NoValue>
+    requires inside { IsInside table.now element }
     requires start { start < 2 ^ 32 }
     requires count { count < 2 ^ 32 }
-    ensures { let t = closed_type resolve.now element in
-        Gives (λ v. list_value (values_of (map value_of v.items))) result
+    ensures { let t = closed_type table.now element in
+        ReadsAs (λ v. list_value (values_of (map value_of v.items))) result
         (list_at (reading t memory.now) memory.now (align t) (size t) start count) }
 {
-    let step = size_of(resolve, layouts, element);
-    let align = align_of(resolve, layouts, element);
+    let step = table.size_of(element);
+    let align = table.align_of(element);
     check_block(memory, start, align, count * step)?;
     let mut items = Vec::new(alloc);
     for index in 0..count {
-        let item = load_at(
-            alloc,
-            resolve,
-            layouts,
-            element,
-            memory,
-            start + index * step,
-        )?;
+        let item = load_at(alloc, table, element, memory, start + index * step)?;
         items.push(item)?;
     }
     Ok(items)
@@ -169,30 +157,28 @@ pub(crate) fn load_list(
 #[cycle(load)]
 pub(crate) fn load_fields(
     alloc: Global,
-    resolve: &Resolve,
-    layouts: &Layouts,
+    table: &Types,
     members: &Members,
     count: usize,
     memory: &[u8],
     at: usize,
-) -> Result<Vec<Val>, Refusal>
-    requires laid_out { layouts.now ≡ layouts_of resolve.now }
-    requires inside { AreInside resolve.now members.now }
-    requires counted { field_count (members_fields resolve.now members.now) ≡ count }
-    requires fits { at + end_from 0 (field_extents (members_fields resolve.now members.now)) ≤ length memory.now }
-    ensures { Gives (λ v. map value_of v.items) result
-        (reading_fields (members_fields resolve.now members.now) memory.now at 0) }
+) -> Result<Vec<Val>, NoValue>
+    requires inside { AreInside table.now members.now }
+    requires counted { field_count (members_fields table.now members.now) ≡ count }
+    requires fits { at + end_from 0 (field_extents (members_fields table.now members.now)) ≤ length memory.now }
+    ensures { ReadsAs (λ v. map value_of v.items) result
+        (reading_fields (members_fields table.now members.now) memory.now at 0) }
 {
     let mut fields = Vec::new(alloc);
     let mut end: usize = 0;
     for index in 0..count {
-        let Some(member) = member_type(resolve, layouts, members, index) else {
+        let Some(member) = table.member_type(members, index) else {
             unreachable!()
         };
-        let place = end.next_multiple_of(align_of(resolve, layouts, member));
-        let field = load_at(alloc, resolve, layouts, member, memory, at + place)?;
+        let place = end.next_multiple_of(table.align_of(member));
+        let field = load_at(alloc, table, member, memory, at + place)?;
         fields.push(field)?;
-        end = place + size_of(resolve, layouts, member);
+        end = place + table.size_of(member);
     }
     Ok(fields)
 }
@@ -201,33 +187,31 @@ pub(crate) fn load_fields(
 #[cycle(load)]
 fn load_variant(
     alloc: Global,
-    resolve: &Resolve,
-    layouts: &Layouts,
+    table: &Types,
     ty: ValType,
     count: usize,
     memory: &[u8],
     at: usize,
-) -> Result<Val, Refusal>
-    requires laid_out { layouts.now ≡ layouts_of resolve.now }
-    requires inside { IsInside resolve.now ty }
-    requires variant { variant_type (variant_cases (closed_type resolve.now ty)) ≡ closed_type resolve.now ty }
-    requires counted { case_count (variant_cases (closed_type resolve.now ty)) ≡ count }
-    requires fits { at + size (closed_type resolve.now ty) ≤ length memory.now }
-    ensures value { let cs = variant_cases (closed_type resolve.now ty) in
+) -> Result<Val, NoValue>
+    requires inside { IsInside table.now ty }
+    requires variant { variant_type (variant_cases (closed_type table.now ty)) ≡ closed_type table.now ty }
+    requires counted { case_count (variant_cases (closed_type table.now ty)) ≡ count }
+    requires fits { at + size (closed_type table.now ty) ≤ length memory.now }
+    ensures value { let cs = variant_cases (closed_type table.now ty) in
         let i = case_number cs memory.now at in
-        Gives value_of result (reading_case cs memory.now (at + payload_place cs) i i) }
-    ensures plain { AllPlain (variant_cases (closed_type resolve.now ty)) → result ≢ Err Refusal.NoMemory }
+        ReadsAs value_of result (reading_case cs memory.now (at + payload_place cs) i i) }
+    ensures plain { AllPlain (variant_cases (closed_type table.now ty)) → result ≢ Err NoValue.NoMemory }
 {
     let case = number_of_size(memory, at, discriminant_bytes(count));
-    let Some(payload) = case_payload(resolve, layouts, ty, case as usize) else {
-        return Err(Refusal::Trap(TrapKind::Case));
+    let Some(payload) = table.case_payload(ty, case as usize) else {
+        return Err(NoValue::Trap(TrapKind::Case));
     };
     let Some(member) = payload else {
         return Ok(Val::Variant(case, None));
     };
     // A payload stands at the variant's alignment.
-    let place = align_of(resolve, layouts, ty);
-    let value = load_at(alloc, resolve, layouts, member, memory, at + place)?;
+    let place = table.align_of(ty);
+    let value = load_at(alloc, table, member, memory, at + place)?;
     Ok(Val::Variant(case, Some(Box::new(alloc, value)?)))
 }
 
@@ -250,32 +234,31 @@ pub fn load<G: Guest>(
     ensures plain { IsPlain (closed_type resolve.now ty) → result ≢ Err Fault.NoMemory }
     ensures typed { IfOk result (λ v. HasType (value_of v) (closed_type resolve.now ty)) }
 {
+    let table = &Types::new(resolve, layouts);
     // A memory's length is a number of 32 bits.
     let _len = guest.len();
-    match load_block(alloc, resolve, layouts, ty, guest.bytes(), at) {
+    match load_block(alloc, table, ty, guest.bytes(), at) {
         Ok(value) => Ok(value),
-        Err(refusal) => Err(refusal.at(Step::Take)),
+        Err(no_value) => Err(no_value.at(Step::Take)),
     }
 }
 
 /// The value in the block at an address.
 pub(crate) fn load_block(
     alloc: Global,
-    resolve: &Resolve,
-    layouts: &Layouts,
+    table: &Types,
     ty: ValType,
     memory: &[u8],
     at: u32,
-) -> Result<Val, Refusal>
-    requires laid_out { layouts.now ≡ layouts_of resolve.now }
-    requires inside { IsInside resolve.now ty }
-    ensures value { let t = closed_type resolve.now ty in
-        Gives value_of result (reading_block t memory.now at) }
-    ensures plain { IsPlain (closed_type resolve.now ty) → result ≢ Err Refusal.NoMemory }
+) -> Result<Val, NoValue>
+    requires inside { IsInside table.now ty }
+    ensures value { let t = closed_type table.now ty in
+        ReadsAs value_of result (reading_block t memory.now at) }
+    ensures plain { IsPlain (closed_type table.now ty) → result ≢ Err NoValue.NoMemory }
     ensures bytes { AreBytes memory.now }
 {
     let at = at as usize;
-    let align = align_of(resolve, layouts, ty);
-    check_block(memory, at, align, size_of(resolve, layouts, ty))?;
-    load_at(alloc, resolve, layouts, ty, memory, at)
+    let align = table.align_of(ty);
+    check_block(memory, at, align, table.size_of(ty))?;
+    load_at(alloc, table, ty, memory, at)
 }

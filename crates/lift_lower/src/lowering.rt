@@ -1,23 +1,23 @@
 //! Lowering: the core values that carry values, whose texts and lists are put into a memory.
-ghost use Rattle.std.specs.Prelude.{◌≡◌, ◌+◌, ◌<◌, ◌≤◌, ◌^◌, length, map, IfOk, IfErr};
+ghost use Rattle.std.specs.Prelude.{◌≡◌, ◌<◌, ◌≤◌, map, IfOk, IfErr};
 ghost use Rattle.canonical_abi.specs.Types.{record_type, AreStandardFields};
 ghost use Rattle.canonical_abi.specs.Values.{HaveTypes};
-ghost use Rattle.canonical_abi.specs.Layout.{size, fits_flat};
+ghost use Rattle.canonical_abi.specs.Layout.{size};
 ghost use Rattle.canonical_abi.specs.Lowering.{PassesParams, SpilledLower};
 ghost use Rattle.layout.specs.Layout.{layouts_of};
-ghost use Rattle.lift_lower.specs.Crossing.{fields_of_types, IsLowered, LowerFails};
+ghost use Rattle.lift_lower.specs.Crossing.{fields_of_types, AreLowered, LowerFails};
 ghost use Rattle.lift_lower.specs.Lowered.{PassesParamsBy, SpilledLowerBy};
 ghost use Rattle.lift_lower.specs.Members.{AreAllInside, AreTypesOf};
 ghost use Rattle.lift_lower.specs.Scripts.{IsDone, HasEnded};
 ghost use Rattle.lift_lower.specs.Val.{value_of};
 
-use crate::extent::{kinds_within, record_extent};
-use crate::flattening::lower_fields;
+use crate::guest_blocks::ask_block;
+use crate::lower_flat::lower_fields;
+use crate::members::Members;
 use crate::scalars::Flats;
-use crate::shape::Members;
 use crate::storing::{MAX_BLOCK, place_fault, store_fields};
+use crate::types::Types;
 use crate::val::Val;
-use crate::writing::ask_block;
 use canonical_abi::{Fault, Flat, Guest, TrapKind};
 use layout::Layouts;
 use tables::{Resolve, ValType};
@@ -35,12 +35,13 @@ pub fn lower<G: Guest>(
     requires known { AreTypesOf resolve.now types.now }
     requires small { size (record_type (fields_of_types resolve.now types.now)) ≤ 16777216 }
     requires typed { HaveTypes (map value_of values.now) (fields_of_types resolve.now types.now) }
-    ensures flats { IfOk result (λ flats. IsLowered G.allocates (fields_of_types resolve.now types.now)
+    ensures flats { IfOk result (λ flats. AreLowered G.allocates (fields_of_types resolve.now types.now)
         (map value_of values.now) (G.memory guest.old) flats.items (G.memory guest.new)) }
     ensures fault { IfErr result (λ fault. LowerFails G.allocates (fields_of_types resolve.now types.now)
         (map value_of values.now) (G.memory guest.old) fault (G.memory guest.new)) }
 {
-    match lower_params(resolve, layouts, MAX_BLOCK, types, values, guest) {
+    let table = &Types::new(resolve, layouts);
+    match lower_params(table, MAX_BLOCK, types, values, guest) {
         Ok(flats) => Ok(flats),
         Err(kind) => Err(place_fault(kind)),
     }
@@ -48,59 +49,55 @@ pub fn lower<G: Guest>(
 
 /// Lowers parameters: flat, or into a block where more than sixteen core values would carry them.
 pub(crate) fn lower_params<G: Guest>(
-    resolve: &Resolve,
-    layouts: &Layouts,
+    table: &Types,
     limit: u32,
     types: &[ValType],
     values: &[Val],
     guest: &mut G,
 ) -> Result<Flats, TrapKind>
-    requires laid_out { layouts.now ≡ layouts_of resolve.now }
-    requires inside { AreAllInside resolve.now types.now }
-    requires small { size (record_type (fields_of_types resolve.now types.now)) ≤ 16777216 }
-    requires standard { AreStandardFields (fields_of_types resolve.now types.now) }
-    requires typed { HaveTypes (map value_of values.now) (fields_of_types resolve.now types.now) }
+    requires inside { AreAllInside table.now types.now }
+    requires small { size (record_type (fields_of_types table.now types.now)) ≤ 16777216 }
+    requires standard { AreStandardFields (fields_of_types table.now types.now) }
+    requires typed { HaveTypes (map value_of values.now) (fields_of_types table.now types.now) }
     ensures ok { IfOk result (λ flats. IsDone limit G.allocates
-        (λ es. PassesParams 16 (fields_of_types resolve.now types.now) (map value_of values.now) es flats.items)
+        (λ es. PassesParams 16 (fields_of_types table.now types.now) (map value_of values.now) es flats.items)
         (G.memory guest.old) (G.memory guest.new)) }
     ensures fault { IfErr result (λ k. HasEnded limit G.allocates
-        (PassesParamsBy 16 (fields_of_types resolve.now types.now) (map value_of values.now))
+        (PassesParamsBy 16 (fields_of_types table.now types.now) (map value_of values.now))
         (G.memory guest.old) k (G.memory guest.new)) }
 {
-    let Some(_) = kinds_within(resolve, layouts, types, 16) else {
-        return lower_spilled(resolve, layouts, limit, types, values, guest);
+    let Some(_) = table.kinds_within(types, 16) else {
+        return lower_spilled(table, limit, types, values, guest);
     };
     let mut flats = Flats::new();
     let members = Members::Listed(types);
-    lower_fields(resolve, layouts, limit, &members, values, guest, &mut flats)?;
+    lower_fields(table, limit, &members, values, guest, &mut flats)?;
     Ok(flats)
 }
 
 /// Stores values as a record in a block of its own, whose address is the one core value.
 fn lower_spilled<G: Guest>(
-    resolve: &Resolve,
-    layouts: &Layouts,
+    table: &Types,
     limit: u32,
     types: &[ValType],
     values: &[Val],
     guest: &mut G,
 ) -> Result<Flats, TrapKind>
-    requires laid_out { layouts.now ≡ layouts_of resolve.now }
-    requires inside { AreAllInside resolve.now types.now }
-    requires small { size (record_type (fields_of_types resolve.now types.now)) ≤ 16777216 }
-    requires standard { AreStandardFields (fields_of_types resolve.now types.now) }
-    requires typed { HaveTypes (map value_of values.now) (fields_of_types resolve.now types.now) }
+    requires inside { AreAllInside table.now types.now }
+    requires small { size (record_type (fields_of_types table.now types.now)) ≤ 16777216 }
+    requires standard { AreStandardFields (fields_of_types table.now types.now) }
+    requires typed { HaveTypes (map value_of values.now) (fields_of_types table.now types.now) }
     ensures ok { IfOk result (λ flats. IsDone limit G.allocates
-        (λ es. SpilledLower (fields_of_types resolve.now types.now) (map value_of values.now) es flats.items)
+        (λ es. SpilledLower (fields_of_types table.now types.now) (map value_of values.now) es flats.items)
         (G.memory guest.old) (G.memory guest.new)) }
     ensures fault { IfErr result (λ k. HasEnded limit G.allocates
-        (SpilledLowerBy (fields_of_types resolve.now types.now) (map value_of values.now))
+        (SpilledLowerBy (fields_of_types table.now types.now) (map value_of values.now))
         (G.memory guest.old) k (G.memory guest.new)) }
 {
-    let (size, align) = record_extent(resolve, layouts, types);
+    let (size, align) = table.record_extent(types);
     let start = ask_block(guest, limit, align, size)?;
     let members = Members::Listed(types);
-    store_fields(resolve, layouts, limit, &members, values, guest, start)?;
+    store_fields(table, limit, &members, values, guest, start)?;
     let mut flats = Flats::new();
     flats.push(Flat::I32(start as u32));
     Ok(flats)

@@ -7,51 +7,47 @@ ghost use Rattle.canonical_abi.specs.Layout.{fits_flat};
 ghost use Rattle.canonical_abi.specs.Lowering.{PassesParams, SpilledLower};
 ghost use Rattle.canonical_abi.specs.Session.{as_list, HasResult, HasResultFault};
 ghost use Rattle.canonical_abi.specs.declared.trap.Step.TheVariants.{Take};
-ghost use Rattle.layout.specs.Layout.{layouts_of};
 ghost use Rattle.tables.specs.Closed.{closed_type, function_type, IsFunction};
-ghost use Rattle.lift_lower.specs.Crossing.{IsLowered, LowerFails};
-ghost use Rattle.lift_lower.specs.Gives.{AnswerStands};
+ghost use Rattle.lift_lower.specs.Crossing.{AreLowered, LowerFails};
+ghost use Rattle.lift_lower.specs.NoValue.{AnswerStands};
 ghost use Rattle.lift_lower.specs.Lowered.{PassesParamsBy, SpilledLowerBy};
 ghost use Rattle.lift_lower.specs.Placing.{area_at, IsAreaIn, IsAreaAsked, AreaFails};
 ghost use Rattle.lift_lower.specs.Scripts.{IsDone, HasEnded};
-ghost use Rattle.lift_lower.specs.Shape.{IsInside};
+ghost use Rattle.lift_lower.specs.Types.{IsInside};
 ghost use Rattle.lift_lower.specs.Val.{value_of};
 
-use crate::extent::{align_of, kinds_within, size_of};
-use crate::flattening::lower_fields;
+use crate::guest_blocks::ask_block;
 use crate::lifting::lift_result;
 use crate::loading::load;
+use crate::lower_flat::lower_fields;
+use crate::members::Members;
 use crate::scalars::Flats;
-use crate::shape::Members;
 use crate::storing::{MAX_BLOCK, place_fault, store_fields};
+use crate::types::Types;
 use crate::val::Val;
-use crate::writing::ask_block;
 use canonical_abi::{Fault, Flat, Guest, TrapKind};
-use layout::Layouts;
 use std::alloc::Global;
-use tables::{FunctionId, Resolve, TypeId, ValType};
+use tables::{FunctionId, TypeId, ValType};
 
 /// Lowers a function's arguments into the caller. A trap is in step `place`: the first request that fails.
 /// Takes no memory of the host.
 pub fn lower_arguments<G: Guest>(
-    resolve: &Resolve,
-    layouts: &Layouts,
+    table: &Types,
     func: FunctionId,
     values: &[Val],
     guest: &mut G,
 ) -> Result<Flats, Fault>
-    requires laid_out { layouts.now ≡ layouts_of resolve.now }
-    requires function { IsFunction resolve.now func }
-    requires typed { HaveTypes (map value_of values.now) (function_type resolve.now func).params }
-    ensures flats { IfOk result (λ flats. IsLowered G.allocates (function_type resolve.now func).params
+    requires function { IsFunction table.now func }
+    requires typed { HaveTypes (map value_of values.now) (function_type table.now func).params }
+    ensures flats { IfOk result (λ flats. AreLowered G.allocates (function_type table.now func).params
         (map value_of values.now) (G.memory guest.old) flats.items (G.memory guest.new)) }
     ensures few { IfOk result (λ flats. length flats.items ≤ 16) }
-    ensures fault { IfErr result (λ fault. LowerFails G.allocates (function_type resolve.now func).params
+    ensures fault { IfErr result (λ fault. LowerFails G.allocates (function_type table.now func).params
         (map value_of values.now) (G.memory guest.old) fault (G.memory guest.new)) }
 {
     // A function's row is the record of its parameters.
     let row = ValType::Id(TypeId(func.0));
-    match lower_record(resolve, layouts, row, values, guest) {
+    match lower_record(table, row, values, guest) {
         Ok(flats) => Ok(flats),
         Err(kind) => Err(place_fault(kind)),
     }
@@ -59,70 +55,63 @@ pub fn lower_arguments<G: Guest>(
 
 /// Lowers the fields of a record: flat, or into a block where more than sixteen core values would carry them.
 fn lower_record<G: Guest>(
-    resolve: &Resolve,
-    layouts: &Layouts,
+    table: &Types,
     ty: ValType,
     values: &[Val],
     guest: &mut G,
 ) -> Result<Flats, TrapKind>
-    requires laid_out { layouts.now ≡ layouts_of resolve.now }
-    requires inside { IsInside resolve.now ty }
-    requires record { closed_type resolve.now ty ≡ record_type (record_fields (closed_type resolve.now ty)) }
-    requires standard { AreStandardFields (record_fields (closed_type resolve.now ty)) }
-    requires typed { HaveTypes (map value_of values.now) (record_fields (closed_type resolve.now ty)) }
+    requires inside { IsInside table.now ty }
+    requires record { closed_type table.now ty ≡ record_type (record_fields (closed_type table.now ty)) }
+    requires standard { AreStandardFields (record_fields (closed_type table.now ty)) }
+    requires typed { HaveTypes (map value_of values.now) (record_fields (closed_type table.now ty)) }
     ensures ok { IfOk result (λ flats. IsDone 16777216 G.allocates
-        (λ es. PassesParams 16 (record_fields (closed_type resolve.now ty)) (map value_of values.now) es flats.items)
+        (λ es. PassesParams 16 (record_fields (closed_type table.now ty)) (map value_of values.now) es flats.items)
         (G.memory guest.old) (G.memory guest.new)) }
     ensures fault { IfErr result (λ k. HasEnded 16777216 G.allocates
-        (PassesParamsBy 16 (record_fields (closed_type resolve.now ty)) (map value_of values.now))
+        (PassesParamsBy 16 (record_fields (closed_type table.now ty)) (map value_of values.now))
         (G.memory guest.old) k (G.memory guest.new)) }
 {
-    if !goes_flat(resolve, layouts, ty) {
-        return spill_record(resolve, layouts, ty, values, guest);
+    if !goes_flat(table, ty) {
+        return spill_record(table, ty, values, guest);
     }
     let mut flats = Flats::new();
     let members = Members::Of(ty);
-    lower_fields(
-        resolve, layouts, MAX_BLOCK, &members, values, guest, &mut flats,
-    )?;
+    lower_fields(table, MAX_BLOCK, &members, values, guest, &mut flats)?;
     Ok(flats)
 }
 
 /// Whether at most sixteen core values carry the fields of a record.
-fn goes_flat(resolve: &Resolve, layouts: &Layouts, ty: ValType) -> bool
-    requires laid_out { layouts.now ≡ layouts_of resolve.now }
-    requires inside { IsInside resolve.now ty }
-    requires record { closed_type resolve.now ty ≡ record_type (record_fields (closed_type resolve.now ty)) }
-    ensures { result ≡ fits_flat 16 (record_fields (closed_type resolve.now ty)) }
+fn goes_flat(table: &Types, ty: ValType) -> bool
+    requires inside { IsInside table.now ty }
+    requires record { closed_type table.now ty ≡ record_type (record_fields (closed_type table.now ty)) }
+    ensures { result ≡ fits_flat 16 (record_fields (closed_type table.now ty)) }
 {
-    kinds_within(resolve, layouts, &[ty], 16).is_some()
+    table.kinds_within(&[ty], 16).is_some()
 }
 
 /// Stores the fields of a record in a block of its own, whose address is the one core value.
 fn spill_record<G: Guest>(
-    resolve: &Resolve,
-    layouts: &Layouts,
+    table: &Types,
     ty: ValType,
     values: &[Val],
     guest: &mut G,
 ) -> Result<Flats, TrapKind>
-    requires laid_out { layouts.now ≡ layouts_of resolve.now }
-    requires inside { IsInside resolve.now ty }
-    requires record { closed_type resolve.now ty ≡ record_type (record_fields (closed_type resolve.now ty)) }
-    requires standard { AreStandardFields (record_fields (closed_type resolve.now ty)) }
-    requires typed { HaveTypes (map value_of values.now) (record_fields (closed_type resolve.now ty)) }
+    requires inside { IsInside table.now ty }
+    requires record { closed_type table.now ty ≡ record_type (record_fields (closed_type table.now ty)) }
+    requires standard { AreStandardFields (record_fields (closed_type table.now ty)) }
+    requires typed { HaveTypes (map value_of values.now) (record_fields (closed_type table.now ty)) }
     ensures ok { IfOk result (λ flats. IsDone 16777216 G.allocates
-        (λ es. SpilledLower (record_fields (closed_type resolve.now ty)) (map value_of values.now) es flats.items)
+        (λ es. SpilledLower (record_fields (closed_type table.now ty)) (map value_of values.now) es flats.items)
         (G.memory guest.old) (G.memory guest.new)) }
     ensures fault { IfErr result (λ k. HasEnded 16777216 G.allocates
-        (SpilledLowerBy (record_fields (closed_type resolve.now ty)) (map value_of values.now))
+        (SpilledLowerBy (record_fields (closed_type table.now ty)) (map value_of values.now))
         (G.memory guest.old) k (G.memory guest.new)) }
 {
-    let size = size_of(resolve, layouts, ty);
-    let align = align_of(resolve, layouts, ty);
+    let size = table.size_of(ty);
+    let align = table.align_of(ty);
     let start = ask_block(guest, MAX_BLOCK, align, size)?;
     let members = Members::Of(ty);
-    store_fields(resolve, layouts, MAX_BLOCK, &members, values, guest, start)?;
+    store_fields(table, MAX_BLOCK, &members, values, guest, start)?;
     let mut flats = Flats::new();
     flats.push(Flat::I32(start as u32));
     Ok(flats)
@@ -131,26 +120,24 @@ fn spill_record<G: Guest>(
 /// Asks for the return area of a call, where the result does not go flat. A trap is in step `place`. Takes no
 /// memory of the host.
 pub fn ask_area<G: Guest>(
-    resolve: &Resolve,
-    layouts: &Layouts,
+    table: &Types,
     ty: Option<ValType>,
     guest: &mut G,
 ) -> Result<Option<u32>, Fault>
-    requires laid_out { layouts.now ≡ layouts_of resolve.now }
-    requires inside { IfSome ty (IsInside resolve.now) }
-    ensures area { IfOk result (λ area. IsAreaIn (result_fields (option_map (closed_type resolve.now) ty))
+    requires inside { IfSome ty (IsInside table.now) }
+    ensures area { IfOk result (λ area. IsAreaIn (result_fields (option_map (closed_type table.now) ty))
         (G.memory guest.new).bytes area) }
-    ensures asked { IfOk result (λ area. IsAreaAsked G.allocates (result_fields (option_map (closed_type resolve.now) ty))
+    ensures asked { IfOk result (λ area. IsAreaAsked G.allocates (result_fields (option_map (closed_type table.now) ty))
         (G.memory guest.old) area (G.memory guest.new)) }
-    ensures fault { IfErr result (λ fault. AreaFails G.allocates (result_fields (option_map (closed_type resolve.now) ty))
+    ensures fault { IfErr result (λ fault. AreaFails G.allocates (result_fields (option_map (closed_type table.now) ty))
         (G.memory guest.old) fault (G.memory guest.new)) }
 {
     let Some(ty) = ty else {
         return Ok(None);
     };
-    let Some(_) = kinds_within(resolve, layouts, &[ty], 1) else {
-        let size = size_of(resolve, layouts, ty);
-        let align = align_of(resolve, layouts, ty);
+    let Some(_) = table.kinds_within(&[ty], 1) else {
+        let size = table.size_of(ty);
+        let align = table.align_of(ty);
         return match ask_block(guest, MAX_BLOCK, align, size) {
             Ok(at) => Ok(Some(at as u32)),
             Err(kind) => Err(place_fault(kind)),
@@ -164,27 +151,25 @@ pub fn ask_area<G: Guest>(
 /// type is plain.
 pub fn take_result<G: Guest>(
     alloc: Global,
-    resolve: &Resolve,
-    layouts: &Layouts,
+    table: &Types,
     ty: Option<ValType>,
     flats: &[Flat],
     area: Option<u32>,
     guest: &G,
 ) -> Result<Option<Val>, Fault>
-    requires laid_out { layouts.now ≡ layouts_of resolve.now }
-    requires inside { IfSome ty (IsInside resolve.now) }
-    requires area { IsAreaIn (result_fields (option_map (closed_type resolve.now) ty)) (G.memory guest.now).bytes area }
-    ensures value { let ts = result_fields (option_map (closed_type resolve.now) ty) in
+    requires inside { IfSome ty (IsInside table.now) }
+    requires area { IsAreaIn (result_fields (option_map (closed_type table.now) ty)) (G.memory guest.now).bytes area }
+    ensures value { let ts = result_fields (option_map (closed_type table.now) ty) in
         AnswerStands Take (λ v. HasResult ts (G.memory guest.now).bytes flats.now (area_at area) (as_list (option_map value_of v)))
         (HasResultFault ts (G.memory guest.now).bytes flats.now (area_at area)) result }
-    ensures plain { IfSome ty (λ t. IsPlain (closed_type resolve.now t)) → result ≢ Err Fault.NoMemory }
+    ensures plain { IfSome ty (λ t. IsPlain (closed_type table.now t)) → result ≢ Err Fault.NoMemory }
     ensures typed { IfOk result (λ v. HaveTypes (as_list (option_map value_of v))
-        (result_fields (option_map (closed_type resolve.now) ty))) }
+        (result_fields (option_map (closed_type table.now) ty))) }
 {
     let (Some(ty), Some(at)) = (ty, area) else {
-        return lift_result(alloc, resolve, layouts, ty, flats, guest);
+        return lift_result(alloc, table, ty, flats, guest);
     };
-    match load(alloc, resolve, layouts, ty, guest, at) {
+    match load(alloc, table.resolve(), table.layouts(), ty, guest, at) {
         Ok(value) => Ok(Some(value)),
         Err(fault) => Err(fault),
     }

@@ -1,9 +1,7 @@
 //! Lists of values of primitive types: parameters and results that need no memory.
-ghost use Rattle.std.specs.Prelude.{◌≡◌, ◌≤◌, ◌↔◌, ℕ, List, IsTrue, IfOk, IfErr, length, map};
+ghost use Rattle.std.specs.Prelude.{◌≡◌, ◌≤◌, ◌↔◌, List, IsTrue, IfOk, IfErr, length, map};
 ghost use Rattle.canonical_abi.specs.Types.{ClosedType};
 ghost use Rattle.canonical_abi.specs.Values.{HaveTypes};
-ghost use Rattle.canonical_abi.specs.Layout.{prim_kind};
-ghost use Rattle.canonical_abi.specs.Reading.{kind_of};
 ghost use Rattle.tables.specs.Closed.{prim_of, is_scalar};
 ghost use Rattle.tables.specs.declared.tables.ValType.{ValType};
 ghost use Rattle.lift_lower.specs.Scalar.{value_in, core_in};

@@ -4,7 +4,7 @@
 //! asked for and bytes are written in the order of the nodes, and the first request that fails ends it.
 ghost use Rattle.std.specs.Prelude.{◌≡◌, ◌+◌, ◌*◌, ◌^◌, ◌<◌, ◌≤◌, length, map, IfOk, IfErr, OnOk};
 ghost use Rattle.std.specs.List.{AllByRecursion};
-ghost use Rattle.canonical_abi.specs.Types.{IsStandard, AreStandardFields, string_type, list_type, variant_type, variant_cases, case_count};
+ghost use Rattle.canonical_abi.specs.Types.{IsStandard, AreStandardFields, string_type, list_type};
 ghost use Rattle.canonical_abi.specs.Values.{HasType, HaveTypes, string_value, list_value, values_of};
 ghost use Rattle.canonical_abi.specs.Layout.{size, align, end_from, field_extents};
 ghost use Rattle.canonical_abi.specs.Storing.{Stores, EachStores, FieldsStore};
@@ -15,15 +15,15 @@ ghost use Rattle.tables.specs.Closed.{closed_type};
 ghost use Rattle.lift_lower.specs.Crossing.{IsStoredAt, StoreFails};
 ghost use Rattle.lift_lower.specs.Members.{AreInside, members_fields};
 ghost use Rattle.lift_lower.specs.Scripts.{IsDone, HasEnded, GrantsBlock, AsksBlock};
-ghost use Rattle.lift_lower.specs.Shape.{IsInside};
+ghost use Rattle.lift_lower.specs.Types.{IsInside};
 ghost use Rattle.lift_lower.specs.Val.{value_of, variant_value};
 
 use crate::bytes::{discriminant_bytes, flags_bytes, test_block};
-use crate::extent::{align_of, size_of};
+use crate::guest_blocks::{ask_block, put_text, write_header, write_number, write_scalar};
+use crate::members::Members;
 use crate::scalar::Scalar;
-use crate::shape::{Members, case_payload, member_type, shape_of};
+use crate::types::Types;
 use crate::val::Val;
-use crate::writing::{ask_block, put_text, write_header, write_number, write_scalar};
 use canonical_abi::{Fault, Guest, Step, Trap, TrapKind};
 use layout::{Layouts, Shape};
 use tables::{Resolve, ValType};
@@ -49,13 +49,14 @@ pub fn store<G: Guest>(
     ensures fault { IfErr result (λ fault. StoreFails G.allocates (closed_type resolve.now ty) at (value_of value.now)
         (G.memory guest.old) fault (G.memory guest.new)) }
 {
+    let table = &Types::new(resolve, layouts);
     let place = at as usize;
-    let align = align_of(resolve, layouts, ty);
-    let size = size_of(resolve, layouts, ty);
+    let align = table.align_of(ty);
+    let size = table.size_of(ty);
     if let Err(kind) = test_block(guest.len() as usize, place, align, size) {
         return Err(place_fault(kind));
     }
-    match store_at(resolve, layouts, MAX_BLOCK, ty, value, guest, place) {
+    match store_at(table, MAX_BLOCK, ty, value, guest, place) {
         Ok(()) => Ok(()),
         Err(kind) => Err(place_fault(kind)),
     }
@@ -74,44 +75,42 @@ pub(crate) fn place_fault(kind: TrapKind) -> Fault
 /// Stores a value at a place that lies inside the memory.
 #[cycle(store)]
 pub(crate) fn store_at<G: Guest>(
-    resolve: &Resolve,
-    layouts: &Layouts,
+    table: &Types,
     limit: u32,
     ty: ValType,
     value: &Val,
     guest: &mut G,
     at: usize,
 ) -> Result<(), TrapKind>
-    requires laid_out { layouts.now ≡ layouts_of resolve.now }
-    requires inside { IsInside resolve.now ty }
-    requires standard { IsStandard (closed_type resolve.now ty) }
-    requires typed { HasType (value_of value.now) (closed_type resolve.now ty) }
-    requires room { at + size (closed_type resolve.now ty) ≤ length (G.memory guest.old).bytes }
-    requires small { at + size (closed_type resolve.now ty) < 2 ^ 32 }
-    ensures ok { OnOk result (IsDone limit G.allocates (Stores (closed_type resolve.now ty) at (value_of value.now))
+    requires inside { IsInside table.now ty }
+    requires standard { IsStandard (closed_type table.now ty) }
+    requires typed { HasType (value_of value.now) (closed_type table.now ty) }
+    requires room { at + size (closed_type table.now ty) ≤ length (G.memory guest.old).bytes }
+    requires small { at + size (closed_type table.now ty) < 2 ^ 32 }
+    ensures ok { OnOk result (IsDone limit G.allocates (Stores (closed_type table.now ty) at (value_of value.now))
         (G.memory guest.old) (G.memory guest.new)) }
-    ensures fault { IfErr result (λ k. HasEnded limit G.allocates (Stores (closed_type resolve.now ty) at (value_of value.now))
+    ensures fault { IfErr result (λ k. HasEnded limit G.allocates (Stores (closed_type table.now ty) at (value_of value.now))
         (G.memory guest.old) k (G.memory guest.new)) }
 {
     match value {
         Val::String(text) => store_text(limit, text.as_str(), guest, at),
         Val::List(items) => {
-            let Shape::List(element) = shape_of(resolve, layouts, ty) else {
+            let Shape::List(element) = table.shape_of(ty) else {
                 unreachable!()
             };
             let items = items.as_slice();
-            store_list(resolve, layouts, limit, element, items, guest, at)
+            store_list(table, limit, element, items, guest, at)
         }
         Val::Record(fields) => {
             let members = Members::Of(ty);
             let fields = fields.as_slice();
-            store_fields(resolve, layouts, limit, &members, fields, guest, at)
+            store_fields(table, limit, &members, fields, guest, at)
         }
         Val::Variant(case, payload) => {
-            store_variant(resolve, layouts, limit, ty, *case, payload, guest, at)
+            store_variant(table, limit, ty, *case, payload, guest, at)
         }
         Val::Flags(bits) => {
-            let Shape::Flags(labels) = shape_of(resolve, layouts, ty) else {
+            let Shape::Flags(labels) = table.shape_of(ty) else {
                 unreachable!()
             };
             write_number(guest, at, flags_bytes(labels), *bits);
@@ -143,93 +142,79 @@ fn store_text<G: Guest>(limit: u32, text: &str, guest: &mut G, at: usize) -> Res
 /// Stores the header of a list, and its elements in a block of their own.
 #[cycle(store)]
 fn store_list<G: Guest>(
-    resolve: &Resolve,
-    layouts: &Layouts,
+    table: &Types,
     limit: u32,
     element: ValType,
     items: &[Val],
     guest: &mut G,
     at: usize,
 ) -> Result<(), TrapKind>
-    requires laid_out { layouts.now ≡ layouts_of resolve.now }
-    requires inside { IsInside resolve.now element }
-    requires standard { IsStandard (closed_type resolve.now element) }
-    requires typed { AllByRecursion (λ w. HasType w (closed_type resolve.now element)) (map value_of items.now) }
+    requires inside { IsInside table.now element }
+    requires standard { IsStandard (closed_type table.now element) }
+    requires typed { AllByRecursion (λ w. HasType w (closed_type table.now element)) (map value_of items.now) }
     requires room { at + 8 ≤ length (G.memory guest.old).bytes }
     requires small { at + 8 < 2 ^ 32 }
     ensures ok { OnOk result (IsDone limit G.allocates
-        (Stores (list_type (closed_type resolve.now element)) at (list_value (values_of (map value_of items.now))))
+        (Stores (list_type (closed_type table.now element)) at (list_value (values_of (map value_of items.now))))
         (G.memory guest.old) (G.memory guest.new)) }
     ensures fault { IfErr result (λ k. HasEnded limit G.allocates
-        (Stores (list_type (closed_type resolve.now element)) at (list_value (values_of (map value_of items.now))))
+        (Stores (list_type (closed_type table.now element)) at (list_value (values_of (map value_of items.now))))
         (G.memory guest.old) k (G.memory guest.new)) }
 {
-    let start = ask_elements(resolve, layouts, limit, element, items.len(), guest)?;
+    let start = ask_elements(table, limit, element, items.len(), guest)?;
     write_header(guest, at, start, items.len());
-    store_items(resolve, layouts, limit, element, items, guest, start)
+    store_items(table, limit, element, items, guest, start)
 }
 
 /// Asks for the block of a list's elements.
 pub(crate) fn ask_elements<G: Guest>(
-    resolve: &Resolve,
-    layouts: &Layouts,
+    table: &Types,
     limit: u32,
     element: ValType,
     count: usize,
     guest: &mut G,
 ) -> Result<usize, TrapKind>
-    requires laid_out { layouts.now ≡ layouts_of resolve.now }
-    requires inside { IsInside resolve.now element }
-    requires standard { IsStandard (closed_type resolve.now element) }
-    ensures ok { let t = closed_type resolve.now element in
+    requires inside { IsInside table.now element }
+    requires standard { IsStandard (closed_type table.now element) }
+    ensures ok { let t = closed_type table.now element in
         IfOk result (λ at. IsDone limit G.allocates (GrantsBlock (align t) (count * size t) at) (G.memory guest.old) (G.memory guest.new)) }
-    ensures fault { let t = closed_type resolve.now element in
+    ensures fault { let t = closed_type table.now element in
         IfErr result (λ k. HasEnded limit G.allocates (AsksBlock (align t) (count * size t)) (G.memory guest.old) k (G.memory guest.new)) }
-    ensures inside { IfOk result (λ at. at + count * size (closed_type resolve.now element) ≤ length (G.memory guest.new).bytes) }
-    ensures small { IfOk result (λ at. at + count * size (closed_type resolve.now element) < 2 ^ 32) }
+    ensures inside { IfOk result (λ at. at + count * size (closed_type table.now element) ≤ length (G.memory guest.new).bytes) }
+    ensures small { IfOk result (λ at. at + count * size (closed_type table.now element) < 2 ^ 32) }
     ensures few { IfOk result (λ at. count < 2 ^ 32) }
 {
-    let align = align_of(resolve, layouts, element);
-    let step = size_of(resolve, layouts, element);
+    let align = table.align_of(element);
+    let step = table.size_of(element);
     ask_block(guest, limit, align, count.saturating_mul(step))
 }
 
 /// Stores the elements of a list one after another.
 #[cycle(store)]
 pub(crate) fn store_items<G: Guest>(
-    resolve: &Resolve,
-    layouts: &Layouts,
+    table: &Types,
     limit: u32,
     element: ValType,
     items: &[Val],
     guest: &mut G,
     start: usize,
 ) -> Result<(), TrapKind>
-    requires laid_out { layouts.now ≡ layouts_of resolve.now }
-    requires inside { IsInside resolve.now element }
-    requires standard { IsStandard (closed_type resolve.now element) }
-    requires typed { AllByRecursion (λ w. HasType w (closed_type resolve.now element)) (map value_of items.now) }
-    requires room { start + length items.now * size (closed_type resolve.now element) ≤ length (G.memory guest.old).bytes }
-    requires small { start + length items.now * size (closed_type resolve.now element) < 2 ^ 32 }
-    ensures ok { let t = closed_type resolve.now element in
+    requires inside { IsInside table.now element }
+    requires standard { IsStandard (closed_type table.now element) }
+    requires typed { AllByRecursion (λ w. HasType w (closed_type table.now element)) (map value_of items.now) }
+    requires room { start + length items.now * size (closed_type table.now element) ≤ length (G.memory guest.old).bytes }
+    requires small { start + length items.now * size (closed_type table.now element) < 2 ^ 32 }
+    ensures ok { let t = closed_type table.now element in
         OnOk result (IsDone limit G.allocates (EachStores (Stores t) (size t) start (map value_of items.now))
         (G.memory guest.old) (G.memory guest.new)) }
-    ensures fault { let t = closed_type resolve.now element in
+    ensures fault { let t = closed_type table.now element in
         IfErr result (λ k. HasEnded limit G.allocates (EachStores (Stores t) (size t) start (map value_of items.now))
         (G.memory guest.old) k (G.memory guest.new)) }
 {
-    let step = size_of(resolve, layouts, element);
+    let step = table.size_of(element);
     for index in 0..items.len() {
         let place = start + index * step;
-        store_at(
-            resolve,
-            layouts,
-            limit,
-            element,
-            &items[index],
-            guest,
-            place,
-        )?;
+        store_at(table, limit, element, &items[index], guest, place)?;
     }
     Ok(())
 }
@@ -237,36 +222,34 @@ pub(crate) fn store_items<G: Guest>(
 /// Stores the members of a record, each at the next multiple of its alignment.
 #[cycle(store)]
 pub(crate) fn store_fields<G: Guest>(
-    resolve: &Resolve,
-    layouts: &Layouts,
+    table: &Types,
     limit: u32,
     members: &Members,
     values: &[Val],
     guest: &mut G,
     at: usize,
 ) -> Result<(), TrapKind>
-    requires laid_out { layouts.now ≡ layouts_of resolve.now }
-    requires inside { AreInside resolve.now members.now }
-    requires standard { AreStandardFields (members_fields resolve.now members.now) }
-    requires typed { HaveTypes (map value_of values.now) (members_fields resolve.now members.now) }
-    requires room { at + end_from 0 (field_extents (members_fields resolve.now members.now)) ≤ length (G.memory guest.old).bytes }
-    requires small { at + end_from 0 (field_extents (members_fields resolve.now members.now)) < 2 ^ 32 }
+    requires inside { AreInside table.now members.now }
+    requires standard { AreStandardFields (members_fields table.now members.now) }
+    requires typed { HaveTypes (map value_of values.now) (members_fields table.now members.now) }
+    requires room { at + end_from 0 (field_extents (members_fields table.now members.now)) ≤ length (G.memory guest.old).bytes }
+    requires small { at + end_from 0 (field_extents (members_fields table.now members.now)) < 2 ^ 32 }
     ensures ok { OnOk result (IsDone limit G.allocates
-        (FieldsStore (members_fields resolve.now members.now) at 0 (map value_of values.now))
+        (FieldsStore (members_fields table.now members.now) at 0 (map value_of values.now))
         (G.memory guest.old) (G.memory guest.new)) }
     ensures fault { IfErr result (λ k. HasEnded limit G.allocates
-        (FieldsStore (members_fields resolve.now members.now) at 0 (map value_of values.now))
+        (FieldsStore (members_fields table.now members.now) at 0 (map value_of values.now))
         (G.memory guest.old) k (G.memory guest.new)) }
 {
     let mut end: usize = 0;
     for index in 0..values.len() {
-        let Some(member) = member_type(resolve, layouts, members, index) else {
+        let Some(member) = table.member_type(members, index) else {
             unreachable!()
         };
-        let place = end.next_multiple_of(align_of(resolve, layouts, member));
+        let place = end.next_multiple_of(table.align_of(member));
         let value = &values[index];
-        store_at(resolve, layouts, limit, member, value, guest, at + place)?;
-        end = place + size_of(resolve, layouts, member);
+        store_at(table, limit, member, value, guest, at + place)?;
+        end = place + table.size_of(member);
     }
     Ok(())
 }
@@ -274,8 +257,7 @@ pub(crate) fn store_fields<G: Guest>(
 /// Stores the number of a case, and then its payload.
 #[cycle(store)]
 fn store_variant<G: Guest>(
-    resolve: &Resolve,
-    layouts: &Layouts,
+    table: &Types,
     limit: u32,
     ty: ValType,
     case: u32,
@@ -283,29 +265,28 @@ fn store_variant<G: Guest>(
     guest: &mut G,
     at: usize,
 ) -> Result<(), TrapKind>
-    requires laid_out { layouts.now ≡ layouts_of resolve.now }
-    requires inside { IsInside resolve.now ty }
-    requires standard { IsStandard (closed_type resolve.now ty) }
-    requires typed { HasType (variant_value case payload.now) (closed_type resolve.now ty) }
-    requires room { at + size (closed_type resolve.now ty) ≤ length (G.memory guest.old).bytes }
-    requires small { at + size (closed_type resolve.now ty) < 2 ^ 32 }
-    ensures ok { OnOk result (IsDone limit G.allocates (Stores (closed_type resolve.now ty) at (variant_value case payload.now))
+    requires inside { IsInside table.now ty }
+    requires standard { IsStandard (closed_type table.now ty) }
+    requires typed { HasType (variant_value case payload.now) (closed_type table.now ty) }
+    requires room { at + size (closed_type table.now ty) ≤ length (G.memory guest.old).bytes }
+    requires small { at + size (closed_type table.now ty) < 2 ^ 32 }
+    ensures ok { OnOk result (IsDone limit G.allocates (Stores (closed_type table.now ty) at (variant_value case payload.now))
         (G.memory guest.old) (G.memory guest.new)) }
-    ensures fault { IfErr result (λ k. HasEnded limit G.allocates (Stores (closed_type resolve.now ty) at (variant_value case payload.now))
+    ensures fault { IfErr result (λ k. HasEnded limit G.allocates (Stores (closed_type table.now ty) at (variant_value case payload.now))
         (G.memory guest.old) k (G.memory guest.new)) }
 {
-    let Shape::Variant(count) = shape_of(resolve, layouts, ty) else {
+    let Shape::Variant(count) = table.shape_of(ty) else {
         unreachable!()
     };
     write_number(guest, at, discriminant_bytes(count), case);
     let Some(value) = payload else {
         return Ok(());
     };
-    let Some(known) = case_payload(resolve, layouts, ty, case as usize) else {
+    let Some(known) = table.case_payload(ty, case as usize) else {
         unreachable!()
     };
     let Some(member) = known else { unreachable!() };
     // A payload stands at the variant's alignment.
-    let place = at + align_of(resolve, layouts, ty);
-    store_at(resolve, layouts, limit, member, value, guest, place)
+    let place = at + table.align_of(ty);
+    store_at(table, limit, member, value, guest, place)
 }

@@ -1,5 +1,5 @@
 //! Which values are of a type.
-ghost use Rattle.std.specs.Prelude.{◌≡◌, ◌↔◌, ◌<◌, ◌^◌, ℕ, List, IsTrue, length, map};
+ghost use Rattle.std.specs.Prelude.{◌≡◌, ◌↔◌, ◌<◌, ◌^◌, List, IsTrue, map};
 ghost use Rattle.std.specs.List.{AllByRecursion};
 ghost use Rattle.canonical_abi.specs.Types.{ClosedType, variant_cases, variant_type, field_count};
 ghost use Rattle.canonical_abi.specs.Values.{HasType, HaveTypes, HasPrimType};
@@ -7,11 +7,12 @@ ghost use Rattle.layout.specs.Layout.{layouts_of};
 ghost use Rattle.tables.specs.Closed.{closed_type, function_type, IsFunction};
 ghost use Rattle.lift_lower.specs.Members.{AreInside, members_fields};
 ghost use Rattle.lift_lower.specs.Scalar.{prim_in, value_in};
-ghost use Rattle.lift_lower.specs.Shape.{HasShapeIn, IsInside};
+ghost use Rattle.lift_lower.specs.Types.{HasShapeIn, IsInside};
 ghost use Rattle.lift_lower.specs.Val.{value_of, variant_value};
 
+use crate::members::Members;
 use crate::scalar::Scalar;
-use crate::shape::{Members, case_payload, member_type, shape_of};
+use crate::types::Types;
 use crate::val::Val;
 use layout::{Layouts, Shape};
 use tables::{FunctionId, Resolve, TypeId, ValType};
@@ -22,20 +23,19 @@ pub fn has_type(resolve: &Resolve, layouts: &Layouts, ty: ValType, value: &Val) 
     requires inside { IsInside resolve.now ty }
     ensures { IsTrue result ↔ HasType (value_of value.now) (closed_type resolve.now ty) }
 {
-    is_of(resolve, layouts, ty, value)
+    is_of(&Types::new(resolve, layouts), ty, value)
 }
 
 /// Whether these are arguments of a function, as many as its parameters and each of its type. Takes no memory
 /// of the host.
-pub fn has_arguments(resolve: &Resolve, layouts: &Layouts, func: FunctionId, values: &[Val]) -> bool
-    requires laid_out { layouts.now ≡ layouts_of resolve.now }
-    requires function { IsFunction resolve.now func }
-    ensures { IsTrue result ↔ HaveTypes (map value_of values.now) (function_type resolve.now func).params }
+pub fn has_arguments(table: &Types, func: FunctionId, values: &[Val]) -> bool
+    requires { IsFunction table.now func }
+    ensures { IsTrue result ↔ HaveTypes (map value_of values.now) (function_type table.now func).params }
 {
     // A function's row is the record of its parameters.
     let members = Members::Of(ValType::Id(TypeId(func.0)));
-    let count = resolve.signature(func).params.len();
-    have_types(resolve, layouts, &members, count, values)
+    let count = table.resolve().signature(func).params.len();
+    have_types(table, &members, count, values)
 }
 
 /// Whether a scalar is of a type of this shape.
@@ -60,27 +60,26 @@ fn has_labels(bits: u32, labels: usize) -> bool
 }
 
 #[cycle(typing)]
-fn is_of(resolve: &Resolve, layouts: &Layouts, ty: ValType, value: &Val) -> bool
-    requires laid_out { layouts.now ≡ layouts_of resolve.now }
-    requires inside { IsInside resolve.now ty }
-    ensures { IsTrue result ↔ HasType (value_of value.now) (closed_type resolve.now ty) }
+fn is_of(table: &Types, ty: ValType, value: &Val) -> bool
+    requires inside { IsInside table.now ty }
+    ensures { IsTrue result ↔ HasType (value_of value.now) (closed_type table.now ty) }
 {
-    let shape = shape_of(resolve, layouts, ty);
+    let shape = table.shape_of(ty);
     match value {
         Val::String(_) => matches!(shape, Shape::String),
         Val::List(items) => match shape {
-            Shape::List(element) => are_of(resolve, layouts, element, items.as_slice()),
+            Shape::List(element) => are_of(table, element, items.as_slice()),
             _ => false,
         },
         Val::Record(fields) => match shape {
             Shape::Record(count) => {
                 let members = Members::Of(ty);
-                have_types(resolve, layouts, &members, count, fields.as_slice())
+                have_types(table, &members, count, fields.as_slice())
             }
             _ => false,
         },
         Val::Variant(case, payload) => match shape {
-            Shape::Variant(_) => is_of_case(resolve, layouts, ty, *case, payload),
+            Shape::Variant(_) => is_of_case(table, ty, *case, payload),
             _ => false,
         },
         Val::Flags(bits) => match shape {
@@ -96,13 +95,12 @@ fn is_of(resolve: &Resolve, layouts: &Layouts, ty: ValType, value: &Val) -> bool
 
 /// Whether all these are of one type.
 #[cycle(typing)]
-fn are_of(resolve: &Resolve, layouts: &Layouts, element: ValType, items: &[Val]) -> bool
-    requires laid_out { layouts.now ≡ layouts_of resolve.now }
-    requires inside { IsInside resolve.now element }
-    ensures { IsTrue result ↔ AllByRecursion (λ w. HasType w (closed_type resolve.now element)) (map value_of items.now) }
+fn are_of(table: &Types, element: ValType, items: &[Val]) -> bool
+    requires inside { IsInside table.now element }
+    ensures { IsTrue result ↔ AllByRecursion (λ w. HasType w (closed_type table.now element)) (map value_of items.now) }
 {
     for item in items {
-        if !is_of(resolve, layouts, element, item) {
+        if !is_of(table, element, item) {
             return false;
         }
     }
@@ -111,26 +109,19 @@ fn are_of(resolve: &Resolve, layouts: &Layouts, element: ValType, items: &[Val])
 
 /// Whether there are as many values as members, each of its member's type.
 #[cycle(typing)]
-pub(crate) fn have_types(
-    resolve: &Resolve,
-    layouts: &Layouts,
-    members: &Members,
-    count: usize,
-    values: &[Val],
-) -> bool
-    requires laid_out { layouts.now ≡ layouts_of resolve.now }
-    requires inside { AreInside resolve.now members.now }
-    requires counted { field_count (members_fields resolve.now members.now) ≡ count }
-    ensures { IsTrue result ↔ HaveTypes (map value_of values.now) (members_fields resolve.now members.now) }
+pub(crate) fn have_types(table: &Types, members: &Members, count: usize, values: &[Val]) -> bool
+    requires inside { AreInside table.now members.now }
+    requires counted { field_count (members_fields table.now members.now) ≡ count }
+    ensures { IsTrue result ↔ HaveTypes (map value_of values.now) (members_fields table.now members.now) }
 {
     if values.len() != count {
         return false;
     }
     for index in 0..count {
-        let Some(member) = member_type(resolve, layouts, members, index) else {
+        let Some(member) = table.member_type(members, index) else {
             unreachable!()
         };
-        if !is_of(resolve, layouts, member, &values[index]) {
+        if !is_of(table, member, &values[index]) {
             return false;
         }
     }
@@ -139,19 +130,12 @@ pub(crate) fn have_types(
 
 /// Whether this is a case of the variant, with a payload of its type where the case has one.
 #[cycle(typing)]
-fn is_of_case(
-    resolve: &Resolve,
-    layouts: &Layouts,
-    ty: ValType,
-    case: u32,
-    payload: &Option<Box<Val>>,
-) -> bool
-    requires laid_out { layouts.now ≡ layouts_of resolve.now }
-    requires inside { IsInside resolve.now ty }
-    requires variant { variant_type (variant_cases (closed_type resolve.now ty)) ≡ closed_type resolve.now ty }
-    ensures { IsTrue result ↔ HasType (variant_value case payload.now) (closed_type resolve.now ty) }
+fn is_of_case(table: &Types, ty: ValType, case: u32, payload: &Option<Box<Val>>) -> bool
+    requires inside { IsInside table.now ty }
+    requires variant { variant_type (variant_cases (closed_type table.now ty)) ≡ closed_type table.now ty }
+    ensures { IsTrue result ↔ HasType (variant_value case payload.now) (closed_type table.now ty) }
 {
-    let Some(known) = case_payload(resolve, layouts, ty, case as usize) else {
+    let Some(known) = table.case_payload(ty, case as usize) else {
         return false;
     };
     match payload {
@@ -160,7 +144,7 @@ fn is_of_case(
             Some(_) => false,
         },
         Some(value) => match known {
-            Some(member) => is_of(resolve, layouts, member, value),
+            Some(member) => is_of(table, member, value),
             None => false,
         },
     }

@@ -12,7 +12,7 @@ use Rattle.canonical_abi.specs.declared.trap.Fault.{Fault}
 use Rattle.canonical_abi.specs.declared.trap.Fault.TheVariants as ended
 use Rattle.canonical_abi.specs.declared.trap.TrapKind.{TrapKind}
 use Rattle.canonical_abi.proofs.Stopped.{leaves-none}
-use Rattle.lift_lower.specs.Crossing.{IsLowered, LowerFails}
+use Rattle.lift_lower.specs.Crossing.{AreLowered, LowerFails}
 use Rattle.lift_lower.specs.Placing.{IsAreaIn, IsAreaAsked, AreaFails}
 use Rattle.lift_lower.proofs.Scripting.{within-both, leads-both}
 use Rattle.witcall.specs.Session.{IsReady, IsNotReady}
@@ -29,12 +29,12 @@ module _ (allocates : Allocation) (f : FunctionType) (arguments : List Value) (o
   abbrev block : Grant
   block = record { align = align (record_type (result_fields f.result)); size = size (record_type (result_fields f.result)); at = 0; contents = [] }
 
-  pub ready_flat : (mid : Memory) (flats : List Flat) (new : Memory) → IsLowered allocates f.params arguments old flats mid
+  pub ready_flat : (mid : Memory) (flats : List Flat) (new : Memory) → AreLowered allocates f.params arguments old flats mid
       → fits_flat max_flat_results (result_fields f.result) ≡ true → new ≡ mid → IsReady allocates f arguments old flats None new
   ready_flat mid flats new l fits same =
       (l.0, (l.0, flats, l.1, inl (fits, refl, refl)), l.2, subst (λ m. TraceLeads allocates old l.0 m) (sym same) l.3)
 
-  pub ready_with_area : (mid : Memory) (flats given : List Flat) (at : ℕ) (new : Memory) → IsLowered allocates f.params arguments old flats mid
+  pub ready_with_area : (mid : Memory) (flats given : List Flat) (at : ℕ) (new : Memory) → AreLowered allocates f.params arguments old flats mid
       → fits_flat max_flat_results (result_fields f.result) ≡ false → IsAreaAsked allocates (result_fields f.result) mid (Some at) new
       → given ≡ flats ++ I32 at ∷ [] → IsReady allocates f arguments old given (Some at) new
   ready_with_area mid flats given at new l spilled a is =
@@ -62,7 +62,7 @@ module _ (allocates : Allocation) (f : FunctionType) (arguments : List Value) (o
         more_breaks allocates old h.1 (grant block ∷ []) t.kind new h.4,
       )
 
-  pub area_fails : (mid : Memory) (flats : List Flat) (fault : Fault) (new : Memory) → IsLowered allocates f.params arguments old flats mid
+  pub area_fails : (mid : Memory) (flats : List Flat) (fault : Fault) (new : Memory) → AreLowered allocates f.params arguments old flats mid
       → AreaFails allocates (result_fields f.result) mid fault new → IsNotReady allocates f arguments old fault new
   area_fails mid flats ended.NoMemory new l h = absurd h
   area_fails mid flats (ended.Trap t) new l h = (

@@ -7,7 +7,7 @@ use Rattle.canonical_abi.specs.Flat.{Denotes}
 use Rattle.canonical_abi.specs.Guest.{Memory}
 use Rattle.canonical_abi.specs.declared.flat.Flat.{Flat}
 use Rattle.memory.specs.Space.{SpaceAllocates}
-use Rattle.lift_lower.specs.Crossing.{IsLowered}
+use Rattle.lift_lower.specs.Crossing.{AreLowered}
 use Rattle.lift_lower.specs.Val.{value_of}
 use Rattle.tables.specs.Closed.{function_at}
 use Rattle.tables.specs.Names.{IsNamed}
@@ -25,7 +25,7 @@ use Rattle.witcall.specs.declared.reply.Reply.{Reply}
 abbrev pub Replies : FunctionType → List Value → Memory → List Flat → Option (List Flat) → Memory → Type 0
 Replies f vs old given (Some flats) new =
     (arguments : List Value) × Denotes max_flat_params f.params old.bytes given arguments
-    × IsLowered SpaceAllocates (result_fields f.result) vs old flats new
+    × AreLowered SpaceAllocates (result_fields f.result) vs old flats new
 Replies f vs old given None new = Unit {0}
 
 -- it is a body of the function of these names, and its value is what the text says

@@ -12,6 +12,7 @@ use crate::binary::{binary_tables, is_binary};
 use crate::text::text_tables;
 use ctype_bin::BinError;
 use layout::{LayoutError, Layouts};
+use lift_lower::Types;
 use resolve::{Resolve, ResolveError};
 use std::alloc::{AllocError, Global};
 use thiserror::Error;
@@ -124,6 +125,14 @@ impl Package {
         ensures within { ∥ AreWithin self.now.resolve ∥₁ }
     {
         &self.layouts
+    }
+
+    /// The types of the package, with their layouts.
+    pub fn types(&self) -> Types<'_>
+        ensures types { result ≡ self.now.resolve }
+        ensures within { ∥ AreWithin self.now.resolve ∥₁ }
+    {
+        Types::new(&self.resolve, &self.layouts)
     }
 
     /// The same package.

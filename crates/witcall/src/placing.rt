@@ -1,18 +1,16 @@
 //! What stands in the caller before a call: its arguments, and the return area.
 
-ghost use Rattle.std.specs.Prelude.{◌≡◌, map, IfOk, IfErr};
+ghost use Rattle.std.specs.Prelude.{map, IfOk, IfErr};
 ghost use Rattle.canonical_abi.specs.Types.{result_fields};
 ghost use Rattle.canonical_abi.specs.Values.{HaveTypes};
-ghost use Rattle.layout.specs.Layout.{layouts_of};
 ghost use Rattle.tables.specs.Closed.{IsFunction, function_type};
 ghost use Rattle.lift_lower.specs.Placing.{IsAreaIn};
 ghost use Rattle.lift_lower.specs.Val.{value_of};
 ghost use Rattle.witcall.specs.Session.{IsReady, IsNotReady};
 
 use canonical_abi::{Fault, Flat, Guest};
-use layout::Layouts;
-use lift_lower::{Flats, Val, ask_area, lower_arguments};
-use resolve::{FunctionId, Resolve};
+use lift_lower::{Flats, Types, Val, ask_area, lower_arguments};
+use resolve::FunctionId;
 
 /// The core values that a call is given. The last is the address of the return area, where there is one.
 #[derive(Drop)]
@@ -24,24 +22,22 @@ pub(crate) struct Placed {
 /// Lowers the arguments into the caller, and then asks for the return area where the result does not go flat.
 /// Takes no memory of the host.
 pub(crate) fn place_call<C: Guest>(
-    resolve: &Resolve,
-    layouts: &Layouts,
+    table: &Types,
     func: FunctionId,
     arguments: &[Val],
     caller: &mut C,
 ) -> Result<Placed, Fault>
-    requires laid_out { layouts.now ≡ layouts_of resolve.now }
-    requires function { IsFunction resolve.now func }
-    requires typed { HaveTypes (map value_of arguments.now) (function_type resolve.now func).params }
-    ensures placed { IfOk result (λ placed. IsReady C.allocates (function_type resolve.now func) (map value_of arguments.now)
+    requires function { IsFunction table.now func }
+    requires typed { HaveTypes (map value_of arguments.now) (function_type table.now func).params }
+    ensures placed { IfOk result (λ placed. IsReady C.allocates (function_type table.now func) (map value_of arguments.now)
         (C.memory caller.old) placed.flats.items placed.area (C.memory caller.new)) }
-    ensures area { IfOk result (λ placed. IsAreaIn (result_fields (function_type resolve.now func).result)
+    ensures area { IfOk result (λ placed. IsAreaIn (result_fields (function_type table.now func).result)
         (C.memory caller.new).bytes placed.area) }
-    ensures fault { IfErr result (λ fault. IsNotReady C.allocates (function_type resolve.now func) (map value_of arguments.now)
+    ensures fault { IfErr result (λ fault. IsNotReady C.allocates (function_type table.now func) (map value_of arguments.now)
         (C.memory caller.old) fault (C.memory caller.new)) }
 {
-    let mut flats = lower_arguments(resolve, layouts, func, arguments, caller)?;
-    let area = ask_area(resolve, layouts, resolve.signature(func).result, caller)?;
+    let mut flats = lower_arguments(table, func, arguments, caller)?;
+    let area = ask_area(table, table.resolve().signature(func).result, caller)?;
     let Some(at) = area else {
         return Ok(Placed { flats, area });
     };

@@ -103,10 +103,10 @@ impl<'a, C: Guest, E: Guest, B: Body<E>> Session<'a, C, E, B> {
         ensures package { self.new.package.now ≡ self.old.package.now }
         ensures no_memory { IsScalarFunction self.old.package.now.resolve func → result ≢ Err Fault.NoMemory }
     {
-        let resolve = self.package.resolve();
-        let layouts = self.package.layouts();
-        let placed = place_call(resolve, layouts, func, arguments, &mut self.caller)?;
-        let mut link = Link::new(resolve, layouts);
+        let table = self.package.types();
+        let placed = place_call(&table, func, arguments, &mut self.caller)?;
+        let resolve = table.resolve();
+        let mut link = Link::new(resolve, table.layouts());
         let back = link.call(
             alloc,
             func,
@@ -117,8 +117,7 @@ impl<'a, C: Guest, E: Guest, B: Body<E>> Session<'a, C, E, B> {
         )?;
         take_result(
             alloc,
-            resolve,
-            layouts,
+            &table,
             resolve.signature(func).result,
             back.as_slice(),
             placed.area,

@@ -21,7 +21,7 @@ impl Package {
         ensures { IsTrue result ↔ HaveTypes (map value_of arguments.now)
             (function_type self.now.resolve func).params }
     {
-        has_arguments(self.resolve(), self.layouts(), func, arguments)
+        has_arguments(&self.types(), func, arguments)
     }
 }
 

@@ -11,7 +11,7 @@ use Rattle.adapter.proofs.arguments.pass_trees.Goals as goal
 
 pub returns-in-Ok-lift_arguments-clause-fault : goal.returns-in-Ok-lift_arguments-clause-fault
 returns-in-Ok-lift_arguments-clause-fault g c =
-    let r = c.args.resolve.now in
+    let r = c.args.table.now in
     let f = function_type r c.args.func in
     let caller = g.C.Guest.memory c.args.caller.now in
     let callee = g.E.Guest.memory c.args.callee.now in
@@ -25,4 +25,4 @@ returns-in-Ok-lift_arguments-clause-fault g c =
 
 pub returns-clause-fault : goal.returns-clause-fault
 returns-clause-fault g c =
-    no-arguments g.C.Guest.allocates g.E.Guest.allocates (function_type c.args.resolve.now c.args.func) c.args.flats.now (g.C.Guest.memory c.args.caller.now) (g.E.Guest.memory c.args.callee.now) c.in-Err.fault c.in-Err.ensures.fault
+    no-arguments g.C.Guest.allocates g.E.Guest.allocates (function_type c.args.table.now c.args.func) c.args.flats.now (g.C.Guest.memory c.args.caller.now) (g.E.Guest.memory c.args.callee.now) c.in-Err.fault c.in-Err.ensures.fault

@@ -11,21 +11,21 @@ use Rattle.adapter.proofs.signature.parameter_types.Goals as goal
 
 pub returns-clause-types : goal.returns-clause-types
 returns-clause-types c =
-    let r = c.args.resolve.now in
+    let r = c.args.table.now in
     let s = c.signature.result.now in
     let P : List ValType → Type 0 = λ ts. (function_type r c.args.func).params ≡ fields_of_types r ts in
-    if-ok-as c.types_of.result _ _ (λ types is. subst P (sym is) (rw c.as_slice.ensures (params-are r c.args.func c.requires.function s c.signature.ensures))) c.types_of.ensures
+    if-ok-as c.types_of.result _ _ (λ types is. subst P (sym is) (rw c.as_slice.ensures (params-are r c.args.func c.requires.function s (rw c.resolve.ensures at c.signature.ensures)))) c.types_of.ensures
 
 pub returns-clause-known : goal.returns-clause-known
 returns-clause-known c =
-    let r = c.args.resolve.now in
+    let r = c.args.table.now in
     let s = c.signature.result.now in
     let P : List ValType → Type 0 = λ ts. AreTypesOf r ts in
-    if-ok-as c.types_of.result _ _ (λ types is. subst P (sym is) (rw c.as_slice.ensures (params-known r c.args.func c.requires.function s c.signature.ensures))) c.types_of.ensures
+    if-ok-as c.types_of.result _ _ (λ types is. subst P (sym is) (rw c.as_slice.ensures (params-known r c.args.func c.requires.function s (rw c.resolve.ensures at c.signature.ensures)))) c.types_of.ensures
 
 pub returns-clause-small : goal.returns-clause-small
 returns-clause-small c =
-    let r = c.args.resolve.now in
+    let r = c.args.table.now in
     let s = c.signature.result.now in
     let P : List ValType → Type 0 = λ ts. size (record_type (fields_of_types r ts)) ≤ 16777216 in
-    if-ok-as c.types_of.result _ _ (λ types is. subst P (sym is) (rw c.as_slice.ensures (params-small r c.args.func c.requires.function s c.signature.ensures c.requires.within))) c.types_of.ensures
+    if-ok-as c.types_of.result _ _ (λ types is. subst P (sym is) (rw c.as_slice.ensures (params-small r c.args.func c.requires.function s (rw c.resolve.ensures at c.signature.ensures) c.requires.within))) c.types_of.ensures

@@ -8,11 +8,11 @@ use Rattle.lift_lower.proofs.lifting.lift_value.Goals as goal
 
 pub returns-then-not-are_kinds-clause-value : goal.returns-then-not-are_kinds-clause-value
 returns-then-not-are_kinds-clause-value c =
-    denotes-spilled-not max_flat_results (field (closed_type c.args.resolve.now c.args.ty) no_field) c.args.memory.now c.args.flats.now c.in_default.ensures.spilled (λ kinds. let h = c.are_kinds.ensures.1 kinds in cc)
+    denotes-spilled-not max_flat_results (field (closed_type c.args.table.now c.args.ty) no_field) c.args.memory.now c.args.flats.now c.in_default.ensures.spilled (λ kinds. let h = c.are_kinds.ensures.1 kinds in cc)
 
 pub returns-in_default-clause-value : goal.returns-in_default-clause-value
 returns-in_default-clause-value c =
-    let t = closed_type c.args.resolve.now c.args.ty in
+    let t = closed_type c.args.table.now c.args.ty in
     let kinds = c.are_kinds.ensures.0 c.if-not-are_kinds.false in
     let read = rw c.low_word-at.ensures at c.load_block.ensures.value in
     gives-spilled t c.args.memory.now c.args.flats.now c.load_block.result c.in_default.ensures.spilled kinds read
@@ -20,10 +20,10 @@ returns-in_default-clause-value c =
 pub returns-then-not-are_kinds-2-clause-value : goal.returns-then-not-are_kinds-2-clause-value
 returns-then-not-are_kinds-2-clause-value c =
     let same = c.as_slice.ensures.value ∙ c.in-Some.ensures.kinds in
-    denotes-flat-not max_flat_results (field (closed_type c.args.resolve.now c.args.ty) no_field) c.args.memory.now c.args.flats.now c.in-Some.ensures.flat (λ kinds. let h = c.are_kinds-2.ensures.1 (kinds ∙ sym same) in cc)
+    denotes-flat-not max_flat_results (field (closed_type c.args.table.now c.args.ty) no_field) c.args.memory.now c.args.flats.now c.in-Some.ensures.flat (λ kinds. let h = c.are_kinds-2.ensures.1 (kinds ∙ sym same) in cc)
 
 pub returns-clause-value : goal.returns-clause-value
 returns-clause-value c =
-    let t = closed_type c.args.resolve.now c.args.ty in
+    let t = closed_type c.args.table.now c.args.ty in
     let kinds = c.are_kinds-2.ensures.0 c.if-not-are_kinds-2.false ∙ c.as_slice.ensures.value ∙ c.in-Some.ensures.kinds in
     gives-flat t c.args.memory.now c.args.flats.now c.lift_at.result c.in-Some.ensures.flat kinds c.lift_at.ensures.value

@@ -2,12 +2,12 @@ use Rattle.std.proofs.Common.{arith}
 use Rattle.canonical_abi.specs.Types.{record_type}
 use Rattle.lift_lower.specs.Crossing.{fields_of_types}
 use Rattle.lift_lower.proofs.Denoting.{count-types}
-use Rattle.lift_lower.proofs.Extents.{align-pos}
+use Rattle.lift_lower.proofs.TypesExtents.{align-pos}
 use Rattle.lift_lower.proofs.lifting.load_spilled.Goals as goal
 
 pub check_block-requires-clause-aligned : goal.check_block-requires-clause-aligned
 check_block-requires-clause-aligned c =
-    omega (arith, align-pos (record_type (fields_of_types c.args.resolve.now c.args.types.now)), c.record_extent-size.ensures.align)
+    omega (arith, align-pos (record_type (fields_of_types c.args.table.now c.args.types.now)), c.record_extent-size.ensures.align)
 
 pub load_fields-requires-clause-counted : goal.load_fields-requires-clause-counted
-load_fields-requires-clause-counted c = count-types c.args.resolve.now c.args.types.now
+load_fields-requires-clause-counted c = count-types c.args.table.now c.args.types.now

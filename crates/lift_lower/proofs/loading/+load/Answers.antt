@@ -9,28 +9,28 @@ use Rattle.canonical_abi.specs.Reading.{reading, number_at, byte_width, case_num
 use Rattle.tables.specs.Closed.{closed_type}
 use Rattle.lift_lower.specs.Members.{members_fields}
 use Rattle.lift_lower.specs.Val.{value_of}
-use Rattle.lift_lower.proofs.Extents.{member-depth, case-depth, payload-place, payload-fits}
-use Rattle.lift_lower.proofs.Passing.{fails-pass, listed, list-opened, read-list}
+use Rattle.lift_lower.proofs.TypesExtents.{member-depth, case-depth, payload-place, payload-fits}
+use Rattle.lift_lower.proofs.Loadings.{fails-pass, listed, list-opened, read-list}
 use Rattle.lift_lower.proofs.Steps.{each-more, each-fault, fields-more, fields-fault, fields-done, fields-end, fields-inside, nth_field-some, case-none, case-plain, case-payload, plain-none}
 use Rattle.lift_lower.proofs.Views.{value_of-List, value_of-None, value_of-Some}
 use Rattle.lift_lower.proofs.loading.+load.Goals as goal
 
 pub load_at-returns-in_err-items-in-List-clause-value : goal.load_at-returns-in_err-items-in-List-clause-value
 load_at-returns-in_err-items-in-List-clause-value t c =
-    let r = c.args.resolve.now in
+    let r = c.args.table.now in
     let opened = read-list (closed_type r c.args.ty) (closed_type r c.in-List.element) c.args.memory.now c.args.at c.u32_at-start-in-List.result c.u32_at-count.result c.in-List.ensures.shape.0 c.u32_at-start-in-List.ensures c.u32_at-count.ensures in
     let p = err_from_is_err_and c.from_residual.result c.from_residual.ensures.1 in
     rw (p.1, p.2) (fails-pass c.in_err-items-in-List.field-0.0 _ _ c.in_err-items-in-List.ensures (λ k e. opened ∙ e))
 
 pub load_at-returns-in_ok-items-in-List-clause-value : goal.load_at-returns-in_ok-items-in-List-clause-value
 load_at-returns-in_ok-items-in-List-clause-value t c =
-    let r = c.args.resolve.now in
+    let r = c.args.table.now in
     let opened = read-list (closed_type r c.args.ty) (closed_type r c.in-List.element) c.args.memory.now c.args.at c.u32_at-start-in-List.result c.u32_at-count.result c.in-List.ensures.shape.0 c.u32_at-start-in-List.ensures c.u32_at-count.ensures in
     rw value_of-List (opened ∙ c.in_ok-items-in-List.ensures)
 
 pub load_list-returns-in_err-item : goal.load_list-returns-in_err-item
 load_list-returns-in_err-item t c =
-    let f = reading (closed_type c.args.resolve.now c.args.element) c.args.memory.now in
+    let f = reading (closed_type c.args.table.now c.args.element) c.args.memory.now in
     let step = c.size_of-step.result in
     let opened = list-opened f c.args.memory.now c.args.start c.args.count c.align_of-align.result step _ _ c.align_of-align.ensures.value c.size_of-step.ensures.value c.in_ok-check_block.ensures.value in
     let p = err_from_is_err_and c.from_residual-in_err-item.result c.from_residual-in_err-item.ensures.1 in
@@ -39,38 +39,38 @@ load_list-returns-in_err-item t c =
 
 pub load_list-loop-index-preserved : goal.load_list-loop-index-preserved
 load_list-loop-index-preserved t c =
-    let f = reading (closed_type c.args.resolve.now c.args.element) c.args.memory.now in
+    let f = reading (closed_type c.args.table.now c.args.element) c.args.memory.now in
     rw (c.in_ok-push.ensures.items, map-append) (each-more f c.size_of-step.result c.args.start c.args.count c.loop-index.index _ _ (omega arith) c.loop-index.invariant (value_of c.in_ok-item.item) c.in_ok-item.ensures.value)
 
 pub load_fields-unreachable-requires : goal.load_fields-unreachable-requires
 load_fields-unreachable-requires t c =
-    nth_field-some (members_fields c.args.resolve.now c.args.members.now) c.loop-index.index (omega (arith, c.requires.counted)) (sym c.in_default.ensures.found)
+    nth_field-some (members_fields c.args.table.now c.args.members.now) c.loop-index.index (omega (arith, c.requires.counted)) (sym c.in_default.ensures.found)
 
 pub load_fields-next_multiple_of-place-requires-clause-fits : goal.load_fields-next_multiple_of-place-requires-clause-fits
 load_fields-next_multiple_of-place-requires-clause-fits t c =
-    let fs = members_fields c.args.resolve.now c.args.members.now in
-    let h = fields-inside fs c.loop-index.index (closed_type c.args.resolve.now c.in-Some.member) c.loop-index.end _ (sym c.in-Some.ensures.found) c.loop-index.invariant.1 in
+    let fs = members_fields c.args.table.now c.args.members.now in
+    let h = fields-inside fs c.loop-index.index (closed_type c.args.table.now c.in-Some.member) c.loop-index.end _ (sym c.in-Some.ensures.found) c.loop-index.invariant.1 in
     rw c.align_of.ensures.value (omega arith)
 
 pub load_fields-overflow_add-at : goal.load_fields-overflow_add-at
 load_fields-overflow_add-at t c =
-    let fs = members_fields c.args.resolve.now c.args.members.now in
-    let h = fields-inside fs c.loop-index.index (closed_type c.args.resolve.now c.in-Some.member) c.loop-index.end _ (sym c.in-Some.ensures.found) c.loop-index.invariant.1 in
+    let fs = members_fields c.args.table.now c.args.members.now in
+    let h = fields-inside fs c.loop-index.index (closed_type c.args.table.now c.in-Some.member) c.loop-index.end _ (sym c.in-Some.ensures.found) c.loop-index.invariant.1 in
     let g = rw (← c.align_of.ensures.value, ← c.next_multiple_of-place.ensures.value) at h in
     omega arith
 
 pub load_fields-load_at-requires : goal.load_fields-load_at-requires
 load_fields-load_at-requires t c =
-    let fs = members_fields c.args.resolve.now c.args.members.now in
-    let u = closed_type c.args.resolve.now c.in-Some.member in
+    let fs = members_fields c.args.table.now c.args.members.now in
+    let u = closed_type c.args.table.now c.in-Some.member in
     let h = fields-inside fs c.loop-index.index u c.loop-index.end _ (sym c.in-Some.ensures.found) c.loop-index.invariant.1 in
     let g = rw (← c.align_of.ensures.value, ← c.next_multiple_of-place.ensures.value) at h in
-    (omega (arith, member-depth fs c.loop-index.index u (sym c.in-Some.ensures.found), c.decreases), (c.requires.laid_out, (c.in-Some.ensures.inside, omega arith)))
+    (omega (arith, member-depth fs c.loop-index.index u (sym c.in-Some.ensures.found), c.decreases), (c.in-Some.ensures.inside, omega arith))
 
 pub load_fields-returns-in_err-field : goal.load_fields-returns-in_err-field
 load_fields-returns-in_err-field t c =
-    let fs = members_fields c.args.resolve.now c.args.members.now in
-    let u = closed_type c.args.resolve.now c.in-Some.member in
+    let fs = members_fields c.args.table.now c.args.members.now in
+    let u = closed_type c.args.table.now c.in-Some.member in
     let place : c.next_multiple_of-place.result ≡ next_multiple_of c.loop-index.end (align u) = c.next_multiple_of-place.ensures.value ∙ ap (next_multiple_of c.loop-index.end) c.align_of.ensures.value in
     let p = err_from_is_err_and c.from_residual.result c.from_residual.ensures.1 in
     rw (p.1, p.2) (fails-pass c.in_err-field.field-0.0 _ _ c.in_err-field.ensures.value (λ k e.
@@ -78,15 +78,15 @@ load_fields-returns-in_err-field t c =
 
 pub load_fields-overflow_add-end : goal.load_fields-overflow_add-end
 load_fields-overflow_add-end t c =
-    let fs = members_fields c.args.resolve.now c.args.members.now in
-    let h = fields-inside fs c.loop-index.index (closed_type c.args.resolve.now c.in-Some.member) c.loop-index.end _ (sym c.in-Some.ensures.found) c.loop-index.invariant.1 in
+    let fs = members_fields c.args.table.now c.args.members.now in
+    let h = fields-inside fs c.loop-index.index (closed_type c.args.table.now c.in-Some.member) c.loop-index.end _ (sym c.in-Some.ensures.found) c.loop-index.invariant.1 in
     let g = rw (← c.align_of.ensures.value, ← c.next_multiple_of-place.ensures.value) at h in
     omega (arith, c.size_of.ensures.value)
 
 pub load_fields-loop-index-preserved : goal.load_fields-loop-index-preserved
 load_fields-loop-index-preserved t c =
-    let fs = members_fields c.args.resolve.now c.args.members.now in
-    let u = closed_type c.args.resolve.now c.in-Some.member in
+    let fs = members_fields c.args.table.now c.args.members.now in
+    let u = closed_type c.args.table.now c.in-Some.member in
     let place : c.next_multiple_of-place.result ≡ next_multiple_of c.loop-index.end (align u) = c.next_multiple_of-place.ensures.value ∙ ap (next_multiple_of c.loop-index.end) c.align_of.ensures.value in
     rw (place, c.size_of.ensures.value, c.in_ok-push.ensures.items, map-append) (
       fields-more fs c.args.memory.now c.args.at c.loop-index.end c.loop-index.index u _ _ (sym c.in-Some.ensures.found) c.loop-index.invariant.0 (value_of c.in_ok-field.field) (ap (λ x. reading u c.args.memory.now (c.args.at + x)) (sym place) ∙ c.in_ok-field.ensures.value),
@@ -97,12 +97,12 @@ pub load_fields-returns : goal.load_fields-returns
 load_fields-returns t c =
     let w = c.loop-index.invariant.0 in
     let i : c.args.count ≡ c.loop-index.index = omega arith in
-    let fs = members_fields c.args.resolve.now c.args.members.now in
+    let fs = members_fields c.args.table.now c.args.members.now in
     fields-done fs c.args.memory.now c.args.at c.loop-index.end c.loop-index.index (prim_type boolean) _ _ (c.requires.counted ∙ i) w
 
 pub load_variant-returns-in_default-clause-value : goal.load_variant-returns-in_default-clause-value
 load_variant-returns-in_default-clause-value t c =
-    let cs = variant_cases (closed_type c.args.resolve.now c.args.ty) in
+    let cs = variant_cases (closed_type c.args.table.now c.args.ty) in
     let m = c.args.memory.now in
     let i = c.number_of_size-case.result in
     let num : i ≡ case_number cs m c.args.at =
@@ -111,34 +111,34 @@ load_variant-returns-in_default-clause-value t c =
 
 pub load_variant-returns-in_default-payload-clause-value : goal.load_variant-returns-in_default-payload-clause-value
 load_variant-returns-in_default-payload-clause-value t c =
-    let cs = variant_cases (closed_type c.args.resolve.now c.args.ty) in
+    let cs = variant_cases (closed_type c.args.table.now c.args.ty) in
     let m = c.args.memory.now in
     let i = c.number_of_size-case.result in
     let num : i ≡ case_number cs m c.args.at =
     c.number_of_size-case.ensures ∙ ap (λ w. number_at m c.args.at (byte_width w)) (c.discriminant_bytes.ensures.value ∙ ap discriminant_size (sym c.requires.counted)) in
-    let found : nth_case cs i ≡ Some None = sym c.in-Some.ensures.found ∙ ap (λ o. Some (option_map (closed_type c.args.resolve.now) o)) c.in_default-payload.is in
+    let found : nth_case cs i ≡ Some None = sym c.in-Some.ensures.found ∙ ap (λ o. Some (option_map (closed_type c.args.table.now) o)) c.in_default-payload.is in
     rw (← num, value_of-None) (case-plain m _ i cs i found)
 
 pub load_variant-load_at-requires : goal.load_variant-load_at-requires
 load_variant-load_at-requires t c =
-    let v = closed_type c.args.resolve.now c.args.ty in
+    let v = closed_type c.args.table.now c.args.ty in
     let cs = variant_cases v in
-    let u = closed_type c.args.resolve.now c.in-Some-payload.member in
-    let found : nth_case cs c.number_of_size-case.result ≡ Some (Some u) = sym c.in-Some.ensures.found ∙ ap (λ o. Some (option_map (closed_type c.args.resolve.now) o)) c.in-Some-payload.is in
+    let u = closed_type c.args.table.now c.in-Some-payload.member in
+    let found : nth_case cs c.number_of_size-case.result ≡ Some (Some u) = sym c.in-Some.ensures.found ∙ ap (λ o. Some (option_map (closed_type c.args.table.now) o)) c.in-Some-payload.is in
     let inside = rw c.in-Some-payload.is at c.in-Some.ensures.inside in
     let place : c.align_of-place.result ≡ payload_place cs = c.align_of-place.ensures.value ∙ ap align (sym c.requires.variant) ∙ sym (payload-place cs) in
     let whole = ap size c.requires.variant in
-    (omega (arith, case-depth v c.number_of_size-case.result u found, c.decreases), (c.requires.laid_out, (inside, omega (arith, payload-fits cs c.number_of_size-case.result u found))))
+    (omega (arith, case-depth v c.number_of_size-case.result u found, c.decreases), (inside, omega (arith, payload-fits cs c.number_of_size-case.result u found)))
 
 pub load_variant-returns-in_err-value-clause-value : goal.load_variant-returns-in_err-value-clause-value
 load_variant-returns-in_err-value-clause-value t c =
-    let cs = variant_cases (closed_type c.args.resolve.now c.args.ty) in
+    let cs = variant_cases (closed_type c.args.table.now c.args.ty) in
     let m = c.args.memory.now in
     let i = c.number_of_size-case.result in
     let num : i ≡ case_number cs m c.args.at =
     c.number_of_size-case.ensures ∙ ap (λ w. number_at m c.args.at (byte_width w)) (c.discriminant_bytes.ensures.value ∙ ap discriminant_size (sym c.requires.counted)) in
-    let u = closed_type c.args.resolve.now c.in-Some-payload.member in
-    let found : nth_case cs i ≡ Some (Some u) = sym c.in-Some.ensures.found ∙ ap (λ o. Some (option_map (closed_type c.args.resolve.now) o)) c.in-Some-payload.is in
+    let u = closed_type c.args.table.now c.in-Some-payload.member in
+    let found : nth_case cs i ≡ Some (Some u) = sym c.in-Some.ensures.found ∙ ap (λ o. Some (option_map (closed_type c.args.table.now) o)) c.in-Some-payload.is in
     let place : c.align_of-place.result ≡ payload_place cs = c.align_of-place.ensures.value ∙ ap align (sym c.requires.variant) ∙ sym (payload-place cs) in
     let p = err_from_is_err_and c.from_residual.result c.from_residual.ensures.1 in
     rw (p.1, p.2, ← num, ← place) (fails-pass c.in_err-value.field-0.0 _ _ c.in_err-value.ensures.value (λ k e.
@@ -146,27 +146,27 @@ load_variant-returns-in_err-value-clause-value t c =
 
 pub load_variant-returns-clause-value : goal.load_variant-returns-clause-value
 load_variant-returns-clause-value t c =
-    let cs = variant_cases (closed_type c.args.resolve.now c.args.ty) in
+    let cs = variant_cases (closed_type c.args.table.now c.args.ty) in
     let m = c.args.memory.now in
     let i = c.number_of_size-case.result in
     let num : i ≡ case_number cs m c.args.at =
     c.number_of_size-case.ensures ∙ ap (λ w. number_at m c.args.at (byte_width w)) (c.discriminant_bytes.ensures.value ∙ ap discriminant_size (sym c.requires.counted)) in
-    let u = closed_type c.args.resolve.now c.in-Some-payload.member in
-    let found : nth_case cs i ≡ Some (Some u) = sym c.in-Some.ensures.found ∙ ap (λ o. Some (option_map (closed_type c.args.resolve.now) o)) c.in-Some-payload.is in
+    let u = closed_type c.args.table.now c.in-Some-payload.member in
+    let found : nth_case cs i ≡ Some (Some u) = sym c.in-Some.ensures.found ∙ ap (λ o. Some (option_map (closed_type c.args.table.now) o)) c.in-Some-payload.is in
     let place : c.align_of-place.result ≡ payload_place cs = c.align_of-place.ensures.value ∙ ap align (sym c.requires.variant) ∙ sym (payload-place cs) in
     let boxed : c.in_ok-new.field-0.value ≡ c.in_ok-value.value = c.in_ok-new.ensures.ok in
     rw (← num, ← place, value_of-Some, boxed) (case-payload m _ i cs i u found ∙ ap (λ r. r >>= λ v. Ok (payload_value i v)) c.in_ok-value.ensures.value)
 
 pub load_variant-returns-in_err-value-clause-plain : goal.load_variant-returns-in_err-value-clause-plain
 load_variant-returns-in_err-value-clause-plain t c =
-    let cs = variant_cases (closed_type c.args.resolve.now c.args.ty) in
-    let u = closed_type c.args.resolve.now c.in-Some-payload.member in
-    let found : nth_case cs c.number_of_size-case.result ≡ Some (Some u) = sym c.in-Some.ensures.found ∙ ap (λ o. Some (option_map (closed_type c.args.resolve.now) o)) c.in-Some-payload.is in
+    let cs = variant_cases (closed_type c.args.table.now c.args.ty) in
+    let u = closed_type c.args.table.now c.in-Some-payload.member in
+    let found : nth_case cs c.number_of_size-case.result ≡ Some (Some u) = sym c.in-Some.ensures.found ∙ ap (λ o. Some (option_map (closed_type c.args.table.now) o)) c.in-Some-payload.is in
     λ plain none. plain-none cs c.number_of_size-case.result u plain found
 
 pub load_variant-returns-in_err-new-clause-plain : goal.load_variant-returns-in_err-new-clause-plain
 load_variant-returns-in_err-new-clause-plain t c =
-    let cs = variant_cases (closed_type c.args.resolve.now c.args.ty) in
-    let u = closed_type c.args.resolve.now c.in-Some-payload.member in
-    let found : nth_case cs c.number_of_size-case.result ≡ Some (Some u) = sym c.in-Some.ensures.found ∙ ap (λ o. Some (option_map (closed_type c.args.resolve.now) o)) c.in-Some-payload.is in
+    let cs = variant_cases (closed_type c.args.table.now c.args.ty) in
+    let u = closed_type c.args.table.now c.in-Some-payload.member in
+    let found : nth_case cs c.number_of_size-case.result ≡ Some (Some u) = sym c.in-Some.ensures.found ∙ ap (λ o. Some (option_map (closed_type c.args.table.now) o)) c.in-Some-payload.is in
     λ plain none. plain-none cs c.number_of_size-case.result u plain found

@@ -8,24 +8,24 @@ use Rattle.lift_lower.proofs.Steps.{with_front, fields_from, fields_end}
 use Rattle.lift_lower.proofs.loading.+load.Given as goal
 
 abbrev pub decreases-load_at : goal.decreases-load_at
-decreases-load_at l = 2 * depth (closed_type l.resolve.now l.ty) + 1
+decreases-load_at l = 2 * depth (closed_type l.table.now l.ty) + 1
 
 abbrev pub decreases-load_list : goal.decreases-load_list
-decreases-load_list l = 2 * depth (closed_type l.resolve.now l.element) + 2
+decreases-load_list l = 2 * depth (closed_type l.table.now l.element) + 2
 
 abbrev pub decreases-load_fields : goal.decreases-load_fields
-decreases-load_fields l = 2 * fields_depth (members_fields l.resolve.now l.members.now) + 2
+decreases-load_fields l = 2 * fields_depth (members_fields l.table.now l.members.now) + 2
 
 abbrev pub decreases-load_variant : goal.decreases-load_variant
-decreases-load_variant l = 2 * depth (closed_type l.resolve.now l.ty)
+decreases-load_variant l = 2 * depth (closed_type l.table.now l.ty)
 
 abbrev pub invariant-load_list-loop-index : goal.invariant-load_list-loop-index
 invariant-load_list-loop-index l =
-    let f = reading (closed_type l.resolve l.element) l.memory in
+    let f = reading (closed_type l.table l.element) l.memory in
     with_front (map value_of l.items.items) (each_at f l.step (l.start + l.index * l.step) (l.count - l.index)) ≡ each_at f l.step l.start l.count
 
 abbrev pub invariant-load_fields-loop-index : goal.invariant-load_fields-loop-index
 invariant-load_fields-loop-index l =
-    let fs = members_fields l.resolve l.members in
+    let fs = members_fields l.table l.members in
     (with_front (map value_of l.fields.items) (reading_fields (fields_from l.index fs) l.memory l.at l.end) ≡ reading_fields fs l.memory l.at 0)
     × (fields_end l.end (fields_from l.index fs) ≡ fields_end 0 fs)

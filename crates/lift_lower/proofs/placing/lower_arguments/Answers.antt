@@ -8,21 +8,21 @@ use Rattle.lift_lower.proofs.Placings.{closed-row, is-record, passes-few, is-low
 use Rattle.lift_lower.proofs.placing.lower_arguments.Goals as goal
 
 pub lower_record-requires-clause-record : goal.lower_record-requires-clause-record
-lower_record-requires-clause-record g c = is-record _ _ (closed-row c.args.resolve.now c.args.func c.requires.function)
+lower_record-requires-clause-record g c = is-record _ _ (closed-row c.args.table.now c.args.func c.requires.function)
 
 pub lower_record-requires-clause-standard : goal.lower_record-requires-clause-standard
 lower_record-requires-clause-standard g c =
-    let own = ap record_fields (closed-row c.args.resolve.now c.args.func c.requires.function) in
-    subst AreStandardFields (sym own) (function-standard c.args.resolve.now c.args.func c.requires.function).params
+    let own = ap record_fields (closed-row c.args.table.now c.args.func c.requires.function) in
+    subst AreStandardFields (sym own) (function-standard c.args.table.now c.args.func c.requires.function).params
 
 pub lower_record-requires-clause-typed : goal.lower_record-requires-clause-typed
 lower_record-requires-clause-typed g c =
-    let own = ap record_fields (closed-row c.args.resolve.now c.args.func c.requires.function) in
+    let own = ap record_fields (closed-row c.args.table.now c.args.func c.requires.function) in
     subst (HaveTypes (map value_of c.args.values.now)) (sym own) c.requires.typed
 
 pub returns-in-Ok-clause-flats : goal.returns-in-Ok-clause-flats
 returns-in-Ok-clause-flats g c =
-    let own = ap record_fields (closed-row c.args.resolve.now c.args.func c.requires.function) in
+    let own = ap record_fields (closed-row c.args.table.now c.args.func c.requires.function) in
     is-lowered g.G.Guest.allocates _ _ own (map value_of c.args.values.now) (g.G.Guest.memory c.args.guest.now) (g.G.Guest.memory c.lower_record.new.guest) c.in-Ok.flats.items c.in-Ok.ensures.ok
 
 pub returns-in-Ok-clause-few : goal.returns-in-Ok-clause-few
@@ -32,5 +32,5 @@ returns-in-Ok-clause-few g c =
 
 pub returns-in-Err-clause-fault : goal.returns-in-Err-clause-fault
 returns-in-Err-clause-fault g c =
-    let own = ap record_fields (closed-row c.args.resolve.now c.args.func c.requires.function) in
+    let own = ap record_fields (closed-row c.args.table.now c.args.func c.requires.function) in
     lower-fails g.G.Guest.allocates _ _ own (map value_of c.args.values.now) (g.G.Guest.memory c.args.guest.now) (g.G.Guest.memory c.lower_record.new.guest) c.in-Err.kind c.place_fault.result c.place_fault.ensures c.in-Err.ensures.fault

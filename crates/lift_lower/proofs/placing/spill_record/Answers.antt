@@ -11,11 +11,11 @@ use Rattle.lift_lower.proofs.Scripting.{asked}
 use Rattle.lift_lower.proofs.placing.spill_record.Goals as goal
 
 pub ask_block-requires : goal.ask_block-requires
-ask_block-requires g c = record { aligned = rw c.align_of-align.ensures.value (is-alignment (closed_type c.args.resolve.now c.args.ty)) }
+ask_block-requires g c = record { aligned = rw c.align_of-align.ensures.value (is-alignment (closed_type c.args.table.now c.args.ty)) }
 
 pub returns-in_err-start-clause-fault : goal.returns-in_err-start-clause-fault
 returns-in_err-start-clause-fault g c =
-    let t = closed_type c.args.resolve.now c.args.ty in
+    let t = closed_type c.args.table.now c.args.ty in
     let ts = record_fields t in
     let old = g.G.Guest.memory c.args.guest.now in
     let new = g.G.Guest.memory c.ask_block.new.guest in
@@ -28,7 +28,7 @@ returns-in_err-start-clause-fault g c =
 
 pub returns-in_err-store_fields-clause-fault : goal.returns-in_err-store_fields-clause-fault
 returns-in_err-store_fields-clause-fault g c =
-    let t = closed_type c.args.resolve.now c.args.ty in
+    let t = closed_type c.args.table.now c.args.ty in
     let ts = record_fields t in
     let is_align : c.align_of-align.result ≡ align (record_type ts) = c.align_of-align.ensures.value ∙ ap align c.requires.record in
     let is_size : c.size_of-size.result ≡ size (record_type ts) = c.size_of-size.ensures.value ∙ ap size c.requires.record in
@@ -38,7 +38,7 @@ returns-in_err-store_fields-clause-fault g c =
 
 pub returns-clause-ok : goal.returns-clause-ok
 returns-clause-ok g c =
-    let t = closed_type c.args.resolve.now c.args.ty in
+    let t = closed_type c.args.table.now c.args.ty in
     let ts = record_fields t in
     let is_align : c.align_of-align.result ≡ align (record_type ts) = c.align_of-align.ensures.value ∙ ap align c.requires.record in
     let is_size : c.size_of-size.result ≡ size (record_type ts) = c.size_of-size.ensures.value ∙ ap size c.requires.record in

@@ -12,7 +12,7 @@ use Rattle.tables.specs.Closed.{closed_type, closed_types}
 use Rattle.lift_lower.specs.Members.{members_fields}
 use Rattle.lift_lower.specs.Scalar.{prim_in, value_in}
 use Rattle.lift_lower.specs.Val.{value_of}
-use Rattle.lift_lower.proofs.Extents.{member-depth, case-depth, payload-place, payload-fits, fields-fit}
+use Rattle.lift_lower.proofs.TypesExtents.{member-depth, case-depth, payload-place, payload-fits, fields-fit}
 use Rattle.lift_lower.proofs.Scripting.{begun, begun-as, begun-done, done-as, ended-as, if-err-as, on-ok-as}
 use Rattle.lift_lower.proofs.Steps.{fields-inside, fields-end, nth_field-some}
 use Rattle.lift_lower.proofs.Storings.{ItemsFrom, items-first, items-none, item-inside, item-done, item-ended, FieldsFrom, stored-none, field-done, field-ended, list-done, list-ended, list-refused, record-done, record-ended, plain-stored, payload-stored, case-done, case-ended, plain-done, scalar-done, flags-done}
@@ -22,26 +22,26 @@ use Rattle.lift_lower.proofs.storing.+store.Goals as goal
 
 pub store_at-store_text-requires-clause-room : goal.store_at-store_text-requires-clause-room
 store_at-store_text-requires-clause-room g t c =
-    let T = closed_type c.args.resolve.now c.args.ty in
+    let T = closed_type c.args.table.now c.args.ty in
     let e : size T ≡ 8 = ap size (type-of-text T _ (rw (c.in-String.is, value_of-String) at c.requires.typed)) in
     omega (arith, e, c.requires.room)
 
 pub store_at-store_text-requires-clause-small : goal.store_at-store_text-requires-clause-small
 store_at-store_text-requires-clause-small g t c =
-    let T = closed_type c.args.resolve.now c.args.ty in
+    let T = closed_type c.args.table.now c.args.ty in
     let e : size T ≡ 8 = ap size (type-of-text T _ (rw (c.in-String.is, value_of-String) at c.requires.typed)) in
     omega (arith, e, c.requires.small)
 
 pub store_at-unreachable-requires : goal.store_at-unreachable-requires
 store_at-unreachable-requires g t c =
-    let r = c.args.resolve.now in
+    let r = c.args.table.now in
     let P : ClosedType → Type 0 = λ x. HasType (list_value (values_of (map value_of c.in-List.items.items))) x in
     let typed = (rw (c.in-List.is, value_of-List) at c.requires.typed) in
     not-list (closed_types r) (closed_type r c.args.ty) c.shape_of.result (values_of (map value_of c.in-List.items.items)) c.shape_of.ensures.shape.0 c.in_default-shape_of.not-List typed
 
 pub store_at-store_list-requires : goal.store_at-store_list-requires
 store_at-store_list-requires g t c κs within =
-    let r = c.args.resolve.now in
+    let r = c.args.table.now in
     let T = closed_type r c.args.ty in
     let u = closed_type r c.in-List-shape_of.element in
     let e : T ≡ list_type u = c.in-List-shape_of.ensures.shape.0 in
@@ -50,11 +50,11 @@ store_at-store_list-requires g t c κs within =
     let P : List Value → Type 0 = λ xs. AllByRecursion (λ w. HasType w u) xs in
     let typed = is-list (map value_of c.in-List.items.items) T u e (rw (c.in-List.is, value_of-List) at c.requires.typed) in
     let items = subst P (sym (ap (map value_of) c.as_slice-items.ensures.value)) typed in
-    (omega (arith, deep, c.decreases), (within, (c.requires.laid_out, (c.in-List-shape_of.ensures.shape.1, (subst IsStandard e c.requires.standard, (items, (omega (arith, wide, c.requires.room), omega (arith, wide, c.requires.small))))))))
+    (omega (arith, deep, c.decreases), (within, (c.in-List-shape_of.ensures.shape.1, (subst IsStandard e c.requires.standard, (items, (omega (arith, wide, c.requires.room), omega (arith, wide, c.requires.small)))))))
 
 pub store_at-store_fields-requires : goal.store_at-store_fields-requires
 store_at-store_fields-requires g t c κs within =
-    let r = c.args.resolve.now in
+    let r = c.args.table.now in
     let T = closed_type r c.args.ty in
     let F = closed_type r c.args.ty in
     let same : T ≡ F = refl in
@@ -68,18 +68,18 @@ store_at-store_fields-requires g t c κs within =
     let standard = subst IsStandard (same ∙ only) c.requires.standard in
     let Q : List Value → Type 0 = λ xs. HaveTypes xs fs in
     let values = subst Q (sym (ap (map value_of) c.as_slice-fields.ensures.value)) (is-record vs F fs only typed) in
-    (omega (arith, deep, c.decreases), (within, (c.requires.laid_out, (c.requires.inside, (standard.1, (values, (omega (arith, wide, fields-fit fs, c.requires.room), omega (arith, wide, fields-fit fs, c.requires.small))))))))
+    (omega (arith, deep, c.decreases), (within, (c.requires.inside, (standard.1, (values, (omega (arith, wide, fields-fit fs, c.requires.room), omega (arith, wide, fields-fit fs, c.requires.small)))))))
 
 pub store_at-unreachable-requires-in_default-shape_of-2 : goal.store_at-unreachable-requires-in_default-shape_of-2
 store_at-unreachable-requires-in_default-shape_of-2 g t c =
-    let r = c.args.resolve.now in
+    let r = c.args.table.now in
     let P : ClosedType → Type 0 = λ x. HasType (flags_value c.in-Flags.bits) x in
     let typed = (rw (c.in-Flags.is, value_of-Flags) at c.requires.typed) in
     not-flags (closed_types r) (closed_type r c.args.ty) c.shape_of-in-Flags.result c.in-Flags.bits c.shape_of-in-Flags.ensures.shape.0 c.in_default-shape_of-2.not-Flags typed
 
 pub store_at-write_scalar-requires : goal.store_at-write_scalar-requires
 store_at-write_scalar-requires g t c =
-    let T = closed_type c.args.resolve.now c.args.ty in
+    let T = closed_type c.args.table.now c.args.ty in
     let s = c.in-Some.scalar in
     let P : Value → Type 0 = λ v. HasType v T in
     let e : size T ≡ byte_len (prim_width (prim_in s)) = ap size (type-of-scalar T (value_in s) (prim_in s) c.in-Some.ensures.typed (subst P (sym c.in-Some.ensures.value) c.requires.typed)) in
@@ -87,19 +87,19 @@ store_at-write_scalar-requires g t c =
 
 pub store_at-returns-in-String-clause-ok : goal.store_at-returns-in-String-clause-ok
 store_at-returns-in-String-clause-ok g t c =
-    let T = closed_type c.args.resolve.now c.args.ty in
+    let T = closed_type c.args.table.now c.args.ty in
     let e = type-of-text T _ (rw (c.in-String.is, value_of-String) at c.requires.typed) in
     rw (c.in-String.is, value_of-String, e, ← c.as_str.ensures.value) c.store_text.ensures.ok
 
 pub store_at-returns-in-String-clause-fault : goal.store_at-returns-in-String-clause-fault
 store_at-returns-in-String-clause-fault g t c =
-    let T = closed_type c.args.resolve.now c.args.ty in
+    let T = closed_type c.args.table.now c.args.ty in
     let e = type-of-text T _ (rw (c.in-String.is, value_of-String) at c.requires.typed) in
     rw (c.in-String.is, value_of-String, e, ← c.as_str.ensures.value) c.store_text.ensures.fault
 
 pub store_at-returns-in-Record-clause-ok : goal.store_at-returns-in-Record-clause-ok
 store_at-returns-in-Record-clause-ok g t c =
-    let r = c.args.resolve.now in
+    let r = c.args.table.now in
     let T = closed_type r c.args.ty in
     let F = closed_type r c.args.ty in
     let same : T ≡ F = refl in
@@ -114,7 +114,7 @@ store_at-returns-in-Record-clause-ok g t c =
 
 pub store_at-returns-in-Record-clause-fault : goal.store_at-returns-in-Record-clause-fault
 store_at-returns-in-Record-clause-fault g t c =
-    let r = c.args.resolve.now in
+    let r = c.args.table.now in
     let T = closed_type r c.args.ty in
     let F = closed_type r c.args.ty in
     let same : T ≡ F = refl in
@@ -129,7 +129,7 @@ store_at-returns-in-Record-clause-fault g t c =
 
 pub store_at-returns-in-Flags-shape_of-clause-ok : goal.store_at-returns-in-Flags-shape_of-clause-ok
 store_at-returns-in-Flags-shape_of-clause-ok g t c =
-    let r = c.args.resolve.now in
+    let r = c.args.table.now in
     let n = c.in-Flags-shape_of.labels in
     let bits = c.in-Flags.bits in
     let e : closed_type r c.args.ty ≡ flags_type n = c.in-Flags-shape_of.ensures.shape.0 in
@@ -141,7 +141,7 @@ store_at-returns-in-Flags-shape_of-clause-ok g t c =
 
 pub store_at-returns-in-Some : goal.store_at-returns-in-Some
 store_at-returns-in-Some g t c =
-    let T = closed_type c.args.resolve.now c.args.ty in
+    let T = closed_type c.args.table.now c.args.ty in
     let s = c.in-Some.scalar in
     let P : Value → Type 0 = λ v. HasType v T in
     let e = type-of-scalar T (value_in s) (prim_in s) c.in-Some.ensures.typed (subst P (sym c.in-Some.ensures.value) c.requires.typed) in
@@ -152,30 +152,30 @@ store_at-returns-in-Some g t c =
 
 pub store_fields-unreachable-requires : goal.store_fields-unreachable-requires
 store_fields-unreachable-requires g t c =
-    let fs = members_fields c.args.resolve.now c.args.members.now in
+    let fs = members_fields c.args.table.now c.args.members.now in
     let count = typed-count fs (map value_of c.args.values.now) c.requires.typed in
     let n = length-map c.args.values.now value_of in
     nth_field-some fs c.loop-index.index (omega (arith, count, n, c.loop-index-test.true)) (sym c.in_default.ensures.found)
 
 pub store_fields-next_multiple_of-place-requires-clause-fits : goal.store_fields-next_multiple_of-place-requires-clause-fits
 store_fields-next_multiple_of-place-requires-clause-fits g t c =
-    let fs = members_fields c.args.resolve.now c.args.members.now in
-    let h = fields-inside fs c.loop-index.index (closed_type c.args.resolve.now c.in-Some.member) c.loop-index.end _ (sym c.in-Some.ensures.found) c.loop-index.invariant.1 in
+    let fs = members_fields c.args.table.now c.args.members.now in
+    let h = fields-inside fs c.loop-index.index (closed_type c.args.table.now c.in-Some.member) c.loop-index.end _ (sym c.in-Some.ensures.found) c.loop-index.invariant.1 in
     rw c.align_of.ensures.value (omega (arith, h, c.requires.small))
 
 pub store_fields-overflow_add-at : goal.store_fields-overflow_add-at
 store_fields-overflow_add-at g t c =
-    let fs = members_fields c.args.resolve.now c.args.members.now in
-    let h = fields-inside fs c.loop-index.index (closed_type c.args.resolve.now c.in-Some.member) c.loop-index.end _ (sym c.in-Some.ensures.found) c.loop-index.invariant.1 in
+    let fs = members_fields c.args.table.now c.args.members.now in
+    let h = fields-inside fs c.loop-index.index (closed_type c.args.table.now c.in-Some.member) c.loop-index.end _ (sym c.in-Some.ensures.found) c.loop-index.invariant.1 in
     let k = rw (← c.align_of.ensures.value, ← c.next_multiple_of-place.ensures.value) at h in
     omega (arith, k, c.requires.small)
 
 pub store_fields-store_at-requires : goal.store_fields-store_at-requires
 store_fields-store_at-requires g t c κs within =
-    let fs = members_fields c.args.resolve.now c.args.members.now in
+    let fs = members_fields c.args.table.now c.args.members.now in
     let vs = map value_of c.args.values.now in
     let i = c.loop-index.index in
-    let u = closed_type c.args.resolve.now c.in-Some.member in
+    let u = closed_type c.args.table.now c.in-Some.member in
     let found = sym c.in-Some.ensures.found in
     let v = c.index-values-index.result in
     let h = fields-inside fs i u c.loop-index.end _ found c.loop-index.invariant.1 in
@@ -184,14 +184,14 @@ store_fields-store_at-requires g t c κs within =
     let below : i < length vs = omega (arith, length-map c.args.values.now value_of, c.loop-index-test.true) in
     let P : Value → Type 0 = λ w. HasType w u in
     let typed = subst P here (have-first fs vs i u (value_of v) found below c.loop-index.invariant.2) in
-    (omega (arith, member-depth fs i u found, c.decreases), (within, (c.requires.laid_out, (c.in-Some.ensures.inside, (field-standard fs i u found c.requires.standard, (typed, (omega (arith, k, c.requires.room, c.loop-index.invariant.0.no_shorter), omega (arith, k, c.requires.small))))))))
+    (omega (arith, member-depth fs i u found, c.decreases), (within, (c.in-Some.ensures.inside, (field-standard fs i u found c.requires.standard, (typed, (omega (arith, k, c.requires.room, c.loop-index.invariant.0.no_shorter), omega (arith, k, c.requires.small)))))))
 
 pub store_fields-returns-in_err-store_at-clause-fault : goal.store_fields-returns-in_err-store_at-clause-fault
 store_fields-returns-in_err-store_at-clause-fault g t c =
-    let fs = members_fields c.args.resolve.now c.args.members.now in
+    let fs = members_fields c.args.table.now c.args.members.now in
     let vs = map value_of c.args.values.now in
     let i = c.loop-index.index in
-    let u = closed_type c.args.resolve.now c.in-Some.member in
+    let u = closed_type c.args.table.now c.in-Some.member in
     let v = c.index-values-index.result in
     let here = get_or-map value_of c.args.values.now i v (value_of v) c.loop-index-test.true ∙ ap value_of (sym c.index-values-index.is) in
     let below : i < length vs = omega (arith, length-map c.args.values.now value_of, c.loop-index-test.true) in
@@ -202,17 +202,17 @@ store_fields-returns-in_err-store_at-clause-fault g t c =
 
 pub store_fields-overflow_add-end : goal.store_fields-overflow_add-end
 store_fields-overflow_add-end g t c =
-    let fs = members_fields c.args.resolve.now c.args.members.now in
-    let h = fields-inside fs c.loop-index.index (closed_type c.args.resolve.now c.in-Some.member) c.loop-index.end _ (sym c.in-Some.ensures.found) c.loop-index.invariant.1 in
+    let fs = members_fields c.args.table.now c.args.members.now in
+    let h = fields-inside fs c.loop-index.index (closed_type c.args.table.now c.in-Some.member) c.loop-index.end _ (sym c.in-Some.ensures.found) c.loop-index.invariant.1 in
     let k = rw (← c.align_of.ensures.value, ← c.next_multiple_of-place.ensures.value) at h in
     omega (arith, k, c.size_of.ensures.value, c.requires.small)
 
 pub store_fields-loop-index-preserved : goal.store_fields-loop-index-preserved
 store_fields-loop-index-preserved g t c =
-    let fs = members_fields c.args.resolve.now c.args.members.now in
+    let fs = members_fields c.args.table.now c.args.members.now in
     let vs = map value_of c.args.values.now in
     let i = c.loop-index.index in
-    let u = closed_type c.args.resolve.now c.in-Some.member in
+    let u = closed_type c.args.table.now c.in-Some.member in
     let found = sym c.in-Some.ensures.found in
     let v = c.index-values-index.result in
     let here = get_or-map value_of c.args.values.now i v (value_of v) c.loop-index-test.true ∙ ap value_of (sym c.index-values-index.is) in
@@ -226,7 +226,7 @@ store_fields-loop-index-preserved g t c =
 
 pub store_fields-returns-clause-ok : goal.store_fields-returns-clause-ok
 store_fields-returns-clause-ok g t c =
-    let fs = members_fields c.args.resolve.now c.args.members.now in
+    let fs = members_fields c.args.table.now c.args.members.now in
     let vs = map value_of c.args.values.now in
     let i = c.loop-index.index in
     let count = typed-count fs vs c.requires.typed in
@@ -238,7 +238,7 @@ store_fields-returns-clause-ok g t c =
 
 pub store_items-loop-index-init : goal.store_items-loop-index-init
 store_items-loop-index-init g t c =
-    let u = closed_type c.args.resolve.now c.args.element in
+    let u = closed_type c.args.table.now c.args.element in
     let vs = map value_of c.args.items.now in
     let m = g.G.Guest.memory c.args.guest.now in
     let S = EachStores (Stores u) (size u) c.args.start vs in
@@ -246,7 +246,7 @@ store_items-loop-index-init g t c =
 
 pub store_items-store_at-requires : goal.store_items-store_at-requires
 store_items-store_at-requires g t c κs within =
-    let u = closed_type c.args.resolve.now c.args.element in
+    let u = closed_type c.args.table.now c.args.element in
     let vs = map value_of c.args.items.now in
     let i = c.loop-index.index in
     let v = c.index-items-index.result in
@@ -259,11 +259,11 @@ store_items-store_at-requires g t c κs within =
     let Q : ℕ → Type 0 = λ s. c.args.start + i * s + size u ≤ length (g.G.Guest.memory c.loop-index.guest).bytes in
     let R : ℕ → Type 0 = λ s. c.args.start + i * s + size u < 4294967296 in
     let step = sym c.size_of-step.ensures.value in
-    (omega (arith, c.decreases), (within, (c.requires.laid_out, (c.requires.inside, (c.requires.standard, (typed, (subst Q step (omega (arith, room, c.loop-index.invariant.no_shorter)), subst R step (omega (arith, small)))))))))
+    (omega (arith, c.decreases), (within, (c.requires.inside, (c.requires.standard, (typed, (subst Q step (omega (arith, room, c.loop-index.invariant.no_shorter)), subst R step (omega (arith, small))))))))
 
 pub store_items-returns-in_err-store_at-clause-fault : goal.store_items-returns-in_err-store_at-clause-fault
 store_items-returns-in_err-store_at-clause-fault g t c =
-    let u = closed_type c.args.resolve.now c.args.element in
+    let u = closed_type c.args.table.now c.args.element in
     let vs = map value_of c.args.items.now in
     let i = c.loop-index.index in
     let v = c.index-items-index.result in
@@ -275,7 +275,7 @@ store_items-returns-in_err-store_at-clause-fault g t c =
 
 pub store_items-loop-index-preserved : goal.store_items-loop-index-preserved
 store_items-loop-index-preserved g t c =
-    let u = closed_type c.args.resolve.now c.args.element in
+    let u = closed_type c.args.table.now c.args.element in
     let vs = map value_of c.args.items.now in
     let i = c.loop-index.index in
     let v = c.index-items-index.result in
@@ -286,7 +286,7 @@ store_items-loop-index-preserved g t c =
 
 pub store_items-returns-clause-ok : goal.store_items-returns-clause-ok
 store_items-returns-clause-ok g t c =
-    let u = closed_type c.args.resolve.now c.args.element in
+    let u = closed_type c.args.table.now c.args.element in
     let vs = map value_of c.args.items.now in
     let i = c.loop-index.index in
     let n = length-map c.args.items.now value_of in
@@ -295,7 +295,7 @@ store_items-returns-clause-ok g t c =
 
 pub store_list-returns-in_err-start-clause-fault : goal.store_list-returns-in_err-start-clause-fault
 store_list-returns-in_err-start-clause-fault g t c =
-    let u = closed_type c.args.resolve.now c.args.element in
+    let u = closed_type c.args.table.now c.args.element in
     let vs = map value_of c.args.items.now in
     let ended = rw (← length-map c.args.items.now value_of) at c.in_err-start.ensures.fault in
     let p = err_from_is_err_and c.from_residual.result c.from_residual.ensures.1 in
@@ -303,7 +303,7 @@ store_list-returns-in_err-start-clause-fault g t c =
 
 pub store_list-returns-clause-ok : goal.store_list-returns-clause-ok
 store_list-returns-clause-ok g t c =
-    let u = closed_type c.args.resolve.now c.args.element in
+    let u = closed_type c.args.table.now c.args.element in
     let vs = map value_of c.args.items.now in
     let granted = rw (← length-map c.args.items.now value_of) at c.in_ok-start.ensures.ok in
     let led = rw (← length-map c.args.items.now value_of) at c.write_header.ensures.led in
@@ -311,7 +311,7 @@ store_list-returns-clause-ok g t c =
 
 pub store_list-returns-clause-fault : goal.store_list-returns-clause-fault
 store_list-returns-clause-fault g t c =
-    let u = closed_type c.args.resolve.now c.args.element in
+    let u = closed_type c.args.table.now c.args.element in
     let vs = map value_of c.args.items.now in
     let granted = rw (← length-map c.args.items.now value_of) at c.in_ok-start.ensures.ok in
     let led = rw (← length-map c.args.items.now value_of) at c.write_header.ensures.led in
@@ -321,7 +321,7 @@ store_list-returns-clause-fault g t c =
 
 pub store_variant-returns-in_default-payload-clause-ok : goal.store_variant-returns-in_default-payload-clause-ok
 store_variant-returns-in_default-payload-clause-ok g t c =
-    let T = closed_type c.args.resolve.now c.args.ty in
+    let T = closed_type c.args.table.now c.args.ty in
     let cs = variant_cases T in
     let shaped = c.in-Variant.ensures.shape.0 in
     let variant : variant_type cs ≡ T = ap (λ x. variant_type (variant_cases x)) shaped.1 ∙ sym shaped.1 in
@@ -333,14 +333,14 @@ store_variant-returns-in_default-payload-clause-ok g t c =
 
 pub store_variant-unreachable-requires-in_default-case_payload : goal.store_variant-unreachable-requires-in_default-case_payload
 store_variant-unreachable-requires-in_default-case_payload g t c =
-    let T = closed_type c.args.resolve.now c.args.ty in
+    let T = closed_type c.args.table.now c.args.ty in
     let shaped = c.in-Variant.ensures.shape.0 in
     let variant : variant_type (variant_cases T) ≡ T = ap (λ x. variant_type (variant_cases x)) shaped.1 ∙ sym shaped.1 in
     no-case T c.args.case variant c.args.payload.now (sym c.in_default-case_payload.ensures.found) c.requires.typed
 
 pub store_variant-unreachable-requires-in_default-known : goal.store_variant-unreachable-requires-in_default-known
 store_variant-unreachable-requires-in_default-known g t c =
-    let r = c.args.resolve.now in
+    let r = c.args.table.now in
     let T = closed_type r c.args.ty in
     let cs = variant_cases T in
     let i = c.args.case in
@@ -351,7 +351,7 @@ store_variant-unreachable-requires-in_default-known g t c =
 
 pub store_variant-store_at-requires : goal.store_variant-store_at-requires
 store_variant-store_at-requires g t c κs within =
-    let r = c.args.resolve.now in
+    let r = c.args.table.now in
     let T = closed_type r c.args.ty in
     let cs = variant_cases T in
     let i = c.args.case in
@@ -367,11 +367,11 @@ store_variant-store_at-requires g t c κs within =
     let here = subst P (sym (ap value_of c.deref.ensures)) typed in
     let inside = rw c.in-Some-known.is at c.in-Some-case_payload.ensures.inside in
     let standard = case-standard cs i u found (subst IsStandard (sym variant) c.requires.standard) in
-    (omega (arith, case-depth T i u found, c.decreases), (within, (c.requires.laid_out, (inside, (standard, (here, (omega (arith, place, whole, fits, c.requires.room, c.write_number.ensures.same_length), omega (arith, place, whole, fits, c.requires.small))))))))
+    (omega (arith, case-depth T i u found, c.decreases), (within, (inside, (standard, (here, (omega (arith, place, whole, fits, c.requires.room, c.write_number.ensures.same_length), omega (arith, place, whole, fits, c.requires.small)))))))
 
 pub store_variant-returns-clause-ok : goal.store_variant-returns-clause-ok
 store_variant-returns-clause-ok g t c =
-    let r = c.args.resolve.now in
+    let r = c.args.table.now in
     let T = closed_type r c.args.ty in
     let cs = variant_cases T in
     let i = c.args.case in
@@ -395,7 +395,7 @@ store_variant-returns-clause-ok g t c =
 
 pub store_variant-returns-clause-fault : goal.store_variant-returns-clause-fault
 store_variant-returns-clause-fault g t c =
-    let r = c.args.resolve.now in
+    let r = c.args.table.now in
     let T = closed_type r c.args.ty in
     let cs = variant_cases T in
     let i = c.args.case in

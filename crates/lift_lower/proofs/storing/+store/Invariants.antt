@@ -12,29 +12,29 @@ use Rattle.lift_lower.proofs.Storings.{ItemsFrom, FieldsFrom}
 use Rattle.lift_lower.proofs.storing.+store.Given as goal
 
 abbrev pub decreases-store_at : goal.decreases-store_at
-decreases-store_at g l = 3 * depth (closed_type l.resolve.now l.ty) + 1
+decreases-store_at g l = 3 * depth (closed_type l.table.now l.ty) + 1
 
 abbrev pub decreases-store_list : goal.decreases-store_list
-decreases-store_list g l = 3 * depth (closed_type l.resolve.now l.element) + 3
+decreases-store_list g l = 3 * depth (closed_type l.table.now l.element) + 3
 
 abbrev pub decreases-store_items : goal.decreases-store_items
-decreases-store_items g l = 3 * depth (closed_type l.resolve.now l.element) + 2
+decreases-store_items g l = 3 * depth (closed_type l.table.now l.element) + 2
 
 abbrev pub decreases-store_fields : goal.decreases-store_fields
-decreases-store_fields g l = 3 * fields_depth (members_fields l.resolve.now l.members.now) + 2
+decreases-store_fields g l = 3 * fields_depth (members_fields l.table.now l.members.now) + 2
 
 abbrev pub decreases-store_variant : goal.decreases-store_variant
-decreases-store_variant g l = 3 * depth (closed_type l.resolve.now l.ty)
+decreases-store_variant g l = 3 * depth (closed_type l.table.now l.ty)
 
 abbrev pub invariant-store_items-loop-index : goal.invariant-store_items-loop-index
 invariant-store_items-loop-index g l =
-    let t = closed_type l.resolve l.element in
+    let t = closed_type l.table l.element in
     let vs = map value_of l.items in
     IsBegun l.limit g.G.Guest.allocates (EachStores (Stores t) (size t) l.start vs) (ItemsFrom t l.start vs l.index) (g.G.Guest.memory l.initial.guest) (g.G.Guest.memory l.guest)
 
 abbrev pub invariant-store_fields-loop-index : goal.invariant-store_fields-loop-index
 invariant-store_fields-loop-index g l =
-    let fs = members_fields l.resolve l.members in
+    let fs = members_fields l.table l.members in
     let vs = map value_of l.values in
     IsBegun l.limit g.G.Guest.allocates (FieldsStore fs l.at 0 vs) (FieldsFrom fs l.at vs l.index l.end) (g.G.Guest.memory l.initial.guest) (g.G.Guest.memory l.guest)
     × (fields_end l.end (fields_from l.index fs) ≡ fields_end 0 fs)

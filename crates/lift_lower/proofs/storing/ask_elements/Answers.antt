@@ -7,11 +7,11 @@ use Rattle.lift_lower.proofs.Scripting.{asked, saturated-ends, if-err-as, if-ok-
 use Rattle.lift_lower.proofs.storing.ask_elements.Goals as goal
 
 pub ask_block-requires : goal.ask_block-requires
-ask_block-requires g c = record { aligned = rw c.align_of-align.ensures.value (is-alignment (closed_type c.args.resolve.now c.args.element)) }
+ask_block-requires g c = record { aligned = rw c.align_of-align.ensures.value (is-alignment (closed_type c.args.table.now c.args.element)) }
 
 pub returns-clause-fault : goal.returns-clause-fault
 returns-clause-fault g c =
-    let t = closed_type c.args.resolve.now c.args.element in
+    let t = closed_type c.args.table.now c.args.element in
     let al = c.align_of-align.result in
     let n = c.args.count * size t in
     let cut : c.saturating_mul.result ≡ min n 18446744073709551615 = c.saturating_mul.ensures ∙ ap (λ s. min (c.args.count * s) 18446744073709551615) c.size_of-step.ensures.value in
@@ -24,7 +24,7 @@ returns-clause-fault g c =
 
 pub returns-clause-few : goal.returns-clause-few
 returns-clause-few g c =
-    let t = closed_type c.args.resolve.now c.args.element in
+    let t = closed_type c.args.table.now c.args.element in
     let cut : c.saturating_mul.result ≡ min (c.args.count * size t) 18446744073709551615 = c.saturating_mul.ensures ∙ ap (λ s. min (c.args.count * s) 18446744073709551615) c.size_of-step.ensures.value in
     let one = le-times c.args.count (size t) (one-size t c.requires.standard) in
     if-ok-as c.ask_block.result (λ at. c.saturating_mul.result ≤ c.args.limit) (λ at. c.args.count < 2 ^ 32) (λ at h. omega (arith, cut, one, h, c.ranges.limit.fits)) c.ask_block.ensures.within

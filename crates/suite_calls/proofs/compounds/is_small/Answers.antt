@@ -3,7 +3,7 @@ use Rattle.std.proofs.lemmas.Bool.{ltb-true}
 use Rattle.canonical_abi.specs.Layout.{size}
 use Rattle.tables.specs.Closed.{closed_type}
 use Rattle.lift_lower.proofs.Alone.{alone-size}
-use Rattle.lift_lower.proofs.Extents.{has-row}
+use Rattle.lift_lower.proofs.TypesExtents.{has-row}
 use Rattle.lift_lower.proofs.Known.{known-inside}
 use Rattle.suite.proofs.compounds.is_small.Goals as goal
 

@@ -1,6 +1,6 @@
 use Rattle.std.proofs.Common.{sym, subst}
 use Rattle.lift_lower.proofs.Known.{known-inside}
-use Rattle.lift_lower.specs.Shape.{IsInside}
+use Rattle.lift_lower.specs.Types.{IsInside}
 use Rattle.suite.proofs.compounds.loaded.Goals as goal
 
 pub load-requires-clause-inside : goal.load-requires-clause-inside

@@ -11,31 +11,31 @@ use Rattle.witcall.proofs.placing.place_call.Goals as goal
 
 pub returns-in_err-flats-clause-fault : goal.returns-in_err-flats-clause-fault
 returns-in_err-flats-clause-fault g c =
-    let f = function_type c.args.resolve.now c.args.func in
+    let f = function_type c.args.table.now c.args.func in
     let p = err_from_is_err_and c.from_residual.result c.from_residual.ensures.1 in
     rw (p.1, p.2) (arguments_fail g.C.Guest.allocates f (map value_of c.args.arguments.now) (g.C.Guest.memory c.args.caller.now) c.in_err-flats.field-0.0 (g.C.Guest.memory c.lower_arguments.new.guest) c.in_err-flats.ensures.fault)
 
-pub ask_area-requires-clause-inside : goal.ask_area-requires-clause-inside
-ask_area-requires-clause-inside g c = result-inside c.args.resolve.now c.args.func c.requires.function c.signature.result.now c.signature.ensures
+pub ask_area-requires : goal.ask_area-requires
+ask_area-requires g c = record { inside = result-inside c.args.table.now c.args.func c.requires.function c.signature.result.now (rw c.resolve.ensures at c.signature.ensures) }
 
 pub returns-in_err-area-clause-fault : goal.returns-in_err-area-clause-fault
 returns-in_err-area-clause-fault g c =
-    let r = c.args.resolve.now in
+    let r = c.args.table.now in
     let f = function_type r c.args.func in
     let mid = g.C.Guest.memory c.lower_arguments.new.guest in
     let new = g.C.Guest.memory c.ask_area.new.guest in
-    let own = ap result_fields (sym (result-is r c.args.func c.requires.function c.signature.result.now c.signature.ensures)) in
+    let own = ap result_fields (sym (result-is r c.args.func c.requires.function c.signature.result.now (rw c.resolve.ensures at c.signature.ensures))) in
     let p = err_from_is_err_and c.from_residual-in_err-area.result c.from_residual-in_err-area.ensures.1 in
     let fails = subst (λ ts. AreaFails g.C.Guest.allocates ts mid c.in_err-area.field-0.0 new) own c.in_err-area.ensures.fault in
     rw (p.1, p.2) (area_fails g.C.Guest.allocates f (map value_of c.args.arguments.now) (g.C.Guest.memory c.args.caller.now) mid c.in_ok-flats.flats.items c.in_err-area.field-0.0 new c.in_ok-flats.ensures.flats fails)
 
 pub returns-in_default-clause-placed : goal.returns-in_default-clause-placed
 returns-in_default-clause-placed g c =
-    let r = c.args.resolve.now in
+    let r = c.args.table.now in
     let f = function_type r c.args.func in
     let mid = g.C.Guest.memory c.lower_arguments.new.guest in
     let new = g.C.Guest.memory c.ask_area.new.guest in
-    let own = ap result_fields (sym (result-is r c.args.func c.requires.function c.signature.result.now c.signature.ensures)) in
+    let own = ap result_fields (sym (result-is r c.args.func c.requires.function c.signature.result.now (rw c.resolve.ensures at c.signature.ensures))) in
     let area = subst (λ ts. IsAreaIn ts new.bytes c.in_ok-area.area) own c.in_ok-area.ensures.area in
     let asked = subst (λ ts. IsAreaAsked g.C.Guest.allocates ts mid c.in_ok-area.area new) own c.in_ok-area.ensures.asked in
     let old = g.C.Guest.memory c.args.caller.now in
@@ -43,11 +43,11 @@ returns-in_default-clause-placed g c =
 
 pub returns-clause-placed : goal.returns-clause-placed
 returns-clause-placed g c =
-    let r = c.args.resolve.now in
+    let r = c.args.table.now in
     let f = function_type r c.args.func in
     let mid = g.C.Guest.memory c.lower_arguments.new.guest in
     let new = g.C.Guest.memory c.ask_area.new.guest in
-    let own = ap result_fields (sym (result-is r c.args.func c.requires.function c.signature.result.now c.signature.ensures)) in
+    let own = ap result_fields (sym (result-is r c.args.func c.requires.function c.signature.result.now (rw c.resolve.ensures at c.signature.ensures))) in
     let area = subst (λ ts. IsAreaIn ts new.bytes c.in_ok-area.area) own c.in_ok-area.ensures.area in
     let asked = subst (λ ts. IsAreaAsked g.C.Guest.allocates ts mid c.in_ok-area.area new) own c.in_ok-area.ensures.asked in
     let given = c.push.new.self.items in

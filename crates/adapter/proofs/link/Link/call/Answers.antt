@@ -1,4 +1,4 @@
-use Rattle.std.proofs.Common.{◌≡◌, ap, sym, Some}
+use Rattle.std.proofs.Common.{◌≡◌, ap, sym, ◌∙◌, Some}
 use Rattle.std.proofs.lemmas.Result.{err_from_is_err_and}
 use Rattle.canonical_abi.specs.Call.{Parties}
 use Rattle.tables.specs.Closed.{function_type}
@@ -11,7 +11,7 @@ returns-in_err-handed-clause-call g c =
     let r = c.args.self.now.resolve in
     let f = function_type r c.args.func in
     let flats = c.args.flats.now in
-    let own : r ≡ c.self.inside.resolve.now = sym (ap (λ l. l.resolve) c.self.view_is) in
+    let own : r ≡ c.new.result = sym (ap (λ l. l.resolve) c.self.view_is) ∙ sym c.new.ensures in
     let parties : Parties = record { caller_allocates = g.C.Guest.allocates; callee_allocates = g.E.Guest.allocates; runs = g.B.Body.runs c.args.body.now; posts = g.B.Body.posts c.args.body.now } in
     let alone = guests g.C.Guest.allocates g.E.Guest.allocates in
     let caller = g.C.Guest.memory c.args.caller.now in
@@ -27,7 +27,7 @@ returns-in_default-clause-call g c =
     let r = c.args.self.now.resolve in
     let f = function_type r c.args.func in
     let flats = c.args.flats.now in
-    let own : r ≡ c.self.inside.resolve.now = sym (ap (λ l. l.resolve) c.self.view_is) in
+    let own : r ≡ c.new.result = sym (ap (λ l. l.resolve) c.self.view_is) ∙ sym c.new.ensures in
     let parties : Parties = record { caller_allocates = g.C.Guest.allocates; callee_allocates = g.E.Guest.allocates; runs = g.B.Body.runs c.args.body.now; posts = g.B.Body.posts c.args.body.now } in
     let alone = guests g.C.Guest.allocates g.E.Guest.allocates in
     let caller = g.C.Guest.memory c.args.caller.now in
@@ -45,7 +45,7 @@ returns-in_err-back-clause-call g c =
     let r = c.args.self.now.resolve in
     let f = function_type r c.args.func in
     let flats = c.args.flats.now in
-    let own : r ≡ c.self.inside.resolve.now = sym (ap (λ l. l.resolve) c.self.view_is) in
+    let own : r ≡ c.new.result = sym (ap (λ l. l.resolve) c.self.view_is) ∙ sym c.new.ensures in
     let parties : Parties = record { caller_allocates = g.C.Guest.allocates; callee_allocates = g.E.Guest.allocates; runs = g.B.Body.runs c.args.body.now; posts = g.B.Body.posts c.args.body.now } in
     let alone = guests g.C.Guest.allocates g.E.Guest.allocates in
     let caller = g.C.Guest.memory c.args.caller.now in
@@ -68,7 +68,7 @@ returns-in_default-post_return-clause-call g c =
     let r = c.args.self.now.resolve in
     let f = function_type r c.args.func in
     let flats = c.args.flats.now in
-    let own : r ≡ c.self.inside.resolve.now = sym (ap (λ l. l.resolve) c.self.view_is) in
+    let own : r ≡ c.new.result = sym (ap (λ l. l.resolve) c.self.view_is) ∙ sym c.new.ensures in
     let parties : Parties = record { caller_allocates = g.C.Guest.allocates; callee_allocates = g.E.Guest.allocates; runs = g.B.Body.runs c.args.body.now; posts = g.B.Body.posts c.args.body.now } in
     let alone = guests g.C.Guest.allocates g.E.Guest.allocates in
     let caller = g.C.Guest.memory c.args.caller.now in
@@ -94,7 +94,7 @@ returns-clause-call g c =
     let r = c.args.self.now.resolve in
     let f = function_type r c.args.func in
     let flats = c.args.flats.now in
-    let own : r ≡ c.self.inside.resolve.now = sym (ap (λ l. l.resolve) c.self.view_is) in
+    let own : r ≡ c.new.result = sym (ap (λ l. l.resolve) c.self.view_is) ∙ sym c.new.ensures in
     let parties : Parties = record { caller_allocates = g.C.Guest.allocates; callee_allocates = g.E.Guest.allocates; runs = g.B.Body.runs c.args.body.now; posts = g.B.Body.posts c.args.body.now } in
     let alone = guests g.C.Guest.allocates g.E.Guest.allocates in
     let caller = g.C.Guest.memory c.args.caller.now in

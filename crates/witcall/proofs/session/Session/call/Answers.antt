@@ -9,7 +9,7 @@ use Rattle.canonical_abi.specs.Values.{HaveTypes}
 use Rattle.canonical_abi.specs.declared.flat.Flat.{Flat}
 use Rattle.canonical_abi.specs.declared.trap.Step.TheVariants.{Take}
 use Rattle.tables.specs.Closed.{closed_type, function_type, IsFunction}
-use Rattle.lift_lower.specs.Gives.{AnswerStands}
+use Rattle.lift_lower.specs.NoValue.{AnswerStands}
 use Rattle.lift_lower.specs.Placing.{area_at, IsAreaIn}
 use Rattle.lift_lower.specs.Val.{value_of}
 use Rattle.adapter.proofs.Signatures.{result-inside, result-is}
@@ -30,7 +30,7 @@ returns-in_err-placed-clause-call g c =
     let caller' = g.C.Guest.memory c.place_call.new.caller in
     let arguments = map value_of c.args.arguments.now in
     let fault = c.in_err-placed.field-0.0 in
-    let fails = subst (λ q. IsNotReady g.C.Guest.allocates (function_type q c.args.func) arguments caller fault caller') c.resolve-resolve.ensures c.in_err-placed.ensures.fault in
+    let fails = subst (λ q. IsNotReady g.C.Guest.allocates (function_type q c.args.func) arguments caller fault caller') c.types-table.ensures.types c.in_err-placed.ensures.fault in
     let p = err_from_is_err_and c.from_residual.result c.from_residual.ensures.1 in
     rw (p.1, p.2) (place_fails parties f arguments caller caller' callee body fault fails)
 
@@ -45,26 +45,26 @@ returns-in_err-back-clause-call g c =
     let arguments = map value_of c.args.arguments.now in
     let flats = c.as_slice.result.now in
     let area = c.in_ok-placed.placed.area in
-    let ready = subst (λ q. IsReady g.C.Guest.allocates (function_type q c.args.func) arguments caller c.in_ok-placed.placed.flats.items area caller') c.resolve-resolve.ensures c.in_ok-placed.ensures.placed in
+    let ready = subst (λ q. IsReady g.C.Guest.allocates (function_type q c.args.func) arguments caller c.in_ok-placed.placed.flats.items area caller') c.types-table.ensures.types c.in_ok-placed.ensures.placed in
     let handed = subst (λ fs. IsReady g.C.Guest.allocates f arguments caller fs area caller') (sym c.as_slice.ensures.value) ready in
     let places = placed parties f arguments caller caller' callee body flats area handed in
     let new = world (g.C.Guest.memory c.call.new.caller) (g.E.Guest.memory c.call.new.callee) (g.B.Body.state c.call.new.body) in
     let calls = subst (λ q. Calls parties either (function_type q c.args.func) flats (world caller' callee body) (Err c.in_err-back.field-0.0) new)
-    (c.new-link.ensures.package ∙ c.resolve-resolve.ensures) c.in_err-back.ensures.call in
+    (c.new-link.ensures.package ∙ c.resolve-resolve.ensures ∙ c.types-table.ensures.types) c.in_err-back.ensures.call in
     let p = err_from_is_err_and c.from_residual-in_err-back.result c.from_residual-in_err-back.ensures.1 in
     rw (p.1, p.2) (link_fails parties f arguments (area_at area) (world caller callee body) (world caller' callee body) new flats c.in_err-back.field-0.0 places calls)
 
 pub take_result-requires-clause-inside : goal.take_result-requires-clause-inside
 take_result-requires-clause-inside g c =
-    let own = c.resolve-resolve.result.now in
-    let is = subst (λ q. IsFunction q c.args.func) (sym c.resolve-resolve.ensures) c.requires.function in
-    result-inside own c.args.func is c.signature.result.now c.signature.ensures
+    let own = c.types-table.result in
+    let is = subst (λ q. IsFunction q c.args.func) (sym c.types-table.ensures.types) c.requires.function in
+    result-inside own c.args.func is c.signature.result.now (rw c.resolve-resolve.ensures at c.signature.ensures)
 
 pub take_result-requires-clause-area : goal.take_result-requires-clause-area
 take_result-requires-clause-area g c =
-    let own = c.resolve-resolve.result.now in
-    let is = subst (λ q. IsFunction q c.args.func) (sym c.resolve-resolve.ensures) c.requires.function in
-    let same = ap result_fields (result-is own c.args.func is c.signature.result.now c.signature.ensures) in
+    let own = c.types-table.result in
+    let is = subst (λ q. IsFunction q c.args.func) (sym c.types-table.ensures.types) c.requires.function in
+    let same = ap result_fields (result-is own c.args.func is c.signature.result.now (rw c.resolve-resolve.ensures at c.signature.ensures)) in
     let before = (g.C.Guest.memory c.place_call.new.caller).bytes in
     let after = (g.C.Guest.memory c.call.new.caller).bytes in
     let ts = result_fields (option_map (closed_type own) c.signature.result.now.result) in
@@ -82,17 +82,17 @@ returns-clause-call g c =
     let arguments = map value_of c.args.arguments.now in
     let flats = c.as_slice.result.now in
     let area = c.in_ok-placed.placed.area in
-    let ready = subst (λ q. IsReady g.C.Guest.allocates (function_type q c.args.func) arguments caller c.in_ok-placed.placed.flats.items area caller') c.resolve-resolve.ensures c.in_ok-placed.ensures.placed in
+    let ready = subst (λ q. IsReady g.C.Guest.allocates (function_type q c.args.func) arguments caller c.in_ok-placed.placed.flats.items area caller') c.types-table.ensures.types c.in_ok-placed.ensures.placed in
     let handed = subst (λ fs. IsReady g.C.Guest.allocates f arguments caller fs area caller') (sym c.as_slice.ensures.value) ready in
     let places = placed parties f arguments caller caller' callee body flats area handed in
     let new = world (g.C.Guest.memory c.call.new.caller) (g.E.Guest.memory c.call.new.callee) (g.B.Body.state c.call.new.body) in
     let back = c.in_ok-back.back.items in
     let calls = subst (λ q. Calls parties either (function_type q c.args.func) flats (world caller' callee body) (Ok back) new)
-    (c.new-link.ensures.package ∙ c.resolve-resolve.ensures) c.in_ok-back.ensures.call in
+    (c.new-link.ensures.package ∙ c.resolve-resolve.ensures ∙ c.types-table.ensures.types) c.in_ok-back.ensures.call in
     let came = came_back parties f arguments (area_at area) (world caller callee body) (world caller' callee body) new flats back places calls in
-    let own = c.resolve-resolve.result.now in
-    let is = subst (λ q. IsFunction q c.args.func) (sym c.resolve-resolve.ensures) c.requires.function in
-    let same = ap result_fields (sym (result-is own c.args.func is c.signature.result.now c.signature.ensures)) ∙ ap (λ q. result_fields (function_type q c.args.func).result) c.resolve-resolve.ensures in
+    let own = c.types-table.result in
+    let is = subst (λ q. IsFunction q c.args.func) (sym c.types-table.ensures.types) c.requires.function in
+    let same = ap result_fields (sym (result-is own c.args.func is c.signature.result.now (rw c.resolve-resolve.ensures at c.signature.ensures))) ∙ ap (λ q. result_fields (function_type q c.args.func).result) c.types-table.ensures.types in
     let m = (g.C.Guest.memory c.call.new.caller).bytes in
     let P : Fields → List Flat → Type 0 = λ ts fs. AnswerStands Take (λ v. HasResult ts m fs (area_at area) (as_list (option_map value_of v))) (HasResultFault ts m fs (area_at area)) c.take_result.result in
     let stands = subst (P (result_fields f.result)) c.as_slice-2.ensures.value (subst (λ ts. P ts c.as_slice-2.result.now) same c.take_result.ensures.value) in
@@ -100,15 +100,15 @@ returns-clause-call g c =
 
 pub returns-clause-typed : goal.returns-clause-typed
 returns-clause-typed g c =
-    let own = c.resolve-resolve.result.now in
-    let is = subst (λ q. IsFunction q c.args.func) (sym c.resolve-resolve.ensures) c.requires.function in
-    let same = ap result_fields (sym (result-is own c.args.func is c.signature.result.now c.signature.ensures)) ∙ ap (λ q. result_fields (function_type q c.args.func).result) c.resolve-resolve.ensures in
+    let own = c.types-table.result in
+    let is = subst (λ q. IsFunction q c.args.func) (sym c.types-table.ensures.types) c.requires.function in
+    let same = ap result_fields (sym (result-is own c.args.func is c.signature.result.now (rw c.resolve-resolve.ensures at c.signature.ensures))) ∙ ap (λ q. result_fields (function_type q c.args.func).result) c.types-table.ensures.types in
     subst (λ ts. IfOk c.take_result.result (λ v. HaveTypes (as_list (option_map value_of v)) ts)) same c.take_result.ensures.typed
 
 pub returns-clause-no_memory : goal.returns-clause-no_memory
 returns-clause-no_memory g c = λ scalar.
-    let own = c.resolve-resolve.result.now in
-    c.take_result.ensures.plain (result_plain own c.args.func c.signature.result.now c.signature.ensures (rw c.resolve-resolve.ensures scalar))
+    let own = c.types-table.result in
+    c.take_result.ensures.plain (result_plain own c.args.func c.signature.result.now (rw c.resolve-resolve.ensures at c.signature.ensures) (rw c.types-table.ensures.types scalar))
 
 pub returns-in_err-placed-clause-promise : goal.returns-in_err-placed-clause-promise
 returns-in_err-placed-clause-promise g c = promised _ _ _ c.args.self.now.package.now.resolve c.args.func _ _ _ _ c.requires.function (returns-in_err-placed-clause-call g c)
