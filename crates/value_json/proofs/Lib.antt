@@ -1,0 +1,14 @@
+pub mod Rows
+pub mod Erased
+pub mod OneChar
+pub mod Runs
+pub mod Objects
+pub mod Cases
+pub mod Ranks
+pub mod Fields
+pub mod Bits
+pub mod OneJson
+pub mod Typed
+pub mod Writes
+pub mod OneValue
+pub mod Depths

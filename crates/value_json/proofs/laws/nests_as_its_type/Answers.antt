@@ -1,0 +1,5 @@
+use Rattle.value_json.proofs.Depths.{json-depth}
+use Rattle.value_json.proofs.laws.nests_as_its_type.Goals as goal
+
+pub returns : goal.returns
+returns c = json-depth

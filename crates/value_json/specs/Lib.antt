@@ -1,0 +1,3 @@
+pub mod Labelled
+pub mod Json
+pub mod Writing
