@@ -13,7 +13,7 @@ use Rattle.resolve.proofs.Using.{place-below}
 use Rattle.resolve.specs.Sources.{declared_tree, interface_syntax}
 use Rattle.resolve.specs.Resolves.{place_of, IsKnownUse, IsUnknownName, IsUnknownIn, HasKnownNames}
 use Rattle.resolve.specs.declared.declared.Declarations.{Declarations}
-use Rattle.resolve.proofs.Lists.{contains-here, contains-later, contains-flat, all-none, all-cons, all-head, all-tail, all-append}
+use Rattle.package_form.proofs.Lists.{contains-here, contains-later, contains-flat, all-none, all-cons, all-head, all-tail, all-append}
 use Rattle.resolve.proofs.Placing.{place-found}
 
 pub place-lacks : (ns : List (List ℕ)) (n : List ℕ) → place_of ns n ≡ None → ¬ Contains ns n

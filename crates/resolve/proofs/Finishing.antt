@@ -1,16 +1,13 @@
 -- The ids of interfaces, and type entries.
-use Rattle.std.proofs.Common.{◌≡◌, ℕ, zero, suc, ◌+◌, ◌<◌, ◌≤◌, Bool, true, false, cond, ◌&&◌, IsTrue, List, [], ◌∷◌, ◌++◌, Option, None, Some, nat_lt, map, sum, take, set, not, length, get_or, slice_get, refl, ap, sym, ◌∙◌, arith, append_assoc, append-nil}
+use Rattle.std.proofs.Common.{◌≡◌, ℕ, zero, suc, ◌+◌, ◌<◌, ◌≤◌, Bool, true, false, cond, ◌&&◌, IsTrue, List, [], ◌∷◌, ◌++◌, Option, None, Some, map, take, set, not, length, get_or, slice_get, refl, ap, sym, ◌∙◌, arith, append_assoc, append-nil}
 use Rattle.std.specs.List.{list_all}
 use Rattle.std.proofs.lemmas.List.{length-append, length-take, map-append}
-use Rattle.std.proofs.lemmas.Bool.{lt-ltb, eq-eqb, ne_eqb}
-use Rattle.std.proofs.lemmas.List.Sums.{sum_by-cons}
-use Rattle.std.proofs.lemmas.Bool.Decides.{nat_tests}
+use Rattle.std.proofs.lemmas.Bool.{eq-eqb, ne_eqb}
 use Rattle.tables.specs.declared.tables.TypeName.{TypeName}
-use Rattle.tables.specs.declared.tables.ValType.TheVariants as val
 use Rattle.tables.specs.declared.tables.TypeDefKind.{TypeDefKind}
 use Rattle.tables.specs.declared.tables.TypeDefKind.TheVariants as kind
 use Rattle.tables.specs.Tables.{is_type_id, is_function_id, is_placed, are_placed, is_there, type_of, function_of}
-use Rattle.resolve.specs.Resolves.{places_where, is_in, is_use, is_owned_by, is_use_in, is_type_in, is_function_in, type_id, function_id, interface_in, interfaces_from, entries_of, entries_under}
+use Rattle.package_form.specs.Ids.{places_where, is_in, is_use, is_owned_by, is_use_in, is_type_in, is_function_in, type_id, function_id, interface_in, interfaces_from}
 use Rattle.resolve.specs.Finished.{named_in, owned_in, interface_of, with_type, with_row}
 use Rattle.tables.specs.declared.tables.TypeDef.{TypeDef}
 use Rattle.tables.specs.declared.tables.Owner.{Owner}
@@ -19,7 +16,7 @@ use Rattle.tables.specs.declared.tables.Interface.{Interface}
 use Rattle.tables.specs.declared.tables.Definition.{Definition}
 use Rattle.tables.specs.declared.tables.Definition.TheVariants as row
 use Rattle.tables.proofs.Rows.{both}
-use Rattle.resolve.proofs.Meeting.{take-more}
+use Rattle.package_form.proofs.Meeting.{take-more}
 
 if-true : {A : Type 0} (b : Bool) (x y : A) → b ≡ true → cond b x y ≡ x
 if-true true x y e = refl
@@ -211,50 +208,3 @@ one-placed rows i n =
 pub all-placed-ids : (rows : List Definition) (i : ℕ) (ns : List (List ℕ)) → IsTrue (are_placed rows (interfaces_from rows i ns))
 all-placed-ids rows i [] = refl
 all-placed-ids rows i (n ∷ ns) = both _ _ (one-placed rows i n) (all-placed-ids rows (i + 1) ns)
-
--- ---- entries
-
-sum-front : (rows : List Definition) (k : ℕ) → sum (map entries_of (take k rows)) ≤ sum (map entries_of rows)
-sum-front rows zero = omega arith
-sum-front [] (suc k) = omega arith
-sum-front (d ∷ rows) (suc k) =
-    let whole : sum (map entries_of (d ∷ rows)) ≡ entries_of d + sum (map entries_of rows) = sum_by-cons (λ x. x) (entries_of d) (map entries_of rows) in
-    let front : sum (map entries_of (take (suc k) (d ∷ rows))) ≡ entries_of d + sum (map entries_of (take k rows)) = sum_by-cons (λ x. x) (entries_of d) (map entries_of (take k rows)) in
-    omega (arith, sum-front rows k, whole, front)
-
-pub passes : (rows : List Definition) (k n total : ℕ) → total ≡ 1 + n + sum (map entries_of (take k rows)) → 65535 < total → true ≡ nat_lt 65535 (1 + n + sum (map entries_of rows))
-passes rows k n total e h = sym (lt-ltb 65535 (1 + n + sum (map entries_of rows)) (omega (arith, e, h, sum-front rows k)))
-
-some-entry : (d : Definition) → 0 < entries_of d
-some-entry (row.Function f) = omega arith
-some-entry (row.Type d) = by d.name d.kind
-  where
-    by : (n : Option TypeName) (k : TypeDefKind) → 0 < entries_under n k
-    by None k = omega arith
-    by (Some n) (kind.Use t) = omega arith
-    by (Some n) (kind.Alias (val.Id t)) = omega arith
-    by (Some n) (kind.Alias (val.Primitive p)) = omega arith
-    by (Some n) (kind.Alias val.String) = omega arith
-    by (Some n) (kind.List v) = omega arith
-    by (Some n) (kind.Option v) = omega arith
-    by (Some n) (kind.Result v w) = omega arith
-    by (Some n) (kind.Tuple vs) = omega arith
-    by (Some n) (kind.Record fs) = omega arith
-    by (Some n) (kind.Variant cs) = omega arith
-    by (Some n) (kind.Enum ns) = omega arith
-    by (Some n) (kind.Flags ns) = omega arith
-
-entries-many : (rows : List Definition) → length rows ≤ sum (map entries_of rows)
-entries-many [] = omega arith
-entries-many (d ∷ rows) =
-    let whole : sum (map entries_of (d ∷ rows)) ≡ entries_of d + sum (map entries_of rows) = sum_by-cons (λ x. x) (entries_of d) (map entries_of rows) in
-    omega (arith, entries-many rows, whole, some-entry d)
-
-not-above : (a b : ℕ) → nat_lt a b ≡ false → b ≤ a
-not-above a b h = grind (arith, nat_tests)
-
-pub within-entries : (rows : List Definition) (n : ℕ) (b : Bool) → b ≡ nat_lt 65535 (1 + n + sum (map entries_of rows)) → b ≡ false → 1 + n + sum (map entries_of rows) ≤ 65535
-within-entries rows n b e h = not-above 65535 (1 + n + sum (map entries_of rows)) (sym e ∙ h)
-
-pub few-rows : (rows : List Definition) (n : ℕ) → 1 + n + sum (map entries_of rows) ≤ 65535 → length rows ≤ 65535
-few-rows rows n h = omega (arith, h, entries-many rows)

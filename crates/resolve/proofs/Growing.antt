@@ -4,12 +4,12 @@ use Rattle.std.proofs.lemmas.List.{map-append}
 use Rattle.std.specs.List.{list_all}
 use Rattle.tables.specs.Tables.{is_type, option_all, function_all}
 use Rattle.tables.specs.Package.{Tree, Reference, NamedDefinition, Meaning, IsUse, IsFunction, definition_of, read_params}
-use Rattle.resolve.specs.Postfix.{Leaves, whole, unnamed_if, unnamed_parameter}
+use Rattle.package_form.specs.Postfix.{Leaves, whole, unnamed_if, unnamed_parameter}
 use Rattle.resolve.specs.Declarations.{UsedItem, TypeItem, FunctionItem, InterfaceTree, used_names}
 use Rattle.resolve.specs.Resolved.{Labelled, use_meaning, function_meaning, in_order, interface_meaning, no_type, fields_of}
-use Rattle.resolve.specs.Resolves.{Table}
+use Rattle.package_form.specs.Entries.{Table}
 use Rattle.resolve.specs.Building.{table_trees, table_definitions, name_at, Front, Extends, Adds, Grows, Stands, LowersKind, LowersIf, LowersParameters, IsEntry, IsScope, scope_name, scope_names, names_of, ordered_names, KnowsNames, CanUse, DefinesInterface, parameter_typed, read_parameter}
-use Rattle.resolve.specs.Scoped.{Entry}
+use Rattle.package_form.specs.Scoped.{Entry}
 use Rattle.resolve.specs.declared.known.KnownTypes.{KnownTypes}
 use Rattle.tables.specs.declared.tables.Function.{Function}
 use Rattle.tables.specs.declared.tables.Parameter.{Parameter}
@@ -23,7 +23,7 @@ use Rattle.tables.specs.declared.tables.TypeDefKind.TheVariants as kind
 use Rattle.tables.specs.declared.tables.Definition.{Definition}
 use Rattle.tables.specs.declared.tables.Definition.TheVariants as row
 use Rattle.tables.proofs.Rows.{both}
-use Rattle.resolve.proofs.Lists.{all-append, all-cons, all-none}
+use Rattle.package_form.proofs.Lists.{all-append, all-cons, all-none}
 use Rattle.resolve.proofs.Reading.{With, with-rows, with-front, with-definitions, with-stands, with-unnamed, front-trans, adds-trans, adds-none, extends-trans, extends-none}
 use Rattle.resolve.proofs.Lowering.{scope-later, same_name, all-stay, parameter-stays, parameters-read}
 

@@ -10,13 +10,14 @@ use Rattle.wit_syntax.specs.declared.ast.Primitive.{Primitive as Keyword}
 use Rattle.wit_syntax.specs.declared.ast.Primitive.TheVariants as keyword
 use Rattle.tables.specs.Tables.{is_type, option_all}
 use Rattle.tables.specs.Package.{Tree, Reference, ListTree, IsType, read_val, read_tuple, read_fields, read_params, read_cases, read_choice, read_enum, read_kind, Fields, field, Choices, empty, RecordTree, VariantTree, FlagsTree, Plain, AsTuple, AsEnum}
-use Rattle.resolve.specs.Postfix.{unnamed, unnamed_if, unnamed_field, unnamed_case, unnamed_parameter}
+use Rattle.package_form.specs.Postfix.{unnamed, unnamed_if, unnamed_field, unnamed_case, unnamed_parameter}
 use Rattle.resolve.specs.Declarations.{named, named_all}
 use Rattle.resolve.specs.Resolved.{Labelled, Choice, resolved, resolved_all, option_tree, tuple_tree, result_tree, fields_of, unlabelled, choices_of, choice, enumerated, primitive_tree, val_of_primitive}
-use Rattle.resolve.specs.Resolves.{Table}
+use Rattle.package_form.specs.Entries.{Table}
 use Rattle.resolve.specs.Building.{table_trees, Front, Extends, Stands, Lowers, LowersIf, LowersEach, LowersKind, LowersInner, IsEntry, IsScope, KnowsNames, scope_name, read_field, read_parameter, read_case, field_typed, parameter_typed, case_typed}
-use Rattle.resolve.specs.Scoped.{Entry}
+use Rattle.package_form.specs.Scoped.{Entry}
 use Rattle.resolve.specs.declared.known.KnownTypes.{KnownTypes}
+use Rattle.canonical_abi.specs.Labelled.{ok_label, error_label}
 use Rattle.tables.specs.declared.tables.ValType.{ValType}
 use Rattle.tables.specs.declared.tables.ValType.TheVariants as val
 use Rattle.tables.specs.declared.tables.Definition.{Definition}
@@ -27,7 +28,7 @@ use Rattle.tables.specs.declared.tables.Case.{Case}
 use Rattle.tables.specs.declared.tables.TypeDefKind.{TypeDefKind}
 use Rattle.tables.specs.declared.tables.TypeDefKind.TheVariants as kind
 use Rattle.tables.proofs.Rows.{split, both}
-use Rattle.resolve.proofs.Lists.{all-left, all-right, flat_map-append, flat_map-one}
+use Rattle.package_form.proofs.Lists.{all-left, all-right, flat_map-append, flat_map-one}
 use Rattle.resolve.proofs.Reading.{stands-later, extends-trans, extends-none, read_val-same, typed-stays, unnamed-same}
 
 -- what an expression stands for
@@ -166,7 +167,7 @@ lowers-result a b c v w t u l m =
     let s = option-stays b c m.extends.front v l.typed in
     let ts = table_trees c in
     let reads : read_kind ts (kind.Result v w) ≡ result_tree t u =
-    rw (choice-reads ts (101 ∷ 114 ∷ 114 ∷ 111 ∷ 114 ∷ []) w, choice-reads ts (111 ∷ 107 ∷ []) v, s.1, l.reads, m.reads) refl in
+    rw (choice-reads ts error_label w, choice-reads ts ok_label v, s.1, l.reads, m.reads) refl in
     record {
       lowers = record {
         extends = subst (λ (us : List ℕ). Extends a c (us ++ unnamed_if c.rows w)) (sym s.2) (extends-trans a b c _ _ l.extends m.extends);

@@ -2,14 +2,15 @@
 use Rattle.std.proofs.Common.{◌≡◌, ℕ, zero, suc, ◌+◌, ◌<◌, ◌≤◌, true, not, List, [], ◌∷◌, ◌++◌, IsTrue, map, flat_map, take, length, get_or, refl, ap, sym, ◌∙◌, subst, arith, All, Contains, ◌⊎◌, inl, inr}
 use Rattle.std.specs.List.{list_all}
 use Rattle.std.proofs.lemmas.List.{length-append, length-map, length-take, get_or-map, get_or_default, get_or_append_left, get_or_at, get_or-take, take_all}
-use Rattle.resolve.specs.Scope.{lowered, AreDistinct}
+use Rattle.package_form.specs.Scope.{AreDistinct}
 use Rattle.resolve.specs.Order.{IsPlacement, is_among}
 use Rattle.tables.specs.Tables.{are_earlier, name_types}
 use Rattle.tables.specs.Package.{NamedDefinition}
-use Rattle.resolve.specs.Postfix.{Leaves, begin}
+use Rattle.package_form.specs.Postfix.{Leaves, begin}
 use Rattle.resolve.specs.Declarations.{UsedItem, InterfaceTree, interface_at, no_interface, interface_name, interface_names, use_interface, type_names}
 use Rattle.resolve.specs.Resolved.{interface_meaning}
-use Rattle.resolve.specs.Resolves.{Table, interface_uses, uses_of_interface, type_uses, HasKnownNames, IsKnownUse, names_in_order, place_of}
+use Rattle.package_form.specs.Entries.{Table}
+use Rattle.resolve.specs.Resolves.{interface_uses, uses_of_interface, type_uses, HasKnownNames, IsKnownUse, names_in_order, place_of}
 use Rattle.resolve.specs.Building.{table_definitions, name_at, Adds, IsScope, scope_name, scope_names, CanUse, DefinesInterface, DefinesPackage, package_meaning}
 use Rattle.tables.specs.declared.tables.InterfaceId.{InterfaceId}
 use Rattle.tables.specs.declared.tables.Definition.{Definition}
@@ -17,39 +18,12 @@ use Rattle.resolve.specs.declared.known.KnownTypes.{KnownTypes}
 use Rattle.resolve.specs.declared.declared.Declarations.{Declarations}
 use Rattle.resolve.specs.Sources.{declared_tree}
 use Rattle.tables.proofs.Rows.{split}
-use Rattle.resolve.proofs.Lists.{all-append, all-cons, all-none, contains-map, flat_map-append, flat_map-one}
-use Rattle.resolve.proofs.Meeting.{below_or_at, take-more}
+use Rattle.package_form.proofs.Lists.{all-append, all-cons, all-none, contains-map, flat_map-append, flat_map-one}
+use Rattle.package_form.proofs.OneRow.{same-place}
+use Rattle.package_form.proofs.Meeting.{below_or_at, take-more}
 use Rattle.resolve.proofs.Reading.{adds-none, adds-trans}
 use Rattle.resolve.proofs.Growing.{scopes-later}
 use Rattle.resolve.proofs.Placing.{all-from, place-found, all-places, among-at, all-placed}
-
--- two places of one name are one
-differ : (ns : List (List ℕ)) (a b : ℕ) → AreDistinct ns → a < b → b < length ns → get_or ns a [] ≡ get_or ns b [] → ⊥
-differ ns a b d l m e =
-    let long : length (take b ns) ≡ b = length-take b ns ∙ omega (arith, m) in
-    let at : get_or (take b ns) a (get_or ns b []) ≡ get_or ns b [] = get_or-take b ns a (get_or ns b []) l ∙ get_or_default ns a (get_or ns b []) [] (omega (arith, l, m)) ∙ e in
-    d.each b m (contains-map lowered (take b ns) (get_or ns b []) (a, omega (arith, l, long), at))
-
-pub compared : (a b : ℕ) → (a < b) ⊎ ((b < a) ⊎ (a ≡ b))
-compared zero zero = inr (inr refl)
-compared zero (suc b) = inl (omega arith)
-compared (suc a) zero = inr (inl (omega arith))
-compared (suc a) (suc b) = elim (compared a b) [
-  | inl q ↦ inl (omega (arith, q))
-  | inr q ↦ elim q [
-    | inl r ↦ inr (inl (omega (arith, r)))
-    | inr r ↦ inr (inr (ap suc r))
-  ]
-]
-
-pub same-place : (ns : List (List ℕ)) (a b : ℕ) → AreDistinct ns → a < length ns → b < length ns → get_or ns a [] ≡ get_or ns b [] → a ≡ b
-same-place ns a b d l m e = elim (compared a b) [
-  | inl q ↦ absurd (differ ns a b d q m e)
-  | inr q ↦ elim q [
-    | inl r ↦ absurd (differ ns b a d r l (sym e))
-    | inr r ↦ r
-  ]
-]
 
 -- the scopes of the first k interfaces
 pub record PackageSoFar (k : ℕ) (is : List InterfaceTree) (order : List ℕ) (orders : List (List ℕ)) (empty t : Table) (scopes : List KnownTypes) : Type 0 where

@@ -6,9 +6,9 @@ use Rattle.std.specs.Str.{bytes_eq}
 use Rattle.std.proofs.lemmas.Slice.Eq.{bytes_eq-Decides}
 use Rattle.resolve.specs.Resolves.{place_of}
 use Rattle.resolve.specs.Knowing.{TellsPlaces}
-use Rattle.resolve.specs.Scoped.{Entry, entry_of}
+use Rattle.package_form.specs.Scoped.{Entry, entry_of}
 use Rattle.tables.specs.declared.tables.TypeId.{TypeId}
-use Rattle.resolve.proofs.Lists.{contains-here, contains-later}
+use Rattle.package_form.proofs.Lists.{contains-here, contains-later}
 
 abbrev first_of : {A : Type 0} → Option A → Option A → Option A
 first_of None o = o

@@ -12,7 +12,7 @@ use Rattle.resolve.specs.Resolved.{no_type}
 use Rattle.resolve.specs.Resolves.{place_of, uses_of_type, type_uses}
 use Rattle.resolve.specs.Building.{NamesEarlier, TypesKnown, FunctionsKnown, ordered_names}
 use Rattle.tables.proofs.Rows.{split}
-use Rattle.resolve.proofs.Lists.{all-mono, contains-left, contains-right, contains-either, contains-map, contains-later}
+use Rattle.package_form.proofs.Lists.{all-mono, contains-left, contains-right, contains-either, contains-map, contains-later}
 
 pub all-from : {A : Type 0} (P : A → Type 0) (xs : List A) → ((x : A) → Contains xs x → P x) → All P xs
 all-from P xs f = λ k d l. f (get_or xs k d) (k, l, get_or_default xs k (get_or xs k d) d l)

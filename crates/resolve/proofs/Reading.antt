@@ -4,8 +4,8 @@ use Rattle.std.proofs.lemmas.List.{length-append, get_or_append_left, get_or_at}
 use Rattle.std.proofs.lemmas.Bool.{ltb-true}
 use Rattle.tables.specs.Tables.{is_type, is_there, type_of, definition_all, definition_below, are_earlier, name_types}
 use Rattle.tables.specs.Package.{Tree, TextTree, NamedDefinition, Meaning, IsUse, IsType, IsFunction, references, reference, definitions_from, definition_of, read_val, read_kind, meaning_of}
-use Rattle.resolve.specs.Postfix.{Leaves, inner, unnamed, is_inner, is_unnamed, is_unnamed_row, one_if, inner_row}
-use Rattle.resolve.specs.Resolves.{Table}
+use Rattle.package_form.specs.Postfix.{Leaves, inner, unnamed, is_inner, is_unnamed, is_unnamed_row, one_if, inner_row}
+use Rattle.package_form.specs.Entries.{Table}
 use Rattle.resolve.specs.Building.{table_trees, table_definitions, Front, Extends, Adds, Stands, Lowers, LowersKind, LowersInner, is_expressed}
 use Rattle.tables.specs.declared.tables.ValType.{ValType}
 use Rattle.tables.specs.declared.tables.ValType.TheVariants as val
@@ -15,7 +15,8 @@ use Rattle.tables.specs.declared.tables.TypeDefKind.TheVariants as kind
 use Rattle.tables.specs.declared.tables.Definition.{Definition}
 use Rattle.tables.proofs.Rows.{split, both}
 use Rattle.tables.proofs.Standards.{type-below}
-use Rattle.resolve.proofs.Typing.{type-later, definition-grows, names-later, get-front}
+use Rattle.resolve.proofs.Typing.{type-later, definition-grows, names-later}
+use Rattle.package_form.proofs.Lists.{get-front}
 
 references-append : (is : List (List ℕ)) (ts : List Tree) (ds es : List Definition) → references is ts (ds ++ es) ≡ references is (references is ts ds) es
 references-append is ts [] es = refl

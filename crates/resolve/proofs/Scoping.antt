@@ -1,8 +1,9 @@
 -- The scope of an interface is found at the place of its name.
-use Rattle.std.proofs.Common.{◌≡◌, ◌≢◌, ℕ, ◌<◌, ◌≤◌, List, [], None, Some, length, get_or, ap, sym, ◌∙◌, arith, All, Contains}
+use Rattle.std.proofs.Common.{◌≡◌, ◌≢◌, ℕ, ◌<◌, List, None, Some, length, get_or, ap, sym, ◌∙◌, arith, All}
 use Rattle.std.proofs.lemmas.List.Elements.{All-contains}
 use Rattle.resolve.specs.Declarations.{UsedItem}
-use Rattle.resolve.specs.Resolves.{Table, place_of}
+use Rattle.package_form.specs.Entries.{Table}
+use Rattle.resolve.specs.Resolves.{place_of}
 use Rattle.resolve.specs.Building.{IsScope, ArePlaced, CanUse, scope_name, name_at}
 use Rattle.resolve.specs.declared.known.KnownTypes.{KnownTypes}
 use Rattle.resolve.proofs.Placing.{place-first}

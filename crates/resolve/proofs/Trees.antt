@@ -7,15 +7,17 @@ use Rattle.wit_syntax.specs.View.{version_view}
 use Rattle.wit_syntax.specs.declared.ast.Interface.{Interface as Syntax}
 use Rattle.wit_syntax.specs.declared.ast.PackageId.{PackageId}
 use Rattle.resolve.specs.Order.{IsPlacement}
-use Rattle.resolve.specs.Scope.{AreDistinct}
+use Rattle.package_form.specs.Scope.{AreDistinct}
 use Rattle.tables.specs.Package.{package_of, interface_names as names_in, world_names}
 use Rattle.resolve.specs.Declarations.{InterfaceTree, interface_of, interfaces, interface_at, interface_name, interface_names, file_name}
-use Rattle.resolve.specs.Resolves.{Table, Resolves, package_in, table_of, interface_uses, type_uses, interfaces_from, interfaces_in, type_entries, PassesLimit, IsOfInterfaces, HasNoFaults, HasDistinctNames, HasCycle, IsPackageOf, Refuses}
+use Rattle.package_form.specs.Entries.{Table, table_of, type_entries}
+use Rattle.resolve.specs.Resolves.{Resolves, package_in, interface_uses, type_uses, PassesLimit, IsOfInterfaces, HasNoFaults, HasDistinctNames, HasCycle, IsPackageOf, Refuses}
+use Rattle.package_form.specs.Ids.{interfaces_from, interfaces_in}
 use Rattle.resolve.specs.Building.{DefinesPackage, table_definitions}
 use Rattle.resolve.specs.Finished.{IsFinished}
 use Rattle.resolve.specs.Knowing.{RefusesUnknown}
 use Rattle.resolve.specs.Shape.{HasInterfaces}
-use Rattle.resolve.specs.Postfix.{IsPostfix}
+use Rattle.package_form.specs.Postfix.{IsPostfix}
 use Rattle.resolve.specs.Sources.{interface_entry, interface_syntax}
 use Rattle.tables.specs.declared.error.ResolveError.{ResolveError}
 use Rattle.tables.specs.declared.error.ResolveError.TheVariants as error
@@ -23,7 +25,7 @@ use Rattle.tables.specs.declared.tables.Interface.{Interface}
 use Rattle.tables.specs.declared.tables.World.{World}
 use Rattle.tables.specs.declared.tables.Definition.{Definition}
 use Rattle.tables.specs.declared.tables.Resolve.{Resolve}
-use Rattle.resolve.proofs.Lists.{contains-unmap, contains-here, contains-later, all-head}
+use Rattle.package_form.proofs.Lists.{contains-unmap, contains-here, contains-later, all-head}
 
 no-world : (i : Bor Syntax) (at : Span) (n : List ℕ) (ws : List WorldEntry) → interface_entry i ≡ AWorld at n ws → ⊥
 no-world i at n ws e = absurd (cc)
@@ -85,6 +87,8 @@ module _ (is : List InterfaceTree) (order : List ℕ) (orders : List (List ℕ))
       table = t;
       resolves = subst (λ (ts : List InterfaceTree). Resolves ts (package_in t)) same table-resolves;
       postfix = d.postfix;
+      earlier = d.earlier;
+      typed = d.typed;
       passes = q.1;
     },
   ))
@@ -124,3 +128,7 @@ ok-map (Err e) P Q f h = tt
 pub err-map : {T E : Type 0} (r : Result T E) (P Q : E → Type 0) → ((x : E) → P x → Q x) → IfErr r P → IfErr r Q
 err-map (Ok x) P Q f h = tt
 err-map (Err e) P Q f h = f e h
+
+pub ok-both : {T E : Type 0} (r : Result T E) (P Q R : T → Type 0) → ((x : T) → P x → Q x → R x) → IfOk r P → IfOk r Q → IfOk r R
+ok-both (Ok x) P Q R f h k = f x h k
+ok-both (Err e) P Q R f h k = tt

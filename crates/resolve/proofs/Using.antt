@@ -11,8 +11,8 @@ use Rattle.resolve.specs.Lent.{lent, lent_name}
 use Rattle.resolve.specs.Sources.{declared_tree}
 use Rattle.resolve.specs.Resolves.{place_of, places, interface_uses, uses_of_interface, type_uses, uses_of_type}
 use Rattle.resolve.specs.declared.declared.Declarations.{Declarations}
-use Rattle.resolve.proofs.Lists.{map-more, all-none, all-cons}
-use Rattle.resolve.proofs.Meeting.{below_or_at}
+use Rattle.package_form.proofs.Lists.{map-more, all-none, all-cons}
+use Rattle.package_form.proofs.Meeting.{below_or_at}
 
 module _ (ns : List (List ℕ)) (wanted : List (Bor (List ℕ))) (k : ℕ) (x : Bor (List ℕ)) (l : k < length wanted) (is : x ≡ get_or wanted k x) where
   places-more : places ns (lent (take (k + 1) wanted)) ≡ places ns (lent (take k wanted)) ++ cons_option (place_of ns x.now) []

@@ -4,10 +4,11 @@ use Rattle.std.specs.List.{list_all}
 use Rattle.std.specs.Option.{option_map}
 use Rattle.tables.specs.Tables.{option_all, kind_all, are_earlier, is_type, name_types}
 use Rattle.tables.specs.Package.{Tree, Reference, NamedDefinition, Meaning, IsType, references, definitions_from, read_val, meaning_of}
-use Rattle.resolve.specs.Postfix.{Leaves, IsPostfix, unnamed, unnamed_if, unnamed_field, unnamed_case, unnamed_parameter, parts, aliased, is_inner}
+use Rattle.package_form.specs.Postfix.{Leaves, IsPostfix, unnamed, unnamed_if, unnamed_field, unnamed_case, unnamed_parameter, parts, aliased, is_inner}
 use Rattle.resolve.specs.Declarations.{UsedItem, TypeItem, InterfaceTree, interface_at, named_definition, named_function, used_names, type_names}
 use Rattle.resolve.specs.Resolved.{Labelled, Choice, interface_meaning, no_type}
-use Rattle.resolve.specs.Resolves.{Table, names_in_order}
+use Rattle.package_form.specs.Entries.{Table}
+use Rattle.resolve.specs.Resolves.{names_in_order}
 use Rattle.tables.specs.declared.tables.ValType.{ValType}
 use Rattle.tables.specs.declared.tables.ValType.TheVariants as val
 use Rattle.tables.specs.declared.tables.InterfaceId.{InterfaceId}
@@ -17,7 +18,7 @@ use Rattle.tables.specs.declared.tables.Field.{Field}
 use Rattle.tables.specs.declared.tables.Case.{Case}
 use Rattle.tables.specs.declared.tables.TypeDefKind.{TypeDefKind}
 use Rattle.tables.specs.declared.tables.TypeDefKind.TheVariants as kind
-use Rattle.resolve.specs.Scoped.{Entry}
+use Rattle.package_form.specs.Scoped.{Entry}
 use Rattle.resolve.specs.declared.known.KnownTypes.{KnownTypes}
 
 -- what a reference to each row of a table stands for, and the definitions with names

@@ -2,7 +2,8 @@
 use Rattle.std.specs.Prelude.{◌≡◌, ◌≤◌, ℕ, [], ◌∷◌, ◌++◌, Option, None, Some}
 use Rattle.wit_syntax.specs.View.{version_view}
 use Rattle.wit_syntax.specs.declared.ast.PackageId.{PackageId}
-use Rattle.resolve.specs.Resolves.{Table, type_id, function_id, interfaces_in, type_entries}
+use Rattle.package_form.specs.Entries.{Table, type_entries}
+use Rattle.package_form.specs.Ids.{type_id, function_id, interfaces_in}
 use Rattle.tables.specs.declared.tables.Owner.{Owner}
 use Rattle.tables.specs.declared.tables.Owner.TheVariants as owner
 use Rattle.tables.specs.declared.tables.TypeName.{TypeName}

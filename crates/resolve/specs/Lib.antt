@@ -1,15 +1,11 @@
-pub mod Scope
 pub mod Order
 pub mod Waiting
 pub mod Declarations
 pub mod Resolved
-pub mod Postfix
 pub mod Resolves
 pub mod Building
 pub mod Sources
-pub mod Distinct
 pub mod Knowing
 pub mod Lent
 pub mod Finished
 pub mod Shape
-pub mod Scoped

@@ -3,6 +3,7 @@ use Rattle.std.specs.Prelude.{ℕ, List, [], ◌∷◌, ◌++◌, map, slice_ind
 use Rattle.wit_syntax.specs.Syntax.{Ty, Prim, Named, ListOf, OptionOf, TupleOf, ResultOf, Tys, none, more, MaybeTy, Absent, Present, Definition, Alias, Record, Variant, Enumeration, FlagSet, Member, CaseOf}
 use Rattle.wit_syntax.specs.declared.ast.Primitive.{Primitive as Keyword}
 use Rattle.wit_syntax.specs.declared.ast.Primitive.TheVariants as keyword
+use Rattle.canonical_abi.specs.Labelled.{none_label, some_label, ok_label, error_label}
 use Rattle.tables.specs.declared.tables.Primitive.TheVariants as primitive
 use Rattle.tables.specs.declared.tables.ValType.{ValType}
 use Rattle.tables.specs.declared.tables.ValType.TheVariants as val
@@ -64,13 +65,11 @@ abbrev pub enumerated : List (List ℕ) → Choices
 enumerated [] = no_choices
 enumerated (n ∷ ns) = empty n (enumerated ns)
 
--- `none` and `some`
 abbrev pub option_tree : Tree → Tree
-option_tree t = VariantTree AsOption (empty (110 ∷ 111 ∷ 110 ∷ 101 ∷ []) (holding (115 ∷ 111 ∷ 109 ∷ 101 ∷ []) t no_choices))
+option_tree t = VariantTree AsOption (empty none_label (holding some_label t no_choices))
 
--- `ok` and `error`
 abbrev pub result_tree : Option Tree → Option Tree → Tree
-result_tree ok error = VariantTree AsResult (choice (111 ∷ 107 ∷ []) ok (choice (101 ∷ 114 ∷ 114 ∷ 111 ∷ 114 ∷ []) error no_choices))
+result_tree ok error = VariantTree AsResult (choice ok_label ok (choice error_label error no_choices))
 
 abbrev pub tuple_tree : List Tree → Tree
 tuple_tree ts = RecordTree AsTuple (unlabelled ts)

@@ -1,31 +1,22 @@
 -- What a syntax tree stands for: the package that it resolves to, and when it is refused.
-use Rattle.std.specs.Prelude.{◌≡◌, ◌≢◌, ◌<◌, ◌≤◌, ◌+◌, ℕ, suc, Bool, true, false, List, [], ◌∷◌, map, flat_map, filter_map, sum, length, All, Contains, Option, None, Some, ◌⊎◌, if◌then◌else◌, ◌==◌, ◌&&◌, not, nat_le}
+use Rattle.std.specs.Prelude.{◌≡◌, ◌≢◌, ◌<◌, ◌≤◌, ℕ, suc, Bool, true, false, List, [], ◌∷◌, map, flat_map, filter_map, length, All, Contains, Option, None, Some, ◌⊎◌, if◌then◌else◌, ◌&&◌, nat_le, IsTrue, Result, MatchResult}
 use Rattle.std.specs.List.{list_all}
 use Rattle.std.specs.Option.{option_map}
 use Rattle.std.specs.Str.{bytes_eq}
 use Rattle.wit_tokens.specs.declared.token.Span.{Span}
 use Rattle.wit_syntax.specs.Syntax.{Ty, depth, Member, CaseOf, Definition as Body, Alias, Record, Variant, Enumeration, FlagSet, Function as Signature, Entry, Uses, Defines, Declares, WorldEntry, FileEntry, AnInterface, AWorld, File}
 use Rattle.wit_syntax.specs.View.{version_view}
-use Rattle.resolve.specs.Scope.{AreDistinct, IsDuplicate}
+use Rattle.package_form.specs.Scope.{AreDistinct, IsDuplicate}
 use Rattle.resolve.specs.Order.{IsPlacement, IsCycle}
-use Rattle.tables.specs.Tables.{are_standard}
-use Rattle.tables.specs.Package.{Package, definitions_from, package_of, interface_names as names_in}
-use Rattle.resolve.specs.Postfix.{IsPostfix}
+use Rattle.tables.specs.Tables.{are_earlier, name_types, are_standard}
+use Rattle.tables.specs.Package.{Package, definitions_from, package_of}
+use Rattle.package_form.specs.Entries.{Table, table_of, type_entries}
+use Rattle.package_form.specs.Ids.{interfaces_in}
+use Rattle.package_form.specs.Postfix.{IsPostfix}
 use Rattle.resolve.specs.Declarations.{UsedItem, TypeItem, FunctionItem, InterfaceTree, interfaces, interface_at, interface_names, use_interface, type_names, own_types, named_definition, named_function, scopes}
 use Rattle.resolve.specs.Resolved.{interface_meaning}
 use Rattle.tables.specs.declared.error.ResolveError.{ResolveError}
 use Rattle.tables.specs.declared.error.ResolveError.TheVariants as error
-use Rattle.tables.specs.declared.tables.ValType.TheVariants as val
-use Rattle.tables.specs.declared.tables.TypeDefKind.{TypeDefKind}
-use Rattle.tables.specs.declared.tables.TypeDefKind.TheVariants as kind
-use Rattle.tables.specs.declared.tables.TypeName.{TypeName}
-use Rattle.tables.specs.declared.tables.TypeId.{TypeId}
-use Rattle.tables.specs.declared.tables.FunctionId.{FunctionId}
-use Rattle.tables.specs.declared.tables.Owner.{Owner}
-use Rattle.tables.specs.declared.tables.Owner.TheVariants as owner
-use Rattle.tables.specs.declared.tables.Definition.{Definition}
-use Rattle.tables.specs.declared.tables.Definition.TheVariants as row
-use Rattle.tables.specs.declared.tables.Interface.{Interface}
 use Rattle.tables.specs.declared.tables.Resolve.{Resolve}
 
 -- ---- order
@@ -68,86 +59,10 @@ pub record Resolves (is : List InterfaceTree) (p : Package) : Type 0 where
   pub names : p.interfaces ≡ names_in_order is order
   pub definitions : p.definitions ≡ flat_map (λ k. interface_meaning (interface_at is k) (types k)) order
 
--- the names of interfaces and the definitions of a package without worlds
-pub record Table : Type 0 where
-  pub interfaces : List (List ℕ)
-  pub rows : List Definition
-
 abbrev pub package_in : Table → Package
 package_in t = record { interfaces = t.interfaces; definitions = definitions_from t.interfaces [] [] t.rows }
 
-abbrev pub table_of : Resolve → Table
-table_of r = record { interfaces = names_in r; rows = r.definitions }
-
--- ---- the ids of an interface
-
--- the places of the rows with this property, the first of which stands at place n
-abbrev pub places_where : (Definition → Bool) → ℕ → List Definition → List ℕ
-places_where is n [] = []
-places_where is n (d ∷ ds) = if is d then n ∷ places_where is (n + 1) ds else places_where is (n + 1) ds
-
-abbrev pub is_in : ℕ → Option TypeName → Bool
-is_in i None = false
-is_in i (Some n) = n.interface.0 == i
-
-abbrev pub is_use : TypeDefKind → Bool
-is_use (kind.Use t) = true
-is_use _ = false
-
-abbrev pub is_use_in : ℕ → Definition → Bool
-is_use_in i (row.Type d) = is_in i d.name && is_use d.kind
-is_use_in i (row.Function f) = false
-
-abbrev pub is_type_in : ℕ → Definition → Bool
-is_type_in i (row.Type d) = is_in i d.name && not (is_use d.kind)
-is_type_in i (row.Function f) = false
-
-abbrev pub is_owned_by : ℕ → Owner → Bool
-is_owned_by i (owner.Interface k) = k.0 == i
-is_owned_by i (owner.World w) = false
-
-abbrev pub is_function_in : ℕ → Definition → Bool
-is_function_in i (row.Type d) = false
-is_function_in i (row.Function f) = is_owned_by i f.owner
-
-abbrev pub type_id : ℕ → TypeId
-type_id n = record { 0 = n }
-
-abbrev pub function_id : ℕ → FunctionId
-function_id n = record { 0 = n }
-
--- interface i of these rows: its used names, its types and its functions in table order
-abbrev pub interface_in : List Definition → ℕ → List ℕ → Interface
-interface_in rows i name = record {
-  name = name;
-  uses = map type_id (places_where (is_use_in i) 0 rows);
-  types = map type_id (places_where (is_type_in i) 0 rows);
-  functions = map function_id (places_where (is_function_in i) 0 rows);
-}
-
-abbrev pub interfaces_from : List Definition → ℕ → List (List ℕ) → List Interface
-interfaces_from rows i [] = []
-interfaces_from rows i (n ∷ ns) = interface_in rows i n ∷ interfaces_from rows (i + 1) ns
-
-abbrev pub interfaces_in : Table → List Interface
-interfaces_in t = interfaces_from t.rows 0 t.interfaces
-
--- ---- limits: all that takes a type index in the package's binary
-
--- a used name has an alias in the component type, an outer alias and an export; a new name of a named type its export alone
-abbrev pub entries_under : Option TypeName → TypeDefKind → ℕ
-entries_under None k = 1
-entries_under (Some n) (kind.Use t) = 3
-entries_under (Some n) (kind.Alias (val.Id t)) = 1
-entries_under (Some n) k = 2
-
-abbrev pub entries_of : Definition → ℕ
-entries_of (row.Type d) = entries_under d.name d.kind
-entries_of (row.Function f) = 1
-
--- the component type, an instance type for each interface, and what each row takes
-abbrev pub type_entries : Table → ℕ
-type_entries t = 1 + length t.interfaces + sum (map entries_of t.rows)
+-- ---- limits
 
 -- too many type entries, cases or labels; or a type without any, which no text has
 abbrev pub PassesLimit : Table → Type 0
@@ -267,6 +182,8 @@ pub record IsTooLarge (f : File) : Type 0 where
   pub table : Table
   pub resolves : Resolves (interfaces f) (package_in table)
   pub postfix : IsPostfix table.rows
+  pub earlier : IsTrue (are_earlier 0 table.rows)
+  pub typed : IsTrue (name_types table.rows)
   pub passes : PassesLimit table
 
 -- a refusal: its cause stands, and no cause of an earlier class does
@@ -278,3 +195,13 @@ Refuses f (error.Unknown n) = IsOfInterfaces f × HasDistinctNames f × HasUnkno
 Refuses f error.Cycle = HasNoFaults f × HasCycle f
 Refuses f error.Limit = (IsOfInterfaces f × (file_fits f ≡ false)) ⊎ (HasNoFaults f × IsTooLarge f)
 Refuses f error.NoMemory = Unit {0}
+
+-- the tree has no faults, is nested as a text, and has this package
+pub record HasPackage (f : File) (r : Resolve) : Type 0 where
+  pub faults : HasNoFaults f
+  pub fits : file_fits f ≡ true
+  pub resolved : IsPackageOf f r
+
+-- where a tree has a package, that package is answered, by its names, or only memory is wanting
+abbrev pub AnswersOnly : File → Result Resolve ResolveError → Type 0
+AnswersOnly f answer = (r : Resolve) → HasPackage f r → MatchResult answer (λ p. package_of p ≡ package_of r) (λ e. e ≡ error.NoMemory)

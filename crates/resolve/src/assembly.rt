@@ -3,7 +3,7 @@ ghost use Rattle.std.specs.Prelude.{◌≡◌, ◌<◌, ℕ, [], length, map, Al
 ghost use Rattle.resolve.specs.Declarations.{interface_at, interface_names};
 ghost use Rattle.resolve.specs.Order.{IsPlacement};
 ghost use Rattle.resolve.specs.Resolves.{interface_uses, type_uses, HasKnownNames, names_in_order};
-ghost use Rattle.resolve.specs.Scope.{AreDistinct};
+ghost use Rattle.package_form.specs.Scope.{AreDistinct};
 ghost use Rattle.resolve.specs.Sources.{declared_tree};
 ghost use Rattle.resolve.specs.Building.{DefinesPackage};
 

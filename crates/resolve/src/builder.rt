@@ -2,7 +2,7 @@
 ghost use Rattle.std.specs.Prelude.{◌≡◌, ◌≢◌, ◌<◌, ◌++◌, ◌∷◌, [], length, IfOk};
 ghost use Rattle.std.specs.Bool.{OnTrue, OnFalse};
 ghost use Rattle.tables.specs.Package.{Tree};
-ghost use Rattle.resolve.specs.Resolves.{Table};
+ghost use Rattle.package_form.specs.Entries.{Table};
 ghost use Rattle.resolve.specs.Building.{Lowers, LowersInner, name_at};
 
 use atoms::Label;
@@ -18,7 +18,7 @@ pub struct Builder {
 }
 
 impl Model for Builder {
-    ghost use Rattle.resolve.specs.Resolves.{Table};
+    ghost use Rattle.package_form.specs.Entries.{Table};
 
     ghost Value = { Table };
 

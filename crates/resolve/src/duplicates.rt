@@ -3,12 +3,12 @@ ghost use Rattle.std.specs.Prelude.{◌≡◌, ◌++◌, ◌⊎◌, List, ℕ, m
 ghost use Rattle.wit_syntax.specs.View.{used_view, field_view, case_view, definition_view, entry_view};
 ghost use Rattle.resolve.specs.Declarations.{local_name, member_name, case_name, definition_scopes, entry_names, entry_scopes, item_scopes, scopes_in};
 ghost use Rattle.resolve.specs.Sources.{interface_entry};
-ghost use Rattle.resolve.specs.Distinct.{AreMet, RefusesNames, RefusesScopes};
-ghost use Rattle.resolve.specs.Scope.{AreDistinct};
+ghost use Rattle.package_form.specs.Distinct.{AreMet, RefusesNames, RefusesScopes};
+ghost use Rattle.package_form.specs.Scope.{AreDistinct};
 
 use crate::declare::local_name;
-use crate::scope::Scope;
 use atoms::Label;
+use package_form::Scope;
 use std::alloc::Global;
 use tables::ResolveError;
 use wit_syntax::{Case, Field, Interface, InterfaceItem, TypeDefKind, UsedName};

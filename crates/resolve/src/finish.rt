@@ -1,20 +1,19 @@
 //! A package of a table of definitions: the ids of its interfaces, and its limits.
 ghost use Rattle.std.specs.Prelude.{◌≡◌, ◌≤◌, ◌+◌, ◌⊎◌, [], length, map, sum, nat_lt, IsTrue, IfOk, IfErr, OnOk};
 ghost use Rattle.tables.specs.Tables.{are_earlier, name_types};
-ghost use Rattle.resolve.specs.Resolves.{PassesLimit, entries_of, interfaces_from};
+ghost use Rattle.resolve.specs.Resolves.{PassesLimit};
+ghost use Rattle.package_form.specs.Ids.{interfaces_from};
 ghost use Rattle.resolve.specs.Finished.{IsFinished, interface_of, with_row};
 
 use crate::builder::Builder;
 use atoms::Label;
+use package_form::passes_entries;
 use std::alloc::{AllocError, Global};
 use tables::{
     Definition, FunctionId, Interface, Owner, Resolve, ResolveError, Sequence, TypeDefKind, TypeId,
-    TypeName, ValType, are_standard,
+    are_standard,
 };
 use wit_syntax::PackageId;
-
-/// The most type entries of a package.
-const MAX_ENTRIES: usize = 65_535;
 
 /// The interface that a row has a name in.
 fn interface_of(row: &Definition) -> Option<usize>
@@ -81,36 +80,6 @@ fn interfaces_in(
         }
     }
     Ok(Sequence::new(interfaces))
-}
-
-/// The type entries that a definition takes in the package's binary.
-fn entries_of(row: &Definition) -> usize
-    ensures value { result ≡ entries_of row.now }
-    ensures few { result ≤ 3 }
-{
-    match row {
-        Definition::Type(definition) => match (&definition.name, &definition.kind) {
-            (None, _) => 1,
-            (Some(_), TypeDefKind::Use(_)) => 3,
-            (Some(_), TypeDefKind::Alias(ValType::Id(_))) => 1,
-            (Some(_), _) => 2,
-        },
-        Definition::Function(_) => 1,
-    }
-}
-
-fn passes_entries(interfaces: usize, rows: &[Definition]) -> bool
-    requires { interfaces ≤ 9223372036854775807 }
-    ensures { result ≡ nat_lt 65535 (1 + interfaces + sum (map entries_of rows.now)) }
-{
-    let mut total = 1 + interfaces;
-    for row in rows {
-        if total > MAX_ENTRIES {
-            return true;
-        }
-        total += entries_of(row);
-    }
-    total > MAX_ENTRIES
 }
 
 /// The package of this table, under this name.

@@ -15,7 +15,7 @@ pub struct TypeIds {
 
 impl Model for TypeIds {
     ghost use Rattle.std.specs.Prelude.{List, map};
-    ghost use Rattle.resolve.specs.Scoped.{Entry, entry_of};
+    ghost use Rattle.package_form.specs.Scoped.{Entry, entry_of};
 
     ghost Value = { List Entry };
 

@@ -21,11 +21,9 @@ mod names;
 mod nested;
 mod order;
 mod queue;
-mod scope;
 mod tree;
 mod unknown;
 
-pub use scope::Scope;
 pub use tables::{
     Case, Definition, Direction, Field, Function, FunctionId, Interface, InterfaceId, Owner,
     Parameter, Primitive, Resolve, ResolveError, Sequence, TypeDef, TypeDefKind, TypeId, TypeName,

@@ -1,9 +1,13 @@
 //! The package of a syntax tree.
-ghost use Rattle.std.specs.Prelude.{◌≡◌, map, IfOk, IfErr};
+ghost use Rattle.std.specs.Prelude.{◌≡◌, map, All, IsTrue, IfOk, IfErr};
 ghost use Rattle.std.specs.List.{list_all};
 ghost use Rattle.wit_syntax.specs.View.{file_view};
+ghost use Rattle.wit_syntax.specs.FullNames.{has_full_names};
+ghost use Rattle.package_form.specs.Form.{IsInPackageForm};
+ghost use Rattle.package_form.specs.Naming.{package_scopes};
+ghost use Rattle.package_form.specs.Scope.{AreDistinct};
 ghost use Rattle.resolve.specs.Declarations.{interfaces};
-ghost use Rattle.resolve.specs.Resolves.{interface_fits, IsPackageOf, Refuses, HasNoFaults};
+ghost use Rattle.resolve.specs.Resolves.{interface_fits, IsPackageOf, Refuses, HasNoFaults, AnswersOnly};
 ghost use Rattle.resolve.specs.Sources.{declared_tree, interface_entry, interface_syntax};
 ghost use Rattle.resolve.specs.Shape.{HasInterfaces, RefusesShape};
 
@@ -76,13 +80,8 @@ fn declarations(alloc: Global, ast: &Ast) -> Result<Vec<Declarations>, ResolveEr
     Ok(all)
 }
 
-/// The package of a syntax tree. Its definitions stand in package order, in which each interface comes after
-/// those that it uses, and within an interface uses, types and functions; types that stand inside a definition
-/// stand before it, inner ones first. 43 where the tree has neither interface nor world, 44 where it has a
-/// world, 40 where a name stands twice in a scope, 41 where a name stands for nothing, 42 where interfaces use
-/// each other or types name each other, 45 where the package passes a limit, in this order; 45 also where a
-/// type is nested more than 64 deep or has no members, as in no text; 46 where memory is wanting.
-pub fn from_ast(alloc: Global, ast: &Ast) -> Result<Resolve, ResolveError>
+/// The package of a syntax tree, whose answer `from_ast` weighs.
+fn resolved_package(alloc: Global, ast: &Ast) -> Result<Resolve, ResolveError>
     ensures ok { IfOk result (IsPackageOf (file_view ast.now)) }
     ensures faults { IfOk result (λ _. HasNoFaults (file_view ast.now)) }
     ensures err { IfErr result (Refuses (file_view ast.now)) }
@@ -92,4 +91,23 @@ pub fn from_ast(alloc: Global, ast: &Ast) -> Result<Resolve, ResolveError>
     let orders = type_orders(alloc, &all)?;
     let builder = define_package(alloc, &all, order.as_slice(), &orders)?;
     finish(alloc, builder, &ast.package)
+}
+
+/// The package of a syntax tree. Its definitions stand in package order, in which each interface comes after
+/// those that it uses, and within an interface uses, types and functions; types that stand inside a definition
+/// stand before it, inner ones first. 43 where the tree has neither interface nor world, 44 where it has a
+/// world, 40 where a name stands twice in a scope, 41 where a name stands for nothing, 42 where interfaces use
+/// each other or types name each other, 45 where the package passes a limit, in this order; 45 also where a
+/// type is nested more than 64 deep or has no members, as in no text; 46 where memory is wanting. Where the
+/// tree's names make full names, as those of every text do, the package is in the form that packages have, and in
+/// each scope its names differ in more than the case of their letters.
+pub fn from_ast(alloc: Global, ast: &Ast) -> Result<Resolve, ResolveError>
+    ensures ok { IfOk result (IsPackageOf (file_view ast.now)) }
+    ensures faults { IfOk result (λ _. HasNoFaults (file_view ast.now)) }
+    ensures form { IfOk result (λ r. IsTrue (has_full_names (file_view ast.now)) → IsInPackageForm r) }
+    ensures distinct { IfOk result (λ r. IsTrue (has_full_names (file_view ast.now)) → All AreDistinct (package_scopes r)) }
+    ensures err { IfErr result (Refuses (file_view ast.now)) }
+    ensures only { AnswersOnly (file_view ast.now) result }
+{
+    resolved_package(alloc, ast)
 }

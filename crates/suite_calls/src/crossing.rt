@@ -1,7 +1,7 @@
 //! Typed calls of functions whose values are no scalars: results that come back in the return area, and
 //! callers that have no room.
 
-ghost use Rattle.std.specs.Prelude.{IsTrue, IfOk};
+ghost use Rattle.std.specs.Prelude.{IfOk};
 ghost use Rattle.tables.specs.Closed.{IsFunction};
 
 use adapter::{BoxedBody, Export, Stopped};
@@ -11,7 +11,7 @@ use memory::{Bump, Scripted, Space};
 use std::alloc::Global;
 use std::process::Abort;
 use std::test::Fail;
-use tables::{Definition, FunctionId, Resolve};
+use tables::FunctionId;
 use witcall::{Package, Session, open};
 
 /// A body that puts its first two arguments' low words side by side into a block of eight bytes, whose
@@ -55,23 +55,13 @@ fn package(alloc: Global, items: &str) -> Result<Package, Fail> {
     Ok(open(alloc, text.as_bytes())?)
 }
 
-fn is_function(resolve: &Resolve, func: FunctionId) -> bool
-    ensures { IsTrue result → IsFunction resolve.now func }
-{
-    matches!(
-        resolve.definitions.as_slice().get(func.0 as usize),
-        Some(Definition::Function(_))
-    )
-}
-
 /// The function `f`.
 fn function(package: &Package) -> Result<FunctionId, Fail>
     ensures { IfOk result (IsFunction «package».now.resolve) }
 {
-    let resolve = package.resolve();
-    match resolve.function("a:b/c", "f") {
-        Some(f) if is_function(resolve, f) => Ok(f),
-        _ => Err(Fail::from("no function")),
+    match package.resolve().function("a:b/c", "f") {
+        Some(f) => Ok(f),
+        None => Err(Fail::from("no function")),
     }
 }
 

@@ -3,3 +3,4 @@ pub mod Rows
 mod Unfolded
 pub mod Earlier
 pub mod Standards
+pub mod Erased

@@ -5,3 +5,4 @@ pub mod Same
 pub mod Package
 pub mod Parts
 pub mod Standard
+pub mod Labelled

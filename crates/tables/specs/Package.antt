@@ -5,6 +5,7 @@ use Rattle.std.specs.Option.{option_map}
 use Rattle.std.specs.Str.{bytes_eq}
 use Rattle.canonical_abi.specs.Types.{ClosedType, prim_type, string_type, list_type, record_type, variant_type, flags_type}
 use Rattle.canonical_abi.specs.Types as closed
+use Rattle.canonical_abi.specs.Labelled.{none_label, some_label, ok_label, error_label}
 use Rattle.tables.specs.Closed.{prim_of, closed_type}
 use Rattle.tables.specs.declared.tables.Primitive.{Primitive}
 use Rattle.tables.specs.declared.tables.ValType.{ValType}
@@ -138,14 +139,13 @@ abbrev pub read_enum : List (List ℕ) → Choices
 read_enum [] = no_choices
 read_enum (n ∷ ns) = empty n (read_enum ns)
 
--- the labels of an option are `none` and `some`, those of a result `ok` and `error`
 abbrev pub read_kind : List Tree → TypeDefKind → Tree
 read_kind trees (kind.Use t) = read_val trees (val.Id t)
 read_kind trees (kind.Alias v) = read_val trees v
 read_kind trees (kind.List v) = ListTree (read_val trees v)
-read_kind trees (kind.Option v) = VariantTree AsOption (empty (110 ∷ 111 ∷ 110 ∷ 101 ∷ []) (holding (115 ∷ 111 ∷ 109 ∷ 101 ∷ []) (read_val trees v) no_choices))
+read_kind trees (kind.Option v) = VariantTree AsOption (empty none_label (holding some_label (read_val trees v) no_choices))
 read_kind trees (kind.Result ok error) =
-    VariantTree AsResult (read_choice trees (111 ∷ 107 ∷ []) ok (read_choice trees (101 ∷ 114 ∷ 114 ∷ 111 ∷ 114 ∷ []) error no_choices))
+    VariantTree AsResult (read_choice trees ok_label ok (read_choice trees error_label error no_choices))
 read_kind trees (kind.Tuple vs) = RecordTree AsTuple (read_tuple trees vs)
 read_kind trees (kind.Record fs) = RecordTree Plain (read_fields trees fs)
 read_kind trees (kind.Variant cs) = VariantTree Plain (read_cases trees cs)
@@ -235,6 +235,8 @@ HasDistinctTypes interfaces (row.Type d ∷ ds) seen = IsDistinctName interfaces
 HasDistinctTypes interfaces (row.Function f ∷ ds) seen = HasDistinctTypes interfaces ds seen
 
 -- a type of the package, closed by the names of the package alone, is its closed type
+abbrev pub IsClosedByNames : Resolve → Type 0
+IsClosedByNames r = (v : ValType) → closed_tree (environment [] (definitions r)) (read_val (trees r) v) ≡ closed_type r v
+
 abbrev pub ClosesAlike : Resolve → Type 0
-ClosesAlike r = HasDistinctTypes (interface_names r) r.definitions []
-    → (v : ValType) → closed_tree (environment [] (definitions r)) (read_val (trees r) v) ≡ closed_type r v
+ClosesAlike r = HasDistinctTypes (interface_names r) r.definitions [] → IsClosedByNames r

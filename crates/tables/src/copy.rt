@@ -1,5 +1,5 @@
 //! Equal tables.
-ghost use Rattle.std.specs.Prelude.{◌≡◌, IfOk};
+ghost use Rattle.std.specs.Prelude.{◌≡◌, option_map, string_bytes, IfOk};
 ghost use Rattle.tables.specs.Same.{IsSamePackage};
 
 use crate::sequence::Sequence;
@@ -167,19 +167,25 @@ impl Copied for World {
     }
 }
 
+/// A copy of a version, if there is one.
+pub fn copy_version(version: &Option<String>) -> Result<Option<String>, AllocError>
+    ensures { IfOk result (λ copy. option_map string_bytes copy ≡ option_map string_bytes version.now) }
+{
+    match version {
+        Some(version) => Ok(Some(version.clone()?)),
+        None => Ok(None),
+    }
+}
+
 impl Resolve {
     /// The same package under the same ids.
     pub fn copy(&self, alloc: Global) -> Result<Resolve, AllocError>
         ensures { IfOk result (λ r. IsSamePackage r self.now) }
     {
-        let version = match &self.version {
-            Some(version) => Some(version.clone()?),
-            None => None,
-        };
         Ok(Resolve {
             namespace: self.namespace.copy(alloc)?,
             name: self.name.copy(alloc)?,
-            version,
+            version: copy_version(&self.version)?,
             interfaces: copied_all(alloc, &self.interfaces)?,
             worlds: copied_all(alloc, &self.worlds)?,
             definitions: copied_all(alloc, &self.definitions)?,

@@ -1,5 +1,6 @@
 //! Laws of the tables.
 ghost use Rattle.tables.specs.Package.{ClosesAlike};
+ghost use Rattle.tables.specs.Labelled.{ErasesToClosed};
 ghost use Rattle.tables.specs.Standard.{HasStandardTypes};
 
 use crate::tables::Resolve;
@@ -14,4 +15,9 @@ pub fn closes_alike(_resolve: &Resolve)
 /// is above the limits.
 pub fn types_are_standard(_resolve: &Resolve)
     ensures { HasStandardTypes _resolve.now }
+{}
+
+/// The closed type of a type of the package is its labelled type without the labels.
+pub fn erases_to_closed(_resolve: &Resolve)
+    ensures { ErasesToClosed _resolve.now }
 {}

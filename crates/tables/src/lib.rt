@@ -14,6 +14,7 @@ mod parts;
 mod sequence;
 mod tables;
 
+pub use copy::copy_version;
 pub use error::ResolveError;
 pub use parts::are_standard;
 pub use sequence::Sequence;

@@ -75,7 +75,8 @@ impl Resolve {
     }
 
     fn function_of(&self, func: FunctionId) -> Option<&Function>
-        ensures { MatchOption result (function_at self.now func ≡ None) (λ f. function_at self.now func ≡ Some f.now) }
+        ensures at { MatchOption result (function_at self.now func ≡ None) (λ f. function_at self.now func ≡ Some f.now) }
+        ensures function { IfSome result (λ _. IsFunction self.now func) }
     {
         match self.definitions.as_slice().get(func.0 as usize) {
             Some(Definition::Function(function)) => Some(function),
@@ -85,6 +86,7 @@ impl Resolve {
 
     fn function_in(&self, functions: &[FunctionId], name: &str) -> Option<FunctionId>
         ensures found { IfSome result (IsNamedIn self.now functions.now name.now) }
+        ensures function { IfSome result (IsFunction self.now) }
         ensures none { IfNone result ((f : FunctionId) → ¬ IsNamedIn self.now functions.now name.now f) }
     {
         for func in functions {
@@ -100,6 +102,7 @@ impl Resolve {
     /// The function of this name in the interface of this full name.
     pub fn function(&self, iface: &str, name: &str) -> Option<FunctionId>
         ensures found { IfSome result (IsNamed self.now iface.now name.now) }
+        ensures function { IfSome result (IsFunction self.now) }
         ensures none { IfNone result ((f : FunctionId) → ¬ IsNamed self.now iface.now name.now f) }
     {
         for interface in self.interfaces.as_slice() {

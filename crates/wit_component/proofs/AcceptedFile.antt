@@ -25,14 +25,16 @@ use Rattle.tables.specs.declared.tables.Definition.{Definition}
 use Rattle.tables.specs.declared.tables.Definition.TheVariants as row
 use Rattle.tables.specs.declared.tables.Interface.{Interface}
 use Rattle.tables.specs.declared.tables.Resolve.{Resolve}
-use Rattle.resolve.specs.Resolves.{places_where, entries_of}
-use Rattle.wit_component.specs.References.{row_references}
+use Rattle.package_form.specs.Ids.{places_where}
+use Rattle.package_form.specs.Entries.{entries_of}
+use Rattle.package_form.specs.References.{row_references}
 use Rattle.wit_component.specs.Rows.{Place, declarations_of, places_after, place_after}
-use Rattle.wit_component.specs.Component.{behind_types, behind_functions, end_of, rows_of, is_parted, used_by, used_in, name_of, name_at, instance_export, row_alias, aliases_of, Front, first_place, interface_declarations, front_after, interfaces_declared, no_front, component_of}
-use Rattle.wit_component.specs.Form.{is_own, is_own_name, is_earlier_name, is_earlier_type, uses_earlier, is_owned, is_local, is_named, ids_of, is_use_type, is_use_at, has_ids, are_interfaces, IsInPackageForm}
-use Rattle.wit_component.specs.Unused.{inner_rows, can_use, is_next, unused_after, are_used}
-use Rattle.wit_component.proofs.Postfixed.{split, both}
-use Rattle.wit_component.proofs.Postfix.{postfix-used}
+use Rattle.package_form.specs.Ends.{behind_types, behind_functions, end_of, rows_of, is_parted}
+use Rattle.wit_component.specs.Component.{used_by, used_in, name_of, name_at, instance_export, row_alias, aliases_of, Front, first_place, interface_declarations, front_after, interfaces_declared, no_front, component_of}
+use Rattle.package_form.specs.Form.{is_own, is_own_name, is_earlier_name, is_earlier_type, uses_earlier, is_owned, is_local, is_named, ids_of, is_use_type, is_use_at, has_ids, are_interfaces, IsInPackageForm}
+use Rattle.package_form.specs.Unused.{inner_rows, can_use, is_next, unused_after, are_used}
+use Rattle.tables.proofs.Rows.{split, both}
+use Rattle.package_form.proofs.Postfix.{postfix-used}
 use Rattle.wit_component.proofs.AcceptedRows.{all-split, CanStand, row-allowed, row-entries}
 use Rattle.wit_component.proofs.AcceptedStates.{named_at, closed-stands}
 use Rattle.wit_component.proofs.AcceptedWalk.{behind, is_use_place, Walk, Walked, walked}

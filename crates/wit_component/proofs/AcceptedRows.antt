@@ -18,9 +18,10 @@ use Rattle.tables.specs.declared.tables.TypeName.{TypeName}
 use Rattle.tables.specs.declared.tables.Function.{Function}
 use Rattle.tables.specs.declared.tables.Definition.{Definition}
 use Rattle.tables.specs.declared.tables.Definition.TheVariants as row
-use Rattle.resolve.specs.Postfix.{is_inner}
-use Rattle.resolve.specs.Resolves.{is_use, entries_under, entries_of}
-use Rattle.wit_component.specs.References.{references, references_if, field_references, case_references, parameter_references, kind_references, row_references}
+use Rattle.package_form.specs.Postfix.{is_inner}
+use Rattle.package_form.specs.Ids.{is_use}
+use Rattle.package_form.specs.Entries.{entries_under, entries_of}
+use Rattle.package_form.specs.References.{references, references_if, field_references, case_references, parameter_references, kind_references, row_references}
 use Rattle.wit_component.specs.Rows.{Place, valtype_of, field_of, parameter_of, case_of, signature_of, defined_of, definition_of, definition_index, type_export, row_declarations, defined_types, exported_types, place_after}
 use Rattle.wit_component.specs.Component.{used_by, name_at, instance_export, row_alias}
 

@@ -13,14 +13,14 @@ use Rattle.tables.specs.declared.tables.TypeDefKind.TheVariants as kind
 use Rattle.tables.specs.declared.tables.TypeName.{TypeName}
 use Rattle.tables.specs.declared.tables.Definition.{Definition}
 use Rattle.tables.specs.declared.tables.Definition.TheVariants as row
-use Rattle.resolve.specs.Postfix.{is_unnamed, is_unnamed_row, one_if, is_inner}
-use Rattle.wit_component.specs.References.{row_references}
+use Rattle.package_form.specs.Postfix.{is_unnamed, is_unnamed_row, one_if, is_inner}
+use Rattle.package_form.specs.References.{row_references}
 use Rattle.wit_component.specs.Rows.{Place, defined_types, exported_types, row_types, export_offset, row_offset, place_after}
 use Rattle.wit_component.specs.Component.{name_of}
-use Rattle.wit_component.specs.Form.{is_own_name, is_own_type, is_own, uses_earlier, is_owned, is_local}
-use Rattle.wit_component.specs.Unused.{unnamed_at, inner_rows, closes, unused_after}
-use Rattle.wit_component.proofs.Fronts.{stands_before}
-use Rattle.wit_component.proofs.Postfixed.{split}
+use Rattle.package_form.specs.Form.{is_own_name, is_own_type, is_own, uses_earlier, is_owned, is_local}
+use Rattle.package_form.specs.Unused.{unnamed_at, inner_rows, closes, unused_after}
+use Rattle.package_form.proofs.Fronts.{stands_before}
+use Rattle.tables.proofs.Rows.{split}
 use Rattle.wit_component.proofs.AcceptedRows.{all-split, StandsSo, CanStand, IsKnown}
 
 -- ---- lists

@@ -12,16 +12,16 @@ use Rattle.tables.specs.declared.tables.TypeDefKind.TheVariants as kind
 use Rattle.tables.specs.declared.tables.TypeName.{TypeName}
 use Rattle.tables.specs.declared.tables.Definition.{Definition}
 use Rattle.tables.specs.declared.tables.Definition.TheVariants as row
-use Rattle.resolve.specs.Postfix.{is_unnamed, one_if, is_inner}
-use Rattle.resolve.specs.Resolves.{is_use, places_where}
-use Rattle.wit_component.specs.References.{row_references}
+use Rattle.package_form.specs.Postfix.{is_unnamed, one_if, is_inner}
+use Rattle.package_form.specs.Ids.{is_use, places_where}
+use Rattle.package_form.specs.References.{row_references}
 use Rattle.wit_component.specs.Rows.{Place, place_after, declarations_of, places_after}
 use Rattle.wit_component.specs.Component.{name_of, used_by, name_at, instance_export, row_alias, aliases_of}
-use Rattle.wit_component.specs.Form.{is_own_name, is_own, is_earlier_name, is_earlier_type, uses_earlier, is_owned, is_local, is_named, is_use_type}
-use Rattle.wit_component.specs.Unused.{inner_rows, can_use, closes, is_next, unused_after, are_used}
-use Rattle.wit_component.proofs.Fronts.{row-before}
-use Rattle.wit_component.proofs.Postfixed.{split}
-use Rattle.wit_component.proofs.Postfix.{ends, is-none}
+use Rattle.package_form.specs.Form.{is_own_name, is_own, is_earlier_name, is_earlier_type, uses_earlier, is_owned, is_local, is_named, is_use_type}
+use Rattle.package_form.specs.Unused.{inner_rows, can_use, closes, is_next, unused_after, are_used}
+use Rattle.package_form.proofs.Fronts.{row-before}
+use Rattle.tables.proofs.Rows.{split}
+use Rattle.package_form.proofs.Postfix.{ends, is-none}
 use Rattle.wit_component.proofs.AcceptedRows.{is_use_row, CanStand, IsKnown, row-range}
 use Rattle.wit_component.proofs.AcceptedStates.{State, closed-stands, row-known, state-next}
 

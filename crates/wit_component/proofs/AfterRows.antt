@@ -1,14 +1,14 @@
 -- The rows and the ids of an interface, after its rows were read.
 use Rattle.std.proofs.Common.{◌≡◌, ℕ, suc, ◌+◌, Bool, true, false, cond, not, ◌&&◌, List, [], ◌∷◌, ◌++◌, length, map, is_some, refl, ap, sym, ◌∙◌, append_assoc, append-nil, length-append}
 use Rattle.std.proofs.lemmas.List.{map-append}
-use Rattle.resolve.specs.Resolves.{is_use, places_where, type_id, function_id}
+use Rattle.package_form.specs.Ids.{is_use, places_where, type_id, function_id}
 use Rattle.tables.specs.declared.tables.TypeId.{TypeId}
 use Rattle.tables.specs.declared.tables.ValType.TheVariants as val
 use Rattle.tables.specs.declared.tables.TypeDefKind.{TypeDefKind}
 use Rattle.tables.specs.declared.tables.TypeDefKind.TheVariants as kind
 use Rattle.tables.specs.declared.tables.Definition.{Definition}
 use Rattle.tables.specs.declared.tables.Definition.TheVariants as row
-use Rattle.wit_component.specs.Candidate.{InstanceRead, named_row}
+use Rattle.component_reader.specs.Candidate.{InstanceRead, named_row}
 use Rattle.wit_component.proofs.Alike.{IsAlike, same, uses, AreAlike, none, one_more}
 use Rattle.wit_component.proofs.Readable.{row_after, rows_after, IsRowOf, nameless, type_of_it, function_of_it, AreRowsOf}
 

@@ -4,16 +4,16 @@ use Rattle.std.specs.List.{list_all}
 use Rattle.std.specs.Option.{option_map}
 use Rattle.ctype_bin.specs.Raw.{Decl}
 use Rattle.ctype_bin.specs.View.{decls_of}
-use Rattle.resolve.specs.Scoped.{Entry as Named}
+use Rattle.package_form.specs.Scoped.{Entry as Named}
 use Rattle.tables.specs.declared.tables.TypeId.{TypeId}
 use Rattle.tables.specs.declared.tables.TypeDefKind.{TypeDefKind}
 use Rattle.tables.specs.declared.tables.TypeDefKind.TheVariants as kind
 use Rattle.tables.specs.declared.tables.Definition.{Definition}
 use Rattle.tables.specs.declared.tables.Definition.TheVariants as row
-use Rattle.wit_component.specs.Candidate.{if_found, ComponentRead, with_type, exported_type, declarations_read}
+use Rattle.component_reader.specs.Candidate.{if_found, ComponentRead, with_type, exported_type, declarations_read}
 use Rattle.wit_component.specs.Component.{used_by, name_at, instance_export, row_alias, aliases_of}
 use Rattle.wit_component.proofs.Ids.{is_use_def}
-use Rattle.wit_component.proofs.Postfixed.{split}
+use Rattle.tables.proofs.Rows.{split}
 use Rattle.wit_component.proofs.UsesFound.{UsesFound, found_none, found_one, all_some}
 
 abbrev pub with_types : ComponentRead → List TypeId → ComponentRead

@@ -27,16 +27,18 @@ use Rattle.tables.specs.declared.tables.Definition.{Definition}
 use Rattle.tables.specs.declared.tables.Definition.TheVariants as row
 use Rattle.tables.specs.declared.tables.Interface.{Interface}
 use Rattle.tables.specs.declared.tables.Resolve.{Resolve}
-use Rattle.resolve.specs.Postfix.{is_unnamed, is_unnamed_row, one_if}
-use Rattle.resolve.specs.Resolves.{places_where, entries_of, type_entries, table_of}
-use Rattle.wit_component.specs.References.{row_references}
-use Rattle.wit_component.specs.Unused.{unnamed_at, inner_rows, is_next, unused_after, are_used}
+use Rattle.package_form.specs.Postfix.{is_unnamed, is_unnamed_row, one_if}
+use Rattle.package_form.specs.Ids.{places_where}
+use Rattle.package_form.specs.Entries.{entries_of, type_entries, table_of}
+use Rattle.package_form.specs.References.{row_references}
+use Rattle.package_form.specs.Unused.{unnamed_at, inner_rows, is_next, unused_after, are_used}
 use Rattle.wit_component.specs.Rows.{Place, row_declarations, place_after, declarations_of, places_after}
-use Rattle.wit_component.specs.Component.{used_in, name_of, name_at, instance_export, row_alias, aliases_of, end_of, rows_of, is_parted, Front, first_place, interface_declarations, front_after, interfaces_declared, no_front, package_export, component_of}
-use Rattle.wit_component.specs.Form.{is_named, is_own_name, is_own_type, is_own, is_earlier_name, is_earlier_type, is_earlier, uses_earlier, is_owned, is_local, is_use_type, is_use_at, has_ids, are_interfaces, has_full_names, ids_of, IsInPackageForm}
+use Rattle.wit_component.specs.Component.{used_in, name_of, name_at, instance_export, row_alias, aliases_of, Front, first_place, interface_declarations, front_after, interfaces_declared, no_front, package_export, component_of}
+use Rattle.package_form.specs.Ends.{end_of, rows_of, is_parted}
+use Rattle.package_form.specs.Form.{is_named, is_own_name, is_own_type, is_own, is_earlier_name, is_earlier_type, is_earlier, uses_earlier, is_owned, is_local, is_use_type, is_use_at, has_ids, are_interfaces, has_full_names, ids_of, IsInPackageForm}
 use Rattle.wit_component.specs.Standing.{is_labelled, are_labelled}
-use Rattle.wit_component.proofs.Postfixed.{split, both}
-use Rattle.wit_component.proofs.Postfix.{used-postfix, postfix-used}
+use Rattle.tables.proofs.Rows.{split, both}
+use Rattle.package_form.proofs.Postfix.{used-postfix, postfix-used}
 use Rattle.wit_component.proofs.Alike.{IsAlike, same, uses, AreAlike, none, one_more}
 
 -- ---- row by row, wherever they stand

@@ -11,23 +11,25 @@ use Rattle.tables.specs.declared.tables.Definition.{Definition}
 use Rattle.tables.specs.declared.tables.Resolve.{Resolve}
 use Rattle.tables.specs.declared.error.ResolveError.{ResolveError}
 use Rattle.tables.specs.declared.error.ResolveError.TheVariants as error
-use Rattle.resolve.specs.Scope.{AreDistinct}
-use Rattle.resolve.specs.Distinct.{RefusesScopes}
-use Rattle.resolve.proofs.Lists.{all-contained}
-use Rattle.wit_component.specs.declared.unread.Unread.TheVariants as unread
-use Rattle.wit_component.specs.Component.{end_of, rows_of, aliases_of, front_after, interfaces_declared, no_front, component_of}
+use Rattle.package_form.specs.Scope.{AreDistinct}
+use Rattle.package_form.specs.Distinct.{RefusesScopes}
+use Rattle.package_form.proofs.Lists.{all-contained}
+use Rattle.component_reader.specs.declared.unread.Unread.TheVariants as unread
+use Rattle.package_form.specs.Ends.{end_of, rows_of}
+use Rattle.wit_component.specs.Component.{aliases_of, front_after, interfaces_declared, no_front, component_of}
 use Rattle.wit_component.specs.Reads.{is_none, is_empty_package}
-use Rattle.wit_component.specs.Naming.{package_scopes, table_scopes}
-use Rattle.wit_component.specs.Form.{IsInPackageForm}
+use Rattle.package_form.specs.Naming.{package_scopes, table_scopes}
+use Rattle.package_form.specs.Form.{IsInPackageForm}
 use Rattle.wit_component.specs.Standing.{Stands}
-use Rattle.wit_component.specs.Candidate.{if_found, namespace_in, package_in, version_in, no_component, declarations_read, candidate_named, candidate_of, Candidate, IsMadeOf, Makes}
+use Rattle.component_reader.specs.Candidate.{if_found, namespace_in, package_in, version_in, no_component, declarations_read, candidate_named, candidate_of, Candidate, IsMadeOf, Makes}
 use Rattle.wit_component.proofs.Alike.{AreAlike}
 use Rattle.wit_component.proofs.Reread.{reread, name-reread}
 use Rattle.wit_component.proofs.AlikeForm.{IsAlikePackage, package-same, component-same, form-same}
-use Rattle.wit_component.proofs.OneTarget.{same-package}
+use Rattle.wit_component.proofs.OneTarget.{same-definitions, same-package}
 
 module _ (raw : RawComponent) (r : Resolve) (s : Stands raw r) where
   candidate-is : (c : Candidate) × (candidate_of (file_view raw) ≡ Some c) × ((p : Resolve) → IsMadeOf c p → IsAlikePackage r p)
+      × (All AreDistinct (package_scopes r) → IsMadeOf c r)
   candidate-is =
       let x = reread r s.form s.labels in
       let n = name-reread r s.form s.labels in
@@ -47,7 +49,18 @@ module _ (raw : RawComponent) (r : Resolve) (s : Stands raw r) where
           worlds = m.worlds;
           definitions = subst (λ (ds : List Definition). AreAlike r.definitions 0 r.definitions ds) (sym m.definitions) x.3;
         },
+        λ d. record {
+          namespace = sym n.2;
+          name = sym n.3;
+          version = sym n.4;
+          interfaces = sym x.2;
+          worlds = s.form.worlds;
+          definitions = sym (same-definitions r made.rows x.3 s.form d);
+        },
       )
+
+  pub reads-as : All AreDistinct (package_scopes r) → Makes (candidate_of (file_view raw)) (Ok r)
+  reads-as d = let x = candidate-is in (x.0, x.1, x.3 d)
 
   -- what was read is like it
   pub is-alike : (p : Resolve) → Makes (candidate_of (file_view raw)) (Ok p) → IsAlikePackage r p

@@ -9,10 +9,10 @@ use Rattle.atoms.proofs.FullNames.{label_lacks, has_mark}
 use Rattle.tables.specs.Names.{version_suffix, name_in_namespace, full_name}
 use Rattle.tables.specs.declared.tables.Interface.{Interface}
 use Rattle.tables.specs.declared.tables.Resolve.{Resolve}
-use Rattle.wit_component.specs.Candidate.{namespace_in, package_in, interface_in, version_in}
-use Rattle.wit_component.specs.Form.{has_full_names}
-use Rattle.wit_component.proofs.Cutting.{parts-cut}
-use Rattle.wit_component.proofs.Postfixed.{split}
+use Rattle.component_reader.specs.Candidate.{namespace_in, package_in, interface_in, version_in}
+use Rattle.package_form.specs.Form.{has_full_names}
+use Rattle.component_reader.proofs.Cutting.{parts-cut}
+use Rattle.tables.proofs.Rows.{split}
 
 suffix-is : (v : Option (String Global)) → version_suffix v ≡ bytes_suffix (option_map string_bytes v)
 suffix-is None = refl

@@ -2,17 +2,17 @@
 use Rattle.std.proofs.Common.{◌≡◌, ℕ, ◌+◌, Bool, true, false, cond, not, ◌&&◌, IsTrue, List, [], ◌∷◌, ◌++◌, map, filter, slice_get, Option, None, Some, is_some, refl, ap, sym, ◌∙◌, append-nil}
 use Rattle.std.specs.List.{list_all}
 use Rattle.std.proofs.lemmas.List.Elements.{filter-append}
-use Rattle.resolve.specs.Resolves.{is_use, places_where, type_id, function_id}
+use Rattle.package_form.specs.Ids.{is_use, places_where, type_id, function_id}
 use Rattle.tables.specs.Tables.{type_of, function_of, is_there, is_type_id, is_function_id, is_placed}
 use Rattle.tables.specs.declared.tables.TypeId.{TypeId}
 use Rattle.tables.specs.declared.tables.FunctionId.{FunctionId}
 use Rattle.tables.specs.declared.tables.Definition.{Definition}
 use Rattle.tables.specs.declared.tables.Definition.TheVariants as row
 use Rattle.tables.specs.declared.tables.Interface.{Interface}
-use Rattle.wit_component.specs.Form.{is_named, is_use_type, is_use_at, ids_of}
+use Rattle.package_form.specs.Form.{is_named, is_use_type, is_use_at, ids_of}
 use Rattle.wit_component.proofs.AfterRows.{is_use_row, is_type_row, is_function_row}
 use Rattle.wit_component.proofs.Located.{StandAt}
-use Rattle.wit_component.proofs.Postfixed.{split, both}
+use Rattle.tables.proofs.Rows.{split, both}
 
 -- ---- the rows with names that pass a test
 

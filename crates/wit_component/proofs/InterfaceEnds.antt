@@ -1,16 +1,16 @@
 -- Behind the rows of an interface in package form no row without a name is unused.
 use Rattle.std.proofs.Common.{◌≡◌, ◌≤◌, ℕ, suc, ◌+◌, ◌-◌, Bool, true, false, cond, ◌==◌, List, [], ◌∷◌, ◌++◌, map, take, length, refl, ap, sym, subst, ◌∙◌, arith, append_assoc}
 use Rattle.std.proofs.lemmas.Bool.Decides.{nat_tests}
-use Rattle.resolve.specs.Postfix.{is_unnamed, one_if, is_inner}
-use Rattle.resolve.specs.Resolves.{places_where}
+use Rattle.package_form.specs.Postfix.{is_unnamed, one_if, is_inner}
+use Rattle.package_form.specs.Ids.{places_where}
 use Rattle.tables.specs.declared.tables.TypeId.{TypeId}
 use Rattle.tables.specs.declared.tables.FunctionId.{FunctionId}
 use Rattle.tables.specs.declared.tables.Definition.{Definition}
 use Rattle.tables.specs.declared.tables.Definition.TheVariants as row
 use Rattle.tables.specs.declared.tables.Interface.{Interface}
-use Rattle.wit_component.specs.Component.{behind_types, behind_functions, end_of}
-use Rattle.wit_component.specs.Form.{is_named, ids_of}
-use Rattle.wit_component.specs.Unused.{inner_rows, closes, unused_after, are_used}
+use Rattle.package_form.specs.Ends.{behind_types, behind_functions, end_of}
+use Rattle.package_form.specs.Form.{is_named, ids_of}
+use Rattle.package_form.specs.Unused.{inner_rows, closes, unused_after, are_used}
 use Rattle.wit_component.proofs.RowFacts.{HasFacts, facts-more}
 use Rattle.wit_component.proofs.UsesFirst.{yes-named, head-closes}
 

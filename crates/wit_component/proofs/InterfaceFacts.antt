@@ -4,20 +4,20 @@ use Rattle.std.specs.List.{list_all}
 use Rattle.std.proofs.lemmas.List.Folds.{list_all-append, list_all-map}
 use Rattle.std.proofs.lemmas.Slice.Eq.{bytes_eq-Decides}
 use Rattle.atoms.specs.Label.{is_label}
-use Rattle.resolve.specs.Resolves.{places_where}
+use Rattle.package_form.specs.Ids.{places_where}
 use Rattle.tables.specs.Tables.{definition_below, are_earlier, is_type_id, is_function_id, is_placed}
 use Rattle.tables.specs.declared.tables.TypeId.{TypeId}
 use Rattle.tables.specs.declared.tables.FunctionId.{FunctionId}
 use Rattle.tables.specs.declared.tables.Definition.{Definition}
 use Rattle.tables.specs.declared.tables.Interface.{Interface}
-use Rattle.wit_component.specs.Component.{end_of, rows_of}
-use Rattle.wit_component.specs.Form.{is_named, is_use_at, is_local, ids_of, has_ids}
+use Rattle.package_form.specs.Ends.{end_of, rows_of}
+use Rattle.package_form.specs.Form.{is_named, is_use_at, is_local, ids_of, has_ids}
 use Rattle.wit_component.specs.Standing.{is_labelled}
-use Rattle.wit_component.specs.Unused.{are_used}
+use Rattle.package_form.specs.Unused.{are_used}
 use Rattle.wit_component.proofs.Ids.{passes, is_use_def, of-use, of-type, of-function, both-all, HasOwnIds, own-ids}
 use Rattle.wit_component.proofs.InterfaceEnds.{behind, end-behind, used-rest}
 use Rattle.wit_component.proofs.Located.{StandAt, rows-end, rows-split, rows-stand}
-use Rattle.wit_component.proofs.Postfixed.{split, both}
+use Rattle.tables.proofs.Rows.{split, both}
 use Rattle.wit_component.proofs.RowFacts.{HasFacts}
 use Rattle.wit_component.proofs.UsesFirst.{UsesFirst, uses-first}
 

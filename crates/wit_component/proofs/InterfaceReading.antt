@@ -7,15 +7,16 @@ use Rattle.atoms.specs.Label.{is_label}
 use Rattle.ctype_bin.specs.Raw.{Decl, Instance, Entry, Export}
 use Rattle.ctype_bin.specs.View.{decls_of}
 use Rattle.ctype_bin.specs.declared.raw.RawDescription.TheVariants as described
-use Rattle.resolve.proofs.Typing.{get-front}
-use Rattle.resolve.specs.Resolves.{places_where, type_id, function_id}
+use Rattle.package_form.proofs.Lists.{get-front}
+use Rattle.package_form.specs.Ids.{places_where, type_id, function_id}
 use Rattle.tables.specs.declared.tables.TypeId.{TypeId}
 use Rattle.tables.specs.declared.tables.FunctionId.{FunctionId}
 use Rattle.tables.specs.declared.tables.TypeName.{TypeName}
 use Rattle.tables.specs.declared.tables.Definition.{Definition}
 use Rattle.tables.specs.declared.tables.Interface.{Interface}
-use Rattle.wit_component.specs.Candidate.{if_found, InstanceRead, ComponentRead, nothing_read, instance_read, type_named, with_instance, interface_in, interface_named, with_interface, instance_exported, declarations_read}
-use Rattle.wit_component.specs.Component.{name_at, end_of, rows_of, aliases_of, Front, first_place, interface_declarations, front_after}
+use Rattle.component_reader.specs.Candidate.{if_found, InstanceRead, ComponentRead, nothing_read, instance_read, type_named, with_instance, interface_in, interface_named, with_interface, instance_exported, declarations_read}
+use Rattle.wit_component.specs.Component.{name_at, aliases_of, Front, first_place, interface_declarations, front_after}
+use Rattle.package_form.specs.Ends.{end_of, rows_of}
 use Rattle.wit_component.specs.Rows.{declarations_of, places_after}
 use Rattle.wit_component.proofs.AfterRows.{is_use_row, is_type_row, is_function_row, rows-rows, rows-uses, rows-types, rows-functions, alike-places, alike-length}
 use Rattle.wit_component.proofs.Alike.{AreAlike, none, one_more}

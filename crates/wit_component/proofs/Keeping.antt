@@ -3,9 +3,9 @@ use Rattle.std.proofs.Common.{◌≡◌, ◌≤◌, ◌<◌, ◌⊎◌, inl, inr
 use Rattle.std.proofs.lemmas.List.{get_or_append_left, get_or_push}
 use Rattle.std.proofs.lemmas.Bool.Decides.{nat_tests}
 use Rattle.std.proofs.lemmas.Slice.Eq.{bytes_eq-Decides}
-use Rattle.resolve.specs.Postfix.{inner_row}
-use Rattle.resolve.specs.Scoped.{Entry as Named}
-use Rattle.resolve.specs.Resolves.{type_id}
+use Rattle.package_form.specs.Postfix.{inner_row}
+use Rattle.package_form.specs.Scoped.{Entry as Named}
+use Rattle.package_form.specs.Ids.{type_id}
 use Rattle.tables.specs.Tables.{type_of, is_there, is_type_id}
 use Rattle.tables.specs.declared.tables.TypeId.{TypeId}
 use Rattle.tables.specs.declared.tables.TypeDefKind.{TypeDefKind}
@@ -13,12 +13,12 @@ use Rattle.tables.specs.declared.tables.ValType.{ValType}
 use Rattle.tables.specs.declared.tables.TypeName.{TypeName}
 use Rattle.tables.specs.declared.tables.Parameter.{Parameter}
 use Rattle.tables.specs.declared.tables.Definition.{Definition}
-use Rattle.wit_component.specs.Candidate.{Nothing, InstanceRead, named, type_named, with_unnamed, named_row, with_named, with_index, alias_to, function_row}
+use Rattle.component_reader.specs.Candidate.{Nothing, InstanceRead, named, type_named, with_unnamed, named_row, with_named, with_index, alias_to, function_row}
 use Rattle.wit_component.specs.Component.{name_of, name_at}
-use Rattle.wit_component.specs.Reading.{row_at}
+use Rattle.component_reader.specs.Reading.{row_at}
 use Rattle.wit_component.specs.Rows.{Place, defined_types, row_types, row_offset, place_after}
 use Rattle.wit_component.proofs.NamesKept.{named-found, named-other}
-use Rattle.wit_component.proofs.Postfixed.{split, both}
+use Rattle.tables.proofs.Rows.{split, both}
 use Rattle.wit_component.proofs.Readable.{is_inside, with_function, NamesType, HasRead}
 
 pub row-at-more : (xs ys : List (Option TypeId)) (i : ℕ) (t : TypeId) → row_at xs i ≡ Some t → row_at (xs ++ ys) i ≡ Some t

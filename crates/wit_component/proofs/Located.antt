@@ -3,7 +3,7 @@ use Rattle.std.proofs.Common.{◌≡◌, ◌≤◌, ℕ, ◌+◌, ◌-◌, List,
 use Rattle.std.proofs.lemmas.List.{take-append-drop, length-drop}
 use Rattle.tables.specs.declared.tables.Definition.{Definition}
 use Rattle.tables.specs.declared.tables.Interface.{Interface}
-use Rattle.wit_component.specs.Component.{end_of, rows_of}
+use Rattle.package_form.specs.Ends.{end_of, rows_of}
 
 -- these rows stand in the table, the first of them at place n
 abbrev pub StandAt : List Definition → ℕ → List Definition → Type 0

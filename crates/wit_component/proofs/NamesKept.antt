@@ -1,9 +1,9 @@
 -- The names of an instance type: what a name stands for when one more is exported.
 use Rattle.std.proofs.Common.{◌≡◌, ℕ, Bool, true, false, cond, List, [], ◌∷◌, Option, None, Some, bytes_eq, refl, ap, sym, ◌∙◌}
 use Rattle.std.proofs.lemmas.Slice.Eq.{bytes_eq-Decides}
-use Rattle.resolve.specs.Scoped.{Entry as Named}
+use Rattle.package_form.specs.Scoped.{Entry as Named}
 use Rattle.tables.specs.declared.tables.TypeId.{TypeId}
-use Rattle.wit_component.specs.Candidate.{named, type_named}
+use Rattle.component_reader.specs.Candidate.{named, type_named}
 
 same-name : (n : List ℕ) → bytes_eq n n ≡ true
 same-name n = (bytes_eq-Decides n n).1 refl

@@ -5,7 +5,7 @@ use Rattle.ctype_bin.specs.Raw.{Decl, Define, Entry}
 use Rattle.ctype_bin.specs.View.{decl_view, defined_view}
 use Rattle.ctype_bin.specs.declared.raw.RawDecl.{RawDecl}
 use Rattle.ctype_bin.specs.declared.raw.RawDefinedType.{RawDefinedType}
-use Rattle.resolve.specs.Resolves.{is_use}
+use Rattle.package_form.specs.Ids.{is_use}
 use Rattle.tables.specs.declared.tables.TypeDefKind.{TypeDefKind}
 use Rattle.wit_component.specs.Rows.{Place, outer_alias, defined_of, definition_if, definition_of}
 

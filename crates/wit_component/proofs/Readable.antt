@@ -2,8 +2,8 @@
 use Rattle.std.proofs.Common.{◌≡◌, ℕ, ◌+◌, ◌<◌, ◌≤◌, Bool, true, false, ◌&&◌, nat_le, nat_lt, List, [], ◌∷◌, ◌++◌, length, slice_get, slice_index, Option, None, Some}
 use Rattle.std.specs.List.{list_all}
 use Rattle.atoms.specs.Label.{is_label}
-use Rattle.resolve.specs.Postfix.{is_unnamed_row, is_inner, inner_row}
-use Rattle.resolve.specs.Resolves.{function_id}
+use Rattle.package_form.specs.Postfix.{is_unnamed_row, is_inner, inner_row}
+use Rattle.package_form.specs.Ids.{function_id}
 use Rattle.tables.specs.Tables.{is_type_id}
 use Rattle.tables.specs.declared.tables.TypeId.{TypeId}
 use Rattle.tables.specs.declared.tables.ValType.{ValType}
@@ -14,10 +14,10 @@ use Rattle.tables.specs.declared.tables.TypeName.{TypeName}
 use Rattle.tables.specs.declared.tables.Parameter.{Parameter}
 use Rattle.tables.specs.declared.tables.Definition.{Definition}
 use Rattle.tables.specs.declared.tables.Definition.TheVariants as row
-use Rattle.wit_component.specs.Candidate.{Nothing, AType, InstanceRead, type_named, awaiting, with_unnamed, named_row, with_named, with_index, alias_to, function_row}
+use Rattle.component_reader.specs.Candidate.{Nothing, AType, InstanceRead, type_named, awaiting, with_unnamed, named_row, with_named, with_index, alias_to, function_row}
 use Rattle.wit_component.specs.Component.{name_at}
-use Rattle.wit_component.specs.Reading.{row_at}
-use Rattle.wit_component.specs.References.{kind_references, row_references}
+use Rattle.component_reader.specs.Reading.{row_at}
+use Rattle.package_form.specs.References.{kind_references, row_references}
 use Rattle.wit_component.specs.Rows.{Place}
 use Rattle.wit_component.proofs.Rereading.{is_defined}
 

@@ -5,8 +5,8 @@ use Rattle.std.proofs.lemmas.List.Folds.{list_all-append}
 use Rattle.std.proofs.lemmas.Slice.Eq.{bytes_eq-Decides}
 use Rattle.std.proofs.lemmas.Bool.Decides.{nat_tests}
 use Rattle.atoms.specs.Label.{is_label}
-use Rattle.resolve.specs.Postfix.{is_unnamed, is_unnamed_row, one_if}
-use Rattle.resolve.specs.Resolves.{is_use, is_owned_by}
+use Rattle.package_form.specs.Postfix.{is_unnamed, is_unnamed_row, one_if}
+use Rattle.package_form.specs.Ids.{is_use, is_owned_by}
 use Rattle.tables.specs.Tables.{definition_below, are_earlier, type_of, is_there}
 use Rattle.tables.specs.declared.tables.TypeId.{TypeId}
 use Rattle.tables.specs.declared.tables.ValType.{ValType}
@@ -20,17 +20,17 @@ use Rattle.tables.specs.declared.tables.Owner.{Owner}
 use Rattle.tables.specs.declared.tables.Owner.TheVariants as owner
 use Rattle.tables.specs.declared.tables.Definition.{Definition}
 use Rattle.tables.specs.declared.tables.Definition.TheVariants as row
-use Rattle.wit_component.specs.Candidate.{named_row, function_row}
+use Rattle.component_reader.specs.Candidate.{named_row, function_row}
 use Rattle.wit_component.specs.Component.{name_of, name_at}
-use Rattle.wit_component.specs.Form.{is_own_name, is_own_type, is_own, is_owned, is_local}
-use Rattle.wit_component.specs.References.{kind_references, row_references}
+use Rattle.package_form.specs.Form.{is_own_name, is_own_type, is_own, is_owned, is_local}
+use Rattle.package_form.specs.References.{kind_references, row_references}
 use Rattle.wit_component.specs.Standing.{is_label_if, is_labelled}
-use Rattle.wit_component.specs.Unused.{unnamed_at, inner_rows, can_use, closes, is_next, unused_after, are_used}
-use Rattle.wit_component.proofs.Fronts.{stands_before, row-before}
+use Rattle.package_form.specs.Unused.{unnamed_at, inner_rows, can_use, closes, is_next, unused_after, are_used}
+use Rattle.package_form.proofs.Fronts.{stands_before, row-before}
 use Rattle.wit_component.proofs.Ids.{is_use_def}
 use Rattle.wit_component.proofs.Keeping.{lt-test}
 use Rattle.wit_component.proofs.Located.{StandAt}
-use Rattle.wit_component.proofs.Postfixed.{split, both}
+use Rattle.tables.proofs.Rows.{split, both}
 use Rattle.wit_component.proofs.Readable.{is_inside, IsReadable, inner, defines, renames, function, AreReadable, no_rows, row_first}
 
 all-take : {A : Type 0} (p : A → Bool) (n : ℕ) (xs : List A) → list_all p xs ≡ true → list_all p (take n xs) ≡ true

@@ -7,8 +7,8 @@ use Rattle.atoms.specs.Label.{is_label}
 use Rattle.ctype_bin.specs.Raw.{Defined, Define, Func, Decl, Entry, Export, none}
 use Rattle.ctype_bin.specs.View.{decls_of}
 use Rattle.ctype_bin.specs.declared.raw.RawDescription.TheVariants as described
-use Rattle.resolve.specs.Postfix.{is_unnamed_row, is_inner, inner_row}
-use Rattle.resolve.specs.Resolves.{type_id}
+use Rattle.package_form.specs.Postfix.{is_unnamed_row, is_inner, inner_row}
+use Rattle.package_form.specs.Ids.{type_id}
 use Rattle.tables.specs.declared.tables.TypeId.{TypeId}
 use Rattle.tables.specs.declared.tables.ValType.{ValType}
 use Rattle.tables.specs.declared.tables.ValType.TheVariants as val
@@ -17,14 +17,14 @@ use Rattle.tables.specs.declared.tables.TypeDefKind.TheVariants as kind
 use Rattle.tables.specs.declared.tables.TypeName.{TypeName}
 use Rattle.tables.specs.declared.tables.Parameter.{Parameter}
 use Rattle.tables.specs.declared.tables.Definition.{Definition}
-use Rattle.wit_component.specs.Candidate.{if_found, AType, AFunction, InstanceRead, awaiting, with_unnamed, settled, settled_as, named_row, with_named, with_index, alias_to, renamed, type_exported, exported, function_row, decl_read, decls_read}
-use Rattle.wit_component.specs.Reading.{both_found, all_found, row_at, parameter_read, optional_type, kind_of}
-use Rattle.wit_component.specs.References.{parameter_references, references_if, kind_references, row_references}
+use Rattle.component_reader.specs.Candidate.{if_found, AType, AFunction, InstanceRead, awaiting, with_unnamed, settled, settled_as, named_row, with_named, with_index, alias_to, renamed, type_exported, exported, function_row, decl_read, decls_read}
+use Rattle.component_reader.specs.Reading.{both_found, all_found, row_at, parameter_read, optional_type, kind_of}
+use Rattle.package_form.specs.References.{parameter_references, references_if, kind_references, row_references}
 use Rattle.wit_component.specs.Component.{name_at}
 use Rattle.wit_component.specs.Rows.{Place, valtype_of, parameter_of, definition_of, definition_index, definition_if, defined_of, outer_alias, row_declarations, defined_types, place_after}
 use Rattle.wit_component.proofs.Alike.{IsAlike, same, uses}
 use Rattle.wit_component.proofs.Keeping.{unnamed-kept, defined-kept, renamed-kept, function-kept}
-use Rattle.wit_component.proofs.Postfixed.{split}
+use Rattle.tables.proofs.Rows.{split}
 use Rattle.wit_component.proofs.Readable.{is_inside, IsReadable, inner, defines, renames, used, function, definition_indexed, row_after, with_function, IsRowOf, nameless, type_of_it, function_of_it, IsSettled, rests, awaits, HasRead}
 use Rattle.wit_component.proofs.Rereading.{is_defined, kind-reread, parameters-reread, if-reread}
 

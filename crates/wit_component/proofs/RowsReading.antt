@@ -4,11 +4,11 @@ use Rattle.ctype_bin.specs.Raw.{Decl}
 use Rattle.ctype_bin.specs.View.{decls_of}
 use Rattle.tables.specs.declared.tables.TypeId.{TypeId}
 use Rattle.tables.specs.declared.tables.Definition.{Definition}
-use Rattle.wit_component.specs.Candidate.{if_found, InstanceRead, settled, nothing_read, decl_read, decls_read, instance_read}
+use Rattle.component_reader.specs.Candidate.{if_found, InstanceRead, settled, nothing_read, decl_read, decls_read, instance_read}
 use Rattle.wit_component.specs.Rows.{Place, row_declarations, row_offset, place_after, declarations_of, places_after}
 use Rattle.wit_component.proofs.Alike.{AreAlike, none, one_more}
 use Rattle.wit_component.proofs.Keeping.{le-test, lt-test}
-use Rattle.wit_component.proofs.Postfixed.{split}
+use Rattle.tables.proofs.Rows.{split}
 use Rattle.wit_component.proofs.Readable.{IsReadable, AreReadable, no_rows, row_first, row_after, rows_after, AreRowsOf, IsSettled, rests, is_inside, HasRead}
 use Rattle.wit_component.proofs.RowReading.{settled-is, row-read}
 

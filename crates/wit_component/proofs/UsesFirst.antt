@@ -2,20 +2,20 @@
 use Rattle.std.proofs.Common.{◌≡◌, ◌≢◌, ℕ, ◌+◌, ◌-◌, Bool, true, false, cond, not, ◌==◌, List, [], ◌∷◌, ◌++◌, take, length, slice_get, Option, None, Some, refl, ap, sym, subst, ◌∙◌, arith, eqb-true}
 use Rattle.std.specs.List.{list_all}
 use Rattle.std.proofs.lemmas.Bool.Decides.{nat_tests}
-use Rattle.resolve.specs.Postfix.{is_unnamed, one_if, is_inner}
-use Rattle.resolve.specs.Resolves.{places_where}
+use Rattle.package_form.specs.Postfix.{is_unnamed, one_if, is_inner}
+use Rattle.package_form.specs.Ids.{places_where}
 use Rattle.tables.specs.declared.tables.TypeId.{TypeId}
 use Rattle.tables.specs.declared.tables.TypeDefKind.{TypeDefKind}
 use Rattle.tables.specs.declared.tables.TypeDefKind.TheVariants as kind
 use Rattle.tables.specs.declared.tables.TypeName.{TypeName}
 use Rattle.tables.specs.declared.tables.Definition.{Definition}
 use Rattle.tables.specs.declared.tables.Definition.TheVariants as row
-use Rattle.wit_component.specs.Candidate.{named_row}
-use Rattle.wit_component.specs.Form.{is_named, is_own_name, is_owned, is_local}
-use Rattle.wit_component.specs.Unused.{inner_rows, can_use, closes, is_next, unused_after}
+use Rattle.component_reader.specs.Candidate.{named_row}
+use Rattle.package_form.specs.Form.{is_named, is_own_name, is_owned, is_local}
+use Rattle.package_form.specs.Unused.{inner_rows, can_use, closes, is_next, unused_after}
 use Rattle.wit_component.proofs.Ids.{passes, is_use_def}
 use Rattle.wit_component.proofs.Located.{StandAt}
-use Rattle.wit_component.proofs.Postfixed.{split, both}
+use Rattle.tables.proofs.Rows.{split, both}
 use Rattle.wit_component.proofs.RowFacts.{HasFacts, facts-more}
 
 -- used names of interface k, and then no more

@@ -2,7 +2,7 @@
 use Rattle.std.proofs.Common.{◌≡◌, ◌≤◌, ◌<◌, ◌⊎◌, inl, inr, ℕ, ◌+◌, Bool, true, false, not, nat_lt, List, [], ◌∷◌, ◌++◌, map, length, slice_get, Option, None, Some, refl, ap, sym, subst, ◌∙◌, arith, append_assoc, length-append, eqb-true}
 use Rattle.std.specs.List.{list_all}
 use Rattle.std.proofs.lemmas.Bool.Decides.{nat_tests}
-use Rattle.resolve.specs.Scoped.{Entry as Named}
+use Rattle.package_form.specs.Scoped.{Entry as Named}
 use Rattle.tables.specs.Tables.{definition_below, type_of}
 use Rattle.tables.specs.declared.tables.TypeId.{TypeId}
 use Rattle.tables.specs.declared.tables.TypeDef.{TypeDef}
@@ -10,16 +10,16 @@ use Rattle.tables.specs.declared.tables.TypeDefKind.TheVariants as kind
 use Rattle.tables.specs.declared.tables.TypeName.{TypeName}
 use Rattle.tables.specs.declared.tables.Definition.{Definition}
 use Rattle.tables.specs.declared.tables.Definition.TheVariants as row
-use Rattle.wit_component.specs.Candidate.{named_row, exported_type}
+use Rattle.component_reader.specs.Candidate.{named_row, exported_type}
 use Rattle.wit_component.specs.Component.{name_of, name_at}
-use Rattle.wit_component.specs.Form.{is_own_name, is_earlier_type, is_earlier, is_owned, is_local}
-use Rattle.wit_component.specs.Reading.{row_at}
+use Rattle.package_form.specs.Form.{is_own_name, is_earlier_type, is_earlier, is_owned, is_local}
+use Rattle.component_reader.specs.Reading.{row_at}
 use Rattle.wit_component.specs.Standing.{is_labelled}
-use Rattle.wit_component.specs.Unused.{inner_rows, unused_after}
+use Rattle.package_form.specs.Unused.{inner_rows, unused_after}
 use Rattle.wit_component.proofs.Ids.{is_use_def}
 use Rattle.wit_component.proofs.Keeping.{lt-test, row-at-behind}
 use Rattle.wit_component.proofs.Located.{StandAt}
-use Rattle.wit_component.proofs.Postfixed.{split}
+use Rattle.tables.proofs.Rows.{split}
 use Rattle.wit_component.proofs.Readable.{AreReadable, row_first, used}
 use Rattle.wit_component.proofs.RowFacts.{HasFacts, NameEarlier, facts-more, rows-readable}
 use Rattle.wit_component.proofs.UsesFirst.{UsesFirst, no_use, one_use}

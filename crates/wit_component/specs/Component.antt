@@ -1,6 +1,6 @@
 -- Binary.md, "Component Definitions" and "Type Definitions": a package as one component type. Each interface is an instance type and an
 -- export of an instance under its full name; before them stands an alias of each type that the interface uses of another.
-use Rattle.std.specs.Prelude.{ℕ, ◌+◌, ◌-◌, Bool, ◌&&◌, ◌==◌, nat_le, List, [], ◌∷◌, ◌++◌, flat_map, length, slice_get, take, drop, Option, None, Some}
+use Rattle.std.specs.Prelude.{ℕ, ◌+◌, List, [], ◌∷◌, ◌++◌, flat_map, length, slice_get, Option, None, Some}
 use Rattle.ctype_bin.specs.Raw.{Component, Instance, Decl, Entry, Alias, Export, File}
 use Rattle.ctype_bin.specs.View.{decls_of}
 use Rattle.ctype_bin.specs.declared.raw.RawAlias.TheVariants as alias
@@ -8,7 +8,6 @@ use Rattle.ctype_bin.specs.declared.raw.RawDescription.TheVariants as described
 use Rattle.tables.specs.Tables.{type_of}
 use Rattle.tables.specs.Names.{full_name}
 use Rattle.tables.specs.declared.tables.TypeId.{TypeId}
-use Rattle.tables.specs.declared.tables.FunctionId.{FunctionId}
 use Rattle.tables.specs.declared.tables.TypeDef.{TypeDef}
 use Rattle.tables.specs.declared.tables.TypeDefKind.{TypeDefKind}
 use Rattle.tables.specs.declared.tables.TypeDefKind.TheVariants as kind
@@ -17,30 +16,8 @@ use Rattle.tables.specs.declared.tables.Definition.{Definition}
 use Rattle.tables.specs.declared.tables.Definition.TheVariants as row
 use Rattle.tables.specs.declared.tables.Interface.{Interface}
 use Rattle.tables.specs.declared.tables.Resolve.{Resolve}
+use Rattle.package_form.specs.Ends.{end_of, rows_of}
 use Rattle.wit_component.specs.Rows.{Place, declarations_of, places_after}
-
--- ---- the rows of an interface
-
--- the place behind the last of these ids, or start
-abbrev pub behind_types : ℕ → List TypeId → ℕ
-behind_types start [] = start
-behind_types start (t ∷ ts) = behind_types (t.0 + 1) ts
-
-abbrev pub behind_functions : ℕ → List FunctionId → ℕ
-behind_functions start [] = start
-behind_functions start (f ∷ fs) = behind_functions (f.0 + 1) fs
-
--- the place behind an interface's last row, where its rows begin at start: uses, then types, then functions
-abbrev pub end_of : ℕ → Interface → ℕ
-end_of start i = behind_functions (behind_types (behind_types start i.uses) i.types) i.functions
-
-abbrev pub rows_of : List Definition → ℕ → Interface → List Definition
-rows_of rows start i = take (end_of start i - start) (drop start rows)
-
--- each interface's rows stand behind those of the interface before it, and no other row is there
-abbrev pub is_parted : ℕ → ℕ → List Interface → Bool
-is_parted count start [] = start == count
-is_parted count start (i ∷ is) = nat_le start (end_of start i) && (nat_le (end_of start i) count && is_parted count (end_of start i) is)
 
 -- ---- aliases of used types
 

@@ -1,17 +1,14 @@
--- What holds of packages, whatever they are made from.
-use Rattle.std.specs.Prelude.{IsTrue, All}
-use Rattle.wit_syntax.specs.Syntax.{File}
-use Rattle.wit_syntax.specs.FullNames.{has_full_names}
-use Rattle.resolve.specs.Resolves.{HasNoFaults, IsPackageOf}
-use Rattle.resolve.specs.Scope.{AreDistinct}
+-- What holds of every component that stands for a package.
+use Rattle.std.specs.Prelude.{All, Ok}
+use Rattle.ctype_bin.specs.FileView.{file_view}
+use Rattle.ctype_bin.specs.declared.component.RawComponent.{RawComponent}
 use Rattle.tables.specs.declared.tables.Resolve.{Resolve}
-use Rattle.wit_component.specs.Form.{IsInPackageForm}
-use Rattle.wit_component.specs.Naming.{package_scopes}
+use Rattle.package_form.specs.Scope.{AreDistinct}
+use Rattle.package_form.specs.Naming.{package_scopes}
+use Rattle.component_reader.specs.Candidate.{candidate_of, Makes}
+use Rattle.wit_component.specs.Standing.{Stands}
 
--- what a tree resolves to has the tables of packages, where its names make full names
-abbrev pub GivesForm : File → Type 0
-GivesForm f = (r : Resolve) → HasNoFaults f → IsTrue (has_full_names f) → IsPackageOf f r → IsInPackageForm r
-
--- .. and distinct names in each of their scopes
-abbrev pub GivesDistinctNames : File → Type 0
-GivesDistinctNames f = (r : Resolve) → HasNoFaults f → IsTrue (has_full_names f) → IsPackageOf f r → All AreDistinct (package_scopes r)
+-- each index followed to the declaration that took it, and each declaration to the name of its export, the component reads as the
+-- package that it stands for
+abbrev pub Follows : RawComponent → Type 0
+Follows raw = (r : Resolve) → Stands raw r → All AreDistinct (package_scopes r) → Makes (candidate_of (file_view raw)) (Ok r)

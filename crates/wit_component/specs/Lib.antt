@@ -1,13 +1,5 @@
 pub mod Rows
 pub mod Component
-pub mod References
-pub mod Unused
-pub mod Form
-pub mod Naming
 pub mod Standing
 pub mod Reads
-pub mod Reading
 pub mod Laws
-pub mod Candidate
-pub mod Readers
-pub mod ExportNames

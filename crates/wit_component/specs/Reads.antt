@@ -7,7 +7,7 @@ use Rattle.tables.specs.declared.error.ResolveError.{ResolveError}
 use Rattle.tables.specs.declared.error.ResolveError.TheVariants as error
 use Rattle.tables.specs.declared.tables.Resolve.{Resolve}
 use Rattle.wit_component.specs.Standing.{Stands}
-use Rattle.wit_component.specs.Naming.{Repeats}
+use Rattle.package_form.specs.Naming.{Repeats}
 
 abbrev pub is_none : Decls → Bool
 is_none none = true

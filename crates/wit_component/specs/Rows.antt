@@ -10,7 +10,7 @@ use Rattle.ctype_bin.specs.declared.raw.RawField.{RawField}
 use Rattle.ctype_bin.specs.declared.raw.RawCase.{RawCase}
 use Rattle.ctype_bin.specs.declared.raw.RawAlias.TheVariants as alias
 use Rattle.ctype_bin.specs.declared.raw.RawDescription.TheVariants as described
-use Rattle.resolve.specs.Resolves.{is_use}
+use Rattle.package_form.specs.Ids.{is_use}
 use Rattle.tables.specs.declared.tables.Primitive.{Primitive}
 use Rattle.tables.specs.declared.tables.Primitive.TheVariants as primitive
 use Rattle.tables.specs.declared.tables.ValType.{ValType}

@@ -9,8 +9,9 @@ use Rattle.tables.specs.declared.tables.Definition.{Definition}
 use Rattle.tables.specs.declared.tables.Definition.TheVariants as row
 use Rattle.tables.specs.declared.tables.Interface.{Interface}
 use Rattle.tables.specs.declared.tables.Resolve.{Resolve}
-use Rattle.wit_component.specs.Component.{component_of, end_of, rows_of}
-use Rattle.wit_component.specs.Form.{IsInPackageForm}
+use Rattle.wit_component.specs.Component.{component_of}
+use Rattle.package_form.specs.Ends.{end_of, rows_of}
+use Rattle.package_form.specs.Form.{IsInPackageForm}
 
 abbrev pub is_label_if : Option TypeName → Bool
 is_label_if None = true

@@ -7,18 +7,19 @@ ghost use Rattle.ctype_bin.specs.View.{decl_view};
 ghost use Rattle.ctype_bin.specs.Raw.{Export};
 ghost use Rattle.ctype_bin.specs.declared.raw.RawDescription.TheVariants.{Instance};
 ghost use Rattle.tables.specs.Names.{full_name};
-ghost use Rattle.wit_component.specs.Component.{Front, first_place, interface_declarations, front_after, is_parted, interfaces_declared, no_front};
-ghost use Rattle.wit_component.specs.Form.{has_full_names};
+ghost use Rattle.wit_component.specs.Component.{Front, first_place, interface_declarations, front_after, interfaces_declared, no_front};
+ghost use Rattle.package_form.specs.Ends.{is_parted};
+ghost use Rattle.package_form.specs.Form.{has_full_names};
 ghost use Rattle.wit_component.specs.Standing.{is_labelled, are_labelled};
 
-use crate::interfaces::{aliases_of, end_of, instance_decl};
-use crate::names::copy_version;
+use crate::interfaces::{aliases_of, instance_decl};
 use crate::rows::{RowPlace, declarations_of};
 use atoms::{FullName, Label};
 use ctype_bin::{ExternName, RawDecl, RawDescription};
+use package_form::end_of;
 use std::alloc::{AllocError, Global};
 use std::marker::Model;
-use tables::{Definition, Interface, Resolve};
+use tables::{Definition, Interface, Resolve, copy_version};
 
 /// Where an interface stands.
 #[derive(Drop)]

@@ -1,18 +1,17 @@
 //! The package that a raw component stands for.
 ghost use Rattle.std.specs.Prelude.{◌≡◌, ◌⊎◌, All, IfOk, IfErr, MatchResult};
 ghost use Rattle.tables.specs.Same.{IsSamePackage};
-ghost use Rattle.resolve.specs.Scope.{AreDistinct};
-ghost use Rattle.wit_component.specs.Naming.{package_scopes};
-ghost use Rattle.wit_component.specs.Form.{IsInPackageForm};
+ghost use Rattle.package_form.specs.Scope.{AreDistinct};
+ghost use Rattle.package_form.specs.Naming.{package_scopes};
+ghost use Rattle.package_form.specs.Form.{IsInPackageForm};
 ghost use Rattle.wit_component.specs.Standing.{Stands};
 ghost use Rattle.wit_component.specs.Reads.{Refuses};
 
-use crate::candidate::candidate;
-use crate::distinct::distinct_names;
 use crate::same::{is_empty_package, is_same};
-use crate::unread::Unread;
-use crate::writing::to_raw;
+use crate::to_component::to_raw;
+use component_reader::{Unread, candidate};
 use ctype_bin::RawComponent;
+use package_form::distinct_names;
 use std::alloc::Global;
 use tables::{Resolve, ResolveError};
 

@@ -6,42 +6,12 @@ ghost use Rattle.ctype_bin.specs.View.{decl_view, decls_of};
 ghost use Rattle.ctype_bin.specs.Raw.{Instance, Entry, Alias, Export};
 ghost use Rattle.tables.specs.Names.{full_name};
 ghost use Rattle.wit_component.specs.Rows.{Place, declarations_of, places_after};
-ghost use Rattle.wit_component.specs.Component.{used_in, name_at, instance_export, row_alias, aliases_of, behind_types, behind_functions, end_of, rows_of};
+ghost use Rattle.wit_component.specs.Component.{used_in, name_at, instance_export, row_alias, aliases_of};
 
 use crate::rows::{RowPlace, declarations_of};
 use ctype_bin::{RawAlias, RawDecl, RawDescription, RawType};
 use std::alloc::{AllocError, Global};
-use tables::{Definition, FunctionId, Interface, TypeDefKind, TypeId, TypeName};
-
-/// The place behind the last of these types, or `start`.
-fn behind_types(start: usize, ids: &[TypeId]) -> usize
-    ensures { result ≡ behind_types start ids.now }
-{
-    let mut end = start;
-    for id in ids {
-        end = id.0 as usize + 1;
-    }
-    end
-}
-
-fn behind_functions(start: usize, ids: &[FunctionId]) -> usize
-    ensures { result ≡ behind_functions start ids.now }
-{
-    let mut end = start;
-    for id in ids {
-        end = id.0 as usize + 1;
-    }
-    end
-}
-
-/// The place behind an interface's last row, where its rows begin at `start`.
-pub fn end_of(start: usize, interface: &Interface) -> usize
-    ensures { result ≡ end_of start interface.now }
-{
-    let end = behind_types(start, interface.uses.as_slice());
-    let end = behind_types(end, interface.types.as_slice());
-    behind_functions(end, interface.functions.as_slice())
-}
+use tables::{Definition, TypeDefKind, TypeId, TypeName};
 
 /// The type that a row uses of another interface, if it is a used name.
 fn used_in(row: &Definition) -> Option<TypeId>

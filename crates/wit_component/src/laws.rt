@@ -1,13 +1,10 @@
-//! What holds of packages, whatever they are made from.
-ghost use Rattle.wit_syntax.specs.Syntax.{File};
-ghost use Rattle.wit_component.specs.Laws.{GivesForm, GivesDistinctNames};
+//! Laws of components.
+ghost use Rattle.wit_component.specs.Laws.{Follows};
 
-/// What a syntax tree resolves to has the tables that packages have, where its names make full names.
-pub fn trees_have_form()
-    ensures { (f : File) → GivesForm f }
-{}
+use ctype_bin::RawComponent;
 
-/// In each scope of what a syntax tree resolves to, the names differ in more than the case of their letters.
-pub fn trees_have_distinct_names()
-    ensures { (f : File) → GivesDistinctNames f }
+/// A component that stands for a package whose names differ is read as that package, where each index is followed to the
+/// declaration that took it, and each declaration to the name under which it is exported.
+pub fn follows(_raw: &RawComponent)
+    ensures { Follows _raw.now }
 {}

@@ -7,10 +7,10 @@ use Rattle.tables.specs.Same.{IsSamePackage}
 use Rattle.tables.specs.declared.tables.Definition.{Definition}
 use Rattle.tables.specs.declared.tables.Definition.TheVariants as row
 use Rattle.tables.specs.declared.tables.Resolve.{Resolve}
-use Rattle.resolve.specs.Postfix.{IsPostfix}
-use Rattle.resolve.specs.Resolves.{type_entries, table_of}
-use Rattle.wit_component.specs.Component.{is_parted}
-use Rattle.wit_component.specs.Form.{IsInPackageForm, has_full_names, are_interfaces}
+use Rattle.package_form.specs.Postfix.{IsPostfix}
+use Rattle.package_form.specs.Entries.{type_entries, table_of}
+use Rattle.package_form.specs.Ends.{is_parted}
+use Rattle.package_form.specs.Form.{IsInPackageForm, has_full_names, are_interfaces}
 use Rattle.layout.specs.Layout.{IsWithin, Refuses, StandsAt, AreWithin}
 use Rattle.layout.specs.declared.error.LayoutError.TheVariants.{TooDeep, TooLarge}
 

@@ -17,14 +17,14 @@ use Rattle.ctype_bin.specs.declared.error.BinError.{BinError}
 use Rattle.ctype_bin.specs.declared.error.BinError.TheVariants as binary_error
 use Rattle.ctype_bin.specs.declared.error.BinError.TheVariants.{At}
 use Rattle.ctype_bin.specs.declared.error.Fault.TheVariants.{Limit}
-use Rattle.resolve.specs.Scope.{AreDistinct}
+use Rattle.package_form.specs.Scope.{AreDistinct}
 use Rattle.resolve.specs.Resolves as tree
 use Rattle.resolve.specs.Resolves.{HasNoFaults, IsPackageOf}
 use Rattle.tables.specs.declared.tables.Resolve.{Resolve}
 use Rattle.tables.specs.declared.error.ResolveError.TheVariants as resolve_error
 use Rattle.layout.specs.declared.error.LayoutError.TheVariants as layout_error
 use Rattle.wit_component.specs.Component.{component_of}
-use Rattle.wit_component.specs.Naming.{package_scopes}
+use Rattle.package_form.specs.Naming.{package_scopes}
 use Rattle.wit_component.specs.Reads as component
 use Rattle.wit_component.specs.Standing.{Stands}
 use Rattle.layout.specs.Layout.{AreWithin, RefusesFirst}

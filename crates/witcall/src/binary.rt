@@ -1,12 +1,12 @@
 //! The package that a binary is, and the binary of a package.
 
 ghost use Rattle.std.specs.Prelude.{◌≡◌, ◌⊎◌, true, All, IfOk, IfErr, MatchResult};
-ghost use Rattle.resolve.specs.Scope.{AreDistinct};
+ghost use Rattle.package_form.specs.Scope.{AreDistinct};
 ghost use Rattle.tables.specs.Same.{IsSamePackage};
-ghost use Rattle.wit_component.specs.Naming.{package_scopes};
+ghost use Rattle.package_form.specs.Naming.{package_scopes};
 ghost use Rattle.ctype_bin.specs.Writing.{file_bytes};
 ghost use Rattle.wit_component.specs.Component.{component_of};
-ghost use Rattle.wit_component.specs.Form.{IsInPackageForm};
+ghost use Rattle.package_form.specs.Form.{IsInPackageForm};
 ghost use Rattle.witcall.specs.Opening.{is_binary, IsOfBinary, IsBinaryOf, IsWrittenAs, IsTooLong, IsWantOfMemory, BinaryRefuses};
 
 use crate::package::{MAX_INPUT, OpenError, Package};

@@ -9,6 +9,7 @@
 mod binary;
 mod calling;
 mod json;
+pub mod laws;
 mod line;
 mod package;
 mod placing;

@@ -1,11 +1,11 @@
 //! Packages, and how they are opened.
 
 ghost use Rattle.std.specs.Prelude.{◌≡◌, All, IfOk, IfErr, MatchResult};
-ghost use Rattle.resolve.specs.Scope.{AreDistinct};
-ghost use Rattle.wit_component.specs.Naming.{package_scopes};
+ghost use Rattle.package_form.specs.Scope.{AreDistinct};
+ghost use Rattle.package_form.specs.Naming.{package_scopes};
 ghost use Rattle.layout.specs.Layout.{layouts_of, AreWithin};
 ghost use Rattle.tables.specs.Same.{IsSamePackage};
-ghost use Rattle.wit_component.specs.Form.{IsInPackageForm};
+ghost use Rattle.package_form.specs.Form.{IsInPackageForm};
 ghost use Rattle.witcall.specs.Opening.{IsOfBytes, IsOpened, IsWrittenAs, IsWantOfMemory, OpenRefuses};
 
 use crate::binary::{binary_tables, is_binary};

@@ -1,16 +1,15 @@
 //! The package that a text is.
 
 ghost use Rattle.std.specs.Prelude.{◌≡◌, map, All, IfOk, IfErr};
-ghost use Rattle.resolve.specs.Scope.{AreDistinct};
+ghost use Rattle.package_form.specs.Scope.{AreDistinct};
 ghost use Rattle.wit_syntax.specs.View.{item_view};
-ghost use Rattle.wit_component.specs.Form.{IsInPackageForm};
-ghost use Rattle.wit_component.specs.Naming.{package_scopes};
+ghost use Rattle.package_form.specs.Form.{IsInPackageForm};
+ghost use Rattle.package_form.specs.Naming.{package_scopes};
 ghost use Rattle.witcall.specs.Opening.{IsOfText, TextRefuses, first_world};
 
 use crate::package::{MAX_INPUT, OpenError};
 use resolve::{Resolve, from_ast};
 use std::alloc::Global;
-use wit_component::laws::{trees_have_distinct_names, trees_have_form};
 use wit_text::{Feature, Item, Span, TextError, parse, texts_have_full_names};
 
 /// The tables of a text.
@@ -21,8 +20,6 @@ pub fn text_tables(alloc: Global, bytes: &[u8]) -> Result<Resolve, OpenError>
     ensures err { IfErr result (TextRefuses bytes.now) }
 {
     texts_have_full_names();
-    trees_have_form();
-    trees_have_distinct_names();
     let text = text_of(bytes)?;
     let ast = parse(alloc, text)?;
     if let Some(span) = first_world(&ast.items) {

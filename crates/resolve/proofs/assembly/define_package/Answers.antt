@@ -2,7 +2,8 @@ use Rattle.std.proofs.Common.{◌≡◌, ◌∙◌, List, [], ℕ, All, map, get
 use Rattle.std.proofs.lemmas.List.{get_or_default}
 use Rattle.resolve.specs.Order.{IsPlacement}
 use Rattle.resolve.specs.Declarations.{InterfaceTree, interface_name}
-use Rattle.resolve.specs.Resolves.{Table, type_uses, HasKnownNames}
+use Rattle.package_form.specs.Entries.{Table}
+use Rattle.resolve.specs.Resolves.{type_uses, HasKnownNames}
 use Rattle.resolve.specs.Sources.{declared_tree}
 use Rattle.resolve.specs.Building.{CanUse, IsScope, name_at}
 use Rattle.resolve.specs.declared.known.KnownTypes.{KnownTypes}

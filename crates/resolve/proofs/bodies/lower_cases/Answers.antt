@@ -1,10 +1,10 @@
 use Rattle.std.proofs.Common.{List, ℕ, subst, arith, Contains}
 use Rattle.wit_syntax.specs.View.{optional_view, case_view}
-use Rattle.resolve.specs.Postfix.{unnamed_case}
+use Rattle.package_form.specs.Postfix.{unnamed_case}
 use Rattle.resolve.specs.Declarations.{named_case}
 use Rattle.resolve.specs.Resolved.{resolved_if, case_meaning}
 use Rattle.resolve.specs.Building.{LowersIf, scope_name, scope_names, case_typed, read_case}
-use Rattle.resolve.proofs.Lists.{all_flat-at, map_map-more}
+use Rattle.package_form.proofs.Lists.{all_flat-at, map_map-more}
 use Rattle.resolve.proofs.Lowering.{scope-later, same_name, choice-same, lowers_each-none, lowers_each-more, case-stays}
 use Rattle.resolve.proofs.bodies.lower_cases.Goals as goal
 

@@ -1,10 +1,10 @@
 use Rattle.std.proofs.Common.{List, ℕ, subst, arith, Contains}
 use Rattle.wit_syntax.specs.View.{ty_view, field_view}
-use Rattle.resolve.specs.Postfix.{unnamed_parameter}
+use Rattle.package_form.specs.Postfix.{unnamed_parameter}
 use Rattle.resolve.specs.Declarations.{named_member}
 use Rattle.resolve.specs.Resolved.{resolved, member_meaning}
 use Rattle.resolve.specs.Building.{Lowers, scope_name, scope_names, parameter_typed, read_parameter}
-use Rattle.resolve.proofs.Lists.{all_flat-at, map_map-more}
+use Rattle.package_form.proofs.Lists.{all_flat-at, map_map-more}
 use Rattle.resolve.proofs.Lowering.{scope-later, same_name, labelled-same, lowers_each-none, lowers_each-more, parameter-stays}
 use Rattle.resolve.proofs.bodies.lower_parameters.Goals as goal
 

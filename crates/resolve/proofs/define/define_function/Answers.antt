@@ -4,7 +4,7 @@ use Rattle.wit_syntax.specs.declared.ast.Field.{Field}
 use Rattle.resolve.specs.Declarations.{named_member, named_if}
 use Rattle.resolve.specs.Resolved.{member_meaning, resolved_if}
 use Rattle.resolve.specs.Building.{LowersParameters, LowersIf, KnowsNames, scope_name, scope_names}
-use Rattle.resolve.proofs.Lists.{all-left, all-right}
+use Rattle.package_form.proofs.Lists.{all-left, all-right}
 use Rattle.resolve.proofs.Lowering.{scope-later, same_name}
 use Rattle.resolve.proofs.Growing.{function-adds}
 use Rattle.resolve.proofs.define.define_function.Goals as goal

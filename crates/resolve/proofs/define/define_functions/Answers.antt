@@ -2,7 +2,7 @@ use Rattle.std.proofs.Common.{arith}
 use Rattle.resolve.specs.Declarations.{FunctionItem, named_function}
 use Rattle.resolve.specs.Sources.{declared_function}
 use Rattle.resolve.specs.Building.{KnowsNames}
-use Rattle.resolve.proofs.Lists.{all_map-at}
+use Rattle.package_form.proofs.Lists.{all_map-at}
 use Rattle.resolve.proofs.Lowering.{scope-later}
 use Rattle.resolve.proofs.define.define_functions.Goals as goal
 

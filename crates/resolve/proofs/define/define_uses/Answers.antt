@@ -1,7 +1,7 @@
 use Rattle.std.proofs.Common.{arith}
 use Rattle.resolve.specs.Lent.{used_item_of}
 use Rattle.resolve.specs.Building.{CanUse}
-use Rattle.resolve.proofs.Lists.{all_map-at}
+use Rattle.package_form.proofs.Lists.{all_map-at}
 use Rattle.resolve.proofs.Growing.{can_use-later, scopes-later}
 use Rattle.resolve.proofs.define.define_uses.Goals as goal
 

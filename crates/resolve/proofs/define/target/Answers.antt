@@ -1,4 +1,4 @@
-use Rattle.std.proofs.Common.{slice_index_or, sym, subst, ◌∙◌, arith, Contains}
+use Rattle.std.proofs.Common.{slice_index_or, sym, ◌∙◌, arith}
 use Rattle.std.proofs.lemmas.List.Elements.{All-contains, All-get_or}
 use Rattle.resolve.specs.Lent.{used_item_of}
 use Rattle.resolve.specs.Building.{IsScope, IsEntry, scope_name}

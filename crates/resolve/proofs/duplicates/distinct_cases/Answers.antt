@@ -3,10 +3,10 @@ use Rattle.std.proofs.lemmas.Result.{err_from_is_err_and}
 use Rattle.wit_syntax.specs.View.{case_view}
 use Rattle.wit_syntax.specs.declared.ast.Case.{Case}
 use Rattle.resolve.specs.Declarations.{case_name}
-use Rattle.resolve.specs.Scope.{AreDistinct}
-use Rattle.resolve.specs.Distinct.{AreMet}
-use Rattle.resolve.proofs.Lists.{map_map-more}
-use Rattle.resolve.proofs.Meeting.{met-none, met-push, refuses-at, all-taken}
+use Rattle.package_form.specs.Scope.{AreDistinct}
+use Rattle.package_form.specs.Distinct.{AreMet}
+use Rattle.package_form.proofs.Lists.{map_map-more}
+use Rattle.package_form.proofs.Meeting.{met-none, met-push, refuses-at, all-taken}
 use Rattle.resolve.proofs.duplicates.distinct_cases.Goals as goal
 
 pub loop-case-init : goal.loop-case-init

@@ -1,7 +1,7 @@
 use Rattle.std.proofs.Common.{map, take}
 use Rattle.wit_syntax.specs.View.{case_view}
 use Rattle.resolve.specs.Declarations.{case_name}
-use Rattle.resolve.specs.Distinct.{AreMet}
+use Rattle.package_form.specs.Distinct.{AreMet}
 use Rattle.resolve.proofs.duplicates.distinct_cases.Given as goal
 
 abbrev pub invariant-loop-case : goal.invariant-loop-case

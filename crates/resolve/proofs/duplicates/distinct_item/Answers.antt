@@ -3,8 +3,8 @@ use Rattle.std.proofs.lemmas.Result.{err_from_is_err_and}
 use Rattle.wit_syntax.specs.View.{entry_view}
 use Rattle.wit_syntax.specs.declared.ast.InterfaceItem.{InterfaceItem}
 use Rattle.resolve.specs.Declarations.{entry_names}
-use Rattle.resolve.specs.Distinct.{AreMet, RefusesNames}
-use Rattle.resolve.proofs.Meeting.{met-push, refuses-end, on-ok}
+use Rattle.package_form.specs.Distinct.{AreMet, RefusesNames}
+use Rattle.package_form.proofs.Meeting.{met-push, refuses-end, on-ok}
 use Rattle.resolve.proofs.duplicates.distinct_item.Goals as goal
 
 pub returns-in_err-meet-in-TypeDef-clause-err : goal.returns-in_err-meet-in-TypeDef-clause-err

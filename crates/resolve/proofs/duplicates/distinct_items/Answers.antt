@@ -3,10 +3,10 @@ use Rattle.std.proofs.lemmas.Result.{err_from_is_err_and}
 use Rattle.wit_syntax.specs.View.{entry_view}
 use Rattle.wit_syntax.specs.declared.ast.InterfaceItem.{InterfaceItem}
 use Rattle.resolve.specs.Declarations.{entry_names, entry_scopes, item_scopes}
-use Rattle.resolve.specs.Scope.{AreDistinct}
-use Rattle.resolve.specs.Distinct.{AreMet}
-use Rattle.resolve.proofs.Lists.{flat_map-more, all-append, all-cons, all-none}
-use Rattle.resolve.proofs.Meeting.{met-none, refuses-item, all-taken}
+use Rattle.package_form.specs.Scope.{AreDistinct}
+use Rattle.package_form.specs.Distinct.{AreMet}
+use Rattle.package_form.proofs.Lists.{flat_map-more, all-append, all-cons, all-none}
+use Rattle.package_form.proofs.Meeting.{met-none, refuses-item, all-taken}
 use Rattle.resolve.proofs.duplicates.distinct_items.Goals as goal
 
 pub loop-item-init : goal.loop-item-init

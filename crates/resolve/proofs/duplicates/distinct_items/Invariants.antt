@@ -1,8 +1,8 @@
 use Rattle.std.proofs.Common.{map, flat_map, take, All}
 use Rattle.wit_syntax.specs.View.{entry_view}
 use Rattle.resolve.specs.Declarations.{entry_names, entry_scopes}
-use Rattle.resolve.specs.Scope.{AreDistinct}
-use Rattle.resolve.specs.Distinct.{AreMet}
+use Rattle.package_form.specs.Scope.{AreDistinct}
+use Rattle.package_form.specs.Distinct.{AreMet}
 use Rattle.resolve.proofs.duplicates.distinct_items.Given as goal
 
 abbrev pub invariant-loop-item : goal.invariant-loop-item

@@ -1,8 +1,8 @@
 use Rattle.std.proofs.Common.{List, ℕ, subst, sym, arith}
 use Rattle.std.proofs.lemmas.Result.{err_from_is_err_and}
-use Rattle.resolve.specs.Scope.{AreDistinct}
-use Rattle.resolve.specs.Distinct.{AreMet, RefusesNames}
-use Rattle.resolve.proofs.Meeting.{met-none, met-push, refuses-end, refuses-more, split-at, take-more, all-taken}
+use Rattle.package_form.specs.Scope.{AreDistinct}
+use Rattle.package_form.specs.Distinct.{AreMet, RefusesNames}
+use Rattle.package_form.proofs.Meeting.{met-none, met-push, refuses-end, refuses-more, split-at, take-more, all-taken}
 use Rattle.resolve.proofs.duplicates.distinct_labels.Goals as goal
 
 pub loop-label-init : goal.loop-label-init

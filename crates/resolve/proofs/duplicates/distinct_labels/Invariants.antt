@@ -1,5 +1,5 @@
 use Rattle.std.proofs.Common.{take}
-use Rattle.resolve.specs.Distinct.{AreMet}
+use Rattle.package_form.specs.Distinct.{AreMet}
 use Rattle.resolve.proofs.duplicates.distinct_labels.Given as goal
 
 abbrev pub invariant-loop-label : goal.invariant-loop-label

@@ -4,11 +4,11 @@ use Rattle.wit_syntax.specs.View.{entry_view}
 use Rattle.wit_syntax.specs.declared.ast.Interface.{Interface}
 use Rattle.wit_syntax.specs.declared.ast.InterfaceItem.{InterfaceItem}
 use Rattle.resolve.specs.Declarations.{file_name, item_scopes, interface_scopes, scopes_in}
-use Rattle.resolve.specs.Scope.{AreDistinct}
-use Rattle.resolve.specs.Distinct.{AreMet, RefusesScopes}
+use Rattle.package_form.specs.Scope.{AreDistinct}
+use Rattle.package_form.specs.Distinct.{AreMet, RefusesScopes}
 use Rattle.resolve.specs.Sources.{interface_entry}
-use Rattle.resolve.proofs.Lists.{map_map-more, flat_map-more, all-append, all-cons, all-none, contains-here, contains-later}
-use Rattle.resolve.proofs.Meeting.{met-none, met-push, refuses-at, refuses-scope, refuses-among, part-contained, all-taken}
+use Rattle.package_form.proofs.Lists.{map_map-more, flat_map-more, all-append, all-cons, all-none, contains-here, contains-later}
+use Rattle.package_form.proofs.Meeting.{met-none, met-push, refuses-at, refuses-scope, refuses-among, part-contained, all-taken}
 use Rattle.resolve.proofs.duplicates.distinct_names.Goals as goal
 
 pub loop-interface-init : goal.loop-interface-init

@@ -1,8 +1,8 @@
 use Rattle.std.proofs.Common.{map, flat_map, take, All}
 use Rattle.resolve.specs.Declarations.{file_name, interface_scopes}
 use Rattle.resolve.specs.Sources.{interface_entry}
-use Rattle.resolve.specs.Scope.{AreDistinct}
-use Rattle.resolve.specs.Distinct.{AreMet}
+use Rattle.package_form.specs.Scope.{AreDistinct}
+use Rattle.package_form.specs.Distinct.{AreMet}
 use Rattle.resolve.proofs.duplicates.distinct_names.Given as goal
 
 abbrev pub invariant-loop-interface : goal.invariant-loop-interface

@@ -2,9 +2,9 @@ use Rattle.std.proofs.Common.{◌≡◌, ◌+◌, ◌++◌, ◌∷◌, ◌∙◌
 use Rattle.std.proofs.lemmas.Result.{err_from_is_err_and}
 use Rattle.wit_syntax.specs.View.{used_view}
 use Rattle.resolve.specs.Declarations.{local_name}
-use Rattle.resolve.specs.Distinct.{AreMet}
-use Rattle.resolve.proofs.Lists.{map_map-more}
-use Rattle.resolve.proofs.Meeting.{met-push, names-split, refuses-within}
+use Rattle.package_form.specs.Distinct.{AreMet}
+use Rattle.package_form.proofs.Lists.{map_map-more}
+use Rattle.package_form.proofs.Meeting.{met-push, names-split, refuses-within}
 use Rattle.resolve.proofs.duplicates.meet_used.Goals as goal
 
 pub returns-in_err-meet-clause-err : goal.returns-in_err-meet-clause-err

@@ -1,7 +1,7 @@
 use Rattle.std.proofs.Common.{◌++◌, List, ℕ, map, take}
 use Rattle.wit_syntax.specs.View.{used_view}
 use Rattle.resolve.specs.Declarations.{local_name}
-use Rattle.resolve.specs.Distinct.{AreMet}
+use Rattle.package_form.specs.Distinct.{AreMet}
 use Rattle.resolve.proofs.duplicates.meet_used.Given as goal
 
 abbrev pub invariant-loop-name : goal.invariant-loop-name

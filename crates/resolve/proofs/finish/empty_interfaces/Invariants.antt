@@ -1,5 +1,5 @@
 use Rattle.std.proofs.Common.{◌≡◌, [], take}
-use Rattle.resolve.specs.Resolves.{interfaces_from}
+use Rattle.package_form.specs.Ids.{interfaces_from}
 use Rattle.resolve.proofs.finish.empty_interfaces.Given as goal
 
 abbrev pub invariant-loop-name : goal.invariant-loop-name

@@ -1,9 +1,10 @@
 use Rattle.std.proofs.Common.{◌≡◌, ◌∙◌, List, IsTrue, length, ap, sym, subst, arith}
 use Rattle.tables.specs.Tables.{are_earlier, name_types, are_standard, are_placed}
-use Rattle.resolve.specs.Resolves.{interfaces_from}
+use Rattle.package_form.specs.Ids.{interfaces_from}
 use Rattle.tables.specs.declared.tables.Definition.{Definition}
 use Rattle.tables.specs.declared.tables.Interface.{Interface}
-use Rattle.resolve.proofs.Finishing.{within-entries, few-rows, all-placed-ids}
+use Rattle.package_form.proofs.RowEntries.{within-entries, few-rows}
+use Rattle.resolve.proofs.Finishing.{all-placed-ids}
 use Rattle.resolve.proofs.finish.finish.Goals as goal
 
 pub interfaces_in-requires : goal.interfaces_in-requires

@@ -1,5 +1,5 @@
 use Rattle.std.proofs.Common.{◌≡◌, ◌∙◌, ◌+◌, ℕ, List, Some, length, take, set, get_or, ap, sym, arith}
-use Rattle.resolve.specs.Resolves.{interfaces_from}
+use Rattle.package_form.specs.Ids.{interfaces_from}
 use Rattle.resolve.specs.Finished.{interface_of, with_row}
 use Rattle.tables.specs.declared.tables.Interface.{Interface}
 use Rattle.resolve.proofs.Finishing.{rows-there, rows-elsewhere, interfaces-length, some-inj}

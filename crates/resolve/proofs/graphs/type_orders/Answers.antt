@@ -1,7 +1,7 @@
 use Rattle.std.proofs.Common.{arith, inl, inr}
 use Rattle.std.proofs.lemmas.Result.{err_from_is_err_and}
 use Rattle.resolve.specs.Sources.{declared_tree}
-use Rattle.resolve.proofs.Lists.{contains-map, contains-at}
+use Rattle.package_form.proofs.Lists.{contains-map, contains-at}
 use Rattle.resolve.proofs.Using.{orders-more}
 use Rattle.resolve.proofs.graphs.type_orders.Goals as goal
 

@@ -4,11 +4,11 @@ use Rattle.wit_syntax.specs.Syntax.{MaybeTy, Named, ListOf, OptionOf, TupleOf, R
 use Rattle.wit_syntax.specs.View.{ty_view, boxed_view}
 use Rattle.tables.specs.Package.{read_val}
 use Rattle.tables.specs.Tables.{is_type}
-use Rattle.resolve.specs.Postfix.{unnamed}
+use Rattle.package_form.specs.Postfix.{unnamed}
 use Rattle.resolve.specs.Declarations.{named_maybe}
 use Rattle.resolve.specs.Resolved.{resolved, resolved_maybe}
 use Rattle.resolve.specs.Building.{LowersIf, LowersInner, KnowsNames, scope_name, scope_names}
-use Rattle.resolve.proofs.Lists.{all-head, all-left, all-right}
+use Rattle.package_form.proofs.Lists.{all-head, all-left, all-right}
 use Rattle.resolve.proofs.Lowering.{view-Named, view-List, view-Option, view-Tuple, view-Result, known-by, inner-by, scope-later, same_name, lowers-list, lowers-option, lowers-tuple, lowers-result, lowers-some, lowers_each-more, val-stays, resolved_all-more, all_named-at}
 use Rattle.resolve.proofs.lower.+lower.Goals as goal
 

@@ -3,7 +3,7 @@ use Rattle.std.specs.List.{filter_map}
 use Rattle.std.proofs.lemmas.Result.{err_from_is_err_and}
 use Rattle.wit_syntax.specs.Syntax.{FileEntry}
 use Rattle.wit_syntax.specs.View.{file_view}
-use Rattle.resolve.specs.Scope.{AreDistinct}
+use Rattle.package_form.specs.Scope.{AreDistinct}
 use Rattle.resolve.specs.Declarations.{InterfaceTree, interface_of, interfaces, scopes_in}
 use Rattle.resolve.specs.Resolves.{HasKnownNames}
 use Rattle.resolve.specs.Sources.{declared_tree, interface_entry, interface_syntax}

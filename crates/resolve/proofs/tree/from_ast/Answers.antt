@@ -1,68 +1,17 @@
-use Rattle.std.proofs.Common.{◌<◌, ◌∙◌, List, ℕ, [], inl, inr, All, Contains, map, length, get_or, ap, sym, subst, refl, arith}
-use Rattle.std.proofs.lemmas.List.{length-map}
-use Rattle.std.proofs.lemmas.Result.{err_from_is_err_and}
 use Rattle.wit_syntax.specs.View.{file_view}
-use Rattle.resolve.specs.Order.{IsPlacement}
-use Rattle.resolve.specs.Scope.{AreDistinct}
-use Rattle.resolve.specs.Declarations.{InterfaceTree, interface_names, interface_at}
-use Rattle.resolve.specs.Resolves.{Resolves, HasKnownNames, interface_uses, type_uses, package_in}
-use Rattle.resolve.specs.Building.{DefinesPackage}
-use Rattle.resolve.specs.Sources.{declared_tree}
-use Rattle.resolve.proofs.Trees.{distinct-interfaces, refuses-cycle, table-resolves, refuses-limit, is-package, ok-map, err-map}
+use Rattle.resolve.proofs.TreeForms.{has-form}
+use Rattle.resolve.proofs.PackageScopes.{has-distinct-names}
+use Rattle.resolve.proofs.Trees.{ok-both}
+use Rattle.resolve.proofs.Only.{answers-only}
 use Rattle.resolve.proofs.tree.from_ast.Goals as goal
 
-pub returns-in_err-orders-clause-err : goal.returns-in_err-orders-clause-err
-returns-in_err-orders-clause-err c =
-    let p = err_from_is_err_and c.from_residual-in_err-orders.result c.from_residual-in_err-orders.ensures.1 in
-    let f = file_view c.args.ast.now in
-    let same = ap (map declared_tree) c.deref-2.ensures.value ∙ c.in_ok-all.ensures.ok in
-    rw (p.1, p.2) (refuses-cycle f c.in_err-orders.field-0.0 c.in_ok-all.ensures.faults (elim c.in_err-orders.ensures.err [
-      | inl q ↦ inl q
-      | inr q ↦ inr (q.0, inr (q.1.0, subst (λ (is : List InterfaceTree). Contains is q.1.0) same q.1.1, q.1.2))
-    ]))
+pub returns-clause-form : goal.returns-clause-form
+returns-clause-form c =
+    ok-both c.resolved_package.result _ _ _ (λ r h p. λ full. has-form (file_view c.args.ast.now) r h full p) c.resolved_package.ensures.faults c.resolved_package.ensures.ok
 
-pub define_package-requires-clause-known : goal.define_package-requires-clause-known
-define_package-requires-clause-known c =
-    let same = ap (map declared_tree) c.deref-3.ensures.value ∙ c.in_ok-all.ensures.ok in
-    subst (λ (is : List InterfaceTree). All (HasKnownNames is) is) (sym same) c.in_ok-all.ensures.faults.known
+pub returns-clause-distinct : goal.returns-clause-distinct
+returns-clause-distinct c =
+    ok-both c.resolved_package.result _ _ _ (λ r h p. λ full. has-distinct-names (file_view c.args.ast.now) r h full p) c.resolved_package.ensures.faults c.resolved_package.ensures.ok
 
-pub define_package-requires-clause-distinct : goal.define_package-requires-clause-distinct
-define_package-requires-clause-distinct c =
-    let same = ap (map declared_tree) c.deref-3.ensures.value ∙ c.in_ok-all.ensures.ok in
-    subst (λ (is : List InterfaceTree). AreDistinct (interface_names is)) (sym same) (distinct-interfaces (file_view c.args.ast.now) c.in_ok-all.ensures.faults)
-
-pub returns-clause-ok : goal.returns-clause-ok
-returns-clause-ok c =
-    let f = file_view c.args.ast.now in
-    let t = c.in_ok-builder.builder in
-    let is = map declared_tree c.in_ok-all.all.items in
-    let first = ap (map declared_tree) c.deref.ensures.value in
-    let second = ap (map declared_tree) c.deref-2.ensures.value in
-    let third = ap (map declared_tree) c.deref-3.ensures.value in
-    let made = subst (λ (o : List ℕ). DefinesPackage is o c.deref-4.result.now t) c.as_slice.ensures
-    (subst (λ (ts : List InterfaceTree). DefinesPackage ts c.as_slice.result.now c.deref-4.result.now t) third c.in_ok-builder.ensures) in
-    let placed = subst (λ (ts : List InterfaceTree). IsPlacement (interface_uses ts) c.in_ok-order.order) first c.in_ok-order.ensures.ok in
-    let types : (k : ℕ) → k < length is → IsPlacement (type_uses (interface_at is k)) (get_or c.deref-4.result.now k []) = λ k l.
-    subst (λ (os : List (List ℕ)). IsPlacement (type_uses (interface_at is k)) (get_or os k [])) (sym c.deref-4.ensures.value)
-    (subst (λ (ts : List InterfaceTree). IsPlacement (type_uses (interface_at ts k)) (get_or c.in_ok-orders.orders.items k [])) second
-    (c.in_ok-orders.ensures.ok k (omega (arith, l, ap length c.deref-2.ensures.value, length-map c.in_ok-all.all.items declared_tree)))) in
-    let resolves = table-resolves is c.in_ok-order.order c.deref-4.result.now t placed types made in
-    ok-map c.finish.result _ _ (λ r h. is-package c.args.ast.now.«package» t r h f refl refl refl
-    (subst (λ (ts : List InterfaceTree). Resolves ts (package_in t)) c.in_ok-all.ensures.ok resolves) made.postfix) c.finish.ensures.ok
-
-pub returns-clause-err : goal.returns-clause-err
-returns-clause-err c =
-    let f = file_view c.args.ast.now in
-    let t = c.in_ok-builder.builder in
-    let is = map declared_tree c.in_ok-all.all.items in
-    let first = ap (map declared_tree) c.deref.ensures.value in
-    let second = ap (map declared_tree) c.deref-2.ensures.value in
-    let third = ap (map declared_tree) c.deref-3.ensures.value in
-    let made = subst (λ (o : List ℕ). DefinesPackage is o c.deref-4.result.now t) c.as_slice.ensures
-    (subst (λ (ts : List InterfaceTree). DefinesPackage ts c.as_slice.result.now c.deref-4.result.now t) third c.in_ok-builder.ensures) in
-    let placed = subst (λ (ts : List InterfaceTree). IsPlacement (interface_uses ts) c.in_ok-order.order) first c.in_ok-order.ensures.ok in
-    let types : (k : ℕ) → k < length is → IsPlacement (type_uses (interface_at is k)) (get_or c.deref-4.result.now k []) = λ k l.
-    subst (λ (os : List (List ℕ)). IsPlacement (type_uses (interface_at is k)) (get_or os k [])) (sym c.deref-4.ensures.value)
-    (subst (λ (ts : List InterfaceTree). IsPlacement (type_uses (interface_at ts k)) (get_or c.in_ok-orders.orders.items k [])) second
-    (c.in_ok-orders.ensures.ok k (omega (arith, l, ap length c.deref-2.ensures.value, length-map c.in_ok-all.all.items declared_tree)))) in
-    err-map c.finish.result _ _ (λ e h. refuses-limit is c.in_ok-order.order c.deref-4.result.now t placed types made f e c.in_ok-all.ensures.ok c.in_ok-all.ensures.faults h) c.finish.ensures.err
+pub returns-clause-only : goal.returns-clause-only
+returns-clause-only c = answers-only (file_view c.args.ast.now) c.resolved_package.result c.resolved_package.ensures.ok c.resolved_package.ensures.err

@@ -5,8 +5,8 @@ use Rattle.wit_syntax.specs.Syntax.{FileEntry}
 use Rattle.wit_syntax.specs.View.{item_view, file_view, world_entry_view}
 use Rattle.wit_syntax.specs.declared.ast.Item.{Item}
 use Rattle.resolve.specs.Sources.{interface_entry}
-use Rattle.resolve.proofs.Lists.{contains-map, contains-at}
-use Rattle.resolve.proofs.Meeting.{all-taken}
+use Rattle.package_form.proofs.Lists.{contains-map, contains-at}
+use Rattle.package_form.proofs.Meeting.{all-taken}
 use Rattle.resolve.proofs.Trees.{of-interfaces}
 use Rattle.resolve.proofs.tree.interfaces.Goals as goal
 

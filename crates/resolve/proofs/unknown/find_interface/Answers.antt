@@ -1,6 +1,6 @@
 use Rattle.std.proofs.Common.{◌∙◌, sym, subst, arith, Contains}
 use Rattle.resolve.specs.Sources.{declared_tree}
-use Rattle.resolve.proofs.Lists.{contains-map, contains-at}
+use Rattle.package_form.proofs.Lists.{contains-map, contains-at}
 use Rattle.resolve.proofs.Finding.{place-in, place-lacks, interface-there}
 use Rattle.resolve.proofs.unknown.find_interface.Goals as goal
 

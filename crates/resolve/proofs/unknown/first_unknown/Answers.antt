@@ -1,8 +1,8 @@
 use Rattle.std.proofs.Common.{List, ℕ, [], Bor, All, Contains, sym, ◌∙◌, subst, arith}
 use Rattle.resolve.specs.Lent.{lent, lent_name}
-use Rattle.resolve.proofs.Lists.{map-more, all-append, all-cons, all-none, contains-map, contains-at}
+use Rattle.package_form.proofs.Lists.{map-more, all-append, all-cons, all-none, contains-map, contains-at}
 use Rattle.resolve.proofs.Finding.{none-of, place-lacks, place-has}
-use Rattle.resolve.proofs.Meeting.{all-taken}
+use Rattle.package_form.proofs.Meeting.{all-taken}
 use Rattle.resolve.proofs.unknown.first_unknown.Goals as goal
 
 pub loop-name-preserved : goal.loop-name-preserved

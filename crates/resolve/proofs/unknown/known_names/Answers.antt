@@ -7,9 +7,9 @@ use Rattle.resolve.specs.Declarations.{interface_at, interface_tree, no_interfac
 use Rattle.resolve.specs.Resolves.{IsUnknownIn, HasKnownNames}
 use Rattle.resolve.specs.Sources.{declared_tree, interface_syntax}
 use Rattle.resolve.specs.Knowing.{LacksAny}
-use Rattle.resolve.proofs.Lists.{contains-map, contains-at}
+use Rattle.package_form.proofs.Lists.{contains-map, contains-at}
 use Rattle.resolve.proofs.Finding.{if-none, interface-known, interface-lacks, same-at, tree-at}
-use Rattle.resolve.proofs.Meeting.{below_or_at}
+use Rattle.package_form.proofs.Meeting.{below_or_at}
 use Rattle.resolve.proofs.unknown.known_names.Goals as goal
 
 pub returns-in-Some-clause-err : goal.returns-in-Some-clause-err

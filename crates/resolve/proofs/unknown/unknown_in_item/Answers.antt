@@ -1,10 +1,9 @@
-use Rattle.std.proofs.Common.{List, ℕ, Bor, ap, sym, subst, ◌∙◌}
+use Rattle.std.proofs.Common.{List, ℕ, Bor, ap, sym, subst, ◌∙◌, IfNone, IfSome, map}
 use Rattle.wit_syntax.specs.View.{entry_view}
 use Rattle.wit_syntax.specs.declared.ast.InterfaceItem.{InterfaceItem}
 use Rattle.resolve.specs.Lent.{lent}
 use Rattle.resolve.specs.Sources.{declared_tree}
 use Rattle.resolve.specs.Knowing.{KnowsEntry, LacksEntry}
-use Rattle.std.proofs.Common.{IfNone, IfSome, map}
 use Rattle.resolve.proofs.Finding.{none-map, some-map, knows-all, lacks-name}
 use Rattle.resolve.proofs.unknown.unknown_in_item.Goals as goal
 

@@ -4,9 +4,9 @@ use Rattle.wit_syntax.specs.declared.ast.UsedName.{UsedName}
 use Rattle.resolve.specs.Declarations.{used_item}
 use Rattle.resolve.specs.Resolves.{IsKnownUse}
 use Rattle.resolve.specs.Sources.{declared_tree}
-use Rattle.resolve.proofs.Lists.{map_map-more, all-append, all-cons, all-none, contains-map, contains-at}
+use Rattle.package_form.proofs.Lists.{map_map-more, all-append, all-cons, all-none, contains-map, contains-at}
 use Rattle.resolve.proofs.Finding.{if-none}
-use Rattle.resolve.proofs.Meeting.{all-taken}
+use Rattle.package_form.proofs.Meeting.{all-taken}
 use Rattle.resolve.proofs.unknown.unknown_in_use.Goals as goal
 
 pub returns-in-Some-clause-some : goal.returns-in-Some-clause-some

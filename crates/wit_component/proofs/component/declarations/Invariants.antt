@@ -1,6 +1,7 @@
 use Rattle.std.proofs.Common.{◌≡◌, ◌≤◌, ◌+◌, ◌++◌, IsTrue, map, drop, length}
 use Rattle.ctype_bin.specs.View.{decl_view}
-use Rattle.wit_component.specs.Component.{is_parted, interfaces_declared, no_front}
+use Rattle.package_form.specs.Ends.{is_parted}
+use Rattle.wit_component.specs.Component.{interfaces_declared, no_front}
 use Rattle.wit_component.specs.Standing.{are_labelled}
 use Rattle.wit_component.proofs.component.declarations.Given as goal
 

@@ -1,5 +1,5 @@
 use Rattle.std.proofs.lemmas.Result.{err_from_is_err_and}
-use Rattle.wit_component.proofs.Naming.{refuses-package}
+use Rattle.wit_component.proofs.Refusing.{refuses-package}
 use Rattle.wit_component.proofs.Candidates.{not-empty, no-duplicate}
 use Rattle.wit_component.proofs.from_component.from_raw.Goals as goal
 

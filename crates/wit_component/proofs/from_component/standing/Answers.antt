@@ -7,9 +7,9 @@ use Rattle.tables.specs.declared.tables.Resolve.{Resolve}
 use Rattle.tables.specs.declared.error.ResolveError.{ResolveError}
 use Rattle.tables.specs.declared.error.ResolveError.TheVariants as error
 use Rattle.wit_component.specs.Standing.{Stands}
-use Rattle.wit_component.specs.Form.{IsInPackageForm}
-use Rattle.wit_component.specs.declared.unread.Unread.{Unread}
-use Rattle.wit_component.specs.Candidate.{candidate_of, Makes}
+use Rattle.package_form.specs.Form.{IsInPackageForm}
+use Rattle.component_reader.specs.declared.unread.Unread.{Unread}
+use Rattle.component_reader.specs.Candidate.{candidate_of, Makes}
 use Rattle.wit_component.proofs.Candidates.{no-other-shape, in-form, written-again, is-that-package}
 use Rattle.wit_component.proofs.from_component.standing.Goals as goal
 

@@ -22,10 +22,10 @@ pub returns-clause-form : goal.returns-clause-form
 returns-clause-form c =
     let f = file_view c.in_ok-ast.ast in
     let names = c.texts_have_full_names.ensures _ f c.in_ok-ast.ensures.found in
-    c.trees_have_form.ensures f _ c.in_ok-resolve.ensures.faults names c.in_ok-resolve.ensures.ok
+    c.in_ok-resolve.ensures.form names
 
 pub returns-clause-distinct : goal.returns-clause-distinct
 returns-clause-distinct c =
     let f = file_view c.in_ok-ast.ast in
     let names = c.texts_have_full_names.ensures _ f c.in_ok-ast.ensures.found in
-    c.trees_have_distinct_names.ensures f _ c.in_ok-resolve.ensures.faults names c.in_ok-resolve.ensures.ok
+    c.in_ok-resolve.ensures.distinct names

@@ -1,7 +1,7 @@
 use Rattle.std.proofs.Common.{◌≡◌, List, ℕ, None, Some, map, sym, subst, Contains}
 use Rattle.std.specs.Map.{lookup}
 use Rattle.std.specs.Str.{bytes_eq}
-use Rattle.resolve.specs.Scoped.{Entry}
+use Rattle.package_form.specs.Scoped.{Entry}
 use Rattle.resolve.proofs.Places.{entry-found, entry-missed}
 use Rattle.resolve.proofs.known.TypeIds.get.Goals as goal
 

@@ -1,7 +1,7 @@
 use Rattle.std.proofs.Common.{◌∙◌, ◌∷◌, [], map, sym, ap, refl}
 use Rattle.std.proofs.lemmas.List.{map-append}
 use Rattle.indexmap.proofs.CallerLemmas.{insert_entry-new}
-use Rattle.resolve.specs.Scoped.{entry_of}
+use Rattle.package_form.specs.Scoped.{entry_of}
 use Rattle.resolve.proofs.known.TypeIds.push.Goals as goal
 use Rattle.resolve.proofs.known.TypeIds.push.Goals.{in-None, in-Some}
 

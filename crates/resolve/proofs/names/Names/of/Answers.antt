@@ -5,8 +5,8 @@ use Rattle.std.proofs.lemmas.List.{length-map, length-take}
 use Rattle.indexmap.proofs.CallerLemmas.{insert_entry-new}
 use Rattle.resolve.specs.Lent.{lent, lent_name}
 use Rattle.resolve.specs.Knowing.{TellsPlaces}
-use Rattle.resolve.proofs.Lists.{map-more}
-use Rattle.resolve.proofs.Meeting.{all-taken}
+use Rattle.package_form.proofs.Lists.{map-more}
+use Rattle.package_form.proofs.Meeting.{all-taken}
 use Rattle.resolve.proofs.Places.{tells-none, tells-more, tells-same, none-there}
 use Rattle.resolve.proofs.names.Names.of.Goals as goal
 use Rattle.resolve.proofs.names.Names.of.Goals.{then-not-contains_key+in_ok-from_slice+in_ok-insert, else-not-contains_key}

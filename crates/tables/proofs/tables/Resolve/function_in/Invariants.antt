@@ -1,7 +1,6 @@
-use Rattle.std.proofs.Common.{ℕ, ◌<◌, ◌≡◌, get_or}
+use Rattle.std.proofs.Common.{ℕ, ◌<◌, ◌≡◌, get_or, Some}
 use Rattle.tables.specs.Names.{function_name}
 use Rattle.tables.specs.declared.tables.FunctionId.{FunctionId}
-use Rattle.std.proofs.Common.{Some}
 use Rattle.tables.proofs.tables.Resolve.function_in.Given as goal
 
 abbrev pub invariant-loop-func : goal.invariant-loop-func

@@ -1,6 +1,6 @@
 use Rattle.std.proofs.Common.{All, sym, subst}
 use Rattle.std.proofs.Math.Logic.{∥∥₁_map}
-use Rattle.resolve.specs.Scope.{AreDistinct}
+use Rattle.package_form.specs.Scope.{AreDistinct}
 use Rattle.wit_component.proofs.Candidates.{same-scopes}
 use Rattle.witcall.proofs.Packages.{same_form}
 use Rattle.witcall.proofs.package.Package.copy.Goals as goal

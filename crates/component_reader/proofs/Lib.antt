@@ -1,0 +1,4 @@
+pub mod Found
+pub mod Instances
+pub mod Cutting
+pub mod ExportNames

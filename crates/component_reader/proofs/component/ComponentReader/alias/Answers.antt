@@ -1,0 +1,37 @@
+use Rattle.std.proofs.Common.{inr, List, ℕ, slice_get, Option, Some, refl, ap, sym, ◌∙◌}
+use Rattle.std.specs.Option.{option_map}
+use Rattle.std.specs.Map.{lookup}
+use Rattle.std.specs.Str.{bytes_eq}
+use Rattle.std.proofs.lemmas.Option.{slice_get_read}
+use Rattle.ctype_bin.specs.declared.raw.RawAlias.{RawAlias}
+use Rattle.tables.specs.declared.tables.TypeId.{TypeId}
+use Rattle.component_reader.specs.Candidate.{ComponentRead, alias_read, with_type}
+use Rattle.component_reader.specs.Readers.{component_view}
+use Rattle.component_reader.proofs.Instances.{type-found}
+use Rattle.component_reader.proofs.component.ComponentReader.alias.Goals as goal
+
+pub returns-in_default-get-2 : goal.returns-in_default-get-2
+returns-in_default-get-2 c =
+    let s = component_view c.args.self.now in
+    let i = c.in-InstanceExport.instance in
+    let name = c.in-InstanceExport.name in
+    let types = c.in-Some.types.now in
+    let at = c.in-Some.ensures.lookup in
+    let there = ap (λ ms. slice_get ms i) (sym c.deref.ensures.value) ∙ slice_get_read c.deref.result.now _ i types refl at.3.0 at.1 in
+    let found = type-found (λ m. m.entries) c.args.self.now.exports.items i types name there in
+    let none = ap (λ (n : List ℕ). lookup (λ v. bytes_eq n v.items) types.entries) (sym c.as_bytes.ensures.is) ∙ sym c.in_default-get-2.ensures.value in
+    inr (refl, ap (λ (a : RawAlias). alias_read a s) c.in-InstanceExport.is ∙ ap (option_map (with_type s)) (found ∙ none))
+
+pub returns : goal.returns
+returns c =
+    let s = component_view c.args.self.now in
+    let i = c.in-InstanceExport.instance in
+    let name = c.in-InstanceExport.name in
+    let types = c.in-Some.types.now in
+    let at = c.in-Some.ensures.lookup in
+    let there = ap (λ ms. slice_get ms i) (sym c.deref.ensures.value) ∙ slice_get_read c.deref.result.now _ i types refl at.3.0 at.1 in
+    let found = type-found (λ m. m.entries) c.args.self.now.exports.items i types name there in
+    let some = ap (λ (n : List ℕ). lookup (λ v. bytes_eq n v.items) types.entries) (sym c.as_bytes.ensures.is) ∙ sym c.in-Some-get.ensures.value in
+    let with_indices : List (Option TypeId) → Option ComponentRead =
+    λ indices. Some (record { rows = s.rows; interfaces = s.interfaces; exports = s.exports; indices = indices; awaited = s.awaited }) in
+    ap (λ (a : RawAlias). alias_read a s) c.in-InstanceExport.is ∙ ap (option_map (with_type s)) (found ∙ some) ∙ ap with_indices (sym c.in_ok-push.ensures.items)

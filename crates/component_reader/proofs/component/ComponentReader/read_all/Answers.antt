@@ -1,0 +1,29 @@
+use Rattle.std.proofs.Common.{map, ap, sym, ◌∙◌}
+use Rattle.std.proofs.lemmas.Result.{err_from_is_err_and}
+use Rattle.ctype_bin.specs.Raw.{Decls}
+use Rattle.ctype_bin.specs.View.{decl_view, decls_of}
+use Rattle.component_reader.specs.Candidate.{declarations_read}
+use Rattle.component_reader.specs.Readers.{component_view}
+use Rattle.component_reader.proofs.Instances.{found-first, none-first, next-decl, no-decl}
+use Rattle.component_reader.proofs.component.ComponentReader.read_all.Goals as goal
+
+pub loop-decl-init : goal.loop-decl-init
+loop-decl-init c = ap (declarations_read (decls_of (map decl_view c.args.decls.now))) c.new-reader.ensures
+
+pub loop-decl-preserved : goal.loop-decl-preserved
+loop-decl-preserved c =
+    let s = component_view c.loop-decl.reader in
+    let next = next-decl c.args.decls.now c.loop-decl.decl-index c.decl-item.result c.loop-decl-test.true c.decl-item.is in
+    found-first _ _ _ _ (sym (ap (λ (ds : Decls). declarations_read ds s) next) ∙ c.loop-decl.invariant) c.in_ok-read.ensures
+
+pub returns-in_err-read : goal.returns-in_err-read
+returns-in_err-read c =
+    let p = err_from_is_err_and c.from_residual.result c.from_residual.ensures.1 in
+    let s = component_view c.loop-decl.reader in
+    let next = next-decl c.args.decls.now c.loop-decl.decl-index c.decl-item.result c.loop-decl-test.true c.decl-item.is in
+    rw (p.1, p.2) (none-first _ _ _ c.in_err-read.field-0.0 (sym (ap (λ (ds : Decls). declarations_read ds s) next) ∙ c.loop-decl.invariant) c.in_err-read.ensures)
+
+pub returns : goal.returns
+returns c =
+    let s = component_view c.loop-decl.reader in
+    sym c.loop-decl.invariant ∙ ap (λ (ds : Decls). declarations_read ds s) (no-decl c.args.decls.now c.loop-decl.decl-index c.loop-decl-test.false)

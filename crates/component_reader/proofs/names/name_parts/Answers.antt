@@ -1,0 +1,17 @@
+use Rattle.std.proofs.Common.{ap}
+use Rattle.std.specs.Option.{option_map}
+use Rattle.std.specs.String.{string_bytes}
+use Rattle.ctype_bin.specs.Names.{name_view}
+use Rattle.component_reader.proofs.ExportNames.{name-of-parts}
+use Rattle.component_reader.proofs.names.name_parts.Goals as goal
+
+pub returns-in-FullName : goal.returns-in-FullName
+returns-in-FullName c =
+    let name = c.in-FullName.name in
+    name-of-parts _ name _ (ap name_view c.in-FullName.is) c.as_bytes-in-FullName-3.ensures.label
+    (λ j. record {
+      namespace = c.as_bytes-in-FullName.ensures.is j;
+      package_name = c.as_bytes-in-FullName-2.ensures.is j;
+      name = c.as_bytes-in-FullName-3.ensures.is j;
+      version = option_map string_bytes name.version;
+    })

@@ -1,0 +1,348 @@
+-- The package that a component may stand for: its declarations read one after the other. Whether it stands for it is seen by writing it again.
+use Rattle.std.specs.Prelude.{◌≡◌, ◌⊎◌, ◌==◌, ℕ, Result, Ok, Err, List, [], ◌∷◌, ◌++◌, length, slice_get, Option, None, Some, if◌then◌else◌}
+use Rattle.std.specs.Option.{option_map}
+use Rattle.std.specs.String.{string_bytes}
+use Rattle.std.specs.Str.{bytes_eq}
+use Rattle.atoms.specs.Label.{is_label}
+use Rattle.ctype_bin.specs.Names.{cut_at}
+use Rattle.ctype_bin.specs.Raw.{Definition as AnyType, Define, Func, Component, Instance, Decl, Entry, Alias, Import, Export, Decls, none, then as more, File}
+use Rattle.ctype_bin.specs.declared.raw.RawAlias.{RawAlias}
+use Rattle.ctype_bin.specs.declared.raw.RawAlias.TheVariants as alias
+use Rattle.ctype_bin.specs.declared.raw.RawDescription.{RawDescription}
+use Rattle.ctype_bin.specs.declared.raw.RawDescription.TheVariants as described
+use Rattle.package_form.specs.Scoped.{Entry as Named}
+use Rattle.package_form.specs.Ids.{type_id, function_id}
+use Rattle.tables.specs.Parts.{is_package}
+use Rattle.tables.specs.declared.tables.TypeId.{TypeId}
+use Rattle.tables.specs.declared.tables.FunctionId.{FunctionId}
+use Rattle.tables.specs.declared.tables.ValType.{ValType}
+use Rattle.tables.specs.declared.tables.ValType.TheVariants as val
+use Rattle.tables.specs.declared.tables.TypeDefKind.{TypeDefKind}
+use Rattle.tables.specs.declared.tables.TypeDefKind.TheVariants as kind
+use Rattle.tables.specs.declared.tables.Parameter.{Parameter}
+use Rattle.tables.specs.declared.tables.Owner.TheVariants as owner
+use Rattle.tables.specs.declared.tables.Definition.{Definition}
+use Rattle.tables.specs.declared.tables.Definition.TheVariants as row
+use Rattle.tables.specs.declared.tables.Interface.{Interface}
+use Rattle.tables.specs.declared.tables.Resolve.{Resolve}
+use Rattle.component_reader.specs.declared.unread.Unread.{Unread}
+use Rattle.component_reader.specs.declared.unread.Unread.TheVariants as unread
+use Rattle.component_reader.specs.Reading.{all_found, both_found, row_at, optional_type, parameter_read, kind_of}
+
+abbrev pub if_found : {A B : Type 0} → Option A → (A → Option B) → Option B
+if_found None f = None
+if_found (Some x) f = f x
+
+-- ---- an instance type
+
+-- what the last definition or alias defines, while its export may still come
+pub data Awaited : Type 0 where
+  Nothing : Awaited
+  AType : TypeDefKind → Awaited
+  AFunction : List Parameter → Option ValType → Awaited
+
+-- What was read of an interface's instance type: the table with its rows so far, the row of each type index, the types that it exports
+-- by name, and its ids.
+pub record InstanceRead : Type 0 where
+  pub rows : List Definition
+  pub indices : List (Option TypeId)
+  pub awaited : Awaited
+  pub names : List Named
+  pub uses : List TypeId
+  pub types : List TypeId
+  pub functions : List FunctionId
+
+-- a name stands for the type that was exported last under it
+abbrev pub named : List Named → List ℕ → TypeId → List Named
+named [] n t = record { name = n; id = t } ∷ []
+named (e ∷ es) n t = if bytes_eq n e.name then record { name = e.name; id = t } ∷ es else e ∷ named es n t
+
+abbrev pub type_named : List Named → List ℕ → Option TypeId
+type_named [] n = None
+type_named (e ∷ es) n = if bytes_eq n e.name then Some e.id else type_named es n
+
+-- nothing was read of interface k, behind these rows
+abbrev pub nothing_read : List Definition → InstanceRead
+nothing_read rows = record { rows = rows; indices = []; awaited = Nothing; names = []; uses = []; types = []; functions = [] }
+
+abbrev pub awaiting : InstanceRead → Awaited → InstanceRead
+awaiting s a = record { rows = s.rows; indices = s.indices; awaited = a; names = s.names; uses = s.uses; types = s.types; functions = s.functions }
+
+-- a type without a name
+abbrev pub unnamed_row : TypeDefKind → Definition
+unnamed_row k = row.Type (record { name = None; kind = k })
+
+abbrev pub with_unnamed : InstanceRead → TypeDefKind → InstanceRead
+with_unnamed s k = record {
+  rows = s.rows ++ unnamed_row k ∷ [];
+  indices = s.indices ++ Some (type_id (length s.rows)) ∷ [];
+  awaited = Nothing;
+  names = s.names;
+  uses = s.uses;
+  types = s.types;
+  functions = s.functions;
+}
+
+-- a definition that no export follows is a type without a name
+abbrev pub settled_as : InstanceRead → Awaited → Option InstanceRead
+settled_as s Nothing = Some s
+settled_as s (AType k) = Some (with_unnamed s k)
+settled_as s (AFunction ps result) = None
+
+abbrev pub settled : InstanceRead → Option InstanceRead
+settled s = settled_as s s.awaited
+
+abbrev pub named_row : ℕ → List ℕ → TypeDefKind → Definition
+named_row k n what = row.Type (record { name = Some (record { interface = record { 0 = k }; name = n }); kind = what })
+
+abbrev pub uses_with : List TypeId → TypeId → TypeDefKind → List TypeId
+uses_with ts t (kind.Use u) = ts ++ t ∷ []
+uses_with ts t _ = ts
+
+abbrev pub types_with : List TypeId → TypeId → TypeDefKind → List TypeId
+types_with ts t (kind.Use u) = ts
+types_with ts t _ = ts ++ t ∷ []
+
+-- a type of interface k under this name, at the end of the table
+abbrev pub with_named : ℕ → List ℕ → TypeDefKind → InstanceRead → InstanceRead
+with_named k n what s = record {
+  rows = s.rows ++ named_row k n what ∷ [];
+  indices = s.indices ++ Some (type_id (length s.rows)) ∷ [];
+  awaited = Nothing;
+  names = named s.names n (type_id (length s.rows));
+  uses = uses_with s.uses (type_id (length s.rows)) what;
+  types = types_with s.types (type_id (length s.rows)) what;
+  functions = s.functions;
+}
+
+-- an index that stands for no row
+abbrev pub with_index : InstanceRead → InstanceRead
+with_index s = record { rows = s.rows; indices = s.indices ++ None ∷ []; awaited = s.awaited; names = s.names; uses = s.uses; types = s.types; functions = s.functions }
+
+abbrev pub alias_to : TypeId → TypeDefKind
+alias_to t = kind.Alias (val.Id t)
+
+-- a new name of the type at this index
+abbrev pub renamed : ℕ → List ℕ → ℕ → InstanceRead → Option InstanceRead
+renamed k n i s = option_map (λ t. with_named k n (alias_to t) s) (row_at s.indices i)
+
+-- the name of what was defined last, or a new name
+abbrev pub type_exported : ℕ → List ℕ → ℕ → InstanceRead → Awaited → Option InstanceRead
+type_exported k n i s (AType what) =
+    if i == length s.indices then Some (with_named k n what (with_index s)) else renamed k n i (with_unnamed s what)
+type_exported k n i s Nothing = renamed k n i s
+type_exported k n i s (AFunction ps result) = None
+
+abbrev pub function_row : ℕ → List ℕ → List Parameter → Option ValType → Definition
+function_row k n ps result = row.Function (record { owner = owner.Interface (record { 0 = k }); name = n; params = ps; result = result })
+
+abbrev pub function_exported : ℕ → List ℕ → InstanceRead → Awaited → Option InstanceRead
+function_exported k n s (AFunction ps result) = Some (record {
+  rows = s.rows ++ function_row k n ps result ∷ [];
+  indices = s.indices ++ None ∷ [];
+  awaited = Nothing;
+  names = s.names;
+  uses = s.uses;
+  types = s.types;
+  functions = s.functions ++ function_id (length s.rows) ∷ [];
+})
+function_exported k n s Nothing = None
+function_exported k n s (AType what) = None
+
+abbrev pub exported : ℕ → List ℕ → RawDescription → InstanceRead → Option InstanceRead
+exported k n (described.TypeEqual i) s = type_exported k n i s s.awaited
+exported k n (described.Function i) s = function_exported k n s s.awaited
+exported k n (described.Component i) s = None
+exported k n (described.Instance i) s = None
+
+-- the type around that an outer alias stands for
+abbrev pub used_type : List (Option TypeId) → RawAlias → Option TypeId
+used_type around (alias.Outer count i) = if count == 1 then row_at around i else None
+used_type around (alias.InstanceExport i n) = None
+
+abbrev pub defined : AnyType → InstanceRead → Option InstanceRead
+defined (Define d) s = option_map (λ what. awaiting s (AType what)) (kind_of s.indices d)
+defined (Func f) s =
+    option_map (awaiting s) (both_found AFunction (all_found (parameter_read s.indices) f.params) (optional_type s.indices f.outcome))
+defined (Component ds) s = None
+defined (Instance ds) s = None
+
+-- a used name awaits its export
+abbrev pub use_read : List (Option TypeId) → RawAlias → InstanceRead → Option InstanceRead
+use_read around a s = option_map (λ t. awaiting s (AType (kind.Use t))) (used_type around a)
+
+-- a declaration of interface k's instance type, where these types stand around it
+abbrev pub decl_read : List (Option TypeId) → ℕ → Decl → InstanceRead → Option InstanceRead
+decl_read around k (Entry t) s = if_found (settled s) (defined t)
+decl_read around k (Alias a) s = if_found (settled s) (use_read around a)
+decl_read around k (Import n d) s = None
+decl_read around k (Export n d) s = if is_label n then exported k n d s else None
+
+abbrev pub decls_read : List (Option TypeId) → ℕ → Decls → InstanceRead → Option InstanceRead
+decls_read around k none s = Some s
+decls_read around k (more d ds) s = if_found (decl_read around k d s) (decls_read around k ds)
+
+-- all of them, behind these rows
+abbrev pub instance_read : List (Option TypeId) → ℕ → Decls → List Definition → Option InstanceRead
+instance_read around k ds rows = if_found (decls_read around k ds (nothing_read rows)) settled
+
+-- ---- the component type
+
+-- What was read of the component type: the table, the interfaces, the types that each exports, the row of each type index, and an
+-- instance type whose export hasn't come yet.
+pub record ComponentRead : Type 0 where
+  pub rows : List Definition
+  pub interfaces : List Interface
+  pub exports : List (List Named)
+  pub indices : List (Option TypeId)
+  pub awaited : Option InstanceRead
+
+abbrev pub no_component : ComponentRead
+no_component = record { rows = []; interfaces = []; exports = []; indices = []; awaited = None }
+
+abbrev pub exported_type : List (List Named) → ℕ → List ℕ → Option TypeId
+exported_type exports i n = if_found (slice_get exports i) (λ es. type_named es n)
+
+abbrev pub with_type : ComponentRead → TypeId → ComponentRead
+with_type s t = record { rows = s.rows; interfaces = s.interfaces; exports = s.exports; indices = s.indices ++ Some t ∷ []; awaited = s.awaited }
+
+abbrev pub alias_read : RawAlias → ComponentRead → Option ComponentRead
+alias_read (alias.InstanceExport i n) s = option_map (with_type s) (exported_type s.exports i n)
+alias_read (alias.Outer count i) s = None
+
+abbrev pub with_instance : ComponentRead → InstanceRead → ComponentRead
+with_instance s i = record { rows = i.rows; interfaces = s.interfaces; exports = s.exports; indices = s.indices ++ None ∷ []; awaited = Some i }
+
+abbrev pub type_read : AnyType → ComponentRead → Option ComponentRead
+type_read (Instance ds) s = option_map (with_instance s) (instance_read s.indices (length s.interfaces) ds s.rows)
+type_read (Component ds) s = None
+type_read (Define d) s = None
+type_read (Func f) s = None
+
+-- what stands before the first such mark, or all of it; and what behind it
+abbrev pub before : List ℕ → Option (List ℕ × List ℕ) → List ℕ
+before text None = text
+before text (Some x) = x.0
+
+abbrev pub behind : List ℕ → Option (List ℕ × List ℕ) → List ℕ
+behind text None = text
+behind text (Some x) = x.1
+
+abbrev pub second : Option (List ℕ × List ℕ) → Option (List ℕ)
+second None = None
+second (Some x) = Some x.1
+
+-- the parts of a full name, `namespace:package/interface@version`
+abbrev pub namespace_in : List ℕ → List ℕ
+namespace_in text = before text (cut_at 58 text)
+
+abbrev pub behind_namespace : List ℕ → List ℕ
+behind_namespace text = behind text (cut_at 58 text)
+
+abbrev pub package_in : List ℕ → List ℕ
+package_in text = before (behind_namespace text) (cut_at 47 (behind_namespace text))
+
+abbrev pub behind_package : List ℕ → List ℕ
+behind_package text = behind (behind_namespace text) (cut_at 47 (behind_namespace text))
+
+abbrev pub interface_in : List ℕ → List ℕ
+interface_in text = before (behind_package text) (cut_at 64 (behind_package text))
+
+abbrev pub version_in : List ℕ → Option (List ℕ)
+version_in text = second (cut_at 64 (behind_package text))
+
+abbrev pub interface_named : List ℕ → InstanceRead → Interface
+interface_named text i = record { name = interface_in text; uses = i.uses; types = i.types; functions = i.functions }
+
+-- the instance type read last is exported as an interface of this full name
+abbrev pub with_interface : List ℕ → ComponentRead → InstanceRead → ComponentRead
+with_interface text s i = record {
+  rows = s.rows;
+  interfaces = s.interfaces ++ interface_named text i ∷ [];
+  exports = s.exports ++ i.names ∷ [];
+  indices = s.indices;
+  awaited = None;
+}
+
+abbrev pub instance_exported : List ℕ → ComponentRead → Option ComponentRead
+instance_exported text s = option_map (with_interface text s) s.awaited
+
+abbrev pub export_read : List ℕ → RawDescription → ComponentRead → Option ComponentRead
+export_read text (described.Instance i) s = if is_label text then None else instance_exported text s
+export_read text (described.Function i) s = None
+export_read text (described.TypeEqual i) s = None
+export_read text (described.Component i) s = None
+
+abbrev pub declaration_read : Decl → ComponentRead → Option ComponentRead
+declaration_read (Alias a) s = alias_read a s
+declaration_read (Entry t) s = type_read t s
+declaration_read (Import text d) s = None
+declaration_read (Export text d) s = export_read text d s
+
+abbrev pub declarations_read : Decls → ComponentRead → Option ComponentRead
+declarations_read none s = Some s
+declarations_read (more d ds) s = if_found (declaration_read d s) (declarations_read ds)
+
+-- the full name that a declaration exports
+abbrev pub full_name_declared : Decl → Option (List ℕ)
+full_name_declared (Export text d) = if is_label text then None else Some text
+full_name_declared (Entry t) = None
+full_name_declared (Alias a) = None
+full_name_declared (Import text d) = None
+
+abbrev pub first_of : {A : Type 0} → Option A → Option A → Option A
+first_of None rest = rest
+first_of (Some x) rest = Some x
+
+-- the first full name that is exported
+abbrev pub first_full_name : Decls → Option (List ℕ)
+first_full_name none = None
+first_full_name (more d ds) = first_of (full_name_declared d) (first_full_name ds)
+
+-- ---- the package
+
+-- the parts of a package without worlds
+pub record Candidate : Type 0 where
+  pub namespace : List ℕ
+  pub name : List ℕ
+  pub version : Option (List ℕ)
+  pub interfaces : List Interface
+  pub definitions : List Definition
+
+abbrev pub candidate_named : List ℕ → ComponentRead → Option Candidate
+candidate_named text s =
+    if is_package s.rows s.interfaces
+    then Some (record { namespace = namespace_in text; name = package_in text; version = version_in text; interfaces = s.interfaces; definitions = s.rows })
+    else None
+
+abbrev pub candidate_of_decls : Decls → Option Candidate
+candidate_of_decls ds = if_found (first_full_name ds) (λ text. if_found (declarations_read ds no_component) (candidate_named text))
+
+abbrev pub candidate_of_type : AnyType → Option Candidate
+candidate_of_type (Component ds) = candidate_of_decls ds
+candidate_of_type (Instance ds) = None
+candidate_of_type (Define d) = None
+candidate_of_type (Func f) = None
+
+-- the component's one type is read, and makes tables of a package
+abbrev pub candidate_of_types : List AnyType → Option Candidate
+candidate_of_types [] = None
+candidate_of_types (t ∷ []) = candidate_of_type t
+candidate_of_types (t ∷ u ∷ ts) = None
+
+abbrev pub candidate_of : File → Option Candidate
+candidate_of f = candidate_of_types f.types
+
+-- the package has these parts alone
+pub record IsMadeOf (c : Candidate) (r : Resolve) : Type 0 where
+  pub namespace : r.namespace ≡ c.namespace
+  pub name : r.name ≡ c.name
+  pub version : option_map string_bytes r.version ≡ c.version
+  pub interfaces : r.interfaces ≡ c.interfaces
+  pub worlds : r.worlds ≡ []
+  pub definitions : r.definitions ≡ c.definitions
+
+-- what was read is a package of these parts; where they are none, the component isn't of a package's shape
+abbrev pub Makes : Option Candidate → Result Resolve Unread → Type 0
+Makes found (Ok r) = (c : Candidate) × (found ≡ Some c) × IsMadeOf c r
+Makes found (Err e) = (e ≡ unread.NoMemory) ⊎ ((e ≡ unread.NotThisShape) × (found ≡ None))

@@ -1,0 +1,17 @@
+-- The names of exports, by their parts.
+use Rattle.std.specs.Prelude.{◌≡◌, List, ℕ, true, false}
+use Rattle.std.specs.Option.{option_map}
+use Rattle.std.specs.String.{string_bytes}
+use Rattle.atoms.specs.Label.{is_label}
+use Rattle.atoms.specs.FullName.{NameParts as Parts, IsFullName}
+use Rattle.component_reader.specs.declared.names.FullNameParts.{FullNameParts}
+use Rattle.component_reader.specs.declared.names.NameParts.{NameParts}
+use Rattle.component_reader.specs.declared.names.NameParts.TheVariants as name
+
+abbrev pub parts_view : FullNameParts → Parts
+parts_view p = record { namespace = p.namespace.now; package_name = p.«package».now; name = p.name.now; version = option_map string_bytes p.version.now }
+
+-- the text is this label, or a full name of these parts
+abbrev pub IsNamed : List ℕ → NameParts → Type 0
+IsNamed text (name.Label l) = (is_label text ≡ true) × (l.now ≡ text)
+IsNamed text (name.FullName p) = (is_label text ≡ false) × IsFullName text (parts_view p)

@@ -1,0 +1,4 @@
+pub mod Reading
+pub mod Candidate
+pub mod Readers
+pub mod ExportNames

@@ -1,0 +1,41 @@
+-- What the crate's readers have read.
+use Rattle.std.specs.Prelude.{List, ℕ, map}
+use Rattle.std.specs.Option.{option_map}
+use Rattle.std.specs.Global.{Vec}
+use Rattle.package_form.specs.Scoped.{Entry as Named, entry_of}
+use Rattle.tables.specs.declared.tables.TypeId.{TypeId}
+use Rattle.tables.specs.declared.tables.Definition.{Definition}
+use Rattle.component_reader.specs.Candidate.{Awaited, Nothing, AType, AFunction, InstanceRead, ComponentRead}
+use Rattle.component_reader.specs.declared.instance.Awaited.{Awaited as Defined}
+use Rattle.component_reader.specs.declared.instance.Awaited.TheVariants as defined
+use Rattle.component_reader.specs.declared.instance.InstanceReader.{InstanceReader}
+use Rattle.component_reader.specs.declared.component.ComponentReader.{ComponentReader}
+
+abbrev pub awaited_view : Defined → Awaited
+awaited_view defined.Nothing = Nothing
+awaited_view (defined.«Type» k) = AType k
+awaited_view (defined.Function ps result) = AFunction ps result
+
+abbrev pub names_view : List (Vec ℕ × TypeId) → List Named
+names_view es = map (entry_of (λ v. v.items)) es
+
+-- what was read of an instance type, whose rows stand in the table
+abbrev pub read_with : List Definition → InstanceReader → InstanceRead
+read_with rows r = record {
+  rows = rows;
+  indices = r.indices.items;
+  awaited = awaited_view r.awaited;
+  names = names_view r.names.entries;
+  uses = r.uses.items;
+  types = r.types.items;
+  functions = r.functions.items;
+}
+
+abbrev pub component_view : ComponentReader → ComponentRead
+component_view c = record {
+  rows = c.rows.items;
+  interfaces = c.interfaces.items;
+  exports = map (λ m. names_view m.entries) c.exports.items;
+  indices = c.indices.items;
+  awaited = option_map (read_with c.rows.items) c.awaited;
+}

@@ -1,0 +1,225 @@
+//! The package that a raw component may stand for: whether it does is seen by writing it again.
+ghost use Rattle.std.specs.Prelude.{◌≡◌, length, map, option_map, string_bytes, IfOk, IfSome, IfNone, None, Some};
+ghost use Rattle.atoms.specs.FullName.{IsFullName, full_name_text};
+ghost use Rattle.ctype_bin.specs.Names.{name_view};
+ghost use Rattle.ctype_bin.specs.FileView.{file_view};
+ghost use Rattle.ctype_bin.specs.View.{decl_view, decls_of, type_view};
+ghost use Rattle.component_reader.specs.Reading.{ReadsAs, Becomes};
+ghost use Rattle.component_reader.specs.Candidate.{Makes, no_component, alias_read, type_read, instance_exported, export_read, declaration_read, declarations_read, full_name_declared, first_full_name, candidate_named, candidate_of_decls, candidate_of_type, candidate_of};
+ghost use Rattle.component_reader.specs.ExportNames.{parts_view};
+ghost use Rattle.component_reader.specs.Readers.{component_view};
+
+use crate::instance::InstanceReader;
+use crate::names::{FullNameParts, NameParts, name_parts};
+use crate::unread::Unread;
+use atoms::Label;
+use ctype_bin::{ExternName, RawAlias, RawComponent, RawDecl, RawDescription, RawType};
+use indexmap::IndexMap;
+use std::alloc::{AllocError, Global};
+use tables::{Definition, Interface, InterfaceId, Resolve, Sequence, TypeId, copy_version};
+
+/// What was read of a component type.
+#[derive(Drop)]
+pub struct ComponentReader {
+    rows: Vec<Definition>,
+    interfaces: Vec<Interface>,
+    /// The types that each interface exports, by their names.
+    exports: Vec<IndexMap<Vec<u8>, TypeId>>,
+    /// The row of each type index.
+    indices: Vec<Option<TypeId>>,
+    /// An instance type whose export hasn't come yet.
+    awaited: Option<InstanceReader>,
+}
+
+/// The place of the next interface. No memory where an id can't tell it.
+fn next_interface(interfaces: &[Interface]) -> Result<InterfaceId, AllocError>
+    ensures { IfOk result (λ id. id.0 ≡ length interfaces.now) }
+{
+    match u32::try_from(interfaces.len()) {
+        Ok(place) => Ok(InterfaceId(place)),
+        Err(_) => Err(AllocError),
+    }
+}
+
+impl ComponentReader {
+    /// Nothing was read.
+    fn new(alloc: Global) -> Self
+        ensures { component_view result ≡ no_component }
+    {
+        ComponentReader {
+            rows: Vec::new(alloc),
+            interfaces: Vec::new(alloc),
+            exports: Vec::new(alloc),
+            indices: Vec::new(alloc),
+            awaited: None,
+        }
+    }
+
+    fn alias(&mut self, alias: &RawAlias) -> Result<(), Unread>
+        ensures { Becomes (alias_read alias.now (component_view self.old)) (component_view self.new) result }
+    {
+        let RawAlias::InstanceExport { instance, name } = alias else {
+            return Err(Unread::NotThisShape);
+        };
+        let Some(types) = self.exports.get(*instance as usize) else {
+            return Err(Unread::NotThisShape);
+        };
+        let Some(id) = types.get(name.as_bytes()) else {
+            return Err(Unread::NotThisShape);
+        };
+        self.indices.push(Some(*id))?;
+        Ok(())
+    }
+
+    #[tactic(auto, using(ctype_bin::proofs::Views::views), unfolding(ctype_bin::specs::View::type_view))]
+    fn define(&mut self, alloc: Global, ty: &RawType) -> Result<(), Unread>
+        ensures { Becomes (type_read (type_view ty.now) (component_view self.old)) (component_view self.new) result }
+    {
+        let decls = match ty {
+            RawType::Instance(decls) => decls,
+            RawType::Defined(_) | RawType::Function(_) | RawType::Component(_) => {
+                return Err(Unread::NotThisShape);
+            }
+        };
+        let place = next_interface(&self.interfaces)?;
+        let reader = InstanceReader::read(alloc, &mut self.rows, place, &self.indices, decls)?;
+        self.awaited = Some(reader);
+        self.indices.push(None)?;
+        Ok(())
+    }
+
+    /// Exports the instance type that is awaited, as an interface of this full name.
+    fn export_instance(&mut self, alloc: Global, name: FullNameParts<'_>) -> Result<(), Unread>
+        requires { IsFullName (full_name_text (parts_view name)) (parts_view name) }
+        ensures { Becomes (instance_exported (full_name_text (parts_view name.entry)) (component_view self.old)) (component_view self.new) result }
+    {
+        let Some(reader) = self.awaited.take() else {
+            return Err(Unread::NotThisShape);
+        };
+        let (interface, types) = reader.into_interface(Label::from_bytes(alloc, name.name)?);
+        self.interfaces.push(interface)?;
+        self.exports.push(types)?;
+        Ok(())
+    }
+
+    fn export(
+        &mut self,
+        alloc: Global,
+        name: &ExternName,
+        description: &RawDescription,
+    ) -> Result<(), Unread>
+        ensures { Becomes (export_read (name_view name.now) description.now (component_view self.old)) (component_view self.new) result }
+    {
+        match (name_parts(name), description) {
+            (NameParts::FullName(name), RawDescription::Instance(_)) => {
+                self.export_instance(alloc, name)
+            }
+            _ => Err(Unread::NotThisShape),
+        }
+    }
+
+    #[tactic(auto, unfolding(ctype_bin::specs::View::decl_view))]
+    fn read(&mut self, alloc: Global, decl: &RawDecl) -> Result<(), Unread>
+        ensures { Becomes (declaration_read (decl_view decl.now) (component_view self.old)) (component_view self.new) result }
+    {
+        match decl {
+            RawDecl::Alias(alias) => self.alias(alias),
+            RawDecl::Type(ty) => self.define(alloc, ty),
+            RawDecl::Export(name, description) => self.export(alloc, name, description),
+            RawDecl::Import(_, _) => Err(Unread::NotThisShape),
+        }
+    }
+
+    /// What the declarations of a component type are.
+    fn read_all(alloc: Global, decls: &[RawDecl]) -> Result<Self, Unread>
+        ensures { ReadsAs component_view (declarations_read (decls_of (map decl_view decls.now)) no_component) result }
+    {
+        let mut reader = ComponentReader::new(alloc);
+        for decl in decls {
+            reader.read(alloc, decl)?;
+        }
+        Ok(reader)
+    }
+
+    /// The package of what was read, under this full name.
+    fn finish(self, alloc: Global, name: FullNameParts<'_>) -> Result<Resolve, Unread>
+        requires { IsFullName (full_name_text (parts_view name)) (parts_view name) }
+        ensures { Makes (candidate_named (full_name_text (parts_view name.entry)) (component_view self)) result }
+    {
+        let package = Resolve::from_parts(
+            Label::from_bytes(alloc, name.namespace)?,
+            Label::from_bytes(alloc, name.package)?,
+            copy_version(name.version)?,
+            Sequence::new(self.interfaces),
+            Sequence::new(Vec::new(alloc)),
+            Sequence::new(self.rows),
+        );
+        match package {
+            Ok(package) => Ok(package),
+            Err(_) => Err(Unread::NotThisShape),
+        }
+    }
+}
+
+/// The full name that a declaration exports.
+#[tactic(auto, unfolding(ctype_bin::specs::View::decl_view))]
+fn full_name_of(decl: &RawDecl) -> Option<FullNameParts<'_>>
+    ensures some { IfSome result (λ name. full_name_declared (decl_view decl.now) ≡ Some (full_name_text (parts_view name))) }
+    ensures named { IfSome result (λ name. IsFullName (full_name_text (parts_view name)) (parts_view name)) }
+    ensures none { IfNone result (full_name_declared (decl_view decl.now) ≡ None) }
+{
+    match decl {
+        RawDecl::Export(name, _) => match name_parts(name) {
+            NameParts::FullName(name) => Some(name),
+            NameParts::Label(_) => None,
+        },
+        RawDecl::Type(_) | RawDecl::Alias(_) | RawDecl::Import(_, _) => None,
+    }
+}
+
+/// The first full name that is exported.
+fn first_full_name(decls: &[RawDecl]) -> Option<FullNameParts<'_>>
+    ensures some { IfSome result (λ name. first_full_name (decls_of (map decl_view decls.now)) ≡ Some (full_name_text (parts_view name))) }
+    ensures named { IfSome result (λ name. IsFullName (full_name_text (parts_view name)) (parts_view name)) }
+    ensures none { IfNone result (first_full_name (decls_of (map decl_view decls.now)) ≡ None) }
+{
+    for decl in decls {
+        if let Some(name) = full_name_of(decl) {
+            return Some(name);
+        }
+    }
+    None
+}
+
+/// The package of a component type with these declarations.
+fn candidate_of_decls(alloc: Global, decls: &[RawDecl]) -> Result<Resolve, Unread>
+    ensures { Makes (candidate_of_decls (decls_of (map decl_view decls.now))) result }
+{
+    let Some(name) = first_full_name(decls) else {
+        return Err(Unread::NotThisShape);
+    };
+    let reader = ComponentReader::read_all(alloc, decls)?;
+    reader.finish(alloc, name)
+}
+
+#[tactic(auto, using(ctype_bin::proofs::Views::views), unfolding(ctype_bin::specs::View::type_view))]
+fn candidate_of_type(alloc: Global, ty: &RawType) -> Result<Resolve, Unread>
+    ensures { Makes (candidate_of_type (type_view ty.now)) result }
+{
+    match ty {
+        RawType::Component(decls) => candidate_of_decls(alloc, decls),
+        RawType::Defined(_) | RawType::Function(_) | RawType::Instance(_) => {
+            Err(Unread::NotThisShape)
+        }
+    }
+}
+
+/// The package that the component may stand for.
+pub fn candidate(alloc: Global, raw: &RawComponent) -> Result<Resolve, Unread>
+    ensures { Makes (candidate_of (file_view raw.now)) result }
+{
+    match raw.types() {
+        [ty] => candidate_of_type(alloc, ty),
+        _ => Err(Unread::NotThisShape),
+    }
+}

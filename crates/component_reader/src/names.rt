@@ -1,0 +1,36 @@
+//! The parts of exports' names.
+ghost use Rattle.ctype_bin.specs.Names.{name_view};
+ghost use Rattle.component_reader.specs.ExportNames.{IsNamed};
+
+use ctype_bin::ExternName;
+
+/// A full name, by the bytes of its labels.
+#[derive(Clone, Copy)]
+pub struct FullNameParts<'a> {
+    pub namespace: &'a [u8],
+    pub package: &'a [u8],
+    pub name: &'a [u8],
+    pub version: &'a Option<String>,
+}
+
+/// A name, by the bytes of its labels.
+#[derive(Clone, Copy)]
+pub enum NameParts<'a> {
+    Label(&'a [u8]),
+    FullName(FullNameParts<'a>),
+}
+
+/// The parts of a name.
+pub fn name_parts(name: &ExternName) -> NameParts<'_>
+    ensures { IsNamed (name_view name.now) result }
+{
+    match name {
+        ExternName::Label(label) => NameParts::Label(label.as_bytes()),
+        ExternName::FullName(name) => NameParts::FullName(FullNameParts {
+            namespace: name.namespace.as_bytes(),
+            package: name.package.as_bytes(),
+            name: name.name.as_bytes(),
+            version: &name.version,
+        }),
+    }
+}

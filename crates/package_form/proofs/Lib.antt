@@ -1,0 +1,13 @@
+pub mod Lists
+pub mod MetNames
+pub mod Meeting
+pub mod Naming
+pub mod RowEnds
+pub mod RowEntries
+pub mod Postfixed
+pub mod Fronts
+pub mod Postfix
+pub mod Forms
+pub mod OneRow
+pub mod OneFunction
+pub mod DistinctTypes

@@ -1,0 +1,6 @@
+use Rattle.std.proofs.Common.{◌≡◌, take}
+use Rattle.package_form.specs.Ends.{behind_types}
+use Rattle.package_form.proofs.ends.behind_types.Given as goal
+
+abbrev pub invariant-loop-id : goal.invariant-loop-id
+invariant-loop-id l = l.end ≡ behind_types l.initial.end (take l.id-index l.ids)

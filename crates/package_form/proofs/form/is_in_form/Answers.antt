@@ -1,0 +1,5 @@
+use Rattle.package_form.proofs.Forms.{tested}
+use Rattle.package_form.proofs.form.is_in_form.Goals as goal
+
+pub returns : goal.returns
+returns c = tested c.args.resolve.now c.passes_tests.result c.passes_tests.ensures

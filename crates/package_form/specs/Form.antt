@@ -1,0 +1,117 @@
+-- The tables that packages have: what from_ast makes, and what a component type spells.
+use Rattle.std.specs.Prelude.{◌≡◌, ◌≢◌, ◌≤◌, ℕ, ◌+◌, Bool, true, false, ◌&&◌, not, ◌==◌, nat_lt, List, [], ◌∷◌, ◌++◌, map, sum, length, IsTrue, Option, None, Some, slice_get}
+use Rattle.std.specs.List.{list_all}
+use Rattle.std.specs.Option.{option_map}
+use Rattle.std.specs.String.{string_bytes}
+use Rattle.std.specs.Str.{bytes_eq}
+use Rattle.atoms.specs.FullName.{is_package_label, is_version_or_none}
+use Rattle.tables.specs.Tables.{type_of}
+use Rattle.tables.specs.declared.tables.TypeId.{TypeId}
+use Rattle.tables.specs.declared.tables.TypeDef.{TypeDef}
+use Rattle.tables.specs.declared.tables.TypeDefKind.{TypeDefKind}
+use Rattle.tables.specs.declared.tables.TypeDefKind.TheVariants as kind
+use Rattle.tables.specs.declared.tables.TypeName.{TypeName}
+use Rattle.tables.specs.declared.tables.Definition.{Definition}
+use Rattle.tables.specs.declared.tables.Definition.TheVariants as row
+use Rattle.tables.specs.declared.tables.Interface.{Interface}
+use Rattle.tables.specs.declared.tables.Resolve.{Resolve}
+use Rattle.package_form.specs.Postfix.{is_unnamed, IsPostfix}
+use Rattle.package_form.specs.Ids.{is_owned_by, is_use, places_where}
+use Rattle.package_form.specs.Entries.{entries_of, type_entries, table_of}
+use Rattle.package_form.specs.Unused.{are_used}
+use Rattle.package_form.specs.References.{row_references}
+use Rattle.package_form.specs.Ends.{end_of, rows_of, is_parted}
+
+-- the package's names are those of full names: the namespace and the package in lower case, and a version of SemVer
+abbrev pub has_full_names : Resolve → Bool
+has_full_names r = is_package_label r.namespace && (is_package_label r.name && is_version_or_none (option_map string_bytes r.version))
+
+-- ---- what a row of interface k refers to
+
+-- a type of the interface, or one without a name
+abbrev pub is_own_name : ℕ → Option TypeName → Bool
+is_own_name k None = true
+is_own_name k (Some n) = n.interface.0 == k
+
+abbrev pub is_own_type : ℕ → Option TypeDef → Bool
+is_own_type k None = false
+is_own_type k (Some d) = is_own_name k d.name
+
+abbrev pub is_own : List Definition → ℕ → TypeId → Bool
+is_own rows k t = is_own_type k (type_of (slice_get rows t.0))
+
+-- a named type of an earlier interface
+abbrev pub is_earlier_name : ℕ → Option TypeName → Bool
+is_earlier_name k None = false
+is_earlier_name k (Some n) = nat_lt n.interface.0 k
+
+abbrev pub is_earlier_type : ℕ → Option TypeDef → Bool
+is_earlier_type k None = false
+is_earlier_type k (Some d) = is_earlier_name k d.name
+
+abbrev pub is_earlier : List Definition → ℕ → TypeId → Bool
+is_earlier rows k t = is_earlier_type k (type_of (slice_get rows t.0))
+
+-- a used name stands for a type of an earlier interface
+abbrev pub uses_earlier : List Definition → ℕ → TypeDefKind → Bool
+uses_earlier rows k (kind.Use t) = is_earlier rows k t
+uses_earlier rows k _ = true
+
+abbrev pub is_owned : List Definition → ℕ → Definition → Bool
+is_owned rows k (row.Type d) = is_own_name k d.name && uses_earlier rows k d.kind
+is_owned rows k (row.Function f) = is_owned_by k f.owner
+
+-- a row of interface k, that refers to its types alone
+abbrev pub is_local : List Definition → ℕ → Definition → Bool
+is_local rows k d = is_owned rows k d && list_all (is_own rows k) (row_references d)
+
+-- ---- an interface's ids
+
+abbrev pub is_named : Definition → Bool
+is_named d = not (is_unnamed d)
+
+abbrev pub ids_of : Interface → List ℕ
+ids_of i = map (λ t. t.0) i.uses ++ (map (λ t. t.0) i.types ++ map (λ f. f.0) i.functions)
+
+abbrev pub is_use_type : Option TypeDef → Bool
+is_use_type None = false
+is_use_type (Some d) = is_use d.kind
+
+abbrev pub is_use_at : List Definition → TypeId → Bool
+is_use_at rows t = is_use_type (type_of (slice_get rows t.0))
+
+-- its named rows are its uses, then its types, then its functions
+abbrev pub has_ids : List Definition → ℕ → Interface → Bool
+has_ids rows start i =
+    bytes_eq (ids_of i) (places_where is_named start (rows_of rows start i))
+    && (list_all (is_use_at rows) i.uses && list_all (λ t. not (is_use_at rows t)) i.types)
+
+-- ---- tables
+
+-- each interface, the first of which is interface k and whose rows begin at start
+abbrev pub are_interfaces : List Definition → ℕ → ℕ → List Interface → Bool
+are_interfaces rows k start [] = true
+are_interfaces rows k start (i ∷ is) =
+    (has_ids rows start i && list_all (is_local rows k) (rows_of rows start i)) && are_interfaces rows (k + 1) (end_of start i) is
+
+-- A package without worlds. Rows stand interface by interface, in each its uses, then its types, each behind the rows without names that
+-- it is made of, then its functions; they refer to rows of their own interface, and a use to a named type of an earlier one.
+pub record IsInPackageForm (r : Resolve) : Type 0 where
+  pub some : r.interfaces ≢ []
+  pub worlds : r.worlds ≡ []
+  pub names : IsTrue (has_full_names r)
+  pub parted : IsTrue (is_parted (length r.definitions) 0 r.interfaces)
+  pub interfaces : IsTrue (are_interfaces r.definitions 0 0 r.interfaces)
+  pub postfix : IsPostfix r.definitions
+  pub entries : type_entries (table_of r) ≤ 65535
+
+-- the same as a test, but for the order of the rows without names
+abbrev pub is_in_form : Resolve → Bool
+is_in_form r =
+    not (length r.interfaces == 0)
+    && (length r.worlds == 0
+    && (not (nat_lt 65535 (1 + length r.interfaces + sum (map entries_of r.definitions)))
+    && (is_parted (length r.definitions) 0 r.interfaces
+    && (has_full_names r
+    && (are_interfaces r.definitions 0 0 r.interfaces
+    && are_used r.definitions 0 [] r.definitions)))))

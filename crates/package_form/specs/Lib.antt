@@ -1,0 +1,12 @@
+pub mod Scope
+pub mod Scoped
+pub mod Distinct
+pub mod Ends
+pub mod Entries
+pub mod Ids
+pub mod Postfix
+pub mod References
+pub mod Unused
+pub mod Form
+pub mod Naming
+pub mod Laws

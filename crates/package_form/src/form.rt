@@ -1,0 +1,303 @@
+//! Whether a table is one that packages have.
+ghost use Rattle.std.specs.Prelude.{◌≡◌, ◌≤◌, ◌<◌, ◌+◌, ◌++◌, ◌&&◌, ◌↔◌, [], not, length, map, nat_lt, nat_le, sum, slice_get, IsTrue, IfOk, OnOk};
+ghost use Rattle.std.specs.List.{list_all};
+ghost use Rattle.std.specs.Option.{option_map};
+ghost use Rattle.std.specs.String.{string_bytes};
+ghost use Rattle.atoms.specs.FullName.{is_package_label, is_version_or_none};
+ghost use Rattle.atoms.specs.Label.{is_upper};
+ghost use Rattle.package_form.specs.Ids.{is_owned_by, is_use, places_where};
+ghost use Rattle.package_form.specs.Ends.{end_of, is_parted};
+ghost use Rattle.package_form.specs.Form.{has_full_names, is_own_name, is_own, is_earlier_name, is_earlier, uses_earlier, is_owned, is_local, is_named, ids_of, is_use_at, has_ids, are_interfaces, is_in_form, IsInPackageForm};
+
+use crate::ends::end_of;
+use crate::entries::passes_entries;
+use crate::references::references;
+use crate::unused::{are_used, is_unnamed};
+use atoms::{Label, is_version};
+use std::alloc::{AllocError, Global};
+use tables::{Definition, Interface, Owner, Resolve, TypeDefKind, TypeId, TypeName, ValType};
+
+fn has_no_upper_case(text: &[u8]) -> bool
+    ensures { result ≡ list_all (λ c. not (is_upper c)) text.now }
+{
+    text.iter().all(|byte| !byte.is_ascii_uppercase())
+}
+
+/// Whether all of a label's words are in lower case.
+#[tactic(auto, unfolding(atoms::specs::FullName::is_package_label))]
+fn is_lower_case(label: &Label) -> bool
+    ensures { result ≡ is_package_label label.now }
+{
+    has_no_upper_case(label.as_bytes())
+}
+
+/// Whether the package's names are those of full names.
+fn has_full_names(alloc: Global, resolve: &Resolve) -> Result<bool, AllocError>
+    ensures { IfOk result (λ b. b ≡ has_full_names resolve.now) }
+{
+    if !is_lower_case(&resolve.namespace) || !is_lower_case(&resolve.name) {
+        return Ok(false);
+    }
+    match &resolve.version {
+        Some(version) => is_version(alloc, version.as_str()),
+        None => Ok(true),
+    }
+}
+
+fn is_own_name(place: usize, name: &Option<TypeName>) -> bool
+    ensures { result ≡ is_own_name place name.now }
+{
+    match name {
+        Some(name) => name.interface.0 as usize == place,
+        None => true,
+    }
+}
+
+/// Whether the row is a type of this interface, or one without a name.
+fn is_own(rows: &[Definition], place: usize, id: TypeId) -> bool
+    ensures { result ≡ is_own rows.now place id }
+{
+    match rows.get(id.0 as usize) {
+        Some(Definition::Type(definition)) => is_own_name(place, &definition.name),
+        _ => false,
+    }
+}
+
+fn is_earlier_name(place: usize, name: &Option<TypeName>) -> bool
+    ensures { result ≡ is_earlier_name place name.now }
+{
+    match name {
+        Some(name) => (name.interface.0 as usize) < place,
+        None => false,
+    }
+}
+
+/// Whether the row is a named type of an earlier interface.
+fn is_earlier(rows: &[Definition], place: usize, id: TypeId) -> bool
+    ensures { result ≡ is_earlier rows.now place id }
+{
+    match rows.get(id.0 as usize) {
+        Some(Definition::Type(definition)) => is_earlier_name(place, &definition.name),
+        _ => false,
+    }
+}
+
+fn uses_earlier(rows: &[Definition], place: usize, kind: &TypeDefKind) -> bool
+    ensures { result ≡ uses_earlier rows.now place kind.now }
+{
+    match kind {
+        TypeDefKind::Use(target) => is_earlier(rows, place, *target),
+        _ => true,
+    }
+}
+
+fn is_owned(rows: &[Definition], place: usize, row: &Definition) -> bool
+    ensures { result ≡ is_owned rows.now place row.now }
+{
+    match row {
+        Definition::Type(definition) => {
+            is_own_name(place, &definition.name) && uses_earlier(rows, place, &definition.kind)
+        }
+        Definition::Function(function) => match function.owner {
+            Owner::Interface(owner) => owner.0 as usize == place,
+            Owner::World(_) => false,
+        },
+    }
+}
+
+fn are_own(rows: &[Definition], place: usize, ids: &[TypeId]) -> bool
+    ensures { result ≡ list_all (is_own rows.now place) ids.now }
+{
+    for id in ids {
+        if !is_own(rows, place, *id) {
+            return false;
+        }
+    }
+    true
+}
+
+/// Whether it is a row of this interface that refers to the interface's types alone.
+fn is_local(
+    alloc: Global,
+    rows: &[Definition],
+    place: usize,
+    row: &Definition,
+) -> Result<bool, AllocError>
+    ensures { IfOk result (λ b. b ≡ is_local rows.now place row.now) }
+{
+    if !is_owned(rows, place, row) {
+        return Ok(false);
+    }
+    let ids = references(alloc, row)?;
+    Ok(are_own(rows, place, &ids))
+}
+
+fn are_local(
+    alloc: Global,
+    rows: &[Definition],
+    place: usize,
+    own: &[Definition],
+) -> Result<bool, AllocError>
+    ensures { IfOk result (λ b. b ≡ list_all (is_local rows.now place) own.now) }
+{
+    for row in own {
+        if !is_local(alloc, rows, place, row)? {
+            return Ok(false);
+        }
+    }
+    Ok(true)
+}
+
+fn push_types(ids: &mut Vec<u32>, types: &[TypeId]) -> Result<(), AllocError>
+    ensures { OnOk result (ids.new.items ≡ ids.old.items ++ map (λ t. t.0) types.now) }
+{
+    for id in types {
+        ids.push(id.0)?;
+    }
+    Ok(())
+}
+
+/// An interface's ids: its uses, its types and its functions.
+fn ids_of(alloc: Global, interface: &Interface) -> Result<Vec<u32>, AllocError>
+    ensures { IfOk result (λ ids. ids.items ≡ ids_of interface.now) }
+{
+    let mut ids = Vec::new(alloc);
+    push_types(&mut ids, interface.uses.as_slice())?;
+    push_types(&mut ids, interface.types.as_slice())?;
+    for id in interface.functions.as_slice() {
+        ids.push(id.0)?;
+    }
+    Ok(ids)
+}
+
+/// The places of the rows with names, the first of which stands at `start`.
+fn named_places(alloc: Global, start: usize, rows: &[Definition]) -> Result<Vec<u32>, AllocError>
+    requires { start + length rows.now ≤ 65535 }
+    ensures { IfOk result (λ places. places.items ≡ places_where is_named start rows.now) }
+{
+    let mut places = Vec::new(alloc);
+    for (offset, row) in rows.iter().enumerate() {
+        if !is_unnamed(row) {
+            places.push((start + offset) as u32)?;
+        }
+    }
+    Ok(places)
+}
+
+fn is_use_at(rows: &[Definition], id: TypeId) -> bool
+    ensures { result ≡ is_use_at rows.now id }
+{
+    match rows.get(id.0 as usize) {
+        Some(Definition::Type(definition)) => matches!(definition.kind, TypeDefKind::Use(_)),
+        _ => false,
+    }
+}
+
+fn are_uses(rows: &[Definition], ids: &[TypeId]) -> bool
+    ensures { result ≡ list_all (is_use_at rows.now) ids.now }
+{
+    for id in ids {
+        if !is_use_at(rows, *id) {
+            return false;
+        }
+    }
+    true
+}
+
+fn are_no_uses(rows: &[Definition], ids: &[TypeId]) -> bool
+    ensures { result ≡ list_all (λ t. not (is_use_at rows.now t)) ids.now }
+{
+    for id in ids {
+        if is_use_at(rows, *id) {
+            return false;
+        }
+    }
+    true
+}
+
+/// Whether an interface's named rows are its uses, then its types, then its functions.
+fn has_ids(
+    alloc: Global,
+    rows: &[Definition],
+    start: usize,
+    end: usize,
+    interface: &Interface,
+) -> Result<bool, AllocError>
+    requires end { end ≡ end_of start interface.now }
+    requires some { start ≤ end }
+    requires within { end ≤ length rows.now }
+    requires few { length rows.now ≤ 65535 }
+    ensures { IfOk result (λ b. b ≡ has_ids rows.now start interface.now) }
+{
+    let ids = ids_of(alloc, interface)?;
+    let places = named_places(alloc, start, &rows[start..end])?;
+    Ok(
+        ids.as_slice() == places.as_slice()
+            && are_uses(rows, interface.uses.as_slice())
+            && are_no_uses(rows, interface.types.as_slice()),
+    )
+}
+
+/// Whether each interface's rows stand behind those of the interface before it, and no other row is there.
+fn is_parted(count: usize, interfaces: &[Interface]) -> bool
+    ensures { result ≡ is_parted count 0 interfaces.now }
+{
+    let mut start = 0;
+    for interface in interfaces {
+        let end = end_of(start, interface);
+        if end < start || count < end {
+            return false;
+        }
+        start = end;
+    }
+    start == count
+}
+
+/// Whether each interface has its ids, and its rows refer to its types alone.
+fn are_interfaces(
+    alloc: Global,
+    rows: &[Definition],
+    interfaces: &[Interface],
+) -> Result<bool, AllocError>
+    requires parted { IsTrue (is_parted (length rows.now) 0 interfaces.now) }
+    requires few { length rows.now ≤ 65535 }
+    ensures { IfOk result (λ b. b ≡ are_interfaces rows.now 0 0 interfaces.now) }
+{
+    let mut start = 0;
+    for (place, interface) in interfaces.iter().enumerate() {
+        let end = end_of(start, interface);
+        if !has_ids(alloc, rows, start, end, interface)? {
+            return Ok(false);
+        }
+        if !are_local(alloc, rows, place, &rows[start..end])? {
+            return Ok(false);
+        }
+        start = end;
+    }
+    Ok(true)
+}
+
+/// Whether a table is one that packages have, by one test after the other.
+fn passes_tests(alloc: Global, resolve: &Resolve) -> Result<bool, AllocError>
+    ensures { IfOk result (λ b. b ≡ is_in_form resolve.now) }
+{
+    let rows = resolve.definitions.as_slice();
+    let interfaces = resolve.interfaces.as_slice();
+    if interfaces.is_empty() || !resolve.worlds.is_empty() {
+        return Ok(false);
+    }
+    if passes_entries(interfaces.len(), rows) || !is_parted(rows.len(), interfaces) {
+        return Ok(false);
+    }
+    if !has_full_names(alloc, resolve)? || !are_interfaces(alloc, rows, interfaces)? {
+        return Ok(false);
+    }
+    are_used(alloc, rows)
+}
+
+/// Whether a table is one that packages have, as a component type spells them.
+pub fn is_in_form(alloc: Global, resolve: &Resolve) -> Result<bool, AllocError>
+    ensures { IfOk result (λ b. IsTrue b ↔ IsInPackageForm resolve.now) }
+{
+    passes_tests(alloc, resolve)
+}

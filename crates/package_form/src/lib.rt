@@ -1,0 +1,21 @@
+//! The form of a package's tables: what `from_ast` makes of a tree, and what a component type spells.
+//!
+//! `IsInPackageForm` in `specs/Form.antt` says what the tables of every package keep, `package_scopes` in
+//! `specs/Naming.antt` which names must differ, and the laws what follows for all packages. It stands on `tables`
+//! and `atoms`.
+#![tactic(auto)]
+
+mod distinct;
+mod ends;
+mod entries;
+mod form;
+pub mod laws;
+mod references;
+mod scope;
+mod unused;
+
+pub use distinct::distinct_names;
+pub use ends::end_of;
+pub use entries::passes_entries;
+pub use form::is_in_form;
+pub use scope::Scope;

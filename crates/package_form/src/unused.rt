@@ -1,0 +1,104 @@
+//! Whether rows without names stand in postfix order.
+ghost use Rattle.std.specs.Prelude.{◌≡◌, ◌≤◌, ◌==◌, [], length, nat_eq, slice_get, IfOk};
+ghost use Rattle.std.specs.List.{ends_with};
+ghost use Rattle.package_form.specs.Postfix.{is_unnamed, is_unnamed_row, is_inner};
+ghost use Rattle.package_form.specs.Unused.{unnamed_at, inner_rows, is_alias, can_use, closes, is_next, are_used};
+
+use crate::references::references;
+use std::alloc::{AllocError, Global};
+use tables::{Definition, TypeDefKind, TypeId};
+
+pub fn is_unnamed(row: &Definition) -> bool
+    ensures { result ≡ is_unnamed row.now }
+{
+    match row {
+        Definition::Type(definition) => definition.name.is_none(),
+        Definition::Function(_) => false,
+    }
+}
+
+fn is_unnamed_row(rows: &[Definition], id: TypeId) -> bool
+    ensures { result ≡ is_unnamed_row (slice_get rows.now id.0) }
+{
+    match rows.get(id.0 as usize) {
+        Some(row) => is_unnamed(row),
+        None => false,
+    }
+}
+
+fn is_inner(kind: &TypeDefKind) -> bool
+    ensures { result ≡ is_inner kind.now }
+{
+    matches!(
+        kind,
+        TypeDefKind::List(_)
+            | TypeDefKind::Option(_)
+            | TypeDefKind::Result(_, _)
+            | TypeDefKind::Tuple(_)
+    )
+}
+
+fn is_alias(kind: &TypeDefKind) -> bool
+    ensures { result ≡ is_alias kind.now }
+{
+    matches!(kind, TypeDefKind::Alias(_))
+}
+
+/// The rows without names that a row is made of.
+fn inner_rows(alloc: Global, rows: &[Definition], row: &Definition) -> Result<Vec<u32>, AllocError>
+    ensures { IfOk result (λ v. v.items ≡ inner_rows rows.now row.now) }
+{
+    let ids = references(alloc, row)?;
+    let mut inner = Vec::new(alloc);
+    for id in &ids {
+        if is_unnamed_row(rows, *id) {
+            inner.push(id.0)?;
+        }
+    }
+    Ok(inner)
+}
+
+fn can_use(row: &Definition, inner: &[u32]) -> bool
+    ensures { result ≡ can_use row.now inner.now }
+{
+    match row {
+        Definition::Type(definition) if is_alias(&definition.kind) => inner.is_empty(),
+        _ => true,
+    }
+}
+
+/// Whether a row may leave so many rows unused.
+fn closes(row: &Definition, left: usize) -> bool
+    ensures { result ≡ closes row.now left }
+{
+    match row {
+        Definition::Type(definition) if definition.name.is_none() => is_inner(&definition.kind),
+        _ => left == 0,
+    }
+}
+
+/// Whether the rows without names of a row stand last among the unused, and it may leave the others.
+fn is_next(unused: &[u32], inner: &[u32], row: &Definition) -> bool
+    ensures value { result ≡ is_next unused.now inner.now row.now }
+{
+    can_use(row, inner) && unused.ends_with(inner) && closes(row, unused.len() - inner.len())
+}
+
+/// Whether each row without a name is used once, in order, by the next row that is made of it.
+pub fn are_used(alloc: Global, rows: &[Definition]) -> Result<bool, AllocError>
+    requires { length rows.now ≤ 65535 }
+    ensures { IfOk result (λ b. b ≡ are_used rows.now 0 [] rows.now) }
+{
+    let mut unused = Vec::new(alloc);
+    for (place, row) in rows.iter().enumerate() {
+        let inner = inner_rows(alloc, rows, row)?;
+        if !is_next(&unused, &inner, row) {
+            return Ok(false);
+        }
+        unused.truncate(unused.len() - inner.len());
+        if is_unnamed(row) {
+            unused.push(place as u32)?;
+        }
+    }
+    Ok(unused.is_empty())
+}

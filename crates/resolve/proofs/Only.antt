@@ -1,0 +1,160 @@
+-- Where a tree without faults resolves to a package, each cause of a refusal is absurd; only memory can be wanting.
+use Rattle.std.proofs.Common.{◌≡◌, ◌≤◌, ◌<◌, inl, inr, ℕ, List, [], ◌∷◌, ◌++◌, length, length-append, slice_get, map, get_or, refl, sym, ap, subst, ◌∙◌, arith, Result, Ok, Err, IfOk, IfErr}
+use Rattle.std.specs.Prelude.{true, ◌&&◌, IsTrue, sum, All, Contains}
+use Rattle.std.proofs.lemmas.Bool.{and_parts, false≢true, ltb-true}
+use Rattle.std.proofs.lemmas.List.Elements.{All-contains}
+use Rattle.wit_syntax.specs.Syntax.{File}
+use Rattle.std.specs.List.{list_all}
+use Rattle.tables.specs.Tables.{definition_all, is_below, definition_below, is_type, is_there, type_of, are_earlier, name_types, are_standard}
+use Rattle.tables.specs.declared.tables.ValType.{ValType}
+use Rattle.tables.specs.declared.tables.ValType.TheVariants as val
+use Rattle.tables.specs.Package.{Package, package_of, definitions_from, interface_names as names_in}
+use Rattle.tables.specs.declared.tables.Definition.{Definition}
+use Rattle.tables.specs.declared.tables.Resolve.{Resolve}
+use Rattle.tables.specs.declared.error.ResolveError.{ResolveError}
+use Rattle.tables.specs.declared.error.ResolveError.TheVariants as error
+use Rattle.package_form.specs.Scope.{AreDistinct}
+use Rattle.resolve.specs.Order.{IsPlacement}
+use Rattle.package_form.specs.Postfix.{IsPostfix}
+use Rattle.resolve.specs.Declarations.{UsedItem, InterfaceTree, interfaces, interface_at, interface_names, interface_name, type_names, named_definition, named_function, scopes}
+use Rattle.resolve.specs.Resolves.{HasPackage, IsTooLarge, Resolves, package_in, interface_uses, type_uses, PassesLimit, HasDuplicate, HasDistinctNames, IsKnownUse, IsUnknownUse, IsUnknownIn, HasUnknown, HasKnownNames, HasCycle, IsPackageOf, HasNoFaults, Refuses, AnswersOnly}
+use Rattle.package_form.specs.Entries.{Table, table_of, entries_of, type_entries}
+use Rattle.resolve.proofs.Trees.{distinct-interfaces}
+use Rattle.package_form.proofs.OneRow.{same-place}
+use Rattle.package_form.proofs.Lists.{contains-map, get-front}
+use Rattle.resolve.proofs.Typing.{definition-grows}
+use Rattle.tables.proofs.Earlier.{definition-both}
+use Rattle.tables.proofs.Rows.{earlier-at}
+use Rattle.std.proofs.lemmas.List.{get_or-map, length-map, get_or_default}
+use Rattle.std.proofs.lemmas.List.Folds.{list_all-append}
+use Rattle.std.proofs.Math.Seq.{get_or-append_seam}
+use Rattle.resolve.proofs.Placed.{no-cycle, one-package}
+use Rattle.resolve.proofs.Counted.{entries-by-name, sizes}
+use Rattle.resolve.proofs.Weighed.{IsTyped, standard-by-name}
+
+-- a name that stands twice
+no-duplicate : (f : File) (n : List ℕ) → HasDistinctNames f → HasDuplicate f n → ⊥
+no-duplicate f n d x =
+    let k = x.2 in
+    (All-contains AreDistinct (scopes f) x.0 d x.1).each k.0 k.1 k.3
+
+-- ---- a name that stands for nothing
+
+-- interfaces of one name are one
+one-interface : (is : List InterfaceTree) (i j : InterfaceTree) → AreDistinct (interface_names is) → Contains is i → Contains is j → i.name ≡ j.name → i ≡ j
+one-interface is i j d a b e =
+    let counted : length (interface_names is) ≡ length is = length-map is interface_name in
+    let x : get_or (interface_names is) a.0 [] ≡ i.name = get_or-map interface_name is a.0 i [] a.1 ∙ ap interface_name a.2 in
+    let y : get_or (interface_names is) b.0 [] ≡ j.name = get_or-map interface_name is b.0 j [] b.1 ∙ ap interface_name b.2 in
+    let k : a.0 ≡ b.0 = same-place (interface_names is) a.0 b.0 d (omega (arith, counted, a.1)) (omega (arith, counted, b.1)) (x ∙ (e ∙ sym y)) in
+    sym a.2 ∙ (get_or_default is a.0 i j a.1 ∙ (ap (λ n. get_or is n j) k ∙ b.2))
+
+no-unknown-use : (is : List InterfaceTree) (u : UsedItem) (n : List ℕ) → AreDistinct (interface_names is) → IsKnownUse is u → IsUnknownUse is u n → ⊥
+no-unknown-use is u n d (j, c, e, has) (inl x) = x.1 (subst (Contains (interface_names is)) (e ∙ sym x.0) (contains-map interface_name is j c))
+no-unknown-use is u n d (j, c, e, has) (inr (same, x)) =
+    x.3 (subst (λ i. Contains (type_names i) n) (one-interface is j x.0 d c x.1 (e ∙ sym x.2)) (subst (Contains (type_names j)) (sym same) has))
+
+no-unknown : (f : File) (n : List ℕ) → HasNoFaults f → HasUnknown f n → ⊥
+no-unknown f n h (i, c, x) = by x
+  where
+    known : HasKnownNames (interfaces f) i
+    known = All-contains (HasKnownNames (interfaces f)) (interfaces f) i h.known c
+
+    distinct : AreDistinct (interface_names (interfaces f))
+    distinct = distinct-interfaces f h
+
+    by : IsUnknownIn (interfaces f) i n → ⊥
+    by (inl (u, b, y)) = no-unknown-use (interfaces f) u n distinct (All-contains (IsKnownUse (interfaces f)) i.uses u known.uses b) y
+    by (inr (inl (t, b, y))) =
+        y.1 (All-contains (Contains (type_names i)) (named_definition t.definition) n (All-contains (λ t. All (Contains (type_names i)) (named_definition t.definition)) i.types t known.types b) y.0)
+    by (inr (inr (g, b, y))) =
+        y.1 (All-contains (Contains (type_names i)) (named_function g.function) n (All-contains (λ g. All (Contains (type_names i)) (named_function g.function)) i.functions g known.functions b) y.0)
+
+-- ---- cycles
+
+no-cycle-in : (f : File) (p : Package) → Resolves (interfaces f) p → HasCycle f → ⊥
+no-cycle-in f p r (inl c) = no-cycle (interface_uses (interfaces f)) r.order r.placed c.0 c.1
+no-cycle-in f p r (inr (i, b, c)) =
+    let here : interface_at (interfaces f) b.0 ≡ i = get_or_default (interfaces f) b.0 _ i b.1 ∙ b.2 in
+    no-cycle (type_uses i) (r.types b.0) (subst (λ j. IsPlacement (type_uses j) (r.types b.0)) here (r.types_placed b.0 b.1)) c.0 c.1
+
+-- ---- limits
+
+-- rows that name earlier types alone are typed
+earlier-typed : (rows : List Definition) → IsTrue (are_earlier 0 rows) → IsTrue (name_types rows) → IsTyped rows
+earlier-typed rows earlier typed front d rest e = definition-grows (λ v. is_below (length front) v && is_type rows v) (is_type front) keep d both
+  where
+    inside : length front < length rows
+    inside = let a = ap length e in let b = length-append front (d ∷ rest) in omega (arith, a, b)
+
+    at : get_or rows (length front) d ≡ d
+    at = ap (λ xs. get_or xs (length front) d) e ∙ get_or-append_seam front d rest d
+
+    below : definition_below (length front) d ≡ true
+    below = let x = earlier-at 0 rows (length front) d earlier inside in subst (λ c. definition_below (length front) c ≡ true) at (subst (λ n. definition_below n (get_or rows (length front) d) ≡ true) (omega arith) x)
+
+    named : definition_all (is_type rows) d ≡ true
+    named =
+        let split = list_all-append (definition_all (is_type rows)) front (d ∷ rest) in
+        let all : list_all (definition_all (is_type rows)) (front ++ d ∷ rest) ≡ true = ap (list_all (definition_all (is_type rows))) (sym e) ∙ typed in
+        (and_parts (definition_all (is_type rows) d) (list_all (definition_all (is_type rows)) rest) (and_parts (list_all (definition_all (is_type rows)) front) (list_all (definition_all (is_type rows)) (d ∷ rest)) (sym split ∙ all)).1).0
+
+    both : definition_all (λ v. is_below (length front) v && is_type rows v) d ≡ true
+    both = definition-both (is_below (length front)) (is_type rows) d ∙ (ap (λ b. b && definition_all (is_type rows) d) below ∙ named)
+
+    keep : (v : ValType) → is_below (length front) v && is_type rows v ≡ true → is_type front v ≡ true
+    keep (val.Primitive p) h = refl
+    keep val.String h = refl
+    keep (val.Id t) h =
+        let l = ltb-true t.0 (length front) (and_parts (is_below (length front) (val.Id t)) (is_type rows (val.Id t)) h).0 in
+        let g : slice_get rows t.0 ≡ slice_get front t.0 = ap (λ xs. slice_get xs t.0) e ∙ get-front front (d ∷ rest) t.0 l in
+        subst (λ o. is_there (type_of o) ≡ true) g (and_parts (is_below (length front) (val.Id t)) (is_type rows (val.Id t)) h).1
+
+-- two tables of one package, whose rows name earlier types and stand in postfix order: both pass a limit or none does
+same-limits : (t u : Table) → package_in t ≡ package_in u → IsTyped t.rows → IsPostfix t.rows → IsTyped u.rows → IsPostfix u.rows
+    → type_entries t ≤ 65535 → are_standard t.rows ≡ true → PassesLimit u → ⊥
+same-limits t u e a p b q within standard passes = by passes
+  where
+    names : t.interfaces ≡ u.interfaces
+    names = ap (λ x. x.interfaces) e
+
+    meant : definitions_from t.interfaces [] [] t.rows ≡ definitions_from u.interfaces [] [] u.rows
+    meant = ap (λ x. x.definitions) e
+
+    by : PassesLimit u → ⊥
+    by (inl l) =
+        let x = entries-by-name t.interfaces [] t.rows (λ f d r z. a f d r z) p in
+        let y = entries-by-name u.interfaces [] u.rows (λ f d r z. b f d r z) q in
+        let sums : sum (map entries_of t.rows) ≡ sum (map entries_of u.rows) = x ∙ (ap sizes meant ∙ sym y) in
+        let counts = ap length names in
+        omega (arith, within, l, sums, counts)
+    by (inr h) = false≢true (sym h ∙ standard-by-name t.interfaces u.interfaces [] [] t.rows u.rows a p b q meant standard)
+
+package-same : (f : File) (r : Resolve) → IsPackageOf f r → package_in (table_of r) ≡ package_of r
+package-same f r h = ap (λ (ws : List (List ℕ)). record { interfaces = names_in r; definitions = definitions_from (names_in r) ws [] r.definitions }) (sym (ap (map (λ w. w.name)) h.worlds))
+
+not-too-large : (f : File) (r : Resolve) → IsPackageOf f r → IsTooLarge f → ⊥
+not-too-large f r h x =
+    same-limits (table_of r) x.table (package-same f r h ∙ one-package (interfaces f) (package_of r) (package_in x.table) h.resolves x.resolves)
+    (earlier-typed r.definitions r.earlier r.typed) h.postfix (earlier-typed x.table.rows x.earlier x.typed) x.postfix h.within r.standard x.passes
+
+-- ---- no refusal but for memory
+
+-- Where a tree has a package, the only refusal is for memory.
+only-memory : (f : File) (r : Resolve) (e : ResolveError) → HasPackage f r → Refuses f e → e ≡ error.NoMemory
+only-memory f r error.EmptyPackage h x = absurd (h.faults.interfaces.some x)
+only-memory f r error.NotThisShape h x = absurd (h.faults.interfaces.alone x)
+only-memory f r (error.Duplicate n) h x = absurd (no-duplicate f n h.faults.distinct x.1)
+only-memory f r (error.Unknown n) h x = absurd (no-unknown f n h.faults x.2)
+only-memory f r error.Cycle h x = absurd (no-cycle-in f (package_of r) h.resolved.resolves x.1)
+only-memory f r error.Limit h (inl x) = absurd (false≢true (sym x.1 ∙ h.fits))
+only-memory f r error.Limit h (inr x) = absurd (not-too-large f r h.resolved x.1)
+only-memory f r error.NoMemory h x = refl
+
+-- .. and packages of one tree are one
+same-package : (f : File) (r s : Resolve) → IsPackageOf f r → IsPackageOf f s → package_of r ≡ package_of s
+same-package f r s a b = one-package (interfaces f) (package_of r) (package_of s) a.resolves b.resolves
+
+pub answers-only : (f : File) (answer : Result Resolve ResolveError) → IfOk answer (IsPackageOf f) → IfErr answer (Refuses f) → AnswersOnly f answer
+answers-only f (Ok p) ok err = λ r h. same-package f p r ok h.resolved
+answers-only f (Err e) ok err = λ r h. only-memory f r e h err

@@ -1,0 +1,303 @@
+-- What a syntax tree resolves to is in package form.
+use Rattle.std.proofs.Common.{◌≡◌, ◌≢◌, ℕ, zero, suc, ◌+◌, ◌<◌, ◌≤◌, Bool, true, false, not, ◌||◌, ◌==◌, nat_lt, IsTrue, List, [], ◌∷◌, ◌++◌, map, flat_map, filter_map, take, length, get_or, Option, None, Some, refl, ap, sym, subst, ◌∙◌, arith, All, Contains, inl, inr}
+use Rattle.std.specs.Prelude.{slice_index_or}
+use Rattle.std.specs.Option.{option_map}
+use Rattle.std.specs.String.{string_bytes}
+use Rattle.std.specs.declared.string.String.{String}
+use Rattle.std.specs.declared.alloc.Global.{Global}
+use Rattle.std.specs.List.{list_all}
+use Rattle.std.proofs.lemmas.Bool.Decides.{nat_tests}
+use Rattle.std.proofs.lemmas.List.{length-map, length-take, get_or-take, get_or_default, get_or-map, get_or_past}
+use Rattle.atoms.specs.Label.{is_label}
+use Rattle.atoms.specs.FullName.{is_package_label, is_version_or_none}
+use Rattle.wit_syntax.specs.Syntax.{FileEntry, AnInterface, AWorld, File}
+use Rattle.wit_syntax.specs.View.{version_view}
+use Rattle.wit_syntax.specs.FullNames.{has_label, has_full_names}
+use Rattle.tables.specs.Package.{NamedDefinition, definitions_from, interface_names as names_in}
+use Rattle.tables.specs.declared.tables.World.{World}
+use Rattle.tables.specs.declared.tables.Interface.{Interface}
+use Rattle.tables.specs.declared.tables.Resolve.{Resolve}
+use Rattle.resolve.specs.Order.{IsPlacement, is_among}
+use Rattle.package_form.specs.Scope.{AreDistinct}
+use Rattle.resolve.specs.Declarations.{UsedItem, FunctionItem, InterfaceTree, interfaces, interface_of, interface_at, no_interface, interface_name, interface_names, use_interface}
+use Rattle.resolve.specs.Resolved.{use_meaning, type_meaning, function_meaning, in_order, interface_meaning, no_type, definition_meaning, fields_of, member_meaning, resolved_if}
+use Rattle.resolve.specs.Resolves.{place_of, uses_of_interface, interface_uses, names_in_order, IsKnownUse, HasKnownNames, HasNoFaults, IsPackageOf}
+use Rattle.package_form.specs.Ids.{interfaces_from}
+use Rattle.package_form.proofs.Lists.{all-at, all-contained, contains-map, contains-unmap, contains-here, compared}
+use Rattle.resolve.proofs.Placing.{all-from, place-found, all-places, among-at}
+use Rattle.package_form.proofs.OneRow.{same-place}
+use Rattle.resolve.proofs.Packaging.{interface-name, name-in-order}
+use Rattle.resolve.proofs.Trees.{distinct-interfaces}
+use Rattle.package_form.specs.Form.{IsInPackageForm, are_interfaces, has_full_names as has_names}
+use Rattle.tables.proofs.Rows.{split, both}
+use Rattle.package_form.proofs.Postfix.{postfix-used}
+use Rattle.resolve.proofs.Referring.{if-refers, members-refer, body-refers}
+use Rattle.resolve.proofs.Locals.{is-that}
+use Rattle.package_form.specs.Ends.{is_parted}
+use Rattle.package_form.specs.Unused.{are_used}
+use Rattle.resolve.proofs.Homes.{IsPlace, MeansUse, MeansType, MeansFunction}
+use Rattle.resolve.proofs.Blocks.{Block, IsBlock, AreBlocks, blocks_definitions, block_names, used-inner}
+use Rattle.resolve.proofs.Forming.{IsTable}
+use Rattle.resolve.proofs.Folding.{formed}
+
+-- ---- labels
+
+label-some : (n : List ℕ) → is_label n ≡ true → n ≢ []
+unfolding is_label
+label-some [] h e = absurd (cc)
+label-some (c ∷ n) h e = absurd (cc)
+
+label-at : (es : List FileEntry) (k : ℕ) → list_all has_label es ≡ true → k < length (filter_map interface_of es) → is_label (interface_at (filter_map interface_of es) k).name ≡ true
+label-at [] k h l = absurd (omega arith)
+label-at (AWorld at n ws ∷ es) k h l = label-at es k h l
+label-at (AnInterface n items ∷ es) zero h l = (split (is_label n) (list_all has_label es) h).0
+label-at (AnInterface n items ∷ es) (suc k) h l = label-at es k (split (is_label n) (list_all has_label es) h).1 (omega (arith, l))
+
+-- ---- an order
+
+not-true : (b : Bool) → not b ≡ true → b ≡ true → ⊥
+not-true true h e = absurd (cc)
+not-true false h e = absurd (cc)
+
+among : (xs : List ℕ) (x : ℕ) → Contains xs x → is_among xs x ≡ true
+among [] x c = absurd (omega (arith, c.1))
+among (y ∷ xs) x (zero, l, e) = ap (λ (b : Bool). b || is_among xs x) (is-that y x e)
+among (y ∷ xs) x (suc k, l, e) = or-right (y == x) (is_among xs x) (among xs x (k, omega (arith, l), e))
+  where
+    or-right : (a b : Bool) → b ≡ true → (a || b) ≡ true
+    or-right true b e = refl
+    or-right false b e = e
+
+module _ (uses : List (List ℕ)) (order : List ℕ) (placed : IsPlacement uses order) where
+  new-at : (k : ℕ) → k < length order → is_among (take k order) (get_or order k 0) ≡ true → ⊥
+  new-at k l e = not-true (is_among (take k order) (get_or order k 0)) (split (not (is_among (take k order) (get_or order k 0))) _ (placed.next k l).ready).0 e
+
+  before-at : (a b : ℕ) → a < b → b < length order → Contains (take b order) (get_or order a 0)
+  before-at a b l m =
+      let long : length (take b order) ≡ b = length-take b order ∙ omega (arith, m) in
+      (a, omega (arith, l, long), get_or-take b order a (get_or order a 0) l ∙ get_or_default order a (get_or order a 0) 0 (omega (arith, l, m)))
+
+  once : (a b : ℕ) → a < b → b < length order → get_or order a 0 ≡ get_or order b 0 → ⊥
+  once a b l m e = new-at b m (among (take b order) (get_or order b 0) (subst (Contains (take b order)) e (before-at a b l m)))
+
+  pub one-place : (a b : ℕ) → a < length order → b < length order → get_or order a 0 ≡ get_or order b 0 → a ≡ b
+  one-place a b l m e = elim (compared a b) [
+    | inl q ↦ absurd (once a b q m e)
+    | inr q ↦ elim q [
+      | inl r ↦ absurd (once b a r l (sym e))
+      | inr r ↦ r
+    ]
+  ]
+
+-- ---- the blocks of a package
+
+module _ (is : List InterfaceTree) (types : ℕ → List ℕ) where
+  abbrev pub block : ℕ → Block
+  block k = record {
+    name = (interface_at is k).name;
+    uses = map (use_meaning (interface_at is k).name) (interface_at is k).uses;
+    types = in_order (interface_at is k).name (interface_at is k).types (types k);
+    functions = map (function_meaning (interface_at is k).name) (interface_at is k).functions;
+  }
+
+  names-are : (order : List ℕ) → block_names (map block order) ≡ names_in_order is order
+  names-are [] = refl
+  names-are (k ∷ order) = ap (λ (ns : List (List ℕ)). (interface_at is k).name ∷ ns) (names-are order)
+
+  definitions-are : (order : List ℕ) → blocks_definitions (map block order) ≡ flat_map (λ k. interface_meaning (interface_at is k) (types k)) order
+  definitions-are [] = refl
+  definitions-are (k ∷ order) = ap (λ (ds : List NamedDefinition). interface_meaning (interface_at is k) (types k) ++ ds) (definitions-are order)
+
+pub each-map : {A : Type 0} (P : NamedDefinition → Type 0) (f : A → NamedDefinition) (xs : List A) → ((x : A) → Contains xs x → P (f x)) → All P (map f xs)
+each-map P f xs h = all-from P (map f xs) (λ y c. let u = contains-unmap f xs y c in subst P u.2 (h u.0 u.1))
+
+module _ (is : List InterfaceTree) (types : ℕ → List ℕ) (order : List ℕ) (placed : IsPlacement (interface_uses is) order)
+    (distinct : AreDistinct (interface_names is)) (labels : (k : ℕ) → k < length is → is_label (interface_at is k).name ≡ true)
+    (known : All (HasKnownNames is) is) where
+  abbrev ns : List (List ℕ)
+  ns = names_in_order is order
+
+  long : length ns ≡ length order
+  long = length-map order (λ (k : ℕ). (interface_at is k).name)
+
+  in-range : (j : ℕ) → j < length order → get_or order j 0 < length is
+  in-range j l = omega (arith, (placed.next j l).in_range, length-map is (uses_of_interface (interface_names is)))
+
+  label-here : (j : ℕ) → j < length order → (interface_at is (get_or order j 0)).name ≢ []
+  label-here j l = label-some _ (labels (get_or order j 0) (in-range j l))
+
+  same-index : (a b : ℕ) → a < length is → b < length is → (interface_at is a).name ≡ (interface_at is b).name → a ≡ b
+  same-index a b l m e =
+      same-place (interface_names is) a b distinct (omega (arith, l, length-map is interface_name)) (omega (arith, m, length-map is interface_name))
+      (sym (interface-name is a) ∙ e ∙ interface-name is b)
+
+  is-place : (j : ℕ) → j < length order → IsPlace ns j (interface_at is (get_or order j 0)).name
+  is-place j l m e = by (nat_lt m (length order)) refl
+    where
+      by : (b : Bool) → nat_lt m (length order) ≡ b → m ≡ j
+      by true h =
+          let q : m < length order = grind (arith, nat_tests) in
+          one-place (interface_uses is) order placed m j q l
+          (same-index (get_or order m 0) (get_or order j 0) (in-range m q) (in-range j l) (sym (name-in-order is order m q) ∙ e))
+      by false h =
+          let past : length ns ≤ m = let q : length order ≤ m = grind (arith, nat_tests) in omega (arith, q, long) in
+          absurd (label-here j l (sym e ∙ get_or_past ns m [] past))
+
+  module _ (j : ℕ) (l : j < length order) where
+    abbrev i : InterfaceTree
+    i = interface_at is (get_or order j 0)
+
+    known-here : HasKnownNames is i
+    known-here = all-at (HasKnownNames is) is (get_or order j 0) i known (in-range j l) (get_or_default is (get_or order j 0) no_interface i (in-range j l))
+
+    means-use : (u : UsedItem) → Contains i.uses u → MeansUse ns j i.name (use_meaning i.name u)
+    means-use u c =
+        let x = all-contained (IsKnownUse is) i.uses u known-here.uses c in
+        let names = interface_names is in
+        let found = place-found names u.interface (subst (Contains names) x.2 (contains-map interface_name is x.0 x.1)) in
+        let ready = (split (not (is_among (take j order) (get_or order j 0))) (list_all (is_among (take j order)) (get_or (interface_uses is) (get_or order j 0) [])) (placed.next j l).ready).1 in
+        let all = subst (λ us. list_all (is_among (take j order)) us ≡ true) (get_or-map (uses_of_interface names) is (get_or order j 0) no_interface [] (in-range j l)) ready in
+        let used = contains-map use_interface i.uses u c in
+        let m = among-at (take j order) found.0 (all-places (is_among (take j order)) (place_of names) (map use_interface i.uses) u.interface found.0 all used found.1) in
+        let cut : length (take j order) ≡ j = length-take j order ∙ omega (arith, l) in
+        let q : m.0 < j = omega (arith, m.1, cut) in
+        let at : get_or order m.0 0 ≡ found.0 = get_or_default order m.0 0 found.0 (omega (arith, q, l)) ∙ sym (get_or-take j order m.0 found.0 q) ∙ m.2 in
+        let named : (interface_at is (get_or order m.0 0)).name ≡ u.interface = ap (λ (p : ℕ). (interface_at is p).name) at ∙ interface-name is found.0 ∙ found.2 in
+        record {
+          key = refl;
+          target = record { interface = u.interface; name = u.name };
+          meaning = refl;
+          place = m.0;
+          earlier = q;
+          there = subst (IsPlace ns m.0) named (is-place m.0 (omega (arith, q, l)));
+        }
+
+    means-type : (k : ℕ) → MeansType i.name (type_meaning i.name (slice_index_or i.types k no_type))
+    means-type k =
+        record { key = refl; tree = definition_meaning i.name (slice_index_or i.types k no_type).definition; meaning = refl; refers = body-refers i.name (slice_index_or i.types k no_type).definition }
+
+    means-function : (f : FunctionItem) → MeansFunction i.name (function_meaning i.name f)
+    means-function f = record {
+      key = refl;
+      params = fields_of (map (member_meaning i.name) f.function.params);
+      result = resolved_if i.name f.function.result;
+      meaning = refl;
+      params_refer = members-refer i.name f.function.params;
+      result_refers = if-refers i.name f.function.result;
+    }
+
+    is-block : IsBlock ns j (block is types (get_or order j 0))
+    is-block = record {
+      place = is-place j l;
+      some = label-here j l;
+      uses = each-map (MeansUse ns j i.name) (use_meaning i.name) i.uses means-use;
+      types = each-map (MeansType i.name) (λ k. type_meaning i.name (slice_index_or i.types k no_type)) (types (get_or order j 0)) (λ k c. means-type k);
+      functions = each-map (MeansFunction i.name) (function_meaning i.name) i.functions (λ f c. means-function f);
+    }
+
+  are-blocks : (j : ℕ) (ks : List ℕ) → ((n : ℕ) → n < length ks → (j + n < length order) × (get_or ks n 0 ≡ get_or order (j + n) 0)) → AreBlocks ns j (map (block is types) ks)
+  are-blocks j [] h = tt
+  are-blocks j (k ∷ ks) h =
+      let first = h 0 (omega arith) in
+      let here : j < length order = omega (arith, first.0) in
+      let same : get_or order j 0 ≡ k = ap (λ (n : ℕ). get_or order n 0) (let e : j ≡ j + 0 = omega arith in e) ∙ sym first.1 in (
+        subst (λ (n : ℕ). IsBlock ns j (block is types n)) same (is-block j here),
+        are-blocks (j + 1) ks (λ n l. let next = h (suc n) (omega (arith, l)) in let e : j + suc n ≡ j + 1 + n = omega arith in (omega (arith, next.0), next.1 ∙ ap (λ (m : ℕ). get_or order m 0) e)),
+      )
+
+  pub all-blocks : AreBlocks ns 0 (map (block is types) order)
+  all-blocks = are-blocks 0 order (λ n l. let e : n ≡ 0 + n = omega arith in (omega (arith, l), ap (λ (m : ℕ). get_or order m 0) e))
+
+-- ---- the package
+
+some-order : (uses : List (List ℕ)) (order : List ℕ) → IsPlacement uses order → 0 < length uses → 0 < length order
+some-order uses [] placed l = absurd (let e = placed.complete 0 l in cc)
+some-order uses (k ∷ order) placed l = omega arith
+
+some-interface : (es : List FileEntry) → es ≢ [] → ((at : _) (n : List ℕ) (ws : _) → Contains es (AWorld at n ws) → ⊥) → 0 < length (filter_map interface_of es)
+some-interface [] some h = absurd (some refl)
+some-interface (AnInterface n xs ∷ es) some h = omega arith
+some-interface (AWorld at n ws ∷ es) some h = absurd (h at n ws (contains-here (AWorld at n ws) es))
+
+no-worlds : (ws : List World) → ws ≡ [] → map (λ (w : World). w.name) ws ≡ []
+no-worlds ws e = ap (map (λ (w : World). w.name)) e
+
+version-is : (v : Option (String Global)) → version_view v ≡ option_map string_bytes v
+version-is None = refl
+version-is (Some v) = refl
+
+module _ (f : File) (r : Resolve) (h : HasNoFaults f) (full : IsTrue (has_full_names f)) (p : IsPackageOf f r) where
+  abbrev pub trees : List InterfaceTree
+  trees = interfaces f
+
+  abbrev pub order : List ℕ
+  order = p.resolves.order
+
+  abbrev pub types : ℕ → List ℕ
+  types = p.resolves.types
+
+  abbrev pub blocks : List Block
+  blocks = map (block trees types) order
+
+  alone : (at : _) (n : List ℕ) (ws : _) → Contains f.entries (AWorld at n ws) → ⊥
+  alone at n ws c = h.interfaces.alone (at, n, ws, c)
+
+  names-split : IsTrue (is_package_label f.namespace) × (IsTrue (is_package_label f.name) × (IsTrue (is_version_or_none f.version) × IsTrue (list_all has_label f.entries)))
+  names-split =
+      let a = split (is_package_label f.namespace) _ full in
+      let b = split (is_package_label f.name) _ a.1 in
+      (a.0, (b.0, split (is_version_or_none f.version) _ b.1))
+
+  have-names : IsTrue (has_names r)
+  have-names =
+      let s = names-split in
+      both (is_package_label r.namespace) _ (subst (λ (n : List ℕ). IsTrue (is_package_label n)) (sym p.namespace) s.0)
+      (both (is_package_label r.name) _ (subst (λ (n : List ℕ). IsTrue (is_package_label n)) (sym p.name) s.1.0)
+      (subst (λ (v : Option (List ℕ)). IsTrue (is_version_or_none v)) (sym p.version ∙ version-is r.version) s.1.1.0))
+
+  pub named : names_in r ≡ names_in_order trees order
+  named = p.resolves.names
+
+  pub are-all : AreBlocks (names_in r) 0 blocks
+  are-all =
+      subst (λ (ns : List (List ℕ)). AreBlocks ns 0 blocks) (sym named)
+      (all-blocks trees types order p.resolves.placed (distinct-interfaces f h) (λ k l. label-at f.entries k names-split.1.1.1 l) h.known)
+
+  pub defined : definitions_from (names_in r) [] [] r.definitions ≡ blocks_definitions blocks
+  defined =
+      ap (λ (ws : List (List ℕ)). definitions_from (names_in r) ws [] r.definitions) (sym (no-worlds r.worlds p.worlds))
+      ∙ p.resolves.definitions ∙ sym (definitions-are trees types order)
+
+  pub used : are_used r.definitions 0 [] r.definitions ≡ true
+  used = postfix-used r.definitions r.earlier p.postfix
+
+  pub table : IsTable r.definitions
+  table = record { earlier = r.earlier; typed = r.typed; inner = used-inner r.definitions 0 [] r.definitions used }
+
+  abbrev made : List Interface
+  made = interfaces_from r.definitions 0 (block_names blocks)
+
+  pub interfaces-are : r.interfaces ≡ made
+  interfaces-are = p.ids ∙ ap (interfaces_from r.definitions 0) (named ∙ sym (names-are trees types order))
+
+  in-place : (is_parted (length r.definitions) 0 made ≡ true) × (are_interfaces r.definitions 0 0 made ≡ true)
+  in-place = formed (names_in r) r.definitions table 0 blocks [] r.definitions refl (λ k l. tt) defined used are-all
+
+  some-interfaces : r.interfaces ≢ []
+  some-interfaces e =
+      let none : length (names_in r) ≡ 0 = ap (λ (is : List Interface). length (map (λ (i : Interface). i.name) is)) e in
+      let many : 0 < length trees = some-interface f.entries h.interfaces.some alone in
+      let uses : 0 < length (interface_uses trees) = omega (arith, many, length-map trees (uses_of_interface (interface_names trees))) in
+      let placed = some-order (interface_uses trees) order p.resolves.placed uses in
+      absurd (omega (arith, none, placed, ap length named, length-map order (λ (k : ℕ). (interface_at trees k).name)))
+
+  pub has-form : IsInPackageForm r
+  has-form = record {
+    some = some-interfaces;
+    worlds = p.worlds;
+    names = have-names;
+    parted = ap (is_parted (length r.definitions) 0) interfaces-are ∙ in-place.0;
+    interfaces = ap (are_interfaces r.definitions 0 0) interfaces-are ∙ in-place.1;
+    postfix = p.postfix;
+    entries = p.within;
+  }

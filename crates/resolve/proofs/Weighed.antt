@@ -1,0 +1,433 @@
+-- Whether a package has types that no text has is told by its definitions: each inner type of a tree is one row.
+use Rattle.std.proofs.Common.{◌≡◌, ◌<◌, ◌+◌, ℕ, zero, suc, List, [], ◌∷◌, ◌++◌, length, map, flat_map, refl, sym, ap, subst, ◌∙◌, arith, append_assoc, append-nil, length-append, get_or, slice_get}
+use Rattle.std.specs.Prelude.{Bool, true, false, not, ◌&&◌, nat_lt, if◌then◌else◌, sum, Option, None, Some, is_some}
+use Rattle.std.specs.List.{list_all}
+use Rattle.std.specs.Option.{option_map}
+use Rattle.std.proofs.lemmas.Bool.{and_parts, false≢true}
+use Rattle.std.proofs.lemmas.List.{get_or_append_left, map-append}
+use Rattle.std.proofs.Math.Seq.{get_or-append_seam}
+use Rattle.std.proofs.lemmas.List.Sums.{sum_by-append}
+use Rattle.tables.specs.Tables.{option_all, kind_all, definition_all, is_type, type_of, is_there, is_within, is_standard_kind, is_standard, are_standard}
+use Rattle.tables.specs.Package.{Tree, TextTree, PrimTree, Reference, ListTree, VariantTree, RecordTree, FlagsTree, Fields, Choices, no_fields, field, no_choices, empty, holding, Meaning, IsUse, IsType, IsFunction, read_val, read_choice, read_tuple, read_fields, read_params, read_cases, read_enum, read_kind, meaning_of, reference, reference_by, references, key_of, named_by, definition_of, definitions_from, NamedDefinition}
+use Rattle.tables.specs.declared.tables.ValType.{ValType}
+use Rattle.tables.specs.declared.tables.ValType.TheVariants as val
+use Rattle.tables.specs.declared.tables.TypeDefKind.{TypeDefKind}
+use Rattle.tables.specs.declared.tables.TypeDefKind.TheVariants as kind
+use Rattle.tables.specs.declared.tables.TypeName.{TypeName}
+use Rattle.tables.specs.declared.tables.TypeDef.{TypeDef}
+use Rattle.tables.specs.declared.tables.Parameter.{Parameter}
+use Rattle.tables.specs.declared.tables.Field.{Field}
+use Rattle.tables.specs.declared.tables.Case.{Case}
+use Rattle.tables.specs.declared.tables.Definition.{Definition}
+use Rattle.tables.specs.declared.tables.Definition.TheVariants as row
+use Rattle.package_form.specs.Postfix.{is_unnamed, is_unnamed_row, one_if, unnamed, unnamed_if, unnamed_field, unnamed_case, unnamed_parameter, parts, parts_of, aliased, aliased_by, is_inner, inner_row, Leaves, begin, inner, whole}
+use Rattle.package_form.specs.Ids.{is_use}
+
+-- ---- by names
+
+-- the weights of the types without a name in a tree, itself among them
+abbrev mutual
+  pub nodes : (Tree → ℕ) → Tree → ℕ
+  nodes w (PrimTree p) = 0
+  nodes w TextTree = 0
+  nodes w (Reference k) = 0
+  nodes w (ListTree t) = w (ListTree t) + nodes w t
+  nodes w (RecordTree form fs) = w (RecordTree form fs) + nodes_in w fs
+  nodes w (VariantTree form cs) = w (VariantTree form cs) + nodes_of w cs
+  nodes w (FlagsTree labels) = w (FlagsTree labels)
+
+  pub nodes_in : (Tree → ℕ) → Fields → ℕ
+  nodes_in w no_fields = 0
+  nodes_in w (field label t fs) = nodes w t + nodes_in w fs
+
+  pub nodes_of : (Tree → ℕ) → Choices → ℕ
+  nodes_of w no_choices = 0
+  nodes_of w (empty label cs) = nodes_of w cs
+  nodes_of w (holding label t cs) = nodes w t + nodes_of w cs
+
+abbrev pub nodes_if : (Tree → ℕ) → Option Tree → ℕ
+nodes_if w None = 0
+nodes_if w (Some t) = nodes w t
+
+-- ---- by rows
+
+abbrev pub is_alias : TypeDefKind → Bool
+is_alias (kind.Alias v) = true
+is_alias _ = false
+
+abbrev total : (Tree → ℕ) → List Tree → List ℕ → ℕ
+total w trees ps = sum (map (λ p. nodes w (get_or trees p TextTree)) ps)
+
+sum-append : (xs ys : List ℕ) → sum (xs ++ ys) ≡ sum xs + sum ys
+sum-append xs ys = sum_by-append (λ x. x) xs ys
+
+total-append : (w : Tree → ℕ) (trees : List Tree) (ps qs : List ℕ) → total w trees (ps ++ qs) ≡ total w trees ps + total w trees qs
+total-append w trees ps qs = ap sum (map-append (λ p. nodes w (get_or trees p TextTree)) ps qs) ∙ sum-append (map (λ p. nodes w (get_or trees p TextTree)) ps) _
+
+module _ (w : Tree → ℕ) (rows : List Definition) (trees final : List Tree) (count : (v : ValType) → is_type rows v ≡ true → nodes w (read_val trees v) ≡ total w final (unnamed rows v)) where
+  choice-count : (label : List ℕ) (v : Option ValType) (cs : Choices) → option_all (is_type rows) v ≡ true → nodes_of w (read_choice trees label v cs) ≡ total w final (unnamed_if rows v) + nodes_of w cs
+  choice-count label None cs h = omega arith
+  choice-count label (Some v) cs h = let e = count v h in omega (arith, e)
+
+  tuple-count : (vs : List ValType) → list_all (is_type rows) vs ≡ true → nodes_in w (read_tuple trees vs) ≡ total w final (flat_map (unnamed rows) vs)
+  tuple-count [] h = refl
+  tuple-count (v ∷ vs) h =
+      let t = and_parts (is_type rows v) (list_all (is_type rows) vs) h in
+      let a = count v t.0 in let b = tuple-count vs t.1 in let c = total-append w final (unnamed rows v) (flat_map (unnamed rows) vs) in omega (arith, a, b, c)
+
+  fields-count : (fs : List Field) → list_all (λ f. is_type rows f.ty) fs ≡ true → nodes_in w (read_fields trees fs) ≡ total w final (flat_map (unnamed_field rows) fs)
+  fields-count [] h = refl
+  fields-count (f ∷ fs) h =
+      let t = and_parts (is_type rows f.ty) (list_all (λ f. is_type rows f.ty) fs) h in
+      let a = count f.ty t.0 in let b = fields-count fs t.1 in let c = total-append w final (unnamed_field rows f) (flat_map (unnamed_field rows) fs) in omega (arith, a, b, c)
+
+  params-count : (fs : List Parameter) → list_all (λ f. is_type rows f.ty) fs ≡ true → nodes_in w (read_params trees fs) ≡ total w final (flat_map (unnamed_parameter rows) fs)
+  params-count [] h = refl
+  params-count (f ∷ fs) h =
+      let t = and_parts (is_type rows f.ty) (list_all (λ f. is_type rows f.ty) fs) h in
+      let a = count f.ty t.0 in let b = params-count fs t.1 in let c = total-append w final (unnamed_parameter rows f) (flat_map (unnamed_parameter rows) fs) in omega (arith, a, b, c)
+
+  cases-count : (cs : List Case) → list_all (λ c. option_all (is_type rows) c.ty) cs ≡ true → nodes_of w (read_cases trees cs) ≡ total w final (flat_map (unnamed_case rows) cs)
+  cases-count [] h = refl
+  cases-count (x ∷ cs) h =
+      let t = and_parts (option_all (is_type rows) x.ty) (list_all (λ c. option_all (is_type rows) c.ty) cs) h in
+      let a = choice-count x.name x.ty (read_cases trees cs) t.0 in let b = cases-count cs t.1 in let c = total-append w final (unnamed_case rows x) (flat_map (unnamed_case rows) cs) in omega (arith, a, b, c)
+
+  enum-count : (ns : List (List ℕ)) → nodes_of w (read_enum ns) ≡ 0
+  enum-count [] = refl
+  enum-count (n ∷ ns) = enum-count ns
+
+  if-count : (v : Option ValType) → option_all (is_type rows) v ≡ true → nodes_if w (option_map (read_val trees) v) ≡ total w final (unnamed_if rows v)
+  if-count None h = refl
+  if-count (Some v) h = count v h
+
+  result-count : (ok error : Option ValType) → option_all (is_type rows) ok ≡ true → option_all (is_type rows) error ≡ true → nodes w (read_kind trees (kind.Result ok error)) ≡ w (read_kind trees (kind.Result ok error)) + total w final (parts rows (kind.Result ok error))
+  result-count ok error h k =
+      let a = choice-count (111 ∷ 107 ∷ []) ok (read_choice trees (101 ∷ 114 ∷ 114 ∷ 111 ∷ 114 ∷ []) error no_choices) h in
+      let b = choice-count (101 ∷ 114 ∷ 114 ∷ 111 ∷ 114 ∷ []) error no_choices k in
+      let c = total-append w final (unnamed_if rows ok) (unnamed_if rows error) in omega (arith, a, b, c)
+
+  -- a type that can stand without a name is one node, and its parts
+  inner-count : (k : TypeDefKind) → is_inner k ≡ true → kind_all (is_type rows) k ≡ true → nodes w (read_kind trees k) ≡ w (read_kind trees k) + total w final (parts rows k)
+  inner-count (kind.List v) i h = let a = count v h in omega (arith, a)
+  inner-count (kind.Option v) i h = let a = count v h in omega (arith, a)
+  inner-count (kind.Result ok error) i h = let t = and_parts (option_all (is_type rows) ok) (option_all (is_type rows) error) h in result-count ok error t.0 t.1
+  inner-count (kind.Tuple vs) i h = let a = tuple-count vs h in omega (arith, a)
+  inner-count (kind.Use t) i h = absurd (false≢true i)
+  inner-count (kind.Alias v) i h = absurd (false≢true i)
+  inner-count (kind.Record fs) i h = absurd (false≢true i)
+  inner-count (kind.Variant cs) i h = absurd (false≢true i)
+  inner-count (kind.Enum ns) i h = absurd (false≢true i)
+  inner-count (kind.Flags ns) i h = absurd (false≢true i)
+
+  -- .. and so is one that has a name
+  pub whole-count : (k : TypeDefKind) → kind_all (is_type rows) k ≡ true → is_use k ≡ false → is_alias k ≡ false → nodes w (read_kind trees k) ≡ w (read_kind trees k) + total w final (parts rows k)
+  whole-count (kind.Use t) h u a = absurd (false≢true (sym u))
+  whole-count (kind.Alias v) h u a = absurd (false≢true (sym a))
+  whole-count (kind.List v) h u a = inner-count (kind.List v) refl h
+  whole-count (kind.Option v) h u a = inner-count (kind.Option v) refl h
+  whole-count (kind.Result ok error) h u a = inner-count (kind.Result ok error) refl h
+  whole-count (kind.Tuple vs) h u a = inner-count (kind.Tuple vs) refl h
+  whole-count (kind.Record fs) h u a = let c = fields-count fs h in omega (arith, c)
+  whole-count (kind.Variant cs) h u a = let c = cases-count cs h in omega (arith, c)
+  whole-count (kind.Enum ns) h u a = let c = enum-count ns in omega (arith, c)
+  whole-count (kind.Flags ns) h u a = omega arith
+
+-- ---- the trees of a table
+
+trees-of : List (List ℕ) → List Definition → List Tree
+trees-of ns rows = references ns [] rows
+
+pub references-append : (ns : List (List ℕ)) (trees : List Tree) (ds es : List Definition) → references ns trees (ds ++ es) ≡ references ns (references ns trees ds) es
+references-append ns trees [] es = refl
+references-append ns trees (d ∷ ds) es = references-append ns (trees ++ reference ns trees d ∷ []) ds es
+
+pub references-length : (ns : List (List ℕ)) (trees : List Tree) (ds : List Definition) → length (references ns trees ds) ≡ length trees + length ds
+references-length ns trees [] = omega arith
+references-length ns trees (d ∷ ds) = references-length ns (trees ++ reference ns trees d ∷ []) ds ∙ omega (arith, length-append trees (reference ns trees d ∷ []))
+
+pub trees-kept : (ns : List (List ℕ)) (trees : List Tree) (ds : List Definition) (n : ℕ) → n < length trees → get_or (references ns trees ds) n TextTree ≡ get_or trees n TextTree
+trees-kept ns trees [] n l = refl
+trees-kept ns trees (d ∷ ds) n l =
+    trees-kept ns (trees ++ reference ns trees d ∷ []) ds n (grind (arith, length-append)) ∙ get_or_append_left trees (reference ns trees d ∷ []) TextTree n l
+
+pub definitions-append : (ns ws : List (List ℕ)) (trees : List Tree) (ds : List Definition) (d : Definition) → definitions_from ns ws trees (ds ++ d ∷ []) ≡ definitions_from ns ws trees ds ++ definition_of ns ws (references ns trees ds) d
+definitions-append ns ws trees [] d = append-nil (definition_of ns ws trees d)
+definitions-append ns ws trees (c ∷ ds) d =
+    ap (λ xs. definition_of ns ws trees c ++ xs) (definitions-append ns ws (trees ++ reference ns trees c ∷ []) ds d)
+    ∙ sym (append_assoc (definition_of ns ws trees c) _ _)
+
+-- a row with a name is referred to by it
+pub name-tree : (ns : List (List ℕ)) (trees : List Tree) (ds : List Definition) (k : ℕ) (d : TypeDef) (n : TypeName) → slice_get ds k ≡ Some (row.Type d) → d.name ≡ Some n
+    → get_or (references ns trees ds) (length trees + k) TextTree ≡ Reference (key_of ns n)
+name-tree ns trees [] k d n e q = absurd cc
+name-tree ns trees (c ∷ ds) zero d n e q =
+    let is : c ≡ row.Type d = cc in
+    let x : Tree = reference ns trees c in
+    let named : x ≡ Reference (key_of ns n) = ap (reference ns trees) is ∙ ap (λ m. reference_by ns m (read_kind trees d.kind)) q in
+    ap (λ i. get_or (references ns (trees ++ x ∷ []) ds) i TextTree) (omega arith)
+    ∙ (trees-kept ns (trees ++ x ∷ []) ds (length trees) (grind (arith, length-append)) ∙ (get_or-append_seam trees x [] TextTree ∙ named))
+name-tree ns trees (c ∷ ds) (suc k) d n e q =
+    ap (λ i. get_or (references ns (trees ++ reference ns trees c ∷ []) ds) i TextTree) (grind (arith, length-append))
+    ∙ name-tree ns (trees ++ reference ns trees c ∷ []) ds k d n e q
+
+-- what each type's tree holds is what its unnamed row does, in the trees of the whole table
+pub val-count : (w : Tree → ℕ) (ns : List (List ℕ)) (rows rest : List Definition) (v : ValType) → is_type rows v ≡ true → nodes w (read_val (references ns [] rows) v) ≡ total w (references ns [] (rows ++ rest)) (unnamed rows v)
+val-count w ns rows rest (val.Primitive p) h = refl
+val-count w ns rows rest val.String h = refl
+val-count w ns rows rest (val.Id t) h = by (slice_get rows t.0) refl h
+  where
+    whole : List Tree
+    whole = references ns [] (rows ++ rest)
+
+    inside : (rs : List Definition) (k : ℕ) (d : Definition) → slice_get rs k ≡ Some d → k < length rs
+    inside [] k d e = absurd cc
+    inside (r ∷ rs) zero d e = omega arith
+    inside (r ∷ rs) (suc k) d e = let i = inside rs k d e in omega (arith, i)
+
+    kept : (d : Definition) → slice_get rows t.0 ≡ Some d → get_or whole t.0 TextTree ≡ get_or (references ns [] rows) t.0 TextTree
+    kept d e =
+        ap (λ (xs : List Tree). get_or xs t.0 TextTree) (references-append ns [] rows rest)
+        ∙ trees-kept ns (references ns [] rows) rest t.0 (let i = inside rows t.0 d e in omega (arith, i, references-length ns [] rows))
+
+    named : (d : TypeDef) (m : Option TypeName) → d.name ≡ m → slice_get rows t.0 ≡ Some (row.Type d) → nodes w (get_or (references ns [] rows) t.0 TextTree) ≡ total w whole (one_if (not (is_some m)) t.0)
+    named d None q e = let k = ap (nodes w) (kept (row.Type d) e) in omega (arith, k)
+    named d (Some n) q e = ap (nodes w) (ap (λ i. get_or (references ns [] rows) i TextTree) (omega arith) ∙ name-tree ns [] rows t.0 d n e q)
+
+    by : (o : Option Definition) → slice_get rows t.0 ≡ o → is_there (type_of o) ≡ true → nodes w (get_or (references ns [] rows) t.0 TextTree) ≡ total w whole (one_if (is_unnamed_row (slice_get rows t.0)) t.0)
+    by None e h = absurd (false≢true h)
+    by (Some (row.Function f)) e h = absurd (false≢true h)
+    by (Some (row.Type d)) e h = named d d.name refl e ∙ ap (λ o. total w whole (one_if (is_unnamed_row o) t.0)) (sym e)
+
+-- each row names types before it
+abbrev pub IsTyped : List Definition → Type 0
+IsTyped rows = (front : List Definition) (d : Definition) (rest : List Definition) → rows ≡ front ++ d ∷ rest → definition_all (is_type front) d ≡ true
+
+-- the tree at the end of these rows
+pub tree-here : (ns : List (List ℕ)) (rows rest : List Definition) (d : Definition) → get_or (references ns [] (rows ++ d ∷ rest)) (length rows) TextTree ≡ reference ns (references ns [] rows) d
+tree-here ns rows rest d =
+    let front : List Tree = references ns [] rows in
+    let x : Tree = reference ns front d in
+    let long : length front ≡ length rows = references-length ns [] rows ∙ omega arith in
+    ap (λ (xs : List Tree). get_or xs (length rows) TextTree) (references-append ns [] rows (d ∷ rest))
+    ∙ (trees-kept ns (front ++ x ∷ []) rest (length rows) (grind (arith, long, length-append))
+    ∙ (ap (λ i. get_or (front ++ x ∷ []) i TextTree) (sym long) ∙ get_or-append_seam front x [] TextTree))
+
+-- what rows weigh, and what their definitions do
+pub record Weights : Type 0 where
+  pub node : Tree → ℕ
+  pub row : Definition → ℕ
+  pub size : Meaning → ℕ
+
+abbrev pub sizes : Weights → List NamedDefinition → ℕ
+sizes s ds = sum (map (λ d. s.size d.meaning) ds)
+
+-- a row without a name weighs what its tree's top does; one with a name what its definition does, but for its unnamed parts
+pub record Agree (s : Weights) : Type 0 where
+  pub inner : (trees : List Tree) (k : TypeDefKind) → is_inner k ≡ true → s.row (inner_row k) ≡ s.node (read_kind trees k)
+  pub whole : (ns ws : List (List ℕ)) (rows rest : List Definition) (d : Definition) → definition_all (is_type rows) d ≡ true → is_unnamed d ≡ false → aliased_by rows d ≡ []
+      → sizes s (definition_of ns ws (references ns [] rows) d) ≡ s.row d + total s.node (references ns [] (rows ++ rest)) (parts_of rows d)
+
+module _ (s : Weights) (a : Agree s) where
+  sizes-append : (xs ys : List NamedDefinition) → sizes s (xs ++ ys) ≡ sizes s xs + sizes s ys
+  sizes-append xs ys = ap sum (map-append (λ d. s.size d.meaning) xs ys) ∙ sum-append (map (λ d. s.size d.meaning) xs) _
+
+  rows-append : (xs : List Definition) (d : Definition) → sum (map s.row (xs ++ d ∷ [])) ≡ sum (map s.row xs) + s.row d
+  rows-append xs d = ap sum (map-append s.row xs (d ∷ [])) ∙ (sum-append (map s.row xs) (s.row d ∷ []) ∙ omega arith)
+
+  -- Rows in postfix order weigh what their definitions by name do, and what is still to be used.
+  pub weighed : (ns ws : List (List ℕ)) (all : List Definition) → IsTyped all → (rows : List Definition) (unused : List ℕ) → Leaves rows unused → (rest : List Definition) → all ≡ rows ++ rest
+      → sum (map s.row rows) ≡ sizes s (definitions_from ns ws [] rows) + total s.node (references ns [] all) unused
+  weighed ns ws all typed _ _ begin rest e = refl
+  weighed ns ws all typed _ _ (inner rows unused k i before) rest e =
+      let flat : all ≡ rows ++ inner_row k ∷ rest = e ∙ append_assoc rows (inner_row k ∷ []) rest in
+      let trees : List Tree = references ns [] rows in
+      let final : List Tree = references ns [] all in
+      let so-far = weighed ns ws all typed rows (unused ++ parts rows k) before (inner_row k ∷ rest) flat in
+      let count : (v : ValType) → is_type rows v ≡ true → nodes s.node (read_val trees v) ≡ total s.node final (unnamed rows v) =
+      λ v h. subst (λ (xs : List Definition). nodes s.node (read_val trees v) ≡ total s.node (references ns [] xs) (unnamed rows v)) (sym flat) (val-count s.node ns rows (inner_row k ∷ rest) v h) in
+      let here : get_or final (length rows) TextTree ≡ read_kind trees k =
+      ap (λ (xs : List Definition). get_or (references ns [] xs) (length rows) TextTree) flat ∙ tree-here ns rows rest (inner_row k) in
+      let one : nodes s.node (get_or final (length rows) TextTree) ≡ s.node (read_kind trees k) + total s.node final (parts rows k) =
+      ap (nodes s.node) here ∙ inner-count s.node rows trees final count k i (typed rows (inner_row k) rest flat) in
+      let top = a.inner trees k i in
+      let split = total-append s.node final unused (parts rows k) in
+      let last = total-append s.node final unused (length rows ∷ []) in
+      let alone : total s.node final (length rows ∷ []) ≡ 0 + nodes s.node (get_or final (length rows) TextTree) = refl in
+      let more = rows-append rows (inner_row k) in
+      let same : sizes s (definitions_from ns ws [] (rows ++ inner_row k ∷ [])) ≡ sizes s (definitions_from ns ws [] rows) + 0 =
+      ap (sizes s) (definitions-append ns ws [] rows (inner_row k)) ∙ sizes-append (definitions_from ns ws [] rows) [] in
+      omega (arith, so-far, one, top, split, last, alone, more, same)
+  weighed ns ws all typed _ _ (whole rows d u b before) rest e =
+      let flat : all ≡ rows ++ d ∷ rest = e ∙ append_assoc rows (d ∷ []) rest in
+      let final : List Tree = references ns [] all in
+      let so-far = weighed ns ws all typed rows (parts_of rows d) before (d ∷ rest) flat in
+      let one : sizes s (definition_of ns ws (references ns [] rows) d) ≡ s.row d + total s.node final (parts_of rows d) =
+      subst (λ (xs : List Definition). sizes s (definition_of ns ws (references ns [] rows) d) ≡ s.row d + total s.node (references ns [] xs) (parts_of rows d)) (sym flat)
+      (a.whole ns ws rows (d ∷ rest) d (typed rows d rest flat) u b) in
+      let more = rows-append rows d in
+      let same : sizes s (definitions_from ns ws [] (rows ++ d ∷ [])) ≡ sizes s (definitions_from ns ws [] rows) + sizes s (definition_of ns ws (references ns [] rows) d) =
+      ap (sizes s) (definitions-append ns ws [] rows d) ∙ sizes-append (definitions_from ns ws [] rows) (definition_of ns ws (references ns [] rows) d) in
+      omega (arith, so-far, one, more, same)
+
+  -- Tables in postfix order with the same definitions by name weigh the same.
+  pub by-name : (ns ws : List (List ℕ)) (rows : List Definition) → IsTyped rows → Leaves rows [] → sum (map s.row rows) ≡ sizes s (definitions_from ns ws [] rows)
+  by-name ns ws rows typed p = let c = weighed ns ws rows typed rows [] p [] (sym (append-nil rows)) in omega (arith, c)
+
+-- ---- types that no text has
+
+abbrev pub fields_length : Fields → ℕ
+fields_length no_fields = 0
+fields_length (field label t fs) = suc (fields_length fs)
+
+abbrev pub choices_length : Choices → ℕ
+choices_length no_choices = 0
+choices_length (empty label cs) = suc (choices_length cs)
+choices_length (holding label t cs) = suc (choices_length cs)
+
+-- the top of a tree has parts wherever it must, and no more than the limits
+abbrev pub is_standard_tree : Tree → Bool
+is_standard_tree (PrimTree p) = true
+is_standard_tree TextTree = true
+is_standard_tree (Reference k) = true
+is_standard_tree (ListTree t) = true
+is_standard_tree (RecordTree form fs) = nat_lt 0 (fields_length fs)
+is_standard_tree (VariantTree form cs) = is_within (choices_length cs) 100000
+is_standard_tree (FlagsTree labels) = is_within (length labels) 32
+
+abbrev pub one_unless : Bool → ℕ
+one_unless b = if b then 0 else 1
+
+abbrev pub bad : Tree → ℕ
+bad t = one_unless (is_standard_tree t)
+
+abbrev pub bad_row : Definition → ℕ
+bad_row d = one_unless (is_standard d)
+
+abbrev pub bad_meaning : Meaning → ℕ
+bad_meaning (IsUse t) = 0
+bad_meaning (IsType t) = nodes bad t
+bad_meaning (IsFunction fs result) = nodes_in bad fs + nodes_if bad result
+
+abbrev pub faults : Weights
+faults = record { node = bad; row = bad_row; size = bad_meaning }
+
+module _ (trees : List Tree) where
+  choice-long : (label : List ℕ) (v : Option ValType) (cs : Choices) → choices_length (read_choice trees label v cs) ≡ suc (choices_length cs)
+  choice-long label None cs = refl
+  choice-long label (Some v) cs = refl
+
+  tuple-long : (vs : List ValType) → fields_length (read_tuple trees vs) ≡ length vs
+  tuple-long [] = refl
+  tuple-long (v ∷ vs) = ap suc (tuple-long vs)
+
+  fields-long : (fs : List Field) → fields_length (read_fields trees fs) ≡ length fs
+  fields-long [] = refl
+  fields-long (f ∷ fs) = ap suc (fields-long fs)
+
+  cases-long : (cs : List Case) → choices_length (read_cases trees cs) ≡ length cs
+  cases-long [] = refl
+  cases-long (c ∷ cs) = choice-long c.name c.ty (read_cases trees cs) ∙ ap suc (cases-long cs)
+
+  enum-long : (ns : List (List ℕ)) → choices_length (read_enum ns) ≡ length ns
+  enum-long [] = refl
+  enum-long (n ∷ ns) = ap suc (enum-long ns)
+
+  result-long : (ok error : Option ValType) → is_standard_tree (read_kind trees (kind.Result ok error)) ≡ true
+  result-long ok error =
+      ap (λ n. is_within n 100000) (choice-long (111 ∷ 107 ∷ []) ok (read_choice trees (101 ∷ 114 ∷ 114 ∷ 111 ∷ 114 ∷ []) error no_choices)
+      ∙ ap suc (choice-long (101 ∷ 114 ∷ 114 ∷ 111 ∷ 114 ∷ []) error no_choices))
+
+  -- a type is standard just where its tree's top is
+  pub standard-top : (k : TypeDefKind) → is_use k ≡ false → is_alias k ≡ false → is_standard_kind k ≡ is_standard_tree (read_kind trees k)
+  standard-top (kind.Use t) u a = absurd (false≢true (sym u))
+  standard-top (kind.Alias v) u a = absurd (false≢true (sym a))
+  standard-top (kind.List v) u a = refl
+  standard-top (kind.Option v) u a = refl
+  standard-top (kind.Result ok error) u a = sym (result-long ok error)
+  standard-top (kind.Tuple vs) u a = ap (λ n. nat_lt 0 n) (sym (tuple-long vs))
+  standard-top (kind.Record fs) u a = ap (λ n. nat_lt 0 n) (sym (fields-long fs))
+  standard-top (kind.Variant cs) u a = ap (λ n. is_within n 100000) (sym (cases-long cs))
+  standard-top (kind.Enum ns) u a = ap (λ n. is_within n 100000) (sym (enum-long ns))
+  standard-top (kind.Flags ns) u a = refl
+
+not-use : (k : TypeDefKind) → is_inner k ≡ true → is_use k ≡ false
+not-use (kind.Use t) h = absurd (false≢true h)
+not-use _ h = refl
+
+not-alias : (k : TypeDefKind) → is_inner k ≡ true → is_alias k ≡ false
+not-alias (kind.Alias v) h = absurd (false≢true h)
+not-alias _ h = refl
+
+module _ (ns ws : List (List ℕ)) (rows rest : List Definition) where
+  abbrev front : List Tree
+  front = references ns [] rows
+
+  abbrev final : List Tree
+  final = references ns [] (rows ++ rest)
+
+  count : (v : ValType) → is_type rows v ≡ true → nodes bad (read_val front v) ≡ total bad final (unnamed rows v)
+  count = val-count bad ns rows rest
+
+  other : (k : TypeDefKind) → kind_all (is_type rows) k ≡ true → is_use k ≡ false → is_alias k ≡ false → nodes bad (read_kind front k) ≡ one_unless (is_standard_kind k) + total bad final (parts rows k)
+  other k h u b = whole-count bad rows front final count k h u b ∙ ap (λ x. one_unless x + total bad final (parts rows k)) (sym (standard-top front k u b))
+
+  kind-whole : (k : TypeDefKind) → kind_all (is_type rows) k ≡ true → aliased rows k ≡ [] → bad_meaning (meaning_of front k) ≡ one_unless (is_standard_kind k) + total bad final (parts rows k)
+  kind-whole (kind.Use t) h a = refl
+  kind-whole (kind.Alias v) h a = count v h ∙ ap (total bad final) a
+  kind-whole (kind.List v) h a = other (kind.List v) h refl refl
+  kind-whole (kind.Option v) h a = other (kind.Option v) h refl refl
+  kind-whole (kind.Result ok error) h a = other (kind.Result ok error) h refl refl
+  kind-whole (kind.Tuple vs) h a = other (kind.Tuple vs) h refl refl
+  kind-whole (kind.Record fs) h a = other (kind.Record fs) h refl refl
+  kind-whole (kind.Variant cs) h a = other (kind.Variant cs) h refl refl
+  kind-whole (kind.Enum ns) h a = other (kind.Enum ns) h refl refl
+  kind-whole (kind.Flags ns) h a = other (kind.Flags ns) h refl refl
+
+  pub bad-whole : (d : Definition) → definition_all (is_type rows) d ≡ true → is_unnamed d ≡ false → aliased_by rows d ≡ []
+      → sizes faults (definition_of ns ws front d) ≡ bad_row d + total bad final (parts_of rows d)
+  bad-whole (row.Type d) h u a = by d.name refl
+    where
+      by : (m : Option TypeName) → d.name ≡ m → sizes faults (named_by ns front d.name d.kind) ≡ one_unless (is_standard_kind d.kind) + total bad final (parts rows d.kind)
+      by None e = absurd (let x = ap (λ (m : Option TypeName). not (is_some m)) e in let y = u in cc)
+      by (Some n) e =
+          let c = kind-whole d.kind h a in
+          ap (λ m. sizes faults (named_by ns front m d.kind)) e ∙ (let z : sizes faults (named_by ns front (Some n) d.kind) ≡ 0 + bad_meaning (meaning_of front d.kind) = refl in z ∙ omega (arith, c))
+  bad-whole (row.Function f) h u a =
+      let t = and_parts (list_all (λ q. is_type rows q.ty) f.params) (option_all (is_type rows) f.result) h in
+      let p = params-count bad rows front final count f.params t.0 in
+      let r = if-count bad rows front final count f.result t.1 in
+      let s = total-append bad final (flat_map (unnamed_parameter rows) f.params) (unnamed_if rows f.result) in
+      omega (arith, p, r, s)
+
+pub agree : Agree faults
+agree = record {
+  inner = λ trees k i. ap one_unless (standard-top trees k (not-use k i) (not-alias k i));
+  whole = λ ns ws rows rest d h u a. bad-whole ns ws rows rest d h u a;
+}
+
+one-none : (b : Bool) (n : ℕ) → one_unless b + n ≡ 0 → (b ≡ true) × (n ≡ 0)
+one-none true n e = (refl, omega (arith, e))
+one-none false n e = absurd (omega (arith, e))
+
+bad-front : (d : Definition) (ds : List Definition) → sum (map bad_row (d ∷ ds)) ≡ one_unless (is_standard d) + sum (map bad_row ds)
+bad-front d ds = sum-append (one_unless (is_standard d) ∷ []) (map bad_row ds) ∙ omega arith
+
+bad-none : (rows : List Definition) → sum (map bad_row rows) ≡ 0 → are_standard rows ≡ true
+bad-none [] e = refl
+bad-none (d ∷ ds) e =
+    let t = one-none (is_standard d) (sum (map bad_row ds)) (sym (bad-front d ds) ∙ e) in
+    ap (λ b. b && are_standard ds) t.0 ∙ bad-none ds t.1
+
+none-bad : (rows : List Definition) → are_standard rows ≡ true → sum (map bad_row rows) ≡ 0
+none-bad [] h = refl
+none-bad (d ∷ ds) h =
+    let t = and_parts (is_standard d) (are_standard ds) h in
+    let r = none-bad ds t.1 in
+    bad-front d ds ∙ (ap (λ b. one_unless b + sum (map bad_row ds)) t.0 ∙ omega (arith, r))
+
+-- Whether rows are standard is told by their definitions by name.
+pub standard-by-name : (ns ms ws vs : List (List ℕ)) (rows others : List Definition) → IsTyped rows → Leaves rows [] → IsTyped others → Leaves others []
+    → definitions_from ns ws [] rows ≡ definitions_from ms vs [] others → are_standard rows ≡ true → are_standard others ≡ true
+standard-by-name ns ms ws vs rows others t p u q e h =
+    bad-none others (by-name faults agree ms vs others u q ∙ (ap (sizes faults) (sym e) ∙ (sym (by-name faults agree ns ws rows t p) ∙ none-bad rows h)))

@@ -1,0 +1,5 @@
+use Rattle.tables.proofs.Erased.{erases}
+use Rattle.tables.proofs.laws.erases_to_closed.Goals as goal
+
+pub returns : goal.returns
+returns c = erases c.args._resolve.now

@@ -1,7 +1,0 @@
-use Rattle.std.proofs.Common.{◌≡◌, drop}
-use Rattle.std.specs.List.{list_all}
-use Rattle.wit_component.specs.Form.{is_local}
-use Rattle.wit_component.proofs.form.are_local.Given as goal
-
-abbrev pub invariant-loop-row : goal.invariant-loop-row
-invariant-loop-row l = list_all (is_local l.rows l.place) (drop l.row-index l.own) ≡ list_all (is_local l.rows l.place) l.own

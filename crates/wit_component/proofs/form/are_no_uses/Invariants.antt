@@ -1,7 +1,0 @@
-use Rattle.std.proofs.Common.{◌≡◌, drop, not}
-use Rattle.std.specs.List.{list_all}
-use Rattle.wit_component.specs.Form.{is_use_at}
-use Rattle.wit_component.proofs.form.are_no_uses.Given as goal
-
-abbrev pub invariant-loop-id : goal.invariant-loop-id
-invariant-loop-id l = list_all (λ t. not (is_use_at l.rows t)) (drop l.id-index l.ids) ≡ list_all (λ t. not (is_use_at l.rows t)) l.ids

@@ -1,6 +1,0 @@
-use Rattle.std.proofs.Common.{◌≡◌, ◌++◌, map, drop}
-use Rattle.wit_component.specs.Form.{ids_of}
-use Rattle.wit_component.proofs.form.ids_of.Given as goal
-
-abbrev pub invariant-loop-id : goal.invariant-loop-id
-invariant-loop-id l = l.ids.items ++ map (λ f. f.0) (drop l.id-index l.id-items) ≡ ids_of l.fn.interface

@@ -1,6 +1,0 @@
-use Rattle.std.proofs.Common.{◌≡◌, drop}
-use Rattle.wit_component.specs.Component.{is_parted}
-use Rattle.wit_component.proofs.form.is_parted.Given as goal
-
-abbrev pub invariant-loop-interface : goal.invariant-loop-interface
-invariant-loop-interface l = is_parted l.count l.start (drop l.interface-index l.interfaces) ≡ is_parted l.count 0 l.interfaces

@@ -1,6 +1,0 @@
-use Rattle.resolve.proofs.Finishing.{passes}
-use Rattle.wit_component.proofs.form.passes_entries.Goals as goal
-
-pub returns-then-total-gt-MAX_ENTRIES : goal.returns-then-total-gt-MAX_ENTRIES
-returns-then-total-gt-MAX_ENTRIES c =
-    passes c.args.rows.now c.loop-row.row-index c.args.interfaces c.loop-row.total c.loop-row.invariant c.if-total-gt-MAX_ENTRIES.true

@@ -1,6 +1,0 @@
-use Rattle.std.proofs.Common.{◌≡◌, ◌+◌, map, sum, take}
-use Rattle.resolve.specs.Resolves.{entries_of}
-use Rattle.wit_component.proofs.form.passes_entries.Given as goal
-
-abbrev pub invariant-loop-row : goal.invariant-loop-row
-invariant-loop-row l = l.total ≡ 1 + l.interfaces + sum (map entries_of (take l.row-index l.rows))

@@ -1,5 +1,0 @@
-use Rattle.std.proofs.Common.{◌≡◌, ◌++◌, map, take}
-use Rattle.wit_component.proofs.form.push_types.Given as goal
-
-abbrev pub invariant-loop-id : goal.invariant-loop-id
-invariant-loop-id l = l.ids.items ≡ l.initial.ids.items ++ map (λ t. t.0) (take l.id-index l.types)

@@ -1,5 +1,0 @@
-use Rattle.wit_component.proofs.Ends.{types-more}
-use Rattle.wit_component.proofs.interfaces.behind_types.Goals as goal
-
-pub loop-id-preserved : goal.loop-id-preserved
-loop-id-preserved c = types-more c.args.start c.args.ids.now c.loop-id.id-index _ c.loop-id-test.true

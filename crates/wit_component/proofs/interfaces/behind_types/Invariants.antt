@@ -1,6 +1,0 @@
-use Rattle.std.proofs.Common.{◌≡◌, take}
-use Rattle.wit_component.specs.Component.{behind_types}
-use Rattle.wit_component.proofs.interfaces.behind_types.Given as goal
-
-abbrev pub invariant-loop-id : goal.invariant-loop-id
-invariant-loop-id l = l.end ≡ behind_types l.initial.end (take l.id-index l.ids)

@@ -1,6 +1,0 @@
-use Rattle.std.proofs.Common.{◌≡◌, ◌++◌, flat_map, take}
-use Rattle.wit_component.specs.References.{case_references}
-use Rattle.wit_component.proofs.references.push_cases.Given as goal
-
-abbrev pub invariant-loop-case : goal.invariant-loop-case
-invariant-loop-case l = l.ids.items ≡ l.initial.ids.items ++ flat_map case_references (take l.case-index l.cases)

@@ -1,6 +1,0 @@
-use Rattle.std.proofs.Common.{◌≡◌, Some, take}
-use Rattle.wit_component.specs.Reading.{all_found, case_read}
-use Rattle.wit_component.proofs.types.cases.Given as goal
-
-abbrev pub invariant-loop-case : goal.invariant-loop-case
-invariant-loop-case l = all_found (case_read l.rows) (take l.case-index l.raw) ≡ Some l.cases.items

@@ -1,6 +1,0 @@
-use Rattle.std.proofs.Common.{◌≡◌, Some, take}
-use Rattle.wit_component.specs.Reading.{all_found, field_read}
-use Rattle.wit_component.proofs.types.fields.Given as goal
-
-abbrev pub invariant-loop-field : goal.invariant-loop-field
-invariant-loop-field l = all_found (field_read l.rows) (take l.field-index l.raw) ≡ Some l.fields.items

@@ -1,6 +1,0 @@
-use Rattle.std.proofs.Common.{◌≡◌, Some, take}
-use Rattle.wit_component.specs.Reading.{all_found, val_type}
-use Rattle.wit_component.proofs.types.members.Given as goal
-
-abbrev pub invariant-loop-ty : goal.invariant-loop-ty
-invariant-loop-ty l = all_found (val_type l.rows) (take l.ty-index l.types) ≡ Some l.members.items

@@ -1,6 +1,0 @@
-use Rattle.std.proofs.Common.{◌≡◌, [], drop}
-use Rattle.wit_component.specs.Unused.{are_used}
-use Rattle.wit_component.proofs.unused.are_used.Given as goal
-
-abbrev pub invariant-loop-place : goal.invariant-loop-place
-invariant-loop-place l = are_used l.rows l.place l.unused.items (drop l.place l.rows) ≡ are_used l.rows 0 [] l.rows

@@ -1,6 +1,0 @@
-use Rattle.std.proofs.Common.{◌≡◌, flat_map, take}
-use Rattle.wit_component.specs.Unused.{unnamed_at}
-use Rattle.wit_component.proofs.unused.inner_rows.Given as goal
-
-abbrev pub invariant-loop-id : goal.invariant-loop-id
-invariant-loop-id l = l.inner.items ≡ flat_map (unnamed_at l.rows) (take l.id-index l.id-items)

@@ -1,0 +1,58 @@
+//! A package as a raw component.
+ghost use Rattle.std.specs.Prelude.{◌≡◌, ◌⊎◌, [], ◌∷◌, IsTrue, true, IfOk, OnOk, IfErr};
+ghost use Rattle.ctype_bin.specs.View.{file_of, export_view};
+ghost use Rattle.wit_component.specs.Component.{component_of, package_export};
+ghost use Rattle.package_form.specs.Form.{IsInPackageForm};
+ghost use Rattle.wit_component.specs.Standing.{Stands, are_labelled};
+
+use crate::component::declarations;
+use atoms::Label;
+use ctype_bin::{BinError, ExternName, RawComponent, RawExport, RawType};
+use package_form::is_in_form;
+use std::alloc::{AllocError, Global};
+use tables::{Resolve, ResolveError};
+
+/// The export of the package's component type.
+#[tactic(auto, unfolding(atoms::specs::Label::is_label))]
+fn package_export(alloc: Global) -> Result<RawExport, AllocError>
+    ensures { IfOk result (λ e. export_view e ≡ record { name = package_export; type = 0 }) }
+{
+    Ok(RawExport {
+        name: ExternName::Label(Label::from_bytes(alloc, b"package")?),
+        ty: 0,
+    })
+}
+
+/// The type section and the export section of a package's component.
+#[tactic(auto, using(ctype_bin::proofs::Views::views))]
+fn parts_of(alloc: Global, resolve: &Resolve) -> Result<(Vec<RawType>, Vec<RawExport>), AllocError>
+    requires { IsInPackageForm resolve.now }
+    ensures file { IfOk result (λ x. file_of x.0 x.1 ≡ component_of resolve.now) }
+    ensures labelled { OnOk result (IsTrue (are_labelled resolve.now.definitions 0 resolve.now.interfaces)) }
+{
+    let decls = declarations(alloc, resolve)?;
+    let mut types = Vec::new(alloc);
+    types.push(RawType::Component(decls))?;
+    let mut exports = Vec::new(alloc);
+    exports.push(package_export(alloc)?)?;
+    Ok((types, exports))
+}
+
+/// The component type that a package is, in the layout of packages. 44 `NotThisShape` exactly where the table isn't one
+/// that packages have, unless memory is wanting before that is known. (Binary.md)
+pub fn to_raw(alloc: Global, resolve: &Resolve) -> Result<RawComponent, ResolveError>
+    ensures ok { IfOk result (λ raw. Stands raw resolve.now) }
+    ensures err { IfErr result (λ e. (e ≡ ResolveError.NoMemory)
+        ⊎ ((e ≡ ResolveError.NotThisShape) × (IsInPackageForm resolve.now → ⊥))) }
+{
+    if !is_in_form(alloc, resolve)? {
+        return Err(ResolveError::NotThisShape);
+    }
+    let (types, exports) = parts_of(alloc, resolve)?;
+    match RawComponent::new(alloc, types, exports) {
+        Ok(raw) => Ok(raw),
+        Err(BinError::NoMemory) => Err(ResolveError::NoMemory),
+        Err(BinError::At(_, _)) => unreachable!(),
+        Err(BinError::Read(_)) => unreachable!(),
+    }
+}
