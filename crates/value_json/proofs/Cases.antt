@@ -8,7 +8,7 @@ use Rattle.canonical_abi.specs.Values.{Value}
 use Rattle.canonical_abi.specs.Labelled.{Label, LabelledType}
 use Rattle.serde_json.specs.Data.{Data, string}
 use Rattle.tables.specs.declared.tables.Case.{Case}
-use Rattle.value_json.specs.Labelled.{labelled_payload, labelled_cases}
+use Rattle.tables.specs.Labelled.{labelled_payload, labelled_cases}
 use Rattle.value_json.specs.Json.{PayloadJson, CasesJson}
 
 module _ (rows : List LabelledType) where

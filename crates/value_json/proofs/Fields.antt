@@ -15,7 +15,8 @@ use Rattle.serde_json.specs.View.{members_view}
 use Rattle.serde_json.specs.declared.value.Value.{Value as JsonValue}
 use Rattle.serde_json.proofs.Views.{get_member-put, get_member-put_other}
 use Rattle.tables.specs.declared.tables.Field.{Field}
-use Rattle.value_json.specs.Labelled.{labelled_val, labelled_fields, AreApart}
+use Rattle.tables.specs.Labelled.{labelled_val, labelled_fields}
+use Rattle.value_json.specs.Apart.{AreApart}
 use Rattle.value_json.specs.Json.{Json, FieldsJson}
 use Rattle.value_json.proofs.Objects.{same-key}
 use Rattle.value_json.proofs.Runs.{Run}

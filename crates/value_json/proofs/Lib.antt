@@ -1,5 +1,4 @@
 pub mod Rows
-pub mod Erased
 pub mod OneChar
 pub mod Runs
 pub mod Objects
@@ -12,3 +11,4 @@ pub mod Typed
 pub mod Writes
 pub mod OneValue
 pub mod Depths
+pub mod OneLabel

@@ -1,10 +1,10 @@
 -- A JSON value stands for one value of a type.
-use Rattle.std.proofs.Common.{◌≡◌, inl, inr, ℕ, zero, suc, ℤ, pos, negsuc, List, [], ◌∷◌, get_or, Some, None, slice_get, Ordering, Less, Equal, Greater, nat_cmp, encode_utf8, codes, refl, sym, ap, ◌∙◌, subst, append-nil, arith}
+use Rattle.std.proofs.Common.{◌≡◌, inl, inr, ℕ, zero, suc, ℤ, pos, negsuc, List, [], ◌∷◌, get_or, Some, None, slice_get, Ordering, Less, Equal, Greater, nat_cmp, encode_utf8, refl, sym, ap, ◌∙◌, subst, append-nil, arith}
 use Rattle.std.specs.Cmp.Lexicographic.{slice_cmp}
 use Rattle.std.specs.Ordering.{match_ordering}
 use Rattle.std.proofs.lemmas.Str.{encode_same}
 use Rattle.canonical_abi.specs.Types.{Prim, boolean, unsigned, signed, scalar_value}
-use Rattle.canonical_abi.specs.Labelled.{Label, LabelledType, labelled_prim, labelled_string, labelled_list, labelled_option, labelled_tuple, labelled_result, labelled_record, labelled_variant, labelled_enum, labelled_flags, LabelledTypes, no_member, member, Payload, no_payload, payload, LabelledFields, no_labelled_field, labelled_field, LabelledCases, no_labelled_case, labelled_case}
+use Rattle.canonical_abi.specs.Labelled.{Label, LabelledType, labelled_prim, labelled_string, labelled_list, labelled_option, labelled_tuple, labelled_result, labelled_record, labelled_variant, labelled_enum, labelled_flags, LabelledTypes, no_member, member, Payload, no_payload, payload, LabelledFields, no_labelled_field, labelled_field, LabelledCases, no_labelled_case, labelled_case, ok_label, error_label}
 use Rattle.canonical_abi.specs.Values.{Value, values_of, list_value, record_value, plain_value, payload_value, flags_value, signed_value}
 use Rattle.serde_json.specs.Data as json
 use Rattle.serde_json.specs.Data.{Data, Members, no_members, put}
@@ -110,7 +110,7 @@ without-put l d (json.member k e ms) same none = by (without-put l d ms same) (s
 
 -- ---- types
 
-ok-error : codes "ok" ≡ codes "error" → ⊥
+ok-error : ok_label ≡ error_label → ⊥
 ok-error e = let first : 111 ≡ 101 = ap (λ xs. get_or xs 0 0) e in omega (arith, first)
 
 mutual
@@ -128,10 +128,10 @@ mutual
   one-value (labelled_tuple ts) v w j apart (vs, js, each, is_v, is_j) (ws, ks, each2, is_w, is_k) =
       let same = only_items ks js (sym is_k ∙ is_j) in
       is_v ∙ ap (λ x. record_value (values_of x)) (members-value ts vs ws js apart each (subst (MembersJson ts ws) same each2)) ∙ sym is_w
-  one-value (labelled_result ok error) v w j apart (inl a) (inl b) = payload-value ok (codes "ok") 0 v w j apart.0 a b
-  one-value (labelled_result ok error) v w j apart (inr a) (inr b) = payload-value error (codes "error") 1 v w j apart.1 a b
-  one-value (labelled_result ok error) v w j apart (inl a) (inr b) = absurd (ok-error (sym (payload-label ok (codes "ok") 0 v j a) ∙ payload-label error (codes "error") 1 w j b))
-  one-value (labelled_result ok error) v w j apart (inr a) (inl b) = absurd (ok-error (sym (payload-label ok (codes "ok") 0 w j b) ∙ payload-label error (codes "error") 1 v j a))
+  one-value (labelled_result ok error) v w j apart (inl a) (inl b) = payload-value ok (ok_label) 0 v w j apart.0 a b
+  one-value (labelled_result ok error) v w j apart (inr a) (inr b) = payload-value error (error_label) 1 v w j apart.1 a b
+  one-value (labelled_result ok error) v w j apart (inl a) (inr b) = absurd (ok-error (sym (payload-label ok (ok_label) 0 v j a) ∙ payload-label error (error_label) 1 w j b))
+  one-value (labelled_result ok error) v w j apart (inr a) (inl b) = absurd (ok-error (sym (payload-label ok (ok_label) 0 w j b) ∙ payload-label error (error_label) 1 v j a))
   one-value (labelled_record fs) v w j apart (vs, ms, each, is_v, is_j) (ws, ns, each2, is_w, is_k) =
       let same : ms ≡ ns = cc in
       is_v ∙ ap (λ x. record_value (values_of x)) (fields-value fs vs ws ns apart (subst (FieldsJson fs vs) same each) each2) ∙ sym is_w

@@ -18,7 +18,8 @@ use Rattle.tables.specs.declared.tables.Definition.{Definition}
 use Rattle.tables.specs.declared.tables.Definition.TheVariants as row
 use Rattle.tables.specs.declared.tables.Resolve.{Resolve}
 use Rattle.tables.proofs.Rows.{split, earlier-at}
-use Rattle.value_json.specs.Labelled.{labelled_val, labelled_payload, labelled_members, labelled_fields, labelled_cases, labelled_kind, labelled_definition, labelled_rows, labelled_types, RowApart, KindApart, HasApartLabels}
+use Rattle.tables.specs.Labelled.{labelled_val, labelled_payload, labelled_members, labelled_fields, labelled_cases, labelled_kind, labelled_definition, labelled_rows, labelled_types}
+use Rattle.value_json.specs.Apart.{RowApart, KindApart, HasApartLabels}
 
 length-rows : (ts : List LabelledType) (ds : List Definition) → length (labelled_rows ts ds) ≡ length ts + length ds
 length-rows ts [] = omega arith

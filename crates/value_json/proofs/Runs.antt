@@ -7,7 +7,7 @@ use Rattle.serde_json.specs.View.{view}
 use Rattle.serde_json.specs.declared.value.Value.{Value as JsonValue}
 use Rattle.tables.specs.declared.tables.ValType.{ValType}
 use Rattle.canonical_abi.specs.Labelled.{LabelledType}
-use Rattle.value_json.specs.Labelled.{labelled_val, labelled_members}
+use Rattle.tables.specs.Labelled.{labelled_val, labelled_members}
 use Rattle.value_json.specs.Json.{Json, EachJson, MembersJson}
 
 -- els many values els elements, each made of its element, by its place

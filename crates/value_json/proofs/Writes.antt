@@ -15,7 +15,8 @@ use Rattle.serde_json.proofs.Views.{get_member-put_other}
 use Rattle.tables.specs.declared.tables.ValType.{ValType}
 use Rattle.tables.specs.declared.tables.Field.{Field}
 use Rattle.tables.specs.declared.tables.Case.{Case}
-use Rattle.value_json.specs.Labelled.{labelled_val, labelled_members, labelled_fields, labelled_cases, labelled_payload, AreApart}
+use Rattle.tables.specs.Labelled.{labelled_val, labelled_members, labelled_fields, labelled_cases, labelled_payload}
+use Rattle.value_json.specs.Apart.{AreApart}
 use Rattle.value_json.specs.Json.{Json, EachJson, MembersJson, FieldsJson, FlagsJson}
 use Rattle.value_json.specs.Writing.{HasCase, HasPayload}
 use Rattle.lift_lower.specs.Val.{value_of}

@@ -1,9 +1,9 @@
 -- How values stand in JSON: each type's values, over its labels.
-use Rattle.std.specs.Prelude.{◌≡◌, ◌⊎◌, ◌<◌, ◌≤◌, ◌+◌, ◌*◌, ◌^◌, ℕ, suc, ℤ, List, [], ◌∷◌, slice_get, Bool, true, Some, None, FitsSigned, encode_utf8, codes}
+use Rattle.std.specs.Prelude.{◌≡◌, ◌⊎◌, ◌<◌, ◌≤◌, ◌+◌, ◌*◌, ◌^◌, ℕ, suc, ℤ, List, [], ◌∷◌, slice_get, Bool, true, Some, None, FitsSigned, encode_utf8}
 use Rattle.std.specs.Str.{is_utf8}
 use Rattle.std.specs.Char.{IsScalar}
 use Rattle.canonical_abi.specs.Types.{Prim, boolean, unsigned, signed, scalar_value, bits, width_of, depth}
-use Rattle.canonical_abi.specs.Labelled.{Label, LabelledType, labelled_prim, labelled_string, labelled_list, labelled_option, labelled_tuple, labelled_result, labelled_record, labelled_variant, labelled_enum, labelled_flags, LabelledTypes, no_member, member, Payload, no_payload, payload, LabelledFields, no_labelled_field, labelled_field, LabelledCases, no_labelled_case, labelled_case, closed}
+use Rattle.canonical_abi.specs.Labelled.{Label, LabelledType, labelled_prim, labelled_string, labelled_list, labelled_option, labelled_tuple, labelled_result, labelled_record, labelled_variant, labelled_enum, labelled_flags, LabelledTypes, no_member, member, Payload, no_payload, payload, LabelledFields, no_labelled_field, labelled_field, LabelledCases, no_labelled_case, labelled_case, none_label, some_label, ok_label, error_label, closed}
 use Rattle.canonical_abi.specs.Values.{Value, HasType, values_of, bool_value, unsigned_value, signed_value, char_value, string_value, list_value, record_value, plain_value, payload_value, flags_value}
 use Rattle.serde_json.specs.Data as json
 use Rattle.serde_json.specs.Data.{Data, Members, no_members, put}
@@ -44,11 +44,11 @@ abbrev mutual
   Json (labelled_list t) v j =
       (vs : List Value) × (js : List Data) × EachJson (Json t) vs js × (v ≡ list_value (values_of vs)) × (j ≡ json.array (items_of js))
   Json (labelled_option t) v j =
-      ((v ≡ plain_value 0) × (j ≡ json.string (codes "none")))
-      ⊎ ((w : Value) × (d : Data) × Json t w d × (v ≡ payload_value 1 w) × (j ≡ single (codes "some") d))
+      ((v ≡ plain_value 0) × (j ≡ json.string none_label))
+      ⊎ ((w : Value) × (d : Data) × Json t w d × (v ≡ payload_value 1 w) × (j ≡ single some_label d))
   Json (labelled_tuple ts) v j =
       (vs : List Value) × (js : List Data) × MembersJson ts vs js × (v ≡ record_value (values_of vs)) × (j ≡ json.array (items_of js))
-  Json (labelled_result ok error) v j = PayloadJson ok (codes "ok") 0 v j ⊎ PayloadJson error (codes "error") 1 v j
+  Json (labelled_result ok error) v j = PayloadJson ok ok_label 0 v j ⊎ PayloadJson error error_label 1 v j
   Json (labelled_record fs) v j =
       (vs : List Value) × (ms : Members) × FieldsJson fs vs ms × (v ≡ record_value (values_of vs)) × (j ≡ json.object ms)
   Json (labelled_variant cs) v j = CasesJson cs 0 v j

@@ -1,3 +1,4 @@
-pub mod Labelled
+pub mod Apart
 pub mod Json
 pub mod Writing
+pub mod Laws

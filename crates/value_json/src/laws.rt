@@ -1,13 +1,8 @@
-//! Laws of labelled types.
-ghost use Rattle.value_json.specs.Labelled.{ErasesToClosed};
+//! Laws of values in JSON.
 ghost use Rattle.value_json.specs.Json.{HasOneJson, HasOneValue, GivesTyped, NestsAsItsType};
+ghost use Rattle.value_json.specs.Laws.{LabelsAreApart};
 
 use tables::Resolve;
-
-/// Without its labels, the labelled type of a type of the package is its closed type.
-pub fn erases_to_closed(_resolve: &Resolve)
-    ensures { ErasesToClosed _resolve.now }
-{}
 
 /// A value of a type has one JSON value.
 pub fn has_one_json()
@@ -27,4 +22,10 @@ pub fn gives_typed()
 /// A JSON value nests no deeper than its type.
 pub fn nests_as_its_type()
     ensures { NestsAsItsType }
+{}
+
+/// In a package of distinct names no record has a label twice, and the labels of its types' variants, enums and flags
+/// differ.
+pub fn labels_are_apart(_resolve: &Resolve)
+    ensures { LabelsAreApart _resolve.now }
 {}

@@ -8,7 +8,8 @@ ghost use Rattle.canonical_abi.specs.Labelled.{labelled_string, labelled_enum, l
 ghost use Rattle.tables.specs.Standard.{IsTypeOf};
 ghost use Rattle.tables.specs.Tables.{is_type_id, is_type, is_below, kind_all, option_all, is_standard_kind};
 ghost use Rattle.lift_lower.specs.Val.{value_of};
-ghost use Rattle.value_json.specs.Labelled.{labelled_type, labelled_types, labelled_val, labelled_kind, labelled_payload, labelled_members, labelled_fields, labelled_cases, AreApart, KindApart, HasApartLabels};
+ghost use Rattle.tables.specs.Labelled.{labelled_type, labelled_types, labelled_val, labelled_kind, labelled_payload, labelled_members, labelled_fields, labelled_cases};
+ghost use Rattle.value_json.specs.Apart.{AreApart, KindApart, HasApartLabels};
 ghost use Rattle.value_json.specs.Json.{Json as StandsAs, HasNone, EachJson, MembersJson, PayloadJson, CasesJson, HasFields, FlagsJson};
 
 use crate::error::JsonError;

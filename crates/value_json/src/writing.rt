@@ -11,7 +11,8 @@ ghost use Rattle.tables.specs.Standard.{IsTypeOf};
 ghost use Rattle.tables.specs.Tables.{is_below, is_type, option_all, kind_all, is_standard_kind};
 ghost use Rattle.lift_lower.specs.Val.{value_of};
 ghost use Rattle.value_json.specs.Json.{Json as StandsAs, EachJson, MembersJson, PayloadJson, CasesJson, FieldsJson};
-ghost use Rattle.value_json.specs.Labelled.{labelled_type, labelled_types, labelled_kind, labelled_payload, labelled_members, labelled_fields, labelled_cases, HasApartLabels, KindApart, AreApart};
+ghost use Rattle.tables.specs.Labelled.{labelled_type, labelled_types, labelled_kind, labelled_payload, labelled_members, labelled_fields, labelled_cases};
+ghost use Rattle.value_json.specs.Apart.{HasApartLabels, KindApart, AreApart};
 ghost use Rattle.value_json.specs.Writing.{HasCase, HasPayload};
 
 use crate::reading::kind_of;

@@ -13,7 +13,7 @@ use Rattle.tables.specs.declared.tables.ValType.{ValType}
 use Rattle.tables.specs.declared.tables.Field.{Field}
 use Rattle.lift_lower.proofs.Views.{value_of-List, value_of-Record}
 use Rattle.lift_lower.proofs.Typings.{typed-list, typed-record}
-use Rattle.value_json.specs.Labelled.{labelled_type, labelled_types, labelled_val, labelled_kind, labelled_payload, labelled_members, labelled_fields, labelled_cases}
+use Rattle.tables.specs.Labelled.{labelled_type, labelled_types, labelled_val, labelled_kind, labelled_payload, labelled_members, labelled_fields, labelled_cases}
 use Rattle.value_json.specs.Json.{Json, EachJson, MembersJson, FieldsJson, PayloadJson, CasesJson}
 use Rattle.value_json.specs.Writing.{HasPayload}
 use Rattle.tables.specs.Tables.{is_below, is_type, option_all}

@@ -1,0 +1,26 @@
+-- Tables whose records have no label twice.
+use Rattle.std.specs.Prelude.{◌≡◌, List, [], ◌∷◌}
+use Rattle.std.specs.List.{AllByRecursion}
+use Rattle.tables.specs.declared.tables.TypeDefKind.{TypeDefKind}
+use Rattle.tables.specs.declared.tables.TypeDefKind.TheVariants as kind
+use Rattle.tables.specs.declared.tables.Field.{Field}
+use Rattle.tables.specs.declared.tables.Definition.{Definition}
+use Rattle.tables.specs.declared.tables.Definition.TheVariants as row
+use Rattle.tables.specs.declared.tables.Resolve.{Resolve}
+
+-- the fields' labels differ
+abbrev pub AreApart : List Field → Type 0
+AreApart [] = Unit {0}
+AreApart (f ∷ fs) = AllByRecursion (λ g. g.name ≡ f.name → ⊥) fs × AreApart fs
+
+abbrev pub KindApart : TypeDefKind → Type 0
+KindApart (kind.Record fs) = AreApart fs
+KindApart _ = Unit {0}
+
+abbrev pub RowApart : Definition → Type 0
+RowApart (row.Type d) = KindApart d.kind
+RowApart (row.Function f) = Unit {0}
+
+-- no record of the table has two fields of one label
+abbrev pub HasApartLabels : Resolve → Type 0
+HasApartLabels r = AllByRecursion RowApart r.definitions
