@@ -31,3 +31,6 @@ pub use raw::{
     Primitive, RawAlias, RawCase, RawDecl, RawDefinedType, RawDescription, RawExport, RawField,
     RawFunction, RawType, RawValType,
 };
+
+#[cfg(test)]
+mod tests;

@@ -19,15 +19,6 @@ Fails-on (error.Unsupported x t) r s h p = h p
 Fails-on (error.Depth t) r s h p = h p
 Fails-on error.Limit r s h p = h p
 
-pub Fails-same : {Y : Type 0} (e : TextError) (r : Result Y TextError) → r ≡ Err e → Fails e r
-Fails-same error.NoMemory r h = tt
-Fails-same (error.BadChar t) r h = h
-Fails-same (error.OpenComment t) r h = h
-Fails-same (error.Expected x t) r h = h
-Fails-same (error.Unsupported x t) r h = h
-Fails-same (error.Depth t) r h = h
-Fails-same error.Limit r h = h
-
 -- what a token that may come next was
 pub peeked : {E : Type 0} (text : List ℕ) (o p : Option Token) (r : Result (Option Lexeme × List Lexeme) E) (rest : List Lexeme) → o ≡ p → r ≡ Ok (optional_lexeme text o, rest) → r ≡ Ok (optional_lexeme text p, rest)
 peeked text o p r rest same h = rw (← same) h

@@ -1,5 +1,5 @@
 -- What is answered where a token isn't allowed. `end` is the length of the text.
-use Rattle.std.specs.Prelude.{◌≡◌, ℕ, Bool, false, List, [], ◌∷◌, Option, Some, None, Result, Ok, Err}
+use Rattle.std.specs.Prelude.{◌≡◌, ℕ, Bool, List, [], ◌∷◌, Option, Some, None, Result, Ok, Err}
 use Rattle.wit_tokens.specs.declared.token.Span.{Span}
 use Rattle.wit_tokens.specs.declared.token.TokenKind.{TokenKind}
 use Rattle.wit_tokens.specs.declared.error.Expected.{Expected}
@@ -16,15 +16,8 @@ met end (t ∷ ts) = t.token.span
 abbrev pub wanted : ℕ → Expected → List Lexeme → TextError
 wanted end e ts = error.Expected e (met end ts)
 
-abbrev pub unsupported : ℕ → Feature → List Lexeme → TextError
-unsupported end f ts = error.Unsupported f (met end ts)
-
 abbrev pub is : TokenKind → Lexeme → Bool
 is k t = same_kind t.token.kind k
-
-abbrev pub next_is : TokenKind → List Lexeme → Bool
-next_is k [] = false
-next_is k (t ∷ ts) = is k t
 
 -- a feature, or what is wanted
 abbrev pub feature_or : Option Feature → Expected → Span → TextError

@@ -8,7 +8,7 @@ ghost use Rattle.wit_text.specs.Grammar.{nesting, alias, record_fields, payload,
 
 use crate::functions::{NESTING, field};
 use crate::header::first_feature;
-use crate::lists::{EntryReader, entry_list};
+use crate::lists::{EntryReader, comma_list};
 use crate::parser::{feature_or, identifier, is_name, label_of, punctuation, same};
 use crate::types::type_at;
 use atoms::Label;
@@ -79,7 +79,7 @@ pub fn record_fields<'a>(
     ensures shorter { IfOk result (λ x. length x.1.now < length tokens.now) }
 {
     let (_, tokens) = punctuation(source, tokens, Punctuation::OpenBrace)?;
-    let (fields, tokens) = entry_list(&Fields, alloc, source, tokens)?;
+    let (fields, tokens) = comma_list(&Fields, alloc, source, tokens)?;
     Ok((TypeDefKind::Record(fields), tokens))
 }
 
@@ -212,7 +212,7 @@ pub fn variant_cases<'a>(
     ensures shorter { IfOk result (λ x. length x.1.now < length tokens.now) }
 {
     let (_, tokens) = punctuation(source, tokens, Punctuation::OpenBrace)?;
-    let (cases, tokens) = entry_list(&Cases, alloc, source, tokens)?;
+    let (cases, tokens) = comma_list(&Cases, alloc, source, tokens)?;
     Ok((TypeDefKind::Variant(cases), tokens))
 }
 
@@ -268,7 +268,7 @@ pub fn enum_cases<'a>(
     ensures shorter { IfOk result (λ x. length x.1.now < length tokens.now) }
 {
     let (_, tokens) = punctuation(source, tokens, Punctuation::OpenBrace)?;
-    let (names, tokens) = entry_list(&Names { gated: true }, alloc, source, tokens)?;
+    let (names, tokens) = comma_list(&Names { gated: true }, alloc, source, tokens)?;
     Ok((TypeDefKind::Enum(names), tokens))
 }
 
@@ -284,6 +284,6 @@ pub fn flag_names<'a>(
     ensures shorter { IfOk result (λ x. length x.1.now < length tokens.now) }
 {
     let (_, tokens) = punctuation(source, tokens, Punctuation::OpenBrace)?;
-    let (names, tokens) = entry_list(&Names { gated: false }, alloc, source, tokens)?;
+    let (names, tokens) = comma_list(&Names { gated: false }, alloc, source, tokens)?;
     Ok((TypeDefKind::Flags(names), tokens))
 }

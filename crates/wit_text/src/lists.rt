@@ -49,7 +49,7 @@ pub trait EntryReader {
 }
 
 /// Entries, up to the `}` and with it.
-pub fn entry_list<'a, R: EntryReader>(
+pub fn comma_list<'a, R: EntryReader>(
     reader: &R,
     alloc: Global,
     source: &[u8],

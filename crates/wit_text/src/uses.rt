@@ -6,7 +6,7 @@ ghost use Rattle.wit_syntax.specs.View.{used_view, entry_view};
 ghost use Rattle.wit_text.specs.Faults.{Gives};
 ghost use Rattle.wit_text.specs.Grammar.{local_name, used, use_dot, use_item};
 
-use crate::lists::{EntryReader, entry_list};
+use crate::lists::{EntryReader, comma_list};
 use crate::parser::{identifier, met, punctuation, same};
 use atoms::Label;
 use std::alloc::Global;
@@ -120,7 +120,7 @@ pub fn use_item<'a>(
     let (name, tokens) = identifier(alloc, source, tokens)?;
     let (_, tokens) = use_dot(source, tokens)?;
     let (_, tokens) = punctuation(source, tokens, Punctuation::OpenBrace)?;
-    let (names, tokens) = entry_list(&UsedNames, alloc, source, tokens)?;
+    let (names, tokens) = comma_list(&UsedNames, alloc, source, tokens)?;
     let (_, tokens) = punctuation(source, tokens, Punctuation::Semicolon)?;
     let interface = Path { name };
     let item = Use {

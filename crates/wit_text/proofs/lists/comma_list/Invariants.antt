@@ -5,7 +5,7 @@ use Rattle.wit_tokens.specs.Lexing.{limit}
 use Rattle.wit_tokens.specs.Tokens.{lexemes}
 use Rattle.wit_text.specs.Faults.{is, wanted}
 use Rattle.wit_text.specs.Grammar.{comma, close_brace}
-use Rattle.wit_text.proofs.lists.entry_list.Given as goal
+use Rattle.wit_text.proofs.lists.comma_list.Given as goal
 
 abbrev pub invariant-list : goal.invariant-list
 invariant-list g l = record {

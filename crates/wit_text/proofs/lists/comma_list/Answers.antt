@@ -7,7 +7,7 @@ use Rattle.wit_tokens.specs.Tokens.{lexemes}
 use Rattle.wit_text.specs.Faults.{is, wanted}
 use Rattle.wit_text.specs.Grammar.{comma, close_brace}
 use Rattle.wit_text.proofs.Handed.{Fails-on}
-use Rattle.wit_text.proofs.lists.entry_list.Goals as goal
+use Rattle.wit_text.proofs.lists.comma_list.Goals as goal
 
 room : (n : ℕ) → n < limit → limit - n ≡ suc (limit - suc n)
 room n h = omega arith
