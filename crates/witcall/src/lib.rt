@@ -10,6 +10,7 @@ mod binary;
 mod calling;
 mod json;
 mod line;
+mod output;
 mod package;
 mod placing;
 mod reading;
@@ -20,7 +21,6 @@ mod session;
 mod signature;
 mod text;
 mod typing;
-mod writing;
 
 pub use calling::run_call;
 pub use json::{JsonError, from_json, to_json};

@@ -5,10 +5,10 @@ ghost use Rattle.std.specs.Io.KnownBytes.{Appends, Keeps};
 ghost use Rattle.atoms.specs.Streams.{ConsumesMany};
 ghost use Rattle.witcall.specs.Running.{Makes, RunRefuses};
 
+use crate::output::write_bytes;
 use crate::package::{OpenError, open};
 use crate::reading::read_all;
 use crate::refused::Refused;
-use crate::writing::write_bytes;
 use atoms::{Sink, Source};
 use std::alloc::Global;
 use words::WordsError;
@@ -32,6 +32,7 @@ pub fn run<R: Source, W: Sink>(
     ensures err { IfErr result (RunRefuses (R.remaining reader.old) job) }
     ensures failed { (n : ℕ) → result ≡ Err (Refused.Open (OpenError.Read n)) →
         ((R.has_failed reader.new ≡ true) × ConsumesMany (R.remaining reader.old) (R.remaining reader.new) n) }
+    ensures broken { IsErrOf result Refused.Write → W.has_failed writer.new ≡ true }
     ensures unwritten { IfErr result (λ e. e ≢ Refused.Write → Keeps (W.contents writer.old) (W.contents writer.new)) }
 {
     let Job::Bin = job else {
