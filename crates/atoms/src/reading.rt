@@ -42,6 +42,7 @@ pub fn read_up_to<R: Source>(
     ensures ok { OnOk result (R.has_failed reader.new ≡ false) }
     ensures failed { (n : ℕ) → result ≡ Err (ReadUpToError.Failed n) →
         ((R.has_failed reader.new ≡ true) × ConsumesMany (R.remaining reader.old) (R.remaining reader.new) n) }
+    ensures memory { result ≡ Err ReadUpToError.NoMemory → R.has_failed reader.new ≡ false }
 {
     let mut bytes = Vec::new(alloc);
     let mut buf = [0; CHUNK];

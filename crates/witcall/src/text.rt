@@ -46,6 +46,7 @@ fn first_world(items: &[Item]) -> Option<Span>
 }
 
 /// The bytes as a text.
+#[tactic(auto, unfolding(wit_tokens::specs::Lexing::limit))]
 fn text_of(bytes: &[u8]) -> Result<&str, OpenError>
     ensures ok { IfOk result (λ text. text.now ≡ bytes.now) }
     ensures utf8 { IfOk result (λ _. IsUtf8 bytes.now) }

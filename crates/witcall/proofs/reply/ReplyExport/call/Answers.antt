@@ -1,6 +1,8 @@
 use Rattle.std.proofs.Common.{◌≡◌, inl, inr, map, refl, sym, ap, ◌∙◌, subst}
-use Rattle.std.specs.Prelude.{option_to_list}
+use Rattle.std.specs.Prelude.{option_to_list, IsTrue, false}
+use Rattle.std.proofs.Math.Logic.{∥∥₁_elim}
 use Rattle.canonical_abi.specs.Types.{result_fields}
+use Rattle.canonical_abi.specs.Values.{HaveTypes}
 use Rattle.lift_lower.specs.Crossing.{fields_of_types, AreLowered, LowerFails}
 use Rattle.lift_lower.specs.Scalar.{value_in}
 use Rattle.lift_lower.specs.Scalars.{AreScalar}
@@ -12,8 +14,23 @@ use Rattle.tables.specs.Closed.{closed_types, function_type}
 use Rattle.witcall.proofs.Replied.{lent, arguments-denoted, arguments-faulty, answered, no-room}
 use Rattle.witcall.proofs.reply.ReplyExport.call.Goals as goal
 
+no_false : {A : Type 0} → IsTrue false → A
+no_false h = cc
+
 pub lift_scalars-requires : goal.lift_scalars-requires
 lift_scalars-requires c = subst AreScalar (sym c.params.ensures) c.of-types.ensures.scalar_params
+
+-- its value has its type
+pub unreachable-requires : goal.unreachable-requires
+unreachable-requires c =
+    let r = c.resolve-resolve.result.now in
+    let func = c.args.self.now.func in
+    let given = c.as_slice-values.result.now in
+    let same = lent c.args.self.now.value given c.as_slice-values.ensures in
+    let own = c.of-types.ensures.results ∙ ap (λ q. result_fields (function_type q func).result) c.resolve-resolve.ensures in
+    let are = ap (fields_of_types r) c.results.ensures ∙ own in
+    ∥∥₁_elim c.args.self.now.typed (λ x y. absurd x) (λ typed.
+    no_false (c.if-not-have_types.ensures.1 (subst (HaveTypes (map value_of given)) (sym are) (subst (λ xs. HaveTypes (map value_of xs) (result_fields (function_type c.args.self.now.«package».resolve func).result)) (sym same) typed))))
 
 pub lower-requires-clause-small : goal.lower-requires-clause-small
 lower-requires-clause-small c = scalars-small c.resolve-resolve.result.now c.results-in-Ok.result.now (subst AreScalar (sym c.results-in-Ok.ensures) c.of-types.ensures.scalar_result)
