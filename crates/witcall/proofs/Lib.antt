@@ -6,8 +6,10 @@ pub mod Packages
 pub mod Prepared
 pub mod Printing
 pub mod Promised
+pub mod Replied
 pub mod Results
 pub mod ScalarFunctions
+pub mod Texts
 pub mod Typed
 pub mod TypedCalls
 pub mod TypedLists

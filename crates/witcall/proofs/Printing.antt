@@ -45,7 +45,7 @@ answers B runs posts state b boxed r own f vs answer caller callee new same_body
 pub call-refuses : (r : Resolve) (f : FunctionId) (vs : List Value) (runs : Run) (posts : PostRun) (state : List ℕ) (e : Fault)
     → CallAnswers r f vs runs posts state (Err e) → CallRefuses r f vs runs posts state (refusal_of e)
 call-refuses r f vs runs posts state (fault.Trap t) answers = answers
-call-refuses r f vs runs posts state fault.NoMemory answers = tt
+call-refuses r f vs runs posts state fault.NoMemory answers = (Err fault.NoMemory, answers, tt)
 
 -- a refusal of the call that the words ask for
 pub refuses : (r : Resolve) (iface func args : List ℕ) (runs : Run) (posts : PostRun) (state : List ℕ) (f : FunctionId) (vs : List Value) (e : Refused)
@@ -59,4 +59,4 @@ refuses r iface func args runs posts state f vs (refused.Json e) asked g = elim 
 refuses r iface func args runs posts state f vs (refused.Memory e) asked is = (f, vs, asked, is)
 refuses r iface func args runs posts state f vs (refused.Trap t) asked answers = (f, vs, asked, answers)
 refuses r iface func args runs posts state f vs refused.Write asked g = elim g [ ]
-refuses r iface func args runs posts state f vs refused.NoMemory asked is = (f, vs, asked, tt)
+refuses r iface func args runs posts state f vs refused.NoMemory asked is = (f, vs, asked, is)

@@ -58,11 +58,18 @@ pub record Prints (r : Resolve) (iface func args : List ℕ) (runs : Run) (posts
   pub called : CallAnswers r function arguments runs posts state (Ok answer)
   pub printed : IsOutputOf (signature_of (function_at r function)).result answer output
 
+-- the call came to its end, or memory of the host was wanting in it: it did not trap
+abbrev pub IsNoTrap : Result (Option Value) Fault → Type 0
+IsNoTrap (Ok v) = Unit {0}
+IsNoTrap (Err fault.NoMemory) = Unit {0}
+IsNoTrap (Err (fault.Trap t)) = ⊥
+
 -- why the call of a function is refused: a trap of it, or want of the host's memory
 abbrev pub CallRefuses : Resolve → FunctionId → List Value → Run → PostRun → List ℕ → Refused → Type 0
 CallRefuses r f vs runs posts state (refused.Trap t) = CallAnswers r f vs runs posts state (Err (fault.Trap t))
 CallRefuses r f vs runs posts state (refused.Memory e) = e ≡ memory.NoMemory
-CallRefuses r f vs runs posts state refused.NoMemory = Unit {0}
+CallRefuses r f vs runs posts state refused.NoMemory =
+    (answer : Result (Option Value) Fault) × CallAnswers r f vs runs posts state answer × IsNoTrap answer
 CallRefuses r f vs runs posts state _ = ⊥
 
 -- why the call that the words ask for is refused

@@ -1,13 +1,16 @@
 -- What the program's own body answers.
-use Rattle.std.specs.Prelude.{ℕ, List, Option, Some, None, map, option_to_list}
+use Rattle.std.specs.Prelude.{◌≡◌, ◌⊎◌, ℕ, List, Option, Some, None, map, option_to_list}
 use Rattle.canonical_abi.specs.Types.{FunctionType, result_fields}
 use Rattle.canonical_abi.specs.Values.{Value}
-use Rattle.canonical_abi.specs.Layout.{max_flat_params}
-use Rattle.canonical_abi.specs.Flat.{Denotes}
+use Rattle.canonical_abi.specs.Layout.{max_flat_params, max_flat_results}
+use Rattle.canonical_abi.specs.Flat.{Denotes, DenotesFault}
 use Rattle.canonical_abi.specs.Guest.{Memory}
+use Rattle.canonical_abi.specs.Lowering.{PassesParams}
+use Rattle.canonical_abi.specs.Session.{AreWithinLimit, TypedTraceBreaks}
+use Rattle.canonical_abi.specs.Trace.{Event, TraceLeads}
 use Rattle.canonical_abi.specs.declared.flat.Flat.{Flat}
+use Rattle.canonical_abi.specs.declared.trap.TrapKind.{TrapKind}
 use Rattle.memory.specs.Space.{SpaceAllocates}
-use Rattle.lift_lower.specs.Crossing.{AreLowered}
 use Rattle.lift_lower.specs.Val.{value_of}
 use Rattle.tables.specs.Closed.{function_at}
 use Rattle.tables.specs.Names.{IsNamed}
@@ -20,13 +23,25 @@ use Rattle.witcall.specs.declared.refused.Refused.{Refused}
 use Rattle.witcall.specs.declared.refused.Refused.TheVariants as refused
 use Rattle.witcall.specs.declared.reply.Reply.{Reply}
 
--- the flat values that it was given denote values of the parameters' types in its memory, and it answers flat values that carry these
--- values, lowered into its memory; or it stops
+-- the values are lowered into its memory as a result, and these flat values carry them
+abbrev pub RepliesWith : FunctionType → List Value → Memory → List Flat → Memory → Type 0
+RepliesWith f vs old flats new =
+    (es : List Event) × PassesParams max_flat_results (result_fields f.result) vs es flats × AreWithinLimit es × TraceLeads SpaceAllocates old es new
+
+-- its memory refused a block for them
+abbrev pub HasNoRoom : FunctionType → List Value → Memory → Memory → Type 0
+HasNoRoom f vs old new =
+    (k : TrapKind) × (es : List Event) × (flats : List Flat) × PassesParams max_flat_results (result_fields f.result) vs es flats
+    × TypedTraceBreaks SpaceAllocates old es k new
+
+-- The flat values that it was given denote values of the parameters' types in its memory, and it answers these values. It stops where they
+-- denote none, and then nothing was done, or where its memory has no room for the answer.
 abbrev pub Replies : FunctionType → List Value → Memory → List Flat → Option (List Flat) → Memory → Type 0
 Replies f vs old given (Some flats) new =
-    (arguments : List Value) × Denotes max_flat_params f.params old.bytes given arguments
-    × AreLowered SpaceAllocates (result_fields f.result) vs old flats new
-Replies f vs old given None new = Unit {0}
+    (arguments : List Value) × Denotes max_flat_params f.params old.bytes given arguments × RepliesWith f vs old flats new
+Replies f vs old given None new =
+    ((k : TrapKind) × DenotesFault max_flat_params f.params old.bytes given k × (new ≡ old))
+    ⊎ ((arguments : List Value) × Denotes max_flat_params f.params old.bytes given arguments × HasNoRoom f vs old new)
 
 -- it is a body of the function of these names, and its value is what the text says
 pub record IsReplyOf (r : Resolve) (iface func text : List ℕ) (reply : Reply) : Type 0 where

@@ -1,6 +1,6 @@
 //! One call whose arguments and result are JSON.
 
-ghost use Rattle.std.specs.Prelude.{◌≡◌, ◌≢◌, ◌≤◌, ℕ, List, false, length, take, map, IfOk, IfErr, OnOk, OnErr, IsErrOf, string_bytes, replicate, Ok};
+ghost use Rattle.std.specs.Prelude.{◌≡◌, ◌≢◌, ◌≤◌, ℕ, List, true, false, length, take, map, IfOk, IfErr, OnOk, OnErr, IsErrOf, string_bytes, replicate, Ok};
 ghost use Rattle.std.specs.Option.{option_map};
 ghost use Rattle.std.specs.Io.KnownBytes.{Appends, Keeps};
 ghost use Rattle.canonical_abi.specs.Values.{HasType, HaveTypes};
@@ -12,11 +12,11 @@ ghost use Rattle.witcall.specs.Signature.{signature_of};
 ghost use Rattle.witcall.specs.Calling.{IsOutputOf, Prints, Refuses, CallAnswers, CallRefuses, fresh};
 
 use crate::json::{to_json, values_from_json};
+use crate::output::write_bytes;
 use crate::package::Package;
 use crate::refused::Refused;
 use crate::session::Session;
 use crate::signature::{ScalarTypes, scalar_function};
-use crate::writing::write_bytes;
 use adapter::{BoxedBody, Export};
 use atoms::Sink;
 use lift_lower::Val;
@@ -48,6 +48,7 @@ pub fn run_call<W: Sink>(
         × Prints «package».now.resolve iface.now func.now args.now (runs body) (posts body) (state body) output
         × (count ≤ length output) × Appends (W.contents writer.old) (W.contents writer.new) (take count output) }
     ensures err { IfErr result (Refuses «package».now.resolve iface.now func.now args.now (runs body) (posts body) (state body)) }
+    ensures broken { IsErrOf result Refused.Write → W.has_failed writer.new ≡ true }
     ensures unwritten { IfErr result (λ e. e ≢ Refused.Write → Keeps (W.contents writer.old) (W.contents writer.new)) }
 {
     let func = scalar_function(package, iface, func)?;

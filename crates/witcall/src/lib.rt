@@ -11,6 +11,7 @@ mod calling;
 mod json;
 pub mod laws;
 mod line;
+mod output;
 mod package;
 mod placing;
 mod reading;
@@ -21,7 +22,6 @@ mod session;
 mod signature;
 mod text;
 mod typing;
-mod writing;
 
 pub use calling::run_call;
 pub use json::{JsonError, from_json, to_json};

@@ -1,7 +1,7 @@
 //! Why the program did not do what it was asked for, and how it says so.
 
 ghost use Rattle.std.specs.Prelude.{◌≡◌, false};
-ghost use Rattle.witcall.specs.Status.{status_of};
+ghost use Rattle.witcall.specs.Status.{status_of, kind_words, step_words};
 
 use crate::json::JsonError;
 use crate::line::Line;
@@ -112,7 +112,9 @@ impl From<Fault> for Refused {
 }
 
 /// A trap's kind as it is printed.
-fn kind_name(kind: TrapKind) -> &'static str {
+fn kind_name(kind: TrapKind) -> &'static str
+    ensures { result.now ≡ kind_words kind }
+{
     match kind {
         TrapKind::Char => "K1 char",
         TrapKind::Case => "K2 case",
@@ -126,7 +128,9 @@ fn kind_name(kind: TrapKind) -> &'static str {
 }
 
 /// A trap's step as it is printed.
-fn step_name(step: Step) -> &'static str {
+fn step_name(step: Step) -> &'static str
+    ensures { result.now ≡ step_words step }
+{
     match step {
         Step::Place => "place",
         Step::Take => "take",

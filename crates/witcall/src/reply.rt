@@ -1,6 +1,10 @@
 //! The program's own body: it answers one value.
 
-ghost use Rattle.tables.specs.Closed.{IsScalarFunction};
+ghost use Rattle.std.specs.Prelude.{map, option_to_list};
+ghost use Rattle.canonical_abi.specs.Types.{result_fields};
+ghost use Rattle.canonical_abi.specs.Values.{HaveTypes};
+ghost use Rattle.lift_lower.specs.Val.{value_of};
+ghost use Rattle.tables.specs.Closed.{IsScalarFunction, function_type};
 
 use crate::json::values_from_json;
 use crate::package::Package;
@@ -9,21 +13,21 @@ use crate::signature::{ScalarTypes, scalar_function};
 use crate::typing::have_types;
 use adapter::{Export, Stopped};
 use canonical_abi::Flat;
-use lift_lower::{Flats, Val, lift, lower};
+use lift_lower::{Flats, Val, lift_scalars, lower};
 use memory::Space;
 use resolve::FunctionId;
 use std::alloc::Global;
 
 /// A body that lifts its arguments and then answers one value, whatever they are. Any fault of its own is
-/// `Stopped`, and its post-return does nothing.
+/// `Stopped`, and its post-return does nothing. It takes no memory of the host.
 #[derive(Drop)]
 pub struct Reply {
-    alloc: Global,
     package: Package,
     func: FunctionId,
     /// The value of the result, if it has one.
     value: Option<Val>,
     ghost scalar: { IsScalarFunction «package».resolve func },
+    ghost typed: { ∥ HaveTypes (map value_of (option_to_list value)) (result_fields (function_type «package».resolve func).result) ∥₁ },
 }
 
 impl Reply {
@@ -46,7 +50,6 @@ impl Reply {
         let types = ScalarTypes::of(package.resolve(), func);
         let mut values = values_from_json(alloc, package, types.results(), reply)?;
         Ok(Reply {
-            alloc,
             package: package.copy(alloc)?,
             func,
             value: values.pop(),
@@ -55,14 +58,12 @@ impl Reply {
 }
 
 impl Export for Reply {
-    ghost use Rattle.std.specs.Prelude.{◌≡◌, [], map, option_to_list, Some};
-    ghost use Rattle.tables.specs.Closed.{function_type};
-    ghost use Rattle.lift_lower.specs.Val.{value_of};
+    ghost use Rattle.std.specs.Prelude.{◌≡◌, [], Some};
     ghost use Rattle.witcall.specs.Replying.{Replies};
 
     ghost state = { λ _. [] };
 
-    // It was given its function's arguments and answers its value, or stops.
+    // It was given its function's arguments and answers its value, or stops for a cause.
     ghost runs = { λ reply s m given s' m' answer. (s' ≡ s)
         × Replies (function_type reply.«package».resolve reply.func)
         (map value_of (option_to_list reply.value)) m given answer m' };
@@ -74,23 +75,17 @@ impl Export for Reply {
         let resolve = self.package.resolve();
         let layouts = self.package.layouts();
         let types = ScalarTypes::of(resolve, self.func);
-        let Ok(_arguments) = lift(
-            self.alloc,
-            resolve,
-            layouts,
-            types.params(),
-            arguments,
-            memory,
-        ) else {
-            return Err(Stopped);
-        };
         let values = self.value.as_slice();
+        // Its value has its type, as the test tells `lower`.
         if !have_types(resolve, layouts, types.results(), values) {
-            return Err(Stopped);
+            unreachable!()
         }
-        match lower(resolve, layouts, types.results(), values, memory) {
-            Ok(flats) => Ok(flats),
-            Err(_fault) => Err(Stopped),
+        match lift_scalars(types.params(), arguments) {
+            Ok(_arguments) => match lower(resolve, layouts, types.results(), values, memory) {
+                Ok(flats) => Ok(flats),
+                Err(_fault) => Err(Stopped),
+            },
+            Err(_kind) => Err(Stopped),
         }
     }
 

@@ -5,10 +5,10 @@ ghost use Rattle.std.specs.Io.KnownBytes.{Appends, Keeps};
 ghost use Rattle.atoms.specs.Streams.{ConsumesMany};
 ghost use Rattle.witcall.specs.Running.{Makes, RunRefuses};
 
+use crate::output::write_bytes;
 use crate::package::{OpenError, open};
 use crate::reading::read_all;
 use crate::refused::Refused;
-use crate::writing::write_bytes;
 use atoms::{Sink, Source};
 use std::alloc::Global;
 use words::WordsError;
@@ -30,8 +30,11 @@ pub fn run<R: Source, W: Sink>(
     ensures begun { IsErrOf result Refused.Write → (output : List ℕ) × (count : ℕ) × Makes (R.remaining reader.old) job output
         × (count ≤ length output) × Appends (W.contents writer.old) (W.contents writer.new) (take count output) }
     ensures err { IfErr result (RunRefuses (R.remaining reader.old) job) }
+    ensures unread { job ≢ Job.Bin → reader.new ≡ reader.old }
+    ensures memory { result ≡ Err (Refused.Open OpenError.NoMemory) → R.has_failed reader.new ≡ false }
     ensures failed { (n : ℕ) → result ≡ Err (Refused.Open (OpenError.Read n)) →
         ((R.has_failed reader.new ≡ true) × ConsumesMany (R.remaining reader.old) (R.remaining reader.new) n) }
+    ensures broken { IsErrOf result Refused.Write → W.has_failed writer.new ≡ true }
     ensures unwritten { IfErr result (λ e. e ≢ Refused.Write → Keeps (W.contents writer.old) (W.contents writer.new)) }
 {
     let Job::Bin = job else {

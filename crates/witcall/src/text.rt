@@ -5,6 +5,7 @@ ghost use Rattle.package_form.specs.Scope.{AreDistinct};
 ghost use Rattle.wit_syntax.specs.View.{item_view};
 ghost use Rattle.package_form.specs.Form.{IsInPackageForm};
 ghost use Rattle.package_form.specs.Naming.{package_scopes};
+ghost use Rattle.std.specs.Str.{IsUtf8};
 ghost use Rattle.witcall.specs.Opening.{IsOfText, TextRefuses, first_world};
 
 use crate::package::{MAX_INPUT, OpenError};
@@ -42,8 +43,10 @@ fn first_world(items: &[Item]) -> Option<Span>
 }
 
 /// The bytes as a text.
+#[tactic(auto, unfolding(wit_tokens::specs::Lexing::limit))]
 fn text_of(bytes: &[u8]) -> Result<&str, OpenError>
     ensures ok { IfOk result (λ text. text.now ≡ bytes.now) }
+    ensures utf8 { IfOk result (λ _. IsUtf8 bytes.now) }
     ensures err { IfErr result (TextRefuses bytes.now) }
 {
     if bytes.len() > MAX_INPUT {
