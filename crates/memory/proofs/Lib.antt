@@ -1,1 +1,2 @@
 mod AlikeLemmas
+pub mod AlikeExamples
