@@ -1,5 +1,6 @@
 //! Laws of the memories.
 ghost use Rattle.canonical_abi.specs.Guest.{KeepsLimit};
+ghost use Rattle.canonical_abi.specs.Told.{AllocatesInOneWay, IgnoresBytes};
 ghost use Rattle.memory.specs.Alike.{AnswersAlike, ReleasesAlike};
 ghost use Rattle.memory.specs.Bump.{bump_make, BumpAllocates, BumpReleases};
 ghost use Rattle.memory.specs.Space.{space_make, SpaceAllocates, SpaceReleases};
@@ -32,4 +33,16 @@ pub fn bumps_keep_the_limit()
 /// Nor does one of a `Space`'s.
 pub fn spaces_keep_the_limit()
     ensures { KeepsLimit SpaceAllocates }
+{}
+
+/// One memory and one request have one answer of a `Bump`, whatever its bytes are.
+pub fn bumps_answer_in_one_way()
+    ensures one_way { AllocatesInOneWay BumpAllocates }
+    ensures ignores { IgnoresBytes BumpAllocates }
+{}
+
+/// So they have of a `Space`.
+pub fn spaces_answer_in_one_way()
+    ensures one_way { AllocatesInOneWay SpaceAllocates }
+    ensures ignores { IgnoresBytes SpaceAllocates }
 {}
