@@ -1,8 +1,9 @@
 -- A call, chained of its parts: each part says of two memories what the call says of both components.
-use Rattle.std.proofs.Common.{◌≡◌, inl, inr, List, ℕ, Some, None, Ok, Err, refl, sym, ap, subst}
+use Rattle.std.proofs.Common.{◌≡◌, inl, inr, List, [], ℕ, Some, None, Result, Ok, Err, refl, sym, ap, subst}
 use Rattle.canonical_abi.specs.Types.{FunctionType}
 use Rattle.canonical_abi.specs.Guest.{Memory}
-use Rattle.canonical_abi.specs.Call.{either, Parties, World, Enters, Answered, Returned, ArgumentsFaulty, ResultFaulty, ResultFails, Traps, Calls}
+use Rattle.canonical_abi.specs.Trace.{Event}
+use Rattle.canonical_abi.specs.Call.{either, Parties, World, Ways, Enters, Answered, Returned, ArgumentsFaulty, ResultFaulty, ResultFails, Traps, Calls}
 use Rattle.canonical_abi.specs.declared.flat.Flat.{Flat}
 use Rattle.canonical_abi.specs.declared.trap.Fault.{Fault}
 use Rattle.canonical_abi.specs.declared.trap.Fault.TheVariants as ended
@@ -22,43 +23,50 @@ module _ (parties : Parties) (f : FunctionType) (flats : List Flat) (caller call
   abbrev before : World
   before = world caller callee body
 
+  -- the call ends so, by some ways
+  abbrev Ends : Result (List Flat) Fault → World → Type 0
+  Ends result new = (ways : Ways) × Calls parties either f flats before result ways new
+
+  abbrev ways_of : List Event → List Event → Ways
+  ways_of there back = record { there = there; back = back }
+
   -- ---- the arguments
 
-  args_faulty : (k : TrapKind) (callee' : Memory) → ArgumentsFaulty alone either f flats (memories caller callee) k (memories caller callee')
-      → ArgumentsFaulty parties either f flats before k (world caller callee' body)
-  args_faulty k callee' (inl (other, is, same)) = inl (other, is, ap (λ w. world caller w.callee body) same)
-  args_faulty k callee' (inr (inl (kinds, address, same))) = inr (inl (kinds, address, ap (λ w. world caller w.callee body) same))
-  args_faulty k callee' (inr (inr (kinds, es, done, until, front, begun, same, kept))) = inr (inr (kinds, es, done, until, front, begun, refl, refl))
+  args_faulty : (k : TrapKind) (done : List Event) (callee' : Memory) → ArgumentsFaulty alone either f flats (memories caller callee) k done (memories caller callee')
+      → ArgumentsFaulty parties either f flats before k done (world caller callee' body)
+  args_faulty k done callee' (inl (other, is, none, same)) = inl (other, is, none, ap (λ w. world caller w.callee body) same)
+  args_faulty k done callee' (inr (inl (kinds, address, none, same))) = inr (inl (kinds, address, none, ap (λ w. world caller w.callee body) same))
+  args_faulty k done callee' (inr (inr (kinds, es, until, front, begun, same, kept))) = inr (inr (kinds, es, until, front, begun, refl, refl))
 
   pub entry-fails : (fault : Fault) (callee' : Memory) → EntryFails alone f flats (memories caller callee) fault (memories caller callee')
-      → Calls parties either f flats before (Err fault) (world caller callee' body)
-  entry-fails ended.NoMemory callee' same = inl (ap (λ w. world caller w.callee body) same)
-  entry-fails (ended.Trap t) callee' (inl (is, faulty)) =
-      let P : Step → Type 0 = λ s. Traps parties either f flats before s t.kind (world caller callee' body) in
-      subst P (sym is) (args_faulty t.kind callee' faulty)
-  entry-fails (ended.Trap t) callee' (inr (is, (kinds, es, script, breaks, same, kept))) =
-      let P : Step → Type 0 = λ s. Traps parties either f flats before s t.kind (world caller callee' body) in
-      subst P (sym is) (kinds, es, script, breaks, refl, refl)
+      → Ends (Err fault) (world caller callee' body)
+  entry-fails ended.NoMemory callee' same = (ways_of [] [], inl (refl, refl, ap (λ w. world caller w.callee body) same))
+  entry-fails (ended.Trap t) callee' (inl (is, done, faulty)) =
+      let P : Step → Type 0 = λ s. Traps parties either f flats before s t.kind (ways_of done []) (world caller callee' body) in
+      (ways_of done [], subst P (sym is) (args_faulty t.kind done callee' faulty, refl))
+  entry-fails (ended.Trap t) callee' (inr (is, done, (kinds, es, script, breaks, is_done, same, kept))) =
+      let P : Step → Type 0 = λ s. Traps parties either f flats before s t.kind (ways_of done []) (world caller callee' body) in
+      (ways_of done [], subst P (sym is) ((kinds, es, script, breaks, is_done, refl, refl), refl))
 
   module _ (handed : List Flat) (callee' : Memory) (entered : HasEntered alone f flats (memories caller callee) handed (memories caller callee')) where
-    enters : Enters parties either f flats before entered.0 handed (world caller callee' body)
+    enters : Enters parties f flats before entered.0 handed entered.1 (world caller callee' body)
     enters =
-        let e = entered.1 in
-        record { kinds = e.kinds; denoted = e.denoted; events = e.events; passes = e.passes; leads = e.leads; same_caller = refl; same_body = refl }
+        let e = entered.2 in
+        record { kinds = e.kinds; denoted = e.denoted; passes = e.passes; leads = e.leads; same_caller = refl; same_body = refl }
 
     -- ---- the body
 
     module _ (callee'' : Memory) (body' : List ℕ) where
       pub body-stops : parties.runs body callee' handed body' callee'' None → (fault : Fault) → fault ≡ ended.Trap (record { kind = trap.Body; step = step.Body })
-          → Calls parties either f flats before (Err fault) (world caller callee'' body')
+          → Ends (Err fault) (world caller callee'' body')
       body-stops run fault is =
-          rw is (entered.0, handed, world caller callee' body, refl, enters, record { run = run; same_caller = refl })
+          rw is (ways_of entered.1 [], (entered.0, handed, world caller callee' body, refl, enters, record { run = run; same_caller = refl }, refl))
 
       module _ (answer : List Flat) (run : parties.runs body callee' handed body' callee'' (Some answer)) where
         abbrev after : World
         after = world caller callee'' body'
 
-        answered : Answered parties either f flats before answer after
+        answered : Answered parties f flats before answer entered.1 after
         answered = record {
           values = entered.0;
           handed = handed;
@@ -69,48 +77,51 @@ module _ (parties : Parties) (f : FunctionType) (flats : List Flat) (caller call
 
         -- ---- the result
 
-        result_faulty : (k : TrapKind) (caller' : Memory) → ResultFaulty alone either f flats (memories caller callee'') answer k (memories caller' callee'')
-            → ResultFaulty parties either f flats after answer k (world caller' callee'' body')
-        result_faulty k caller' (inl (address, same)) = inl (address, ap (λ w. world w.caller callee'' body') same)
-        result_faulty k caller' (inr (u, es, done, until, front, begun, same, kept)) = inr (u, es, done, until, front, begun, refl, refl)
+        result_faulty : (k : TrapKind) (done : List Event) (caller' : Memory) → ResultFaulty alone either f flats (memories caller callee'') answer k done (memories caller' callee'')
+            → ResultFaulty parties either f flats after answer k done (world caller' callee'' body')
+        result_faulty k done caller' (inl (address, none, same)) = inl (address, none, ap (λ w. world w.caller callee'' body') same)
+        result_faulty k done caller' (inr (u, es, until, front, begun, same, kept)) = inr (u, es, until, front, begun, refl, refl)
 
-        result_fails : (k : TrapKind) (caller' : Memory) → ResultFails alone either f flats (memories caller callee'') answer k (memories caller' callee'')
-            → ResultFails parties either f flats after answer k (world caller' callee'' body')
-        result_fails k caller' (inl (u, bad, same)) = inl (u, bad, ap (λ w. world w.caller callee'' body') same)
-        result_fails k caller' (inr (stands, es, script, breaks, same, kept)) = inr (stands, es, script, breaks, refl, refl)
+        result_fails : (k : TrapKind) (done : List Event) (caller' : Memory) → ResultFails alone either f flats (memories caller callee'') answer k done (memories caller' callee'')
+            → ResultFails parties either f flats after answer k done (world caller' callee'' body')
+        result_fails k done caller' (inl (u, bad, none, same)) = inl (u, bad, none, ap (λ w. world w.caller callee'' body') same)
+        result_fails k done caller' (inr (stands, es, script, breaks, is_done, same, kept)) = inr (stands, es, script, breaks, is_done, refl, refl)
 
         pub return-fails : (fault : Fault) (caller' : Memory) → ReturnFails alone f flats (memories caller callee'') answer fault (memories caller' callee'')
-            → Calls parties either f flats before (Err fault) (world caller' callee'' body')
+            → Ends (Err fault) (world caller' callee'' body')
         return-fails ended.NoMemory caller' same =
-            let P : World → Type 0 = λ w. Answered parties either f flats before answer (world w.caller callee'' body') in
-            inr (answer, subst P (sym same) answered)
-        return-fails (ended.Trap t) caller' (inl (is, faulty)) =
-            let P : Step → Type 0 = λ s. Traps parties either f flats before s t.kind (world caller' callee'' body') in
-            subst P (sym is) (answer, after, answered, result_faulty t.kind caller' faulty)
-        return-fails (ended.Trap t) caller' (inr (is, failed)) =
-            let P : Step → Type 0 = λ s. Traps parties either f flats before s t.kind (world caller' callee'' body') in
-            subst P (sym is) (answer, after, answered, result_fails t.kind caller' failed)
+            let P : World → Type 0 = λ w. Answered parties f flats before answer entered.1 (world w.caller callee'' body') in
+            (ways_of entered.1 [], inr (answer, subst P (sym same) answered, refl))
+        return-fails (ended.Trap t) caller' (inl (is, done, faulty)) =
+            let P : Step → Type 0 = λ s. Traps parties either f flats before s t.kind (ways_of entered.1 done) (world caller' callee'' body') in
+            (ways_of entered.1 done, subst P (sym is) (answer, after, answered, result_faulty t.kind done caller' faulty))
+        return-fails (ended.Trap t) caller' (inr (is, done, failed)) =
+            let P : Step → Type 0 = λ s. Traps parties either f flats before s t.kind (ways_of entered.1 done) (world caller' callee'' body') in
+            (ways_of entered.1 done, subst P (sym is) (answer, after, answered, result_fails t.kind done caller' failed))
 
         module _ (back : List Flat) (caller' : Memory) (has : HasReturned alone f flats (memories caller callee'') answer back (memories caller' callee'')) (callee''' : Memory) (body'' : List ℕ) where
-          returned : Returned parties either f flats before answer back (world caller' callee'' body')
+          returned : Returned parties f flats before answer back (ways_of entered.1 has.1) (world caller' callee'' body')
           returned =
-              let e = has.1 in
+              let e = has.2 in
               record {
                 values = has.0;
                 answered = after;
                 answers = answered;
-                returns = record { denoted = e.denoted; area_stands = e.area_stands; events = e.events; passes = e.passes; leads = e.leads; same_callee = refl; same_body = refl };
+                returns = record { denoted = e.denoted; area_stands = e.area_stands; passes = e.passes; leads = e.leads; same_callee = refl; same_body = refl };
               }
 
           pub post-stops : parties.posts body' callee'' answer body'' callee''' None → (fault : Fault) → fault ≡ ended.Trap (record { kind = trap.Body; step = step.Post })
-              → Calls parties either f flats before (Err fault) (world caller' callee''' body'')
+              → Ends (Err fault) (world caller' callee''' body'')
           post-stops post fault is =
-              rw is (answer, back, world caller' callee'' body', refl, returned, record { run = post; same_caller = refl })
+              rw is (ways_of entered.1 has.1, (answer, back, world caller' callee'' body', refl, returned, record { run = post; same_caller = refl }))
 
-          pub completes : parties.posts body' callee'' answer body'' callee''' (Some tt) → Calls parties either f flats before (Ok back) (world caller' callee''' body'')
-          completes post = record {
-            answer = answer;
-            returned = world caller' callee'' body';
-            returns = returned;
-            finishes = record { run = post; same_caller = refl };
-          }
+          pub completes : parties.posts body' callee'' answer body'' callee''' (Some tt) → Ends (Ok back) (world caller' callee''' body'')
+          completes post = (
+            ways_of entered.1 has.1,
+            record {
+              answer = answer;
+              returned = world caller' callee'' body';
+              returns = returned;
+              finishes = record { run = post; same_caller = refl };
+            },
+          )

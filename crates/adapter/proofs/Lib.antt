@@ -3,3 +3,4 @@ pub mod Functions
 pub mod Signatures
 pub mod Crossings
 pub mod Chains
+mod Promised

@@ -11,7 +11,7 @@ use Rattle.canonical_abi.specs.Flat.{Denotes, DenotesFault, Lifts, FieldsLiftFau
 use Rattle.canonical_abi.specs.Guest.{Memory, Allocation}
 use Rattle.canonical_abi.specs.Trace.{Event, node}
 use Rattle.canonical_abi.specs.Script.{FieldsLowerUntil, ParamsUntil}
-use Rattle.canonical_abi.specs.Call.{either, Parties, World, ArgumentsFaulty, ResultFaulty}
+use Rattle.canonical_abi.specs.Call.{either, Parties, World, argument_flats, ArgumentsFaulty, ResultFaulty}
 use Rattle.canonical_abi.specs.declared.flat.Flat.{Flat}
 use Rattle.canonical_abi.specs.declared.trap.Fault.{Fault}
 use Rattle.canonical_abi.specs.declared.trap.Fault.TheVariants as ended
@@ -23,7 +23,7 @@ use Rattle.tables.specs.Closed.{prim_of, is_scalar}
 use Rattle.lift_lower.specs.Scalars.{AreScalar, fields_in, AreCarried}
 use Rattle.lift_lower.proofs.ScalarLists.{scalars_fit, prim_typed, quiet_leads}
 use Rattle.adapter.specs.Carrying.{CarriesOn, IsFaultAt}
-use Rattle.adapter.specs.Crossing.{guests, memories, argument_flats, HasEntered, EntryFails, HasReturned, ReturnFails}
+use Rattle.adapter.specs.Crossing.{guests, memories, HasEntered, EntryFails, HasReturned, ReturnFails}
 
 -- a function whose parameters and result are of these scalar types
 pub record IsOfTypes (f : FunctionType) (rows : List ClosedType) (params results : List ValType) : Type 0 where
@@ -76,20 +76,20 @@ module _ (caller_allocates callee_allocates : Allocation) (f : FunctionType) (fl
       let n : length flats ≡ length (passed_kinds max_flat_params f.params) = sym (length-map flats kind_of) ∙ ap length kinds in
       sym (take_all _ flats (omega (arith, n)))
 
-  args_denote : (k : TrapKind) → DenotesFault max_flat_params f.params caller.bytes flats k → ArgumentsFaulty parties either f flats old k old
-  args_denote k (inl (other, is)) = inl (λ kinds. other (kinds ∙ signature), is, refl)
+  args_denote : (k : TrapKind) → DenotesFault max_flat_params f.params caller.bytes flats k → ArgumentsFaulty parties either f flats old k [] old
+  args_denote k (inl (other, is)) = inl (λ kinds. other (kinds ∙ signature), is, refl, refl)
   args_denote k (inr (kinds, inr (spilled, h))) = absurd (both_ways _ spilled params_fit)
   args_denote k (inr (kinds, inl (flat, h))) =
       let es = until_of rows params f.params fits.params_are fits.scalar_params.primitive caller.bytes (map number_of flats) k h in
       let P : List Flat → Type 0 = λ xs. ParamsUntil max_flat_params f.params caller.bytes xs k es.0 in
       let stops : P flats = ((kinds, inl flat), inl (flat, es.1)) in
-      inr (inr (kinds ∙ sym signature, es.0, [], subst P (all_flats kinds) stops, (es.0, refl), ([], refl, refl), refl, refl))
+      inr (inr (kinds ∙ sym signature, es.0, subst P (all_flats kinds) stops, (es.0, refl), ([], refl, refl), refl, refl))
 
   pub args_fault : (fault : Fault) → IsFaultAt step.LiftArgs params flats fault → EntryFails parties f flats old fault old
   args_fault ended.NoMemory h = refl
   args_fault (ended.Trap t) h =
       let Q : Fields → Type 0 = λ ts. DenotesFault max_flat_params ts caller.bytes flats t.kind in
-      inl (h.0, args_denote t.kind (subst Q (sym fits.params_are) (h.1 rows max_flat_params caller.bytes fits.scalar_params.few)))
+      inl (h.0, [], args_denote t.kind (subst Q (sym fits.params_are) (h.1 rows max_flat_params caller.bytes fits.scalar_params.few)))
 
   pub enters : (handed : List Flat) → CarriesOn params flats handed → HasEntered parties f flats old handed old
   enters handed carried =
@@ -99,10 +99,10 @@ module _ (caller_allocates callee_allocates : Allocation) (f : FunctionType) (fl
       let denoted = subst P (sym fits.params_are) (carried.1 rows max_flat_params caller.bytes fits.scalar_params.few) in
       let lowered = subst Q (sym fits.params_are) (carried.2 rows) in (
         carried.0,
+        lowered.0,
         record {
           kinds = denoted.0 ∙ sym signature;
           denoted = subst R (all_flats denoted.0) denoted;
-          events = lowered.0;
           passes = inl (params_fit, lowered.2);
           leads = quiet_leads callee_allocates callee lowered.0 lowered.1;
           same_caller = refl;
@@ -111,18 +111,18 @@ module _ (caller_allocates callee_allocates : Allocation) (f : FunctionType) (fl
       )
 
   module _ (answer : List Flat) where
-    result_denotes : (k : TrapKind) → DenotesFault max_flat_results (result_fields f.result) callee.bytes answer k → ResultFaulty parties either f flats old answer k old
-    result_denotes k (inl (other, is)) = inl (inl (other, is), refl)
+    result_denotes : (k : TrapKind) → DenotesFault max_flat_results (result_fields f.result) callee.bytes answer k → ResultFaulty parties either f flats old answer k [] old
+    result_denotes k (inl (other, is)) = inl (inl (other, is), refl, refl)
     result_denotes k (inr (kinds, inr (spilled, h))) = absurd (both_ways _ spilled result_fits)
     result_denotes k (inr (kinds, inl (flat, h))) =
         let es = until_of rows results (result_fields f.result) fits.results_are fits.scalar_results.primitive callee.bytes (map number_of answer) k h in
-        inr (tt, es.0, [], ((kinds, inl flat), inl (flat, es.1)), (es.0, refl), ([], refl, refl), refl, refl)
+        inr (tt, es.0, ((kinds, inl flat), inl (flat, es.1)), (es.0, refl), ([], refl, refl), refl, refl)
 
     pub result_fault : (fault : Fault) → IsFaultAt step.LiftResult results answer fault → ReturnFails parties f flats old answer fault old
     result_fault ended.NoMemory h = refl
     result_fault (ended.Trap t) h =
         let Q : Fields → Type 0 = λ ts. DenotesFault max_flat_results ts callee.bytes answer t.kind in
-        inl (h.0, result_denotes t.kind (subst Q (sym fits.results_are) (h.1 rows max_flat_results callee.bytes fits.one)))
+        inl (h.0, [], result_denotes t.kind (subst Q (sym fits.results_are) (h.1 rows max_flat_results callee.bytes fits.one)))
 
     pub returned : (back : List Flat) → CarriesOn results answer back → HasReturned parties f flats old answer back old
     returned back carried =
@@ -130,10 +130,10 @@ module _ (caller_allocates callee_allocates : Allocation) (f : FunctionType) (fl
         let Q : Fields → Type 0 = λ ts. AreCarried ts carried.0 back in
         let lowered = subst Q (sym fits.results_are) (carried.2 rows) in (
           carried.0,
+          lowered.0,
           record {
             denoted = subst P (sym fits.results_are) (carried.1 rows max_flat_results callee.bytes fits.one);
             area_stands = inl result_fits;
-            events = lowered.0;
             passes = inl (result_fits, lowered.2);
             leads = quiet_leads caller_allocates caller lowered.0 lowered.1;
             same_callee = refl;

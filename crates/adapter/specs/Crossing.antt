@@ -1,19 +1,20 @@
 -- The two ways of a call between two memories: what each part of a call answers, in the words of its links.
-use Rattle.std.specs.Prelude.{◌≡◌, ◌≢◌, ◌⊎◌, ℕ, List, [], map, take, length}
+use Rattle.std.specs.Prelude.{◌≡◌, ◌≢◌, ◌⊎◌, ℕ, List, [], map}
 use Rattle.canonical_abi.specs.Types.{Fields, FunctionType}
 use Rattle.canonical_abi.specs.Values.{Value}
-use Rattle.canonical_abi.specs.Layout.{max_flat_params, max_flat_results, passed_kinds, lowered_signature}
-use Rattle.canonical_abi.specs.Reading.{low_bits, kind_of, number_of}
+use Rattle.canonical_abi.specs.Layout.{max_flat_params, max_flat_results, lowered_signature}
+use Rattle.canonical_abi.specs.Reading.{kind_of}
 use Rattle.canonical_abi.specs.Flat.{Denotes}
 use Rattle.canonical_abi.specs.Guest.{Memory, Allocation}
-use Rattle.canonical_abi.specs.Call.{either, Parties, World, Enters, Returns, ArgumentsFaulty, ArgumentsFail, ResultFaulty, ResultFails}
+use Rattle.canonical_abi.specs.Trace.{Event}
+use Rattle.canonical_abi.specs.Call.{either, Parties, World, argument_flats, KindsFit, AreaStands, AreaFaulty, Enters, Returns, ArgumentsFaulty, ArgumentsFail, ResultFaulty, ResultFails}
 use Rattle.canonical_abi.specs.declared.flat.Flat.{Flat}
 use Rattle.canonical_abi.specs.declared.trap.Fault.{Fault}
 use Rattle.canonical_abi.specs.declared.trap.Fault.TheVariants.{Trap, NoMemory}
 use Rattle.canonical_abi.specs.declared.trap.Step.{Step}
 use Rattle.canonical_abi.specs.declared.trap.Step.TheVariants as step
 use Rattle.canonical_abi.specs.declared.trap.TrapKind.TheVariants as trap
-use Rattle.lift_lower.specs.Passing.{AreaHolds, AreaIsFaulty, ParamsStop, ResultPassed, ResultFailed}
+use Rattle.lift_lower.specs.Passing.{ParamsStop, ResultPassed, ResultFailed}
 
 -- two allocators, and a body that makes no run
 abbrev pub guests : Allocation → Allocation → Parties
@@ -35,12 +36,6 @@ at_step step NoMemory = NoMemory
 
 -- ---- the arguments
 
-abbrev pub argument_flats : FunctionType → List Flat → List Flat
-argument_flats f flats = take (length (passed_kinds max_flat_params f.params)) flats
-
-abbrev pub KindsFit : FunctionType → List Flat → Type 0
-KindsFit f flats = map kind_of flats ≡ (lowered_signature f).params
-
 -- the arguments as the caller holds them
 abbrev pub AreArguments : FunctionType → List ℕ → List Flat → List Value → Type 0
 AreArguments f m flats values = KindsFit f flats × Denotes max_flat_params f.params m (argument_flats f flats) values
@@ -55,40 +50,38 @@ AreNoArguments f m flats NoMemory = Unit {0}
 
 -- the arguments are put into the callee
 abbrev pub HasEntered : Parties → FunctionType → List Flat → World → List Flat → World → Type 0
-HasEntered parties f flats old handed new = (values : List Value) × Enters parties either f flats old values handed new
+HasEntered parties f flats old handed new = (values : List Value) × (there : List Event) × Enters parties f flats old values handed there new
 
 -- why they are not; where memory was wanting, nothing was done
 abbrev pub EntryFails : Parties → FunctionType → List Flat → World → Fault → World → Type 0
 EntryFails parties f flats old (Trap t) new =
-    ((t.step ≡ step.LiftArgs) × ArgumentsFaulty parties either f flats old t.kind new)
-    ⊎ ((t.step ≡ step.LowerArgs) × ArgumentsFail parties either f flats old t.kind new)
+    ((t.step ≡ step.LiftArgs) × (done : List Event) × ArgumentsFaulty parties either f flats old t.kind done new)
+    ⊎ ((t.step ≡ step.LowerArgs) × (done : List Event) × ArgumentsFail parties either f flats old t.kind done new)
 EntryFails parties f flats old NoMemory new = new ≡ old
 
 -- ---- the result
 
-abbrev pub area_in : FunctionType → List Flat → ℕ
-area_in f flats = low_bits (map number_of flats) (length (passed_kinds max_flat_params f.params)) 32
-
 -- the result is put into the caller
 abbrev pub HasReturned : Parties → FunctionType → List Flat → World → List Flat → List Flat → World → Type 0
-HasReturned parties f flats old answer back new = (values : List Value) × Returns parties either f flats old answer values back new
+HasReturned parties f flats old answer given new =
+    (values : List Value) × (back : List Event) × Returns parties f flats old answer values given back new
 
 -- why it is not; where memory was wanting, nothing was done
 abbrev pub ReturnFails : Parties → FunctionType → List Flat → World → List Flat → Fault → World → Type 0
 ReturnFails parties f flats old answer (Trap t) new =
-    ((t.step ≡ step.LiftResult) × ResultFaulty parties either f flats old answer t.kind new)
-    ⊎ ((t.step ≡ step.LowerResult) × ResultFails parties either f flats old answer t.kind new)
+    ((t.step ≡ step.LiftResult) × (done : List Event) × ResultFaulty parties either f flats old answer t.kind done new)
+    ⊎ ((t.step ≡ step.LowerResult) × (done : List Event) × ResultFails parties either f flats old answer t.kind done new)
 ReturnFails parties f flats old answer NoMemory new = new ≡ old
 
 -- values are put into the caller as a result, and its return area stands
 abbrev pub IsHandedBack : Allocation → Fields → ℕ → List Value → Memory → List Flat → Memory → Type 0
 IsHandedBack allocates ts area values old back new =
-    AreaHolds max_flat_results ts area old.bytes × ResultPassed max_flat_results allocates ts area values old back new
+    AreaStands max_flat_results ts area old.bytes × ResultPassed max_flat_results allocates ts area values old back new
 
 -- why they are not
 abbrev pub HandingBackFails : Allocation → Fields → ℕ → List Value → Memory → Fault → Memory → Type 0
 HandingBackFails allocates ts area values old (Trap t) new =
     (t.step ≡ step.LowerResult)
-    × ((AreaIsFaulty max_flat_results ts area old.bytes t.kind × (new ≡ old))
-    ⊎ (AreaHolds max_flat_results ts area old.bytes × ResultFailed max_flat_results allocates ts area values old t.kind new))
+    × ((AreaFaulty max_flat_results ts area old.bytes t.kind × (new ≡ old))
+    ⊎ (AreaStands max_flat_results ts area old.bytes × ResultFailed max_flat_results allocates ts area values old t.kind new))
 HandingBackFails allocates ts area values old NoMemory new = ⊥

@@ -1,6 +1,7 @@
 //! The call itself.
 ghost use Rattle.std.specs.Prelude.{◌≡◌, ◌≢◌, ◌≤◌, Err, length, IfOk};
-ghost use Rattle.canonical_abi.specs.Call.{Calls, either, AllowsSameRuns, AllowsSamePosts};
+ghost use Rattle.canonical_abi.specs.Call.{Calls, Ways, either, AllowsSameRuns, AllowsSamePosts};
+ghost use Rattle.canonical_abi.specs.Headline.{IsLinkPromised};
 ghost use Rattle.tables.specs.Closed.{function_type, IsFunction, IsScalarFunction};
 ghost use Rattle.layout.specs.Layout.{layouts_of, AreWithin};
 ghost use Rattle.adapter.specs.Carrying.{answer_of};
@@ -46,7 +47,8 @@ impl<'a> Link<'a> {
 
     /// Calls a function of the package: the flat values are lifted from the caller and lowered into the
     /// callee, the body makes one run on them, and its answer goes the same way back. Then its post-return
-    /// runs, unless there was a trap. Where the host has no memory for the arguments' tree, nothing was done;
+    /// runs, unless there was a trap. Over honest guests within the limit and a live return area the callee finds
+    /// exactly what the caller holds and is run once, and the caller then holds exactly its answer. Where the host has no memory for the arguments' tree, nothing was done;
     /// where it has none for the result's, the body has answered. The call of a scalar function asks for
     /// none. After a fault the link can be used again.
     pub fn call<C: Guest, E: Guest, B: Body<E>>(
@@ -59,8 +61,19 @@ impl<'a> Link<'a> {
         body: &mut B,
     ) -> Result<Flats, Fault>
         requires function { IsFunction self.old.resolve func }
-        ensures call { Calls
+        ensures call { (ways : Ways) × Calls
             (record { caller_allocates = C.allocates; callee_allocates = E.allocates; runs = B.runs body.old; posts = B.posts body.old })
+            either
+            (function_type self.old.resolve func)
+            flats.now
+            (record { caller = C.memory caller.old; callee = E.memory callee.old; body = B.state body.old })
+            (answer_of result)
+            ways
+            (record { caller = C.memory caller.new; callee = E.memory callee.new; body = B.state body.new }) }
+        ensures promise { IsLinkPromised
+            (record { caller_allocates = C.allocates; callee_allocates = E.allocates; runs = B.runs body.old; posts = B.posts body.old })
+            C.releases
+            E.releases
             either
             (function_type self.old.resolve func)
             flats.now

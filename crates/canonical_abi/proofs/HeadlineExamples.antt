@@ -1,12 +1,13 @@
 -- Worked examples: what the promise says of a call, and what it does not let stand.
-use Rattle.std.proofs.Common.{◌≡◌, [], ◌∷◌, Option, Some, Ok, Err, ◌∙◌, arith}
+use Rattle.std.proofs.Common.{◌≡◌, List, [], ◌∷◌, Option, None, Some, Ok, Err, ◌∙◌, arith}
 use Rattle.canonical_abi.specs.Types.{int32}
 use Rattle.canonical_abi.specs.Values.{Value, unsigned_value}
 use Rattle.canonical_abi.specs.Guest.{Release, IsHonest}
 use Rattle.canonical_abi.specs.Call.{Parties, World, exact}
-use Rattle.canonical_abi.specs.Headline.{AreHonest, AreLimited, IsStandardFunction, KeepsPromise, LinkKeepsPromise}
+use Rattle.canonical_abi.specs.Headline.{AreHonest, AreLimited, IsStandardFunction, IsPosted, AfterRun, RunsOnce, KeepsPromise, LinkKeepsPromise}
+use Rattle.canonical_abi.specs.declared.flat.Flat.{Flat}
 use Rattle.canonical_abi.specs.declared.flat.Flat.TheVariants.{I32}
-use Rattle.canonical_abi.specs.declared.trap.Fault.TheVariants.{Trap}
+use Rattle.canonical_abi.specs.declared.trap.Fault.TheVariants.{Trap, NoMemory}
 use Rattle.canonical_abi.specs.declared.trap.TrapKind.{TrapKind}
 use Rattle.canonical_abi.specs.declared.trap.Step.TheVariants as step
 use Rattle.canonical_abi.proofs.CallExamples.{answering, f, empty, f-of-7, f-typed}
@@ -46,7 +47,7 @@ f-is-promised : KeepsPromise parties exact f (unsigned_value int32 7 ∷ []) emp
 f-is-promised = keeps-promise parties nothing nothing exact f _ empty _ empty standard f-typed honest limited
 
 f-link-is-promised : LinkKeepsPromise parties exact f (I32 7 ∷ []) empty (Ok (I32 8 ∷ [])) empty
-f-link-is-promised = link-keeps-promise parties nothing nothing exact f _ empty _ empty standard f-of-7 honest limited (λ kinds x w. absurd (omega (arith, w.0, w.1)))
+f-link-is-promised = link-keeps-promise parties nothing nothing exact f _ empty _ _ empty standard f-of-7 honest limited (λ kinds x w. absurd (omega (arith, w.0, w.1)))
 
 -- ---- what is not so
 
@@ -62,3 +63,21 @@ f-lifts k new p = p.own
 -- a trap before the body is entered leaves its state
 f-trap-leaves-the-body : (k : TrapKind) (new : World) → KeepsPromise parties exact f (unsigned_value int32 7 ∷ []) empty (Err (Trap (record { kind = k; step = step.LowerArgs }))) new → new.body ≡ []
 f-trap-leaves-the-body k new p = (p.before tt).same_body
+
+-- the caller is given what the body answers, and nothing else
+f-link-gives : (back : List Flat) (new : World) (p : LinkKeepsPromise parties exact f (I32 7 ∷ []) empty (Ok back) new) → p.gives.answer ≡ I32 8 ∷ []
+f-link-gives back new p = told p.gives.found.run.3
+  where
+    told : {xs ys : List Flat} → ◌≡◌ {A = Option (List Flat)} (Some xs) (Some ys) → xs ≡ ys
+    told e = cc
+
+-- in the exact order want of the host's memory comes after the whole crossing
+f-wants-after : (new : World) → KeepsPromise parties exact f (unsigned_value int32 7 ∷ []) empty (Err NoMemory) new → (answer : List Flat) × (ran : World) × IsPosted parties (Some tt) new (Some answer) ran
+f-wants-after new p = by (p.finds tt)
+  where
+    by : RunsOnce parties f (unsigned_value int32 7 ∷ []) empty (AfterRun {A = Option Value} parties exact (Err NoMemory) new) → (answer : List Flat) × (ran : World) × IsPosted parties (Some tt) new (Some answer) ran
+    by r = answered r.answer r.ran r.after
+      where
+        answered : (answer : Option (List Flat)) (ran : World) → IsPosted parties (Some tt) new answer ran → (given : List Flat) × (w : World) × IsPosted parties (Some tt) new (Some given) w
+        answered None ran h = absurd h
+        answered (Some given) ran h = (given, ran, h)

@@ -12,8 +12,7 @@ use Rattle.canonical_abi.specs.Guest.{Memory, Release, IsLimited, KeepsLimit, Is
 use Rattle.canonical_abi.specs.Trace.{Event, grant, TraceLeads}
 use Rattle.canonical_abi.specs.Stands.{AreAligned, IsGranted, Carries}
 use Rattle.canonical_abi.specs.Laws.{IsOneOutcome}
-use Rattle.canonical_abi.specs.Call.{Parties, World, Order, either, exact, Traps, GivesUp, Calls, KindsFit, AreaFaulty, argument_flats}
-use Rattle.canonical_abi.specs.Call as call
+use Rattle.canonical_abi.specs.Call.{Parties, World, Order, either, exact, Ways, Traps, GivesUp, Calls, KindsFit, ReturnAreaFaulty, argument_flats, area_of}
 use Rattle.canonical_abi.specs.Session.{AsksArea, Prepares, HasResult, HasResultFault, as_list, Placed, PlaceFails, CameBack, TypedTraps, TypedCall}
 use Rattle.canonical_abi.specs.Headline.{AreHonest, IsStandardFunction, KeepsOutside, FindsAndRunsOnce, RunsOnce, LiftsExactly, CallerIsUnchanged, CalleeIsUnchanged, IsBeforeBody, EntersBody, HasEntered, IsPosted, AfterTrap, AfterRun, IsOwnTrap, KeepsPromise, CallKeepsPromise, LendsArea, AreArguments, IsArgumentFault, IsLinkTrap, LinksOnce}
 use Rattle.canonical_abi.specs.declared.flat.CoreKind.{CoreKind}
@@ -130,19 +129,19 @@ module _ (parties : Parties) (caller_releases callee_releases : Release) (order 
   passed-length : (es : List Event) (flats : List Flat) (area : ℕ) (p : Prepares f arguments es flats area) (m : List ℕ) → Denotes max_flat_params f.params m p.1 arguments → length p.1 ≡ length (passed_kinds max_flat_params f.params)
   passed-length es flats area p m d = sym (length-map kind_of p.1) ∙ ap (λ l. length l) d.0
 
-  arguments-are : (es : List Event) (flats : List Flat) (area : ℕ) (p : Prepares f arguments es flats area) → length p.1 ≡ length (passed_kinds max_flat_params f.params) → argument_flats parties order f flats ≡ p.1
+  arguments-are : (es : List Event) (flats : List Flat) (area : ℕ) (p : Prepares f arguments es flats area) → length p.1 ≡ length (passed_kinds max_flat_params f.params) → argument_flats f flats ≡ p.1
   arguments-are es flats area p l = by p.3
     where
-      by : AsksArea (result_fields f.result) p.0 p.1 es flats area → argument_flats parties order f flats ≡ p.1
+      by : AsksArea (result_fields f.result) p.0 p.1 es flats area → argument_flats f flats ≡ p.1
       by (inl s) = ap (λ fs. take (length (passed_kinds max_flat_params f.params)) fs) (s.2 ∙ sym (no-more p.1)) ∙ take-front p.1 [] _ l
       by (inr s) = ap (λ fs. take (length (passed_kinds max_flat_params f.params)) fs) s.4 ∙ take-front p.1 (I32 s.1.at ∷ []) _ l
 
   -- the area is where the call takes it to be
   area-is : (es : List Event) (flats : List Flat) (area : ℕ) (p : Prepares f arguments es flats area) (m : List ℕ) → length m < 2 ^ 32 → Carries m es → length p.1 ≡ length (passed_kinds max_flat_params f.params)
-      → fits_flat max_flat_results (result_fields f.result) ≡ false → call.area parties order f flats ≡ area
+      → fits_flat max_flat_results (result_fields f.result) ≡ false → area_of f flats ≡ area
   area-is es flats area p m few c l spills = by p.3
     where
-      by : AsksArea (result_fields f.result) p.0 p.1 es flats area → call.area parties order f flats ≡ area
+      by : AsksArea (result_fields f.result) p.0 p.1 es flats area → area_of f flats ≡ area
       by (inl s) = absurd (not-both s.0 spills)
       by (inr s) =
           let block = carries-second m p.0 (grant s.1 ∷ []) (subst (Carries m) s.3 c) in
@@ -166,73 +165,73 @@ module _ (parties : Parties) (caller_releases callee_releases : Release) (order 
   signed b = (cond b (lifted_signature f) (record { params = (lifted_signature f).params ++ kind.I32 ∷ []; results = [] })).params
 
   -- the flat values have the kinds of the signature: a result that goes to memory adds the address of its area
-  kinds-fit : (es : List Event) (flats : List Flat) (area : ℕ) (p : Prepares f arguments es flats area) → map kind_of p.1 ≡ passed_kinds max_flat_params f.params → KindsFit parties order f flats
+  kinds-fit : (es : List Event) (flats : List Flat) (area : ℕ) (p : Prepares f arguments es flats area) → map kind_of p.1 ≡ passed_kinds max_flat_params f.params → KindsFit f flats
   kinds-fit es flats area p kinds = by p.3
     where
-      by : AsksArea (result_fields f.result) p.0 p.1 es flats area → KindsFit parties order f flats
+      by : AsksArea (result_fields f.result) p.0 p.1 es flats area → KindsFit f flats
       by (inl s) = ap (λ fs. map kind_of fs) s.2 ∙ kinds ∙ ap signed (sym s.0)
       by (inr s) = ap (λ fs. map kind_of fs) s.4 ∙ map-kinds p.1 (I32 s.1.at ∷ []) ∙ ap (λ ks. ks ++ kind.I32 ∷ []) kinds ∙ ap signed (sym s.0)
 
   module _ (old : World) (few : IsLimited old.caller) (keeps : KeepsLimit parties.caller_allocates) where
-    module _ (flats : List Flat) (area : ℕ) (placed : World) (p : Placed parties order f arguments old flats area placed) where
+    module _ (flats : List Flat) (area : ℕ) (placed : World) (p : Placed parties f arguments old flats area placed) where
       placed-limited : IsLimited placed.caller
-      placed-limited = trace-limited parties.caller_allocates keeps p.events old.caller placed.caller p.leads few
+      placed-limited = trace-limited parties.caller_allocates keeps p.puts.0 old.caller placed.caller p.puts.3 few
 
-      placed-fine : Fine parties.caller_allocates Nowhere old.caller p.events placed.caller
-      placed-fine = prepares-fine p.events flats area old.caller placed.caller p.prepares p.leads
+      placed-fine : Fine parties.caller_allocates Nowhere old.caller p.puts.0 placed.caller
+      placed-fine = prepares-fine p.puts.0 flats area old.caller placed.caller p.puts.1 p.puts.3
 
-      placed-carried : Carries placed.caller.bytes p.events
-      placed-carried = prepares-carried p.events flats area old.caller placed.caller p.prepares p.leads
+      placed-carried : Carries placed.caller.bytes p.puts.0
+      placed-carried = prepares-carried p.puts.0 flats area old.caller placed.caller p.puts.1 p.puts.3
 
-      alone-denoted : Denotes max_flat_params f.params placed.caller.bytes p.prepares.1 arguments
-      alone-denoted = passed-denoted p.events flats area old.caller placed.caller p.prepares p.leads (small placed.caller placed-limited)
+      alone-denoted : Denotes max_flat_params f.params placed.caller.bytes p.puts.1.1 arguments
+      alone-denoted = passed-denoted p.puts.0 flats area old.caller placed.caller p.puts.1 p.puts.3 (small placed.caller placed-limited)
 
-      alone-length : length p.prepares.1 ≡ length (passed_kinds max_flat_params f.params)
-      alone-length = passed-length p.events flats area p.prepares placed.caller.bytes alone-denoted
+      alone-length : length p.puts.1.1 ≡ length (passed_kinds max_flat_params f.params)
+      alone-length = passed-length p.puts.0 flats area p.puts.1 placed.caller.bytes alone-denoted
 
       -- the flat values handed in denote the arguments alone
-      placed-denoted : AreArguments parties order f flats placed.caller arguments
-      placed-denoted = subst (λ fs. Denotes max_flat_params f.params placed.caller.bytes fs arguments) (sym (arguments-are p.events flats area p.prepares alone-length)) alone-denoted
+      placed-denoted : AreArguments f flats placed.caller arguments
+      placed-denoted = subst (λ fs. Denotes max_flat_params f.params placed.caller.bytes fs arguments) (sym (arguments-are p.puts.0 flats area p.puts.1 alone-length)) alone-denoted
 
-      placed-fits : KindsFit parties order f flats
-      placed-fits = kinds-fit p.events flats area p.prepares alone-denoted.0
+      placed-fits : KindsFit f flats
+      placed-fits = kinds-fit p.puts.0 flats area p.puts.1 alone-denoted.0
 
-      same-area : fits_flat max_flat_results (result_fields f.result) ≡ false → call.area parties order f flats ≡ area
-      same-area spills = area-is p.events flats area p.prepares placed.caller.bytes (small placed.caller placed-limited) placed-carried alone-length spills
+      same-area : fits_flat max_flat_results (result_fields f.result) ≡ false → area_of f flats ≡ area
+      same-area spills = area-is p.puts.0 flats area p.puts.1 placed.caller.bytes (small placed.caller placed-limited) placed-carried alone-length spills
 
-      told-arguments : IsOneOutcome (AreArguments parties order f flats placed.caller) (DenotesFault max_flat_params f.params placed.caller.bytes (argument_flats parties order f flats))
-      told-arguments = one_outcome (denoting max_flat_params f.params placed.caller.bytes (argument_flats parties order f flats)) _ _ (denoting-tells max_flat_params f.params placed.caller.bytes (argument_flats parties order f flats))
+      told-arguments : IsOneOutcome (AreArguments f flats placed.caller) (DenotesFault max_flat_params f.params placed.caller.bytes (argument_flats f flats))
+      told-arguments = one_outcome (denoting max_flat_params f.params placed.caller.bytes (argument_flats f flats)) _ _ (denoting-tells max_flat_params f.params placed.caller.bytes (argument_flats f flats))
 
-      pub same-arguments : (values : List Value) → AreArguments parties order f flats placed.caller values → values ≡ arguments
+      pub same-arguments : (values : List Value) → AreArguments f flats placed.caller values → values ≡ arguments
       same-arguments values d = told-arguments.one_value values arguments d placed-denoted
 
-      no-argument-fault : (k : TrapKind) → IsArgumentFault parties order f flats placed.caller k → ⊥
+      no-argument-fault : (k : TrapKind) → IsArgumentFault f flats placed.caller k → ⊥
       no-argument-fault k (inl h) = h.0 placed-fits
       no-argument-fault k (inr h) = told-arguments.not_both arguments k placed-denoted h.1
 
-      in-area : (x : ℕ) → InArea (result_fields f.result) (call.area parties order f flats) x → IsGranted p.events x
-      in-area x i = area-granted p.events flats area p.prepares x (i.0, subst (λ b. IsWithin x b (size (record_type (result_fields f.result)))) (same-area i.0) i.1)
+      in-area : (x : ℕ) → InArea (result_fields f.result) (area_of f flats) x → IsGranted p.puts.0 x
+      in-area x i = area-granted p.puts.0 flats area p.puts.1 x (i.0, subst (λ b. IsWithin x b (size (record_type (result_fields f.result)))) (same-area i.0) i.1)
 
       -- the area that the call is given was granted, so it is live, and a block of the caller
-      placed-lends : LendsArea parties order f flats placed.caller
+      placed-lends : LendsArea f flats placed.caller
       placed-lends fit x w = by (fits_flat max_flat_results (result_fields f.result)) refl
         where
           by : (b : Bool) → fits_flat max_flat_results (result_fields f.result) ≡ b → placed.caller.live x ≡ true
           by true fits =
-              let none = subst (λ b. IsWithin x (call.area parties order f flats) (cond b 0 (size (record_type (result_fields f.result))))) fits w in
+              let none = subst (λ b. IsWithin x (area_of f flats) (cond b 0 (size (record_type (result_fields f.result))))) fits w in
               absurd (omega (arith, none.0, none.1))
           by false spills =
-              (runs-keep parties.caller_allocates caller_releases honest.caller p.events old.caller placed.caller placed-fine.aligned placed-fine.leads).is_live x
-              (in-area x (spills, subst (λ b. IsWithin x (call.area parties order f flats) (cond b 0 (size (record_type (result_fields f.result))))) spills w))
+              (runs-keep parties.caller_allocates caller_releases honest.caller p.puts.0 old.caller placed.caller placed-fine.aligned placed-fine.leads).is_live x
+              (in-area x (spills, subst (λ b. IsWithin x (area_of f flats) (cond b 0 (size (record_type (result_fields f.result))))) spills w))
 
-      area-stands : (k : TrapKind) → AreaFaulty parties order f flats placed.caller k → ⊥
-      area-stands k (spills, faulty) = by p.prepares.3
+      area-stands : (k : TrapKind) → ReturnAreaFaulty f flats placed.caller k → ⊥
+      area-stands k (spills, faulty) = by p.puts.1.3
         where
-          by : AsksArea (result_fields f.result) p.prepares.0 p.prepares.1 p.events flats area → ⊥
+          by : AsksArea (result_fields f.result) p.puts.1.0 p.puts.1.1 p.puts.0 flats area → ⊥
           by (inl s) = not-both s.0 spills
           by (inr s) =
-              let block = carries-second placed.caller.bytes p.prepares.0 (grant s.1 ∷ []) (subst (Carries placed.caller.bytes) s.3 placed-carried) in
-              let at : call.area parties order f flats ≡ s.1.at = same-area spills ∙ s.5 in
+              let block = carries-second placed.caller.bytes p.puts.1.0 (grant s.1 ∷ []) (subst (Carries placed.caller.bytes) s.3 placed-carried) in
+              let at : area_of f flats ≡ s.1.at = same-area spills ∙ s.5 in
               not-faulty placed.caller.bytes s.1.at (align (record_type (result_fields f.result))) (size (record_type (result_fields f.result))) k
               (subst (λ m. BlockHolds placed.caller.bytes s.1.at (align (record_type (result_fields f.result))) m) s.2.1 (subst (λ j. BlockHolds placed.caller.bytes s.1.at j s.1.size) s.2.0 block.0))
               (subst (λ b. BlockFaulty placed.caller.bytes b (align (record_type (result_fields f.result))) (size (record_type (result_fields f.result))) k) at faulty)
@@ -240,11 +239,11 @@ module _ (parties : Parties) (caller_releases callee_releases : Release) (order 
       -- what a call makes of the caller comes behind what was placed
       went-behind : (new : World) → Went parties caller_releases callee_releases order f flats honest placed new → WentFine parties old new
       went-behind new (es, fine) = (
-        p.events ++ es,
+        p.puts.0 ++ es,
         record {
-          aligned = aligned-both p.events es placed-fine.aligned fine.aligned;
-          confined = confined-granted Nowhere (InArea (result_fields f.result) (call.area parties order f flats)) p.events es placed-fine.confined fine.confined (λ x i. inr (in-area x i));
-          leads = leads-both parties.caller_allocates p.events es old.caller placed.caller new.caller p.leads fine.leads;
+          aligned = aligned-both p.puts.0 es placed-fine.aligned fine.aligned;
+          confined = confined-granted Nowhere (InArea (result_fields f.result) (area_of f flats)) p.puts.0 es placed-fine.confined fine.confined (λ x i. inr (in-area x i));
+          leads = leads-both parties.caller_allocates p.puts.0 es old.caller placed.caller new.caller p.puts.3 fine.leads;
         },
       )
 
@@ -260,7 +259,7 @@ module _ (parties : Parties) (caller_releases callee_releases : Release) (order 
         kept = subst (λ m. KeepsOutside parties.callee_allocates 0 0 m r.entered.callee) p.same_callee r.kept;
       }
 
-      once-before : (After : Option (List Flat) → World → Type 0) → LinksOnce parties order f flats placed After → RunsOnce parties f arguments old After
+      once-before : (After : Option (List Flat) → World → Type 0) → LinksOnce parties f flats placed After → RunsOnce parties f arguments old After
       once-before After l = record {
         answer = l.runs.answer;
         ran = l.runs.ran;
@@ -274,54 +273,54 @@ module _ (parties : Parties) (caller_releases callee_releases : Release) (order 
         same_body = u.same_body ∙ p.same_body;
       }
 
-      result-in-area : (new : World) (back : List Flat) (vs : List Value) → HasResult (result_fields f.result) new.caller.bytes back (call.area parties order f flats) vs → HasResult (result_fields f.result) new.caller.bytes back area vs
+      result-in-area : (new : World) (back : List Flat) (vs : List Value) → HasResult (result_fields f.result) new.caller.bytes back (area_of f flats) vs → HasResult (result_fields f.result) new.caller.bytes back area vs
       result-in-area new back vs (inl h) = inl h
       result-in-area new back vs (inr h) = inr (h.0, subst (λ a. FieldsHold (result_fields f.result) new.caller.bytes a 0 vs) (same-area h.0) h.1)
 
-      call-fine : (result : Result (List Flat) Fault) (new : World) → Calls parties order f flats placed result new → WentFine parties old new
-      call-fine result new c = went-behind new (call-went parties caller_releases callee_releases order f flats honest placed result new c)
+      call-fine : (result : Result (List Flat) Fault) (ways : Ways) (new : World) → Calls parties order f flats placed result ways new → WentFine parties old new
+      call-fine result ways new c = went-behind new (call-went parties caller_releases callee_releases order f flats honest placed result ways new c)
 
     -- ---- the caller
 
-    came-fine : (back : List Flat) (area : ℕ) (new : World) → CameBack parties order f arguments old back area new → WentFine parties old new
-    came-fine back area new b = call-fine b.flats area b.placed b.places (Ok back) new b.completes
+    came-fine : (back : List Flat) (area : ℕ) (new : World) → CameBack parties f arguments old back area new → WentFine parties old new
+    came-fine back area new b = call-fine b.flats area b.placed b.places (Ok back) b.ways new b.completes
 
     abbrev of-trap : Step → TrapKind → Result (List Flat) Fault
     of-trap s k = Err (Trap (record { kind = k; step = s }))
 
     -- there was no room in `place`
-    place-broke : (k : TrapKind) (new : World) → PlaceFails parties order f arguments old k new → (made : List Event) × Fine parties.caller_allocates Nowhere old.caller made new.caller × ((k ≡ trap.Full) ⊎ (k ≡ trap.Bounds))
+    place-broke : (k : TrapKind) (new : World) → PlaceFails parties f arguments old k new → (made : List Event) × Fine parties.caller_allocates Nowhere old.caller made new.caller × ((k ≡ trap.Full) ⊎ (k ≡ trap.Bounds))
     place-broke k new t =
-        let p = t.prepares in
-        typed-broken parties.caller_allocates caller_releases honest.caller Nowhere old.caller t.events k new.caller
-        (asks-aligned (result_fields f.result) p.0 p.1 t.events t.flats t.area p.3 (is-alignment (record_type (result_fields f.result))) (passes-aligned max_flat_params f.params arguments p.0 p.1 p.2))
-        (asks-confined (result_fields f.result) p.0 p.1 t.events t.flats t.area p.3 (passes-confined max_flat_params f.params arguments p.0 p.1 p.2)) t.breaks
+        let p = t.fails.3 in
+        typed-broken parties.caller_allocates caller_releases honest.caller Nowhere old.caller t.fails.0 k new.caller
+        (asks-aligned (result_fields f.result) p.0 p.1 t.fails.0 t.fails.1 t.fails.2 p.3 (is-alignment (record_type (result_fields f.result))) (passes-aligned max_flat_params f.params arguments p.0 p.1 p.2))
+        (asks-confined (result_fields f.result) p.0 p.1 t.fails.0 t.fails.1 t.fails.2 p.3 (passes-confined max_flat_params f.params arguments p.0 p.1 p.2)) t.fails.4
 
     trapped-fine : (s : Step) (k : TrapKind) (new : World) → TypedTraps parties order f arguments old s k new → WentFine parties old new
     trapped-fine step.Place k new t = let broke = place-broke k new t in (broke.0, broke.1)
     trapped-fine step.Take k new (back, area, b, fault) = came-fine back area new b
-    trapped-fine step.LiftArgs k new (flats, area, placed, p, t) = call-fine flats area placed p (of-trap step.LiftArgs k) new t
-    trapped-fine step.LowerArgs k new (flats, area, placed, p, t) = call-fine flats area placed p (of-trap step.LowerArgs k) new t
-    trapped-fine step.Body k new (flats, area, placed, p, t) = call-fine flats area placed p (of-trap step.Body k) new t
-    trapped-fine step.LiftResult k new (flats, area, placed, p, t) = call-fine flats area placed p (of-trap step.LiftResult k) new t
-    trapped-fine step.LowerResult k new (flats, area, placed, p, t) = call-fine flats area placed p (of-trap step.LowerResult k) new t
-    trapped-fine step.Post k new (flats, area, placed, p, t) = call-fine flats area placed p (of-trap step.Post k) new t
+    trapped-fine step.LiftArgs k new (flats, area, placed, p, ways, t) = call-fine flats area placed p (of-trap step.LiftArgs k) ways new t
+    trapped-fine step.LowerArgs k new (flats, area, placed, p, ways, t) = call-fine flats area placed p (of-trap step.LowerArgs k) ways new t
+    trapped-fine step.Body k new (flats, area, placed, p, ways, t) = call-fine flats area placed p (of-trap step.Body k) ways new t
+    trapped-fine step.LiftResult k new (flats, area, placed, p, ways, t) = call-fine flats area placed p (of-trap step.LiftResult k) ways new t
+    trapped-fine step.LowerResult k new (flats, area, placed, p, ways, t) = call-fine flats area placed p (of-trap step.LowerResult k) ways new t
+    trapped-fine step.Post k new (flats, area, placed, p, ways, t) = call-fine flats area placed p (of-trap step.Post k) ways new t
 
     -- whatever a typed call answers, the caller went through a trace that is confined to its own blocks
     pub call-went-fine : (result : Result (Option Value) Fault) (new : World) → TypedCall parties order f arguments old result new → WentFine parties old new
     call-went-fine (Ok v) new (back, area, b, has) = came-fine back area new b
     call-went-fine (Err (Trap t)) new traps = trapped-fine t.step t.kind new traps
-    call-went-fine (Err NoMemory) new (inl (flats, area, placed, p, g)) = call-fine flats area placed p (Err NoMemory) new g
+    call-went-fine (Err NoMemory) new (inl (flats, area, placed, p, ways, g)) = call-fine flats area placed p (Err NoMemory) ways new g
     call-went-fine (Err NoMemory) new (inr (back, area, b)) = came-fine back area new b
 
     -- ---- the callee
 
     trapped-before : (s : Step) (k : TrapKind) (new : World) → TypedTraps parties order f arguments old s k new → IsBeforeBody s → CalleeIsUnchanged parties old new
     trapped-before step.Place k new t b = untouched parties caller_releases callee_releases order f [] honest old new t.same_callee t.same_body
-    trapped-before step.LiftArgs k new (flats, area, placed, p, t) b =
-        unchanged-before flats area placed p new (traps-before parties caller_releases callee_releases order f flats honest placed step.LiftArgs k new t tt)
-    trapped-before step.LowerArgs k new (flats, area, placed, p, t) b =
-        unchanged-before flats area placed p new (traps-before parties caller_releases callee_releases order f flats honest placed step.LowerArgs k new t tt)
+    trapped-before step.LiftArgs k new (flats, area, placed, p, ways, t) b =
+        unchanged-before flats area placed p new (traps-before parties caller_releases callee_releases order f flats honest placed step.LiftArgs k ways new t tt)
+    trapped-before step.LowerArgs k new (flats, area, placed, p, ways, t) b =
+        unchanged-before flats area placed p new (traps-before parties caller_releases callee_releases order f flats honest placed step.LowerArgs k ways new t tt)
     trapped-before step.Body k new t b = absurd b
     trapped-before step.LiftResult k new t b = absurd b
     trapped-before step.LowerResult k new t b = absurd b
@@ -329,31 +328,31 @@ module _ (parties : Parties) (caller_releases callee_releases : Release) (order 
     trapped-before step.Take k new t b = absurd b
 
     module _ (callee_few : IsLimited old.callee) (callee_keeps : KeepsLimit parties.callee_allocates) where
-      placed-few : (flats : List Flat) (area : ℕ) (placed : World) → Placed parties order f arguments old flats area placed → IsLimited placed.callee
+      placed-few : (flats : List Flat) (area : ℕ) (placed : World) → Placed parties f arguments old flats area placed → IsLimited placed.callee
       placed-few flats area placed p = subst IsLimited (sym p.same_callee) callee_few
 
       abbrev Once : (Option (List Flat) → World → Type 0) → Type 0
       Once After = RunsOnce parties f arguments old After
 
-      came-once : (back : List Flat) (area : ℕ) (new : World) → CameBack parties order f arguments old back area new → Once (IsPosted parties (Some tt) new)
+      came-once : (back : List Flat) (area : ℕ) (new : World) → CameBack parties f arguments old back area new → Once (IsPosted parties (Some tt) new)
       came-once back area new b =
           once-before b.flats area b.placed b.places (IsPosted parties (Some tt) new)
-          (completed-once parties caller_releases callee_releases order f b.flats honest standard b.placed (placed-few b.flats area b.placed b.places) callee_keeps back new b.completes)
+          (completed-once parties caller_releases callee_releases order f b.flats honest standard b.placed (placed-few b.flats area b.placed b.places) callee_keeps back b.ways new b.completes)
 
-      call-once : (flats : List Flat) (area : ℕ) (placed : World) → Placed parties order f arguments old flats area placed → (s : Step) (k : TrapKind) (new : World) → Traps parties order f flats placed s k new → EntersBody s → Once (AfterTrap parties s new)
-      call-once flats area placed p s k new t e =
+      call-once : (flats : List Flat) (area : ℕ) (placed : World) → Placed parties f arguments old flats area placed → (s : Step) (k : TrapKind) (ways : Ways) (new : World) → Traps parties order f flats placed s k ways new → EntersBody s → Once (AfterTrap parties s new)
+      call-once flats area placed p s k ways new t e =
           once-before flats area placed p (AfterTrap parties s new)
-          (traps-once parties caller_releases callee_releases order f flats honest standard placed (placed-few flats area placed p) callee_keeps s k new t e)
+          (traps-once parties caller_releases callee_releases order f flats honest standard placed (placed-few flats area placed p) callee_keeps s k ways new t e)
 
       trapped-once : (s : Step) (k : TrapKind) (new : World) → TypedTraps parties order f arguments old s k new → EntersBody s → Once (AfterTrap parties s new)
       trapped-once step.Place k new t e = absurd e
       trapped-once step.LiftArgs k new t e = absurd e
       trapped-once step.LowerArgs k new t e = absurd e
       trapped-once step.Take k new (back, area, b, fault) e = came-once back area new b
-      trapped-once step.Body k new (flats, area, placed, p, t) e = call-once flats area placed p step.Body k new t tt
-      trapped-once step.LiftResult k new (flats, area, placed, p, t) e = call-once flats area placed p step.LiftResult k new t tt
-      trapped-once step.LowerResult k new (flats, area, placed, p, t) e = call-once flats area placed p step.LowerResult k new t tt
-      trapped-once step.Post k new (flats, area, placed, p, t) e = call-once flats area placed p step.Post k new t tt
+      trapped-once step.Body k new (flats, area, placed, p, ways, t) e = call-once flats area placed p step.Body k ways new t tt
+      trapped-once step.LiftResult k new (flats, area, placed, p, ways, t) e = call-once flats area placed p step.LiftResult k ways new t tt
+      trapped-once step.LowerResult k new (flats, area, placed, p, ways, t) e = call-once flats area placed p step.LowerResult k ways new t tt
+      trapped-once step.Post k new (flats, area, placed, p, ways, t) e = call-once flats area placed p step.Post k ways new t tt
 
       trapped-either : (s : Step) (k : TrapKind) (new : World) → TypedTraps parties order f arguments old s k new → CalleeIsUnchanged parties old new ⊎ Once (AfterTrap parties s new)
       trapped-either step.Place k new t = inl (trapped-before step.Place k new t tt)
@@ -373,62 +372,62 @@ module _ (parties : Parties) (caller_releases callee_releases : Release) (order 
       came-late either new r = record { answer = r.answer; ran = r.ran; found = r.found; after = inr r.after }
       came-late exact new r = r
 
-      given-up : (flats : List Flat) (area : ℕ) (placed : World) → Placed parties order f arguments old flats area placed → (o : Order) (new : World) → GivesUp parties order f flats o placed new → CalleeIsUnchanged parties old new ⊎ Once (After o new)
-      given-up flats area placed p o new g =
-          elim (gives-up-once parties caller_releases callee_releases order f flats honest standard placed (placed-few flats area placed p) callee_keeps o new g) [
+      given-up : (flats : List Flat) (area : ℕ) (placed : World) → Placed parties f arguments old flats area placed → (o : Order) (ways : Ways) (new : World) → GivesUp parties f flats o placed ways new → CalleeIsUnchanged parties old new ⊎ Once (After o new)
+      given-up flats area placed p o ways new g =
+          elim (gives-up-once parties caller_releases callee_releases order f flats honest standard placed (placed-few flats area placed p) callee_keeps o ways new g) [
             | inl u ↦ inl (unchanged-before flats area placed p new u)
             | inr l ↦ inr (once-before flats area placed p (After o new) l)
           ]
 
       wanting-either : (new : World) → TypedCall parties order f arguments old (Err NoMemory) new → CalleeIsUnchanged parties old new ⊎ Once (After order new)
-      wanting-either new (inl (flats, area, placed, p, g)) = given-up flats area placed p order new g
+      wanting-either new (inl (flats, area, placed, p, ways, g)) = given-up flats area placed p order ways new g
       wanting-either new (inr (back, area, b)) = inr (came-late order new (came-once back area new b))
 
       -- in the exact order it comes after the whole crossing
       wanting-once : (o : Order) → o ≡ order → (new : World) → TypedCall parties order f arguments old (Err NoMemory) new → HasEntered {A = Option Value} o (Err NoMemory) → Once (After o new)
       wanting-once either is new c e = absurd e
-      wanting-once exact is new (inl (flats, area, placed, p, g)) e = absurd (subst (λ o. GivesUp parties order f flats o placed new) (sym is) g)
+      wanting-once exact is new (inl (flats, area, placed, p, ways, g)) e = absurd (subst (λ o. GivesUp parties f flats o placed ways new) (sym is) g)
       wanting-once exact is new (inr (back, area, b)) e = came-late exact new (came-once back area new b)
 
       -- ---- the result
 
-      result-held : (back : List Flat) (area : ℕ) (new : World) (b : CameBack parties order f arguments old back area new) → HasResult (result_fields f.result) new.caller.bytes back area b.completes.returns.values
+      result-held : (back : List Flat) (area : ℕ) (new : World) (b : CameBack parties f arguments old back area new) → HasResult (result_fields f.result) new.caller.bytes back area b.completes.returns.values
       result-held back area new b =
           result-in-area b.flats area b.placed b.places new back b.completes.returns.values
           (result-given parties caller_releases callee_releases order f b.flats honest standard b.placed (placed-few b.flats area b.placed b.places) callee_keeps
-          (placed-limited b.flats area b.placed b.places) keeps (placed-lends b.flats area b.placed b.places) b.completes.answer back b.completes.returned new b.completes.returns b.completes.finishes.same_caller)
+          (placed-limited b.flats area b.placed b.places) keeps (placed-lends b.flats area b.placed b.places) b.completes.answer back b.ways b.completes.returned new b.completes.returns b.completes.finishes.same_caller)
 
       told-result : (m : List ℕ) (back : List Flat) (area : ℕ) → IsOneOutcome (HasResult (result_fields f.result) m back area) (HasResultFault (result_fields f.result) m back area)
       told-result m back area = one_outcome _ _ _ (tells-if (fits_flat max_flat_results (result_fields f.result)) _ _ _ _ _ _ (denoting-tells max_flat_results (result_fields f.result) m back) (fields-tell (result_fields f.result) m area 0))
 
-      lifted : (back : List Flat) (area : ℕ) (new : World) (b : CameBack parties order f arguments old back area new) (result : Option Value) → HasResult (result_fields f.result) new.caller.bytes back area (as_list result)
+      lifted : (back : List Flat) (area : ℕ) (new : World) (b : CameBack parties f arguments old back area new) (result : Option Value) → HasResult (result_fields f.result) new.caller.bytes back area (as_list result)
           → LiftsExactly parties f result b.completes.answer b.completes.returns.answered
       lifted back area new b result has =
           let same = (told-result new.caller.bytes back area).one_value (as_list result) b.completes.returns.values has (result-held back area new b) in
           record { lifted = subst (λ vs. Denotes max_flat_results (result_fields f.result) b.completes.returns.answered.callee.bytes b.completes.answer vs) (sym same) b.completes.returns.returns.denoted }
 
-      came-found : (back : List Flat) (area : ℕ) (new : World) (b : CameBack parties order f arguments old back area new) → FindsAndRunsOnce parties f arguments old (Some b.completes.answer) b.completes.returns.answered
+      came-found : (back : List Flat) (area : ℕ) (new : World) (b : CameBack parties f arguments old back area new) → FindsAndRunsOnce parties f arguments old (Some b.completes.answer) b.completes.returns.answered
       came-found back area new b =
           let a = b.completes.returns.answers in
           found-before b.flats area b.placed b.places a.values (same-arguments b.flats area b.placed b.places a.values a.enters.denoted) (Some b.completes.answer) b.completes.returns.answered
-          (answered-found parties caller_releases callee_releases order f b.flats honest standard b.placed (placed-few b.flats area b.placed b.places) callee_keeps b.completes.answer b.completes.returns.answered a)
+          (answered-found parties caller_releases callee_releases order f b.flats honest standard b.placed (placed-few b.flats area b.placed b.places) callee_keeps b.completes.answer b.ways.there b.completes.returns.answered a)
 
       -- ---- the traps
 
-      call-own : (flats : List Flat) (area : ℕ) (placed : World) → Placed parties order f arguments old flats area placed → (s : Step) (k : TrapKind) (new : World) → Traps parties order f flats placed s k new → IsLinkTrap parties order f flats placed s k
-      call-own flats area placed p s k new t = traps-own parties caller_releases callee_releases order f flats honest standard placed (placed-few flats area placed p) callee_keeps s k new t
+      call-own : (flats : List Flat) (area : ℕ) (placed : World) → Placed parties f arguments old flats area placed → (s : Step) (k : TrapKind) (ways : Ways) (new : World) → Traps parties order f flats placed s k ways new → IsLinkTrap parties f flats placed new s k
+      call-own flats area placed p s k ways new t = traps-own parties caller_releases callee_releases order f flats honest standard placed (placed-few flats area placed p) callee_keeps s k ways new t
 
-      trapped-own : (s : Step) (k : TrapKind) (new : World) → TypedTraps parties order f arguments old s k new → IsOwnTrap parties f arguments old s k
+      trapped-own : (s : Step) (k : TrapKind) (new : World) → TypedTraps parties order f arguments old s k new → IsOwnTrap parties f arguments old new s k
       trapped-own step.Place k new t = (place-broke k new t).2
-      trapped-own step.LiftArgs k new (flats, area, placed, p, t) = no-argument-fault flats area placed p k (call-own flats area placed p step.LiftArgs k new t)
-      trapped-own step.LowerArgs k new (flats, area, placed, p, t) = call-own flats area placed p step.LowerArgs k new t
-      trapped-own step.Body k new (flats, area, placed, p, t) = call-own flats area placed p step.Body k new t
-      trapped-own step.LiftResult k new (flats, area, placed, p, t) =
-          let (values, held, (answer, ran, found, fault)) = call-own flats area placed p step.LiftResult k new t in
-          (answer, ran, found-before flats area placed p values (same-arguments flats area placed p values held) (Some answer) ran found, fault)
-      trapped-own step.LowerResult k new (flats, area, placed, p, t) =
-          elim (call-own flats area placed p step.LowerResult k new t) [ inl full ↦ full | inr faulty ↦ absurd (area-stands flats area placed p k faulty) ]
-      trapped-own step.Post k new (flats, area, placed, p, t) = call-own flats area placed p step.Post k new t
+      trapped-own step.LiftArgs k new (flats, area, placed, p, ways, t) = no-argument-fault flats area placed p k (call-own flats area placed p step.LiftArgs k ways new t)
+      trapped-own step.LowerArgs k new (flats, area, placed, p, ways, t) = call-own flats area placed p step.LowerArgs k ways new t
+      trapped-own step.Body k new (flats, area, placed, p, ways, t) = call-own flats area placed p step.Body k ways new t
+      trapped-own step.LiftResult k new (flats, area, placed, p, ways, t) =
+          let (values, held, (answer, ran, found, fault, same)) = call-own flats area placed p step.LiftResult k ways new t in
+          (answer, ran, found-before flats area placed p values (same-arguments flats area placed p values held) (Some answer) ran found, fault, same)
+      trapped-own step.LowerResult k new (flats, area, placed, p, ways, t) =
+          elim (call-own flats area placed p step.LowerResult k ways new t) [ inl full ↦ full | inr faulty ↦ absurd (area-stands flats area placed p k faulty) ]
+      trapped-own step.Post k new (flats, area, placed, p, ways, t) = call-own flats area placed p step.Post k ways new t
       trapped-own step.Take k new (back, area, b, fault) =
           (told-result new.caller.bytes back area).not_both b.completes.returns.values k (result-held back area new b) fault
 
@@ -448,9 +447,9 @@ module _ (parties : Parties) (caller_releases callee_releases : Release) (order 
         own = tt;
       }
         where
-          came-posted : (back : List Flat) (area : ℕ) (new : World) (b : CameBack parties order f arguments old back area new) → parties.posts b.completes.returns.answered.body b.completes.returns.answered.callee b.completes.answer new.body new.callee (Some tt)
+          came-posted : (back : List Flat) (area : ℕ) (new : World) (b : CameBack parties f arguments old back area new) → parties.posts b.completes.returns.answered.body b.completes.returns.answered.callee b.completes.answer new.body new.callee (Some tt)
           came-posted back area new b =
-              posted parties caller_releases callee_releases order f b.flats honest standard b.placed (placed-few b.flats area b.placed b.places) callee_keeps b.completes.answer back b.completes.returned new (Some tt) b.completes.returns b.completes.finishes
+              posted parties caller_releases callee_releases order f b.flats honest standard b.placed (placed-few b.flats area b.placed b.places) callee_keeps b.completes.answer back b.ways b.completes.returned new (Some tt) b.completes.returns b.completes.finishes
       promise (Err (Trap t)) new traps = record {
         finds = λ e. trapped-once t.step t.kind new traps e;
         before = λ e. trapped-before t.step t.kind new traps e;

@@ -1,10 +1,10 @@
 -- What a bump allocator answers is told by its length and its top, and the top by the live addresses.
-use Rattle.std.proofs.Common.{◌≡◌, inl, inr, ◌+◌, ◌%◌, ◌<◌, ℕ, Some, None, length, nat_lt, refl, sym, ap, ◌∙◌, subst, arith}
+use Rattle.std.proofs.Common.{◌≡◌, inl, inr, ◌+◌, ◌%◌, ◌<◌, ℕ, true, false, Some, None, length, nat_lt, refl, sym, ap, ◌∙◌, subst, arith}
 use Rattle.std.proofs.lemmas.Bool.{lt-ltb, both_ways, le-ltb, cases_order}
-use Rattle.canonical_abi.specs.Guest.{Memory, Allocation, IsAlignment}
-use Rattle.memory.specs.Alike.{AreAlike, AnswersAlike}
-use Rattle.memory.specs.Bump.{bump, IsRoundedUp, BumpAllocates}
-use Rattle.memory.specs.Space.{AllocatesAs, SpaceAllocates}
+use Rattle.canonical_abi.specs.Guest.{Memory, Allocation, Release, IsAlignment}
+use Rattle.memory.specs.Alike.{AreAlike, AnswersAlike, ReleasesAlike}
+use Rattle.memory.specs.Bump.{bump, bump_make, IsRoundedUp, BumpAllocates, BumpReleases}
+use Rattle.memory.specs.Space.{of_kind, space_make, AllocatesAs, ReleasesAs, SpaceAllocates, SpaceReleases}
 
 -- the same addresses lie below two tops: they are one
 same_top : (s t : ℕ) → ((a : ℕ) → nat_lt a s ≡ nat_lt a t) → s ≡ t
@@ -33,17 +33,18 @@ rounded_to align top a b (inr (inr (inr is))) r s =
     omega (arith, r.from_top, s.from_top)
 
 -- the tops of memories that are alike round up to one address
-same_address : (m n : Memory) (align s t x y : ℕ) → IsAlignment align → AreAlike m n → m ≡ bump m.bytes s → n ≡ bump n.bytes t → IsRoundedUp s align x → IsRoundedUp t align y → x ≡ y
+same_address : (m n : Memory) (align s t x y : ℕ) → IsAlignment align → AreAlike bump_make m n → m ≡ bump m.bytes s → n ≡ bump n.bytes t → IsRoundedUp s align x → IsRoundedUp t align y → x ≡ y
 same_address m n align s t x y alignment alike m_is n_is r q =
     let tops : s ≡ t = same_top s t (λ a. sym (ap (λ w. w.live a) m_is) ∙ alike.same_live a ∙ ap (λ w. w.live a) n_is) in
     let P : ℕ → Type 0 = λ u. IsRoundedUp u align y in
     rounded_to align s x y alignment r (subst P (sym tops) q)
 
-pub bumps_alike : AnswersAlike BumpAllocates
+pub bumps_alike : AnswersAlike bump_make BumpAllocates
 bumps_alike m n align size (Some x) (Some y) m' n' alignment alike (s, m_is, r, m_fits, m'_is) (t, n_is, q, n_fits, n'_is) =
     let same = same_address m n align s t x y alignment alike m_is n_is r q in (
       ap Some same,
       record {
+        same_make = refl;
         same_length = ap (λ w. length w.bytes) m'_is ∙ alike.same_length ∙ sym (ap (λ w. length w.bytes) n'_is);
         same_live = λ a. ap (λ w. w.live a) m'_is ∙ ap (λ u. nat_lt a (u + size)) same ∙ sym (ap (λ w. w.live a) n'_is);
       },
@@ -57,25 +58,52 @@ bumps_alike m n align size None (Some y) m' n' alignment alike (s, x, m_is, r, m
 bumps_alike m n align size None None m' n' alignment alike (s, x, m_is, r, m_full, m'_is) (t, y, n_is, q, n_full, n'_is) = (
   refl,
   record {
+    same_make = refl;
     same_length = ap (λ w. length w.bytes) m'_is ∙ alike.same_length ∙ sym (ap (λ w. length w.bytes) n'_is);
     same_live = λ a. ap (λ w. w.live a) m'_is ∙ alike.same_live a ∙ sym (ap (λ w. w.live a) n'_is);
   },
 )
 
--- what answers alike does so under the number of a kind
-pub kind_alike : (kind : ℕ) (allocates : Allocation) → AnswersAlike allocates → AnswersAlike (AllocatesAs kind allocates)
-kind_alike kind allocates h m n align size a b m' n' alignment alike (before, after, m_is, step, m'_is) (before', after', n_is, step', n'_is) =
-    let inner : AreAlike before before' = record {
-      same_length = sym (ap (λ w. length w.bytes) m_is) ∙ alike.same_length ∙ ap (λ w. length w.bytes) n_is;
-      same_live = λ x. sym (ap (λ w. w.live x) m_is) ∙ alike.same_live x ∙ ap (λ w. w.live x) n_is;
-    } in
-    let then = h before before' align size a b after after' alignment inner step step' in (
-      then.0,
-      record {
-        same_length = ap (λ w. length w.bytes) m'_is ∙ then.1.same_length ∙ sym (ap (λ w. length w.bytes) n'_is);
-        same_live = λ x. ap (λ w. w.live x) m'_is ∙ then.1.same_live x ∙ sym (ap (λ w. w.live x) n'_is);
-      },
-    )
+pub bumps_free_alike : ReleasesAlike bump_make BumpReleases
+bumps_free_alike m n at size true b m' n' alike taken other = absurd taken
+bumps_free_alike m n at size false true m' n' alike not taken = absurd taken
+bumps_free_alike m n at size false false m' n' alike m'_is n'_is = (
+  refl,
+  record {
+    same_make = refl;
+    same_length = ap (λ w. length w.bytes) m'_is ∙ alike.same_length ∙ sym (ap (λ w. length w.bytes) n'_is);
+    same_live = λ a. ap (λ w. w.live a) m'_is ∙ alike.same_live a ∙ sym (ap (λ w. w.live a) n'_is);
+  },
+)
 
-pub spaces_alike : AnswersAlike SpaceAllocates
+-- ---- under the number of a kind, where nothing else is given when a memory is made
+
+inner_alike : (kind : ℕ) (m n before before' : Memory) → AreAlike space_make m n → m ≡ of_kind kind before → n ≡ of_kind kind before' → AreAlike bump_make before before'
+inner_alike kind m n before before' alike m_is n_is = record {
+  same_make = refl;
+  same_length = sym (ap (λ w. length w.bytes) m_is) ∙ alike.same_length ∙ ap (λ w. length w.bytes) n_is;
+  same_live = λ x. sym (ap (λ w. w.live x) m_is) ∙ alike.same_live x ∙ ap (λ w. w.live x) n_is;
+}
+
+outer_alike : (kind : ℕ) (m' n' after after' : Memory) → AreAlike bump_make after after' → m' ≡ of_kind kind after → n' ≡ of_kind kind after' → AreAlike space_make m' n'
+outer_alike kind m' n' after after' alike m'_is n'_is = record {
+  same_make = ap (λ w. space_make w.state) m'_is ∙ sym (ap (λ w. space_make w.state) n'_is);
+  same_length = ap (λ w. length w.bytes) m'_is ∙ alike.same_length ∙ sym (ap (λ w. length w.bytes) n'_is);
+  same_live = λ x. ap (λ w. w.live x) m'_is ∙ alike.same_live x ∙ sym (ap (λ w. w.live x) n'_is);
+}
+
+kind_alike : (kind : ℕ) (allocates : Allocation) → AnswersAlike bump_make allocates → AnswersAlike space_make (AllocatesAs kind allocates)
+kind_alike kind allocates h m n align size a b m' n' alignment alike (before, after, m_is, step, m'_is) (before', after', n_is, step', n'_is) =
+    let then = h before before' align size a b after after' alignment (inner_alike kind m n before before' alike m_is n_is) step step' in
+    (then.0, outer_alike kind m' n' after after' then.1 m'_is n'_is)
+
+kind_free_alike : (kind : ℕ) (releases : Release) → ReleasesAlike bump_make releases → ReleasesAlike space_make (ReleasesAs kind releases)
+kind_free_alike kind releases h m n at size a b m' n' alike (before, after, m_is, step, m'_is) (before', after', n_is, step', n'_is) =
+    let then = h before before' at size a b after after' (inner_alike kind m n before before' alike m_is n_is) step step' in
+    (then.0, outer_alike kind m' n' after after' then.1 m'_is n'_is)
+
+pub spaces_alike : AnswersAlike space_make SpaceAllocates
 spaces_alike = kind_alike 0 BumpAllocates bumps_alike
+
+pub spaces_free_alike : ReleasesAlike space_make SpaceReleases
+spaces_free_alike = kind_free_alike 0 BumpReleases bumps_free_alike

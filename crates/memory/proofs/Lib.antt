@@ -1,1 +1,3 @@
 mod AlikeLemmas
+pub mod AlikeExamples
+mod OneWay

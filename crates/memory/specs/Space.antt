@@ -1,11 +1,16 @@
 -- A memory of one of several kinds: its state begins with the number of its kind.
-use Rattle.std.specs.Prelude.{◌≡◌, ℕ, ◌∷◌}
+use Rattle.std.specs.Prelude.{◌≡◌, ℕ, List, [], ◌∷◌}
 use Rattle.canonical_abi.specs.Guest.{Memory, Allocation, Release}
 use Rattle.memory.specs.Bump.{BumpAllocates, BumpReleases}
 
 -- a memory of a kind, as a memory of one of several kinds
 abbrev pub of_kind : ℕ → Memory → Memory
 of_kind kind memory = record { bytes = memory.bytes; live = memory.live; state = kind ∷ memory.state }
+
+-- its kind is given when it is made
+abbrev pub space_make : List ℕ → List ℕ
+space_make [] = []
+space_make (kind ∷ state) = kind ∷ []
 
 -- the steps of that kind
 abbrev pub AllocatesAs : ℕ → Allocation → Allocation

@@ -1,7 +1,7 @@
 -- What is honest stays so under the number of a kind.
 use Rattle.std.specs.Prelude.{◌≡◌, ◌≤◌, ℕ, true, Some, length, slice_get}
 use Rattle.std.proofs.Common.{sym, ap, ◌∙◌, arith}
-use Rattle.canonical_abi.specs.Guest.{Memory, Allocation, Release, IsAlignment, IsGrant, IsRelease, IsHonest, IsLimited, KeepsLimit}
+use Rattle.canonical_abi.specs.Guest.{Memory, Allocation, Release, IsAlignment, IsGrant, IsRelease, IsHonest, KeepsLimit}
 use Rattle.memory.specs.BumpLaws.{BumpIsHonest, BumpKeepsLimit}
 use Rattle.memory.specs.Space.{of_kind, AllocatesAs, ReleasesAs, SpaceAllocates, SpaceReleases}
 
@@ -20,6 +20,7 @@ grants kind allocates releases honest old align size at new pos (before, after, 
       is_live = λ a h. now a ∙ g.is_live a h;
       stays_live = λ a h. now a ∙ g.stays_live a (sym (was a) ∙ h);
       same_outside = λ a h o. ap (λ bytes. slice_get bytes a) has ∙ g.same_outside a (rw had at h) o ∙ sym (ap (λ bytes. slice_get bytes a) had);
+      added = λ a past below o. ap (λ bytes. slice_get bytes a) has ∙ g.added a (rw had at past) (rw has at below) o;
     }
 
 -- a release of it is a release

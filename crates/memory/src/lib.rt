@@ -15,7 +15,8 @@ pub use bump::Bump;
 pub use canonical_abi::{Full, Guest, Honest, NotTaken};
 pub use error::{MAX_LEN, MemoryError};
 pub use laws::{
-    bumps_answer_alike, bumps_keep_the_limit, spaces_answer_alike, spaces_keep_the_limit,
+    bumps_answer_alike, bumps_answer_in_one_way, bumps_keep_the_limit, bumps_release_alike,
+    spaces_answer_alike, spaces_answer_in_one_way, spaces_keep_the_limit, spaces_release_alike,
 };
 pub use scripted::Scripted;
 pub use space::Space;

@@ -52,14 +52,16 @@ module _ (allocates : Allocation) (f : FunctionType) (arguments : List Value) (o
   arguments_fail (ended.Trap t) new h = by (fits_flat max_flat_results (result_fields f.result)) refl
     where
       by : (b : Bool) → fits_flat max_flat_results (result_fields f.result) ≡ b → IsNotReady allocates f arguments old (ended.Trap t) new
-      by true fits = (h.0, h.1, h.2, 0, (h.1, h.2, h.3, inl (fits, refl, refl)), h.4)
+      by true fits = (h.0, (h.1, h.2, 0, (h.1, h.2, h.3, inl (fits, refl, refl)), h.4))
       by false spilled = (
         h.0,
-        h.1 ++ grant block ∷ [],
-        h.2 ++ I32 0 ∷ [],
-        0,
-        (h.1, h.2, h.3, inr (spilled, block, (refl, refl), refl, refl, refl)),
-        more_breaks allocates old h.1 (grant block ∷ []) t.kind new h.4,
+        (
+          h.1 ++ grant block ∷ [],
+          h.2 ++ I32 0 ∷ [],
+          0,
+          (h.1, h.2, h.3, inr (spilled, block, (refl, refl), refl, refl, refl)),
+          more_breaks allocates old h.1 (grant block ∷ []) t.kind new h.4,
+        ),
       )
 
   pub area_fails : (mid : Memory) (flats : List Flat) (fault : Fault) (new : Memory) → AreLowered allocates f.params arguments old flats mid
@@ -67,11 +69,13 @@ module _ (allocates : Allocation) (f : FunctionType) (arguments : List Value) (o
   area_fails mid flats ended.NoMemory new l h = absurd h
   area_fails mid flats (ended.Trap t) new l h = (
     h.1,
-    l.0 ++ grant block ∷ [],
-    flats ++ I32 0 ∷ [],
-    0,
-    (l.0, flats, l.1, inr (h.0, block, (refl, refl), refl, refl, refl)),
-    (l.0, l.0, [], block, mid, refl, l.2, leaves-none l.0, l.3, h.2),
+    (
+      l.0 ++ grant block ∷ [],
+      flats ++ I32 0 ∷ [],
+      0,
+      (l.0, flats, l.1, inr (h.0, block, (refl, refl), refl, refl, refl)),
+      (l.0, l.0, [], block, mid, refl, l.2, leaves-none l.0, l.3, h.2),
+    ),
   )
 
 -- a memory that is no shorter has the return area still

@@ -4,7 +4,7 @@ use Rattle.std.specs.Option.{option_map}
 use Rattle.canonical_abi.specs.Types.{FunctionType, result_fields}
 use Rattle.canonical_abi.specs.Values.{Value}
 use Rattle.canonical_abi.specs.Guest.{Memory}
-use Rattle.canonical_abi.specs.Call.{either, Parties, World, Traps, Calls}
+use Rattle.canonical_abi.specs.Call.{either, Parties, World, Ways, Traps, Calls}
 use Rattle.canonical_abi.specs.Session.{HasResult, HasResultFault, Placed, PlaceFails, CameBack, TypedTraps, TypedCall, as_list}
 use Rattle.canonical_abi.specs.declared.flat.Flat.{Flat}
 use Rattle.canonical_abi.specs.declared.trap.Fault.{Fault}
@@ -24,59 +24,45 @@ world caller callee body = record { caller = caller; callee = callee; body = bod
 module _ (parties : Parties) (f : FunctionType) (arguments : List Value) where
   pub placed : (caller caller' callee : Memory) (body : List ℕ) (flats : List Flat) (area : Option ℕ)
       → IsReady parties.caller_allocates f arguments caller flats area caller'
-      → Placed parties either f arguments (world caller callee body) flats (area_at area) (world caller' callee body)
-  placed caller caller' callee body flats area h = record {
-    events = h.0;
-    prepares = h.1;
-    within = h.2;
-    leads = h.3;
-    same_callee = refl;
-    same_body = refl;
-  }
+      → Placed parties f arguments (world caller callee body) flats (area_at area) (world caller' callee body)
+  placed caller caller' callee body flats area h = record { puts = h; same_callee = refl; same_body = refl }
 
   pub place_fails : (caller caller' callee : Memory) (body : List ℕ) (fault : Fault)
       → IsNotReady parties.caller_allocates f arguments caller fault caller'
       → TypedCall parties either f arguments (world caller callee body) (Err fault) (world caller' callee body)
   place_fails caller caller' callee body ended.NoMemory h = absurd h
   place_fails caller caller' callee body (ended.Trap t) h =
-      let fails : PlaceFails parties either f arguments (world caller callee body) t.kind (world caller' callee body) = record {
-        events = h.1;
-        flats = h.2;
-        area = h.3;
-        prepares = h.4;
-        breaks = h.5;
-        same_callee = refl;
-        same_body = refl;
-      } in
+      let fails : PlaceFails parties f arguments (world caller callee body) t.kind (world caller' callee body) =
+      record { fails = h.1; same_callee = refl; same_body = refl } in
       subst (λ s. TypedTraps parties either f arguments (world caller callee body) s t.kind (world caller' callee body)) (sym h.0) fails
 
   module _ (area : ℕ) where
-    traps : (old place new : World) (flats : List Flat) (s : Step) (k : TrapKind) → Placed parties either f arguments old flats area place
-        → Traps parties either f flats place s k new → TypedTraps parties either f arguments old s k new
-    traps old place new flats step.Place k places h = absurd h
-    traps old place new flats step.Take k places h = absurd h
-    traps old place new flats step.LiftArgs k places h = (flats, area, place, places, h)
-    traps old place new flats step.LowerArgs k places h = (flats, area, place, places, h)
-    traps old place new flats step.Body k places h = (flats, area, place, places, h)
-    traps old place new flats step.LiftResult k places h = (flats, area, place, places, h)
-    traps old place new flats step.LowerResult k places h = (flats, area, place, places, h)
-    traps old place new flats step.Post k places h = (flats, area, place, places, h)
+    traps : (old place new : World) (flats : List Flat) (s : Step) (k : TrapKind) (ways : Ways) → Placed parties f arguments old flats area place
+        → Traps parties either f flats place s k ways new → TypedTraps parties either f arguments old s k new
+    traps old place new flats step.Place k ways places h = absurd h
+    traps old place new flats step.Take k ways places h = absurd h
+    traps old place new flats step.LiftArgs k ways places h = (flats, area, place, places, ways, h)
+    traps old place new flats step.LowerArgs k ways places h = (flats, area, place, places, ways, h)
+    traps old place new flats step.Body k ways places h = (flats, area, place, places, ways, h)
+    traps old place new flats step.LiftResult k ways places h = (flats, area, place, places, ways, h)
+    traps old place new flats step.LowerResult k ways places h = (flats, area, place, places, ways, h)
+    traps old place new flats step.Post k ways places h = (flats, area, place, places, ways, h)
 
-    pub link_fails : (old place new : World) (flats : List Flat) (fault : Fault) → Placed parties either f arguments old flats area place
-        → Calls parties either f flats place (Err fault) new → TypedCall parties either f arguments old (Err fault) new
-    link_fails old place new flats (ended.Trap t) places h = traps old place new flats t.step t.kind places h
-    link_fails old place new flats ended.NoMemory places h = inl (flats, area, place, places, h)
+    pub link_fails : (old place new : World) (flats : List Flat) (fault : Fault) → Placed parties f arguments old flats area place
+        → (ways : Ways) × Calls parties either f flats place (Err fault) ways new → TypedCall parties either f arguments old (Err fault) new
+    link_fails old place new flats (ended.Trap t) places h = traps old place new flats t.step t.kind h.0 places h.1
+    link_fails old place new flats ended.NoMemory places h = inl (flats, area, place, places, h.0, h.1)
 
-    pub came_back : (old place new : World) (flats back : List Flat) → Placed parties either f arguments old flats area place
-        → Calls parties either f flats place (Ok back) new → CameBack parties either f arguments old back area new
-    came_back old place new flats back places h = record { flats = flats; placed = place; places = places; completes = h }
+    pub came_back : (old place new : World) (flats back : List Flat) → Placed parties f arguments old flats area place
+        → (ways : Ways) × Calls parties either f flats place (Ok back) ways new → CameBack parties f arguments old back area new
+    came_back old place new flats back places h = record { flats = flats; placed = place; places = places; ways = h.0; completes = h.1 }
 
-    take_traps : (old new : World) (back : List Flat) (s : Step) (k : TrapKind) → CameBack parties either f arguments old back area new
+    take_traps : (old new : World) (back : List Flat) (s : Step) (k : TrapKind) → CameBack parties f arguments old back area new
         → s ≡ step.Take → HasResultFault (result_fields f.result) new.caller.bytes back area k → TypedTraps parties either f arguments old s k new
     take_traps old new back s k came is_take fault =
         subst (λ x. TypedTraps parties either f arguments old x k new) (sym is_take) (back, area, came, fault)
 
-    pub takes : (old new : World) (back : List Flat) (answer : Result (Option Val) Fault) → CameBack parties either f arguments old back area new
+    pub takes : (old new : World) (back : List Flat) (answer : Result (Option Val) Fault) → CameBack parties f arguments old back area new
         → AnswerStands step.Take (λ v. HasResult (result_fields f.result) new.caller.bytes back area (as_list (option_map value_of v)))
         (HasResultFault (result_fields f.result) new.caller.bytes back area) answer
         → TypedCall parties either f arguments old (typed_answer answer) new

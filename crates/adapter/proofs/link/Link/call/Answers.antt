@@ -4,6 +4,7 @@ use Rattle.canonical_abi.specs.Call.{Parties}
 use Rattle.tables.specs.Closed.{function_type}
 use Rattle.adapter.specs.Crossing.{guests, memories, HasEntered, EntryFails, HasReturned, ReturnFails}
 use Rattle.adapter.proofs.Chains.{entry-fails, body-stops, return-fails, post-stops, completes}
+use Rattle.adapter.proofs.Promised.{link-promised}
 use Rattle.adapter.proofs.link.Link.call.Goals as goal
 
 pub returns-in_err-handed-clause-call : goal.returns-in_err-handed-clause-call
@@ -114,3 +115,18 @@ returns-clause-call g c =
     let body'' = g.B.Body.state c.post_return.new.self in
     let post = (c.call.ensures.same_posts _ _ _ _ _ _).1 c.in-Ok-post_return.ensures.run in
     completes parties f flats caller callee body handed callee' entered callee'' body' answer run back caller' has callee''' body'' post
+
+pub returns-in_err-handed-clause-promise : goal.returns-in_err-handed-clause-promise
+returns-in_err-handed-clause-promise g c = link-promised _ _ _ c.args.self.now.resolve c.args.func _ _ _ _ c.requires.function (returns-in_err-handed-clause-call g c)
+
+pub returns-in_default-clause-promise : goal.returns-in_default-clause-promise
+returns-in_default-clause-promise g c = link-promised _ _ _ c.args.self.now.resolve c.args.func _ _ _ _ c.requires.function (returns-in_default-clause-call g c)
+
+pub returns-in_err-back-clause-promise : goal.returns-in_err-back-clause-promise
+returns-in_err-back-clause-promise g c = link-promised _ _ _ c.args.self.now.resolve c.args.func _ _ _ _ c.requires.function (returns-in_err-back-clause-call g c)
+
+pub returns-in_default-post_return-clause-promise : goal.returns-in_default-post_return-clause-promise
+returns-in_default-post_return-clause-promise g c = link-promised _ _ _ c.args.self.now.resolve c.args.func _ _ _ _ c.requires.function (returns-in_default-post_return-clause-call g c)
+
+pub returns-clause-promise : goal.returns-clause-promise
+returns-clause-promise g c = link-promised _ _ _ c.args.self.now.resolve c.args.func _ _ _ _ c.requires.function (returns-clause-call g c)

@@ -1,0 +1,5 @@
+use Rattle.canonical_abi.proofs.Orders.{exact-is-either}
+use Rattle.canonical_abi.proofs.laws.exact_is_either.Goals as goal
+
+pub returns : goal.returns
+returns g c = exact-is-either _

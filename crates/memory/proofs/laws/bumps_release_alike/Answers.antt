@@ -1,0 +1,5 @@
+use Rattle.memory.proofs.AlikeLemmas.{bumps_free_alike}
+use Rattle.memory.proofs.laws.bumps_release_alike.Goals as goal
+
+pub returns : goal.returns
+returns c = bumps_free_alike

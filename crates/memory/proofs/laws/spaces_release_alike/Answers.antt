@@ -1,0 +1,5 @@
+use Rattle.memory.proofs.AlikeLemmas.{spaces_free_alike}
+use Rattle.memory.proofs.laws.spaces_release_alike.Goals as goal
+
+pub returns : goal.returns
+returns c = spaces_free_alike
