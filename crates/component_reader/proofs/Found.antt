@@ -3,7 +3,7 @@ use Rattle.std.proofs.Common.{◌≡◌, ◌⊎◌, inl, inr, ℕ, zero, suc, �
 use Rattle.std.specs.Option.{option_map}
 use Rattle.component_reader.specs.declared.unread.Unread.{Unread}
 use Rattle.component_reader.specs.declared.unread.Unread.TheVariants as unread
-use Rattle.component_reader.specs.Reading.{Reads, both_found, all_found}
+use Rattle.component_reader.specs.Types.{Reads, both_found, all_found}
 use Rattle.package_form.proofs.Meeting.{take-more}
 
 module _ {A B : Type 0} (f : A → Option B) where

@@ -14,8 +14,9 @@ use Rattle.ctype_bin.specs.declared.raw.RawDecl.{RawDecl}
 use Rattle.package_form.specs.Scoped.{Entry as Named, entry_of}
 use Rattle.tables.specs.declared.tables.TypeId.{TypeId}
 use Rattle.component_reader.specs.declared.unread.Unread.{Unread}
-use Rattle.component_reader.specs.Reading.{IsUnread, Becomes}
-use Rattle.component_reader.specs.Candidate.{InstanceRead, if_found, named, type_named, exported_type}
+use Rattle.component_reader.specs.Types.{IsUnread, Becomes}
+use Rattle.component_reader.specs.Instance.{InstanceRead, if_found, named, type_named}
+use Rattle.component_reader.specs.Component.{exported_type}
 use Rattle.component_reader.specs.Readers.{names_view}
 
 -- ---- names

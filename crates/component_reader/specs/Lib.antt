@@ -1,4 +1,5 @@
-pub mod Reading
-pub mod Candidate
+pub mod Types
+pub mod Instance
+pub mod Component
 pub mod Readers
-pub mod ExportNames
+pub mod Names

@@ -5,7 +5,8 @@ use Rattle.std.specs.Global.{Vec}
 use Rattle.package_form.specs.Scoped.{Entry as Named, entry_of}
 use Rattle.tables.specs.declared.tables.TypeId.{TypeId}
 use Rattle.tables.specs.declared.tables.Definition.{Definition}
-use Rattle.component_reader.specs.Candidate.{Awaited, Nothing, AType, AFunction, InstanceRead, ComponentRead}
+use Rattle.component_reader.specs.Instance.{Awaited, Nothing, AType, AFunction, InstanceRead}
+use Rattle.component_reader.specs.Component.{ComponentRead}
 use Rattle.component_reader.specs.declared.instance.Awaited.{Awaited as Defined}
 use Rattle.component_reader.specs.declared.instance.Awaited.TheVariants as defined
 use Rattle.component_reader.specs.declared.instance.InstanceReader.{InstanceReader}

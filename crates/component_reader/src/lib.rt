@@ -1,7 +1,7 @@
 //! The package that a raw component may stand for.
 //!
 //! `candidate` follows each index of a component to the declaration that took it, and each declaration to the name
-//! under which it is exported. What it reads is defined in `specs/Candidate.antt`; whether the component stands for it
+//! under which it is exported. What it reads is defined in `specs/Component.antt`; whether the component stands for it
 //! is seen by writing it again. It stands on `tables`, `ctype_bin` and `atoms`.
 #![tactic(auto)]
 

@@ -1,6 +1,6 @@
 //! The parts of exports' names.
 ghost use Rattle.ctype_bin.specs.Names.{name_view};
-ghost use Rattle.component_reader.specs.ExportNames.{IsNamed};
+ghost use Rattle.component_reader.specs.Names.{IsNamed};
 
 use ctype_bin::ExternName;
 

@@ -1,7 +1,7 @@
 //! Types with indices as types of the table.
 ghost use Rattle.std.specs.Prelude.{◌≡◌, Some, IfOk};
 ghost use Rattle.ctype_bin.specs.View.{defined_view};
-ghost use Rattle.component_reader.specs.Reading.{Reads, all_found, primitive_type, row_at, val_type, optional_type, field_read, parameter_read, case_read, kind_of};
+ghost use Rattle.component_reader.specs.Types.{Reads, all_found, primitive_type, row_at, val_type, optional_type, field_read, parameter_read, case_read, kind_of};
 
 use crate::unread::Unread;
 use atoms::Label;

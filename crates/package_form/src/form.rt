@@ -1,11 +1,9 @@
 //! Whether a table is one that packages have.
-ghost use Rattle.std.specs.Prelude.{◌≡◌, ◌≤◌, ◌<◌, ◌+◌, ◌++◌, ◌&&◌, ◌↔◌, [], not, length, map, nat_lt, nat_le, sum, slice_get, IsTrue, IfOk, OnOk};
+ghost use Rattle.std.specs.Prelude.{◌≡◌, ◌≤◌, ◌<◌, ◌+◌, ◌++◌, ◌&&◌, ◌↔◌, [], not, length, map, IsTrue, IfOk, OnOk};
 ghost use Rattle.std.specs.List.{list_all};
-ghost use Rattle.std.specs.Option.{option_map};
-ghost use Rattle.std.specs.String.{string_bytes};
-ghost use Rattle.atoms.specs.FullName.{is_package_label, is_version_or_none};
+ghost use Rattle.atoms.specs.FullName.{is_package_label};
 ghost use Rattle.atoms.specs.Label.{is_upper};
-ghost use Rattle.package_form.specs.Ids.{is_owned_by, is_use, places_where};
+ghost use Rattle.package_form.specs.Ids.{places_where};
 ghost use Rattle.package_form.specs.Ends.{end_of, is_parted};
 ghost use Rattle.package_form.specs.Form.{has_full_names, is_own_name, is_own, is_earlier_name, is_earlier, uses_earlier, is_owned, is_local, is_named, ids_of, is_use_at, has_ids, are_interfaces, is_in_form, IsInPackageForm};
 

@@ -33,4 +33,5 @@ pub mod PackageScopes
 pub mod Counted
 pub mod Placed
 pub mod Weighed
+pub mod StandardRows
 pub mod Only

@@ -29,8 +29,9 @@ use Rattle.std.proofs.lemmas.List.{get_or-map, length-map, get_or_default}
 use Rattle.std.proofs.lemmas.List.Folds.{list_all-append}
 use Rattle.std.proofs.Math.Seq.{get_or-append_seam}
 use Rattle.resolve.proofs.Placed.{no-cycle, one-package}
-use Rattle.resolve.proofs.Counted.{entries-by-name, sizes}
-use Rattle.resolve.proofs.Weighed.{IsTyped, standard-by-name}
+use Rattle.resolve.proofs.Counted.{entries, entries-by-name}
+use Rattle.resolve.proofs.Weighed.{IsTyped, sizes}
+use Rattle.resolve.proofs.StandardRows.{standard-by-name}
 
 -- a name that stands twice
 no-duplicate : (f : File) (n : List ℕ) → HasDistinctNames f → HasDuplicate f n → ⊥
@@ -125,7 +126,7 @@ same-limits t u e a p b q within standard passes = by passes
     by (inl l) =
         let x = entries-by-name t.interfaces [] t.rows (λ f d r z. a f d r z) p in
         let y = entries-by-name u.interfaces [] u.rows (λ f d r z. b f d r z) q in
-        let sums : sum (map entries_of t.rows) ≡ sum (map entries_of u.rows) = x ∙ (ap sizes meant ∙ sym y) in
+        let sums : sum (map entries_of t.rows) ≡ sum (map entries_of u.rows) = x ∙ (ap (sizes entries) meant ∙ sym y) in
         let counts = ap length names in
         omega (arith, within, l, sums, counts)
     by (inr h) = false≢true (sym h ∙ standard-by-name t.interfaces u.interfaces [] [] t.rows u.rows a p b q meant standard)

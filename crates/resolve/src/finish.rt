@@ -1,5 +1,5 @@
 //! A package of a table of definitions: the ids of its interfaces, and its limits.
-ghost use Rattle.std.specs.Prelude.{◌≡◌, ◌≤◌, ◌+◌, ◌⊎◌, [], length, map, sum, nat_lt, IsTrue, IfOk, IfErr, OnOk};
+ghost use Rattle.std.specs.Prelude.{◌≡◌, ◌≤◌, ◌⊎◌, [], length, IsTrue, IfOk, IfErr, OnOk};
 ghost use Rattle.tables.specs.Tables.{are_earlier, name_types};
 ghost use Rattle.resolve.specs.Resolves.{PassesLimit};
 ghost use Rattle.package_form.specs.Ids.{interfaces_from};

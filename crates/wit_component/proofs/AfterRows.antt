@@ -8,7 +8,7 @@ use Rattle.tables.specs.declared.tables.TypeDefKind.{TypeDefKind}
 use Rattle.tables.specs.declared.tables.TypeDefKind.TheVariants as kind
 use Rattle.tables.specs.declared.tables.Definition.{Definition}
 use Rattle.tables.specs.declared.tables.Definition.TheVariants as row
-use Rattle.component_reader.specs.Candidate.{InstanceRead, named_row}
+use Rattle.component_reader.specs.Instance.{InstanceRead, named_row}
 use Rattle.wit_component.proofs.Alike.{IsAlike, same, uses, AreAlike, none, one_more}
 use Rattle.wit_component.proofs.Readable.{row_after, rows_after, IsRowOf, nameless, type_of_it, function_of_it, AreRowsOf}
 

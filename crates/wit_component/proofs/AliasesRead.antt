@@ -10,7 +10,8 @@ use Rattle.tables.specs.declared.tables.TypeDefKind.{TypeDefKind}
 use Rattle.tables.specs.declared.tables.TypeDefKind.TheVariants as kind
 use Rattle.tables.specs.declared.tables.Definition.{Definition}
 use Rattle.tables.specs.declared.tables.Definition.TheVariants as row
-use Rattle.component_reader.specs.Candidate.{if_found, ComponentRead, with_type, exported_type, declarations_read}
+use Rattle.component_reader.specs.Instance.{if_found}
+use Rattle.component_reader.specs.Component.{ComponentRead, with_type, exported_type, declarations_read}
 use Rattle.wit_component.specs.Component.{used_by, name_at, instance_export, row_alias, aliases_of}
 use Rattle.wit_component.proofs.Ids.{is_use_def}
 use Rattle.tables.proofs.Rows.{split}

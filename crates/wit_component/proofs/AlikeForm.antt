@@ -36,7 +36,7 @@ use Rattle.wit_component.specs.Rows.{Place, row_declarations, place_after, decla
 use Rattle.wit_component.specs.Component.{used_in, name_of, name_at, instance_export, row_alias, aliases_of, Front, first_place, interface_declarations, front_after, interfaces_declared, no_front, package_export, component_of}
 use Rattle.package_form.specs.Ends.{end_of, rows_of, is_parted}
 use Rattle.package_form.specs.Form.{is_named, is_own_name, is_own_type, is_own, is_earlier_name, is_earlier_type, is_earlier, uses_earlier, is_owned, is_local, is_use_type, is_use_at, has_ids, are_interfaces, has_full_names, ids_of, IsInPackageForm}
-use Rattle.wit_component.specs.Standing.{is_labelled, are_labelled}
+use Rattle.wit_component.specs.ToComponent.{is_labelled, are_labelled}
 use Rattle.tables.proofs.Rows.{split, both}
 use Rattle.package_form.proofs.Postfix.{used-postfix, postfix-used}
 use Rattle.wit_component.proofs.Alike.{IsAlike, same, uses, AreAlike, none, one_more}

@@ -17,11 +17,12 @@ use Rattle.package_form.proofs.Lists.{all-contained}
 use Rattle.component_reader.specs.declared.unread.Unread.TheVariants as unread
 use Rattle.package_form.specs.Ends.{end_of, rows_of}
 use Rattle.wit_component.specs.Component.{aliases_of, front_after, interfaces_declared, no_front, component_of}
-use Rattle.wit_component.specs.Reads.{is_none, is_empty_package}
+use Rattle.wit_component.specs.FromComponent.{is_none, is_empty_package}
 use Rattle.package_form.specs.Naming.{package_scopes, table_scopes}
 use Rattle.package_form.specs.Form.{IsInPackageForm}
-use Rattle.wit_component.specs.Standing.{Stands}
-use Rattle.component_reader.specs.Candidate.{if_found, namespace_in, package_in, version_in, no_component, declarations_read, candidate_named, candidate_of, Candidate, IsMadeOf, Makes}
+use Rattle.wit_component.specs.ToComponent.{Stands}
+use Rattle.component_reader.specs.Instance.{if_found}
+use Rattle.component_reader.specs.Component.{namespace_in, package_in, version_in, no_component, declarations_read, candidate_named, candidate_of, Candidate, IsMadeOf, Makes}
 use Rattle.wit_component.proofs.Alike.{AreAlike}
 use Rattle.wit_component.proofs.Reread.{reread, name-reread}
 use Rattle.wit_component.proofs.AlikeForm.{IsAlikePackage, package-same, component-same, form-same}

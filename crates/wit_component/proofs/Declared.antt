@@ -5,7 +5,7 @@ use Rattle.std.proofs.lemmas.Grind.{take_at_read}
 use Rattle.std.proofs.lemmas.List.Folds.{list_all-append}
 use Rattle.tables.specs.declared.tables.Definition.{Definition}
 use Rattle.wit_component.specs.Rows.{Place, row_declarations, place_after, declarations_of, places_after}
-use Rattle.wit_component.specs.Standing.{is_labelled}
+use Rattle.wit_component.specs.ToComponent.{is_labelled}
 use Rattle.tables.proofs.Rows.{both}
 
 places-append : (at : Place) (ds es : List Definition) → places_after at (ds ++ es) ≡ places_after (places_after at ds) es

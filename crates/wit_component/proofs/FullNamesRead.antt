@@ -9,7 +9,7 @@ use Rattle.atoms.proofs.FullNames.{label_lacks, has_mark}
 use Rattle.tables.specs.Names.{version_suffix, name_in_namespace, full_name}
 use Rattle.tables.specs.declared.tables.Interface.{Interface}
 use Rattle.tables.specs.declared.tables.Resolve.{Resolve}
-use Rattle.component_reader.specs.Candidate.{namespace_in, package_in, interface_in, version_in}
+use Rattle.component_reader.specs.Component.{namespace_in, package_in, interface_in, version_in}
 use Rattle.package_form.specs.Form.{has_full_names}
 use Rattle.component_reader.proofs.Cutting.{parts-cut}
 use Rattle.tables.proofs.Rows.{split}

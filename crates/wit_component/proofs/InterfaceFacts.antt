@@ -12,7 +12,7 @@ use Rattle.tables.specs.declared.tables.Definition.{Definition}
 use Rattle.tables.specs.declared.tables.Interface.{Interface}
 use Rattle.package_form.specs.Ends.{end_of, rows_of}
 use Rattle.package_form.specs.Form.{is_named, is_use_at, is_local, ids_of, has_ids}
-use Rattle.wit_component.specs.Standing.{is_labelled}
+use Rattle.wit_component.specs.ToComponent.{is_labelled}
 use Rattle.package_form.specs.Unused.{are_used}
 use Rattle.wit_component.proofs.Ids.{passes, is_use_def, of-use, of-type, of-function, both-all, HasOwnIds, own-ids}
 use Rattle.wit_component.proofs.InterfaceEnds.{behind, end-behind, used-rest}

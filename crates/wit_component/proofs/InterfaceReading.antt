@@ -14,7 +14,8 @@ use Rattle.tables.specs.declared.tables.FunctionId.{FunctionId}
 use Rattle.tables.specs.declared.tables.TypeName.{TypeName}
 use Rattle.tables.specs.declared.tables.Definition.{Definition}
 use Rattle.tables.specs.declared.tables.Interface.{Interface}
-use Rattle.component_reader.specs.Candidate.{if_found, InstanceRead, ComponentRead, nothing_read, instance_read, type_named, with_instance, interface_in, interface_named, with_interface, instance_exported, declarations_read}
+use Rattle.component_reader.specs.Instance.{if_found, InstanceRead, nothing_read, instance_read, type_named}
+use Rattle.component_reader.specs.Component.{ComponentRead, with_instance, interface_in, interface_named, with_interface, instance_exported, declarations_read}
 use Rattle.wit_component.specs.Component.{name_at, aliases_of, Front, first_place, interface_declarations, front_after}
 use Rattle.package_form.specs.Ends.{end_of, rows_of}
 use Rattle.wit_component.specs.Rows.{declarations_of, places_after}

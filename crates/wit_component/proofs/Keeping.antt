@@ -13,9 +13,9 @@ use Rattle.tables.specs.declared.tables.ValType.{ValType}
 use Rattle.tables.specs.declared.tables.TypeName.{TypeName}
 use Rattle.tables.specs.declared.tables.Parameter.{Parameter}
 use Rattle.tables.specs.declared.tables.Definition.{Definition}
-use Rattle.component_reader.specs.Candidate.{Nothing, InstanceRead, named, type_named, with_unnamed, named_row, with_named, with_index, alias_to, function_row}
+use Rattle.component_reader.specs.Instance.{Nothing, InstanceRead, named, type_named, with_unnamed, named_row, with_named, with_index, alias_to, function_row}
 use Rattle.wit_component.specs.Component.{name_of, name_at}
-use Rattle.component_reader.specs.Reading.{row_at}
+use Rattle.component_reader.specs.Types.{row_at}
 use Rattle.wit_component.specs.Rows.{Place, defined_types, row_types, row_offset, place_after}
 use Rattle.wit_component.proofs.NamesKept.{named-found, named-other}
 use Rattle.tables.proofs.Rows.{split, both}

@@ -3,7 +3,7 @@ use Rattle.std.proofs.Common.{◌≡◌, ℕ, Bool, true, false, cond, List, [],
 use Rattle.std.proofs.lemmas.Slice.Eq.{bytes_eq-Decides}
 use Rattle.package_form.specs.Scoped.{Entry as Named}
 use Rattle.tables.specs.declared.tables.TypeId.{TypeId}
-use Rattle.component_reader.specs.Candidate.{named, type_named}
+use Rattle.component_reader.specs.Instance.{named, type_named}
 
 same-name : (n : List ℕ) → bytes_eq n n ≡ true
 same-name n = (bytes_eq-Decides n n).1 refl

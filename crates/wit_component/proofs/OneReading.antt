@@ -10,7 +10,7 @@ use Rattle.ctype_bin.specs.View.{type_view, decl_view, decls_of}
 use Rattle.ctype_bin.specs.declared.raw.RawDecl.{RawDecl}
 use Rattle.ctype_bin.specs.declared.raw.RawType as t
 use Rattle.ctype_bin.proofs.Views.{view-Component}
-use Rattle.wit_component.specs.Reads.{is_none, has_no_decls}
+use Rattle.wit_component.specs.FromComponent.{is_none, has_no_decls}
 
 abbrev value : {E : Type 0} → File → Result (File × List ℕ) E → File
 value f (Ok x) = x.0

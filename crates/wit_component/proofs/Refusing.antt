@@ -6,8 +6,8 @@ use Rattle.tables.specs.declared.tables.Resolve.{Resolve}
 use Rattle.ctype_bin.specs.declared.component.RawComponent.{RawComponent}
 use Rattle.package_form.specs.Distinct.{RefusesScopes}
 use Rattle.package_form.specs.Naming.{package_scopes}
-use Rattle.wit_component.specs.Standing.{Stands}
-use Rattle.wit_component.specs.Reads.{Refuses}
+use Rattle.wit_component.specs.ToComponent.{Stands}
+use Rattle.wit_component.specs.FromComponent.{Refuses}
 
 pub refuses-package : (raw : RawComponent) (r : Resolve) (e : ResolveError) → ∥ Stands raw r ∥₁ → RefusesScopes (package_scopes r) e → Refuses raw e
 refuses-package raw r (error.Duplicate n) s h = ∥∥₁_map s (λ stands. (r, stands, h))

@@ -12,12 +12,12 @@ use Rattle.tables.specs.declared.tables.TypeName.{TypeName}
 use Rattle.tables.specs.declared.tables.Definition.{Definition}
 use Rattle.tables.specs.declared.tables.Interface.{Interface}
 use Rattle.tables.specs.declared.tables.Resolve.{Resolve}
-use Rattle.component_reader.specs.Candidate.{ComponentRead, no_component, declarations_read, namespace_in, package_in, version_in, first_of, first_full_name}
+use Rattle.component_reader.specs.Component.{ComponentRead, no_component, declarations_read, namespace_in, package_in, version_in, first_of, first_full_name}
 use Rattle.wit_component.specs.Component.{name_at, instance_export, used_in, aliases_of, Front, no_front, first_place, front_after, interfaces_declared}
 use Rattle.package_form.specs.Ends.{end_of, rows_of, is_parted}
 use Rattle.package_form.specs.Form.{has_full_names, is_local, has_ids, are_interfaces, IsInPackageForm}
 use Rattle.wit_component.specs.Rows.{declarations_of}
-use Rattle.wit_component.specs.Standing.{is_labelled, are_labelled}
+use Rattle.wit_component.specs.ToComponent.{is_labelled, are_labelled}
 use Rattle.package_form.specs.Unused.{are_used}
 use Rattle.wit_component.proofs.Alike.{AreAlike, none}
 use Rattle.wit_component.proofs.FullNamesRead.{full-name-cut, full-no-label}

@@ -14,7 +14,7 @@ use Rattle.tables.specs.declared.tables.TypeDefKind.TheVariants as kind
 use Rattle.tables.specs.declared.tables.Parameter.{Parameter}
 use Rattle.tables.specs.declared.tables.Field.{Field}
 use Rattle.tables.specs.declared.tables.Case.{Case}
-use Rattle.component_reader.specs.Reading.{both_found, all_found, primitive_type, row_at, val_type, optional_type, field_named, field_read, parameter_named, parameter_read, case_named, case_read, kind_of}
+use Rattle.component_reader.specs.Types.{both_found, all_found, primitive_type, row_at, val_type, optional_type, field_named, field_read, parameter_named, parameter_read, case_named, case_read, kind_of}
 use Rattle.package_form.specs.References.{references, references_if, field_references, case_references, parameter_references, kind_references}
 use Rattle.wit_component.specs.Rows.{raw_primitive, valtype_of, field_of, parameter_of, case_of, defined_of}
 use Rattle.tables.proofs.Rows.{split}

@@ -20,11 +20,11 @@ use Rattle.tables.specs.declared.tables.Owner.{Owner}
 use Rattle.tables.specs.declared.tables.Owner.TheVariants as owner
 use Rattle.tables.specs.declared.tables.Definition.{Definition}
 use Rattle.tables.specs.declared.tables.Definition.TheVariants as row
-use Rattle.component_reader.specs.Candidate.{named_row, function_row}
+use Rattle.component_reader.specs.Instance.{named_row, function_row}
 use Rattle.wit_component.specs.Component.{name_of, name_at}
 use Rattle.package_form.specs.Form.{is_own_name, is_own_type, is_own, is_owned, is_local}
 use Rattle.package_form.specs.References.{kind_references, row_references}
-use Rattle.wit_component.specs.Standing.{is_label_if, is_labelled}
+use Rattle.wit_component.specs.ToComponent.{is_label_if, is_labelled}
 use Rattle.package_form.specs.Unused.{unnamed_at, inner_rows, can_use, closes, is_next, unused_after, are_used}
 use Rattle.package_form.proofs.Fronts.{stands_before, row-before}
 use Rattle.wit_component.proofs.Ids.{is_use_def}

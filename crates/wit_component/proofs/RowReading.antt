@@ -17,8 +17,8 @@ use Rattle.tables.specs.declared.tables.TypeDefKind.TheVariants as kind
 use Rattle.tables.specs.declared.tables.TypeName.{TypeName}
 use Rattle.tables.specs.declared.tables.Parameter.{Parameter}
 use Rattle.tables.specs.declared.tables.Definition.{Definition}
-use Rattle.component_reader.specs.Candidate.{if_found, AType, AFunction, InstanceRead, awaiting, with_unnamed, settled, settled_as, named_row, with_named, with_index, alias_to, renamed, type_exported, exported, function_row, decl_read, decls_read}
-use Rattle.component_reader.specs.Reading.{both_found, all_found, row_at, parameter_read, optional_type, kind_of}
+use Rattle.component_reader.specs.Instance.{if_found, AType, AFunction, InstanceRead, awaiting, with_unnamed, settled, settled_as, named_row, with_named, with_index, alias_to, renamed, type_exported, exported, function_row, decl_read, decls_read}
+use Rattle.component_reader.specs.Types.{both_found, all_found, row_at, parameter_read, optional_type, kind_of}
 use Rattle.package_form.specs.References.{parameter_references, references_if, kind_references, row_references}
 use Rattle.wit_component.specs.Component.{name_at}
 use Rattle.wit_component.specs.Rows.{Place, valtype_of, parameter_of, definition_of, definition_index, definition_if, defined_of, outer_alias, row_declarations, defined_types, place_after}

@@ -4,7 +4,7 @@ use Rattle.ctype_bin.specs.Raw.{Decl}
 use Rattle.ctype_bin.specs.View.{decls_of}
 use Rattle.tables.specs.declared.tables.TypeId.{TypeId}
 use Rattle.tables.specs.declared.tables.Definition.{Definition}
-use Rattle.component_reader.specs.Candidate.{if_found, InstanceRead, settled, nothing_read, decl_read, decls_read, instance_read}
+use Rattle.component_reader.specs.Instance.{if_found, InstanceRead, settled, nothing_read, decl_read, decls_read, instance_read}
 use Rattle.wit_component.specs.Rows.{Place, row_declarations, row_offset, place_after, declarations_of, places_after}
 use Rattle.wit_component.proofs.Alike.{AreAlike, none, one_more}
 use Rattle.wit_component.proofs.Keeping.{le-test, lt-test}

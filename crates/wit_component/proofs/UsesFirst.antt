@@ -10,7 +10,7 @@ use Rattle.tables.specs.declared.tables.TypeDefKind.TheVariants as kind
 use Rattle.tables.specs.declared.tables.TypeName.{TypeName}
 use Rattle.tables.specs.declared.tables.Definition.{Definition}
 use Rattle.tables.specs.declared.tables.Definition.TheVariants as row
-use Rattle.component_reader.specs.Candidate.{named_row}
+use Rattle.component_reader.specs.Instance.{named_row}
 use Rattle.package_form.specs.Form.{is_named, is_own_name, is_owned, is_local}
 use Rattle.package_form.specs.Unused.{inner_rows, can_use, closes, is_next, unused_after}
 use Rattle.wit_component.proofs.Ids.{passes, is_use_def}

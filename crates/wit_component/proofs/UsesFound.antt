@@ -10,11 +10,12 @@ use Rattle.tables.specs.declared.tables.TypeDefKind.TheVariants as kind
 use Rattle.tables.specs.declared.tables.TypeName.{TypeName}
 use Rattle.tables.specs.declared.tables.Definition.{Definition}
 use Rattle.tables.specs.declared.tables.Definition.TheVariants as row
-use Rattle.component_reader.specs.Candidate.{named_row, exported_type}
+use Rattle.component_reader.specs.Instance.{named_row}
+use Rattle.component_reader.specs.Component.{exported_type}
 use Rattle.wit_component.specs.Component.{name_of, name_at}
 use Rattle.package_form.specs.Form.{is_own_name, is_earlier_type, is_earlier, is_owned, is_local}
-use Rattle.component_reader.specs.Reading.{row_at}
-use Rattle.wit_component.specs.Standing.{is_labelled}
+use Rattle.component_reader.specs.Types.{row_at}
+use Rattle.wit_component.specs.ToComponent.{is_labelled}
 use Rattle.package_form.specs.Unused.{inner_rows, unused_after}
 use Rattle.wit_component.proofs.Ids.{is_use_def}
 use Rattle.wit_component.proofs.Keeping.{lt-test, row-at-behind}

@@ -5,8 +5,8 @@ use Rattle.ctype_bin.specs.declared.component.RawComponent.{RawComponent}
 use Rattle.tables.specs.declared.tables.Resolve.{Resolve}
 use Rattle.package_form.specs.Scope.{AreDistinct}
 use Rattle.package_form.specs.Naming.{package_scopes}
-use Rattle.component_reader.specs.Candidate.{candidate_of, Makes}
-use Rattle.wit_component.specs.Standing.{Stands}
+use Rattle.component_reader.specs.Component.{candidate_of, Makes}
+use Rattle.wit_component.specs.ToComponent.{Stands}
 
 -- each index followed to the declaration that took it, and each declaration to the name of its export, the component reads as the
 -- package that it stands for

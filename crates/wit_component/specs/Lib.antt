@@ -1,5 +1,5 @@
 pub mod Rows
 pub mod Component
-pub mod Standing
-pub mod Reads
+pub mod ToComponent
+pub mod FromComponent
 pub mod Laws

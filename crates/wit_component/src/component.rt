@@ -10,7 +10,7 @@ ghost use Rattle.tables.specs.Names.{full_name};
 ghost use Rattle.wit_component.specs.Component.{Front, first_place, interface_declarations, front_after, interfaces_declared, no_front};
 ghost use Rattle.package_form.specs.Ends.{is_parted};
 ghost use Rattle.package_form.specs.Form.{has_full_names};
-ghost use Rattle.wit_component.specs.Standing.{is_labelled, are_labelled};
+ghost use Rattle.wit_component.specs.ToComponent.{is_labelled, are_labelled};
 
 use crate::interfaces::{aliases_of, instance_decl};
 use crate::rows::{RowPlace, declarations_of};

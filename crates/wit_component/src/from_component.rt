@@ -4,8 +4,8 @@ ghost use Rattle.tables.specs.Same.{IsSamePackage};
 ghost use Rattle.package_form.specs.Scope.{AreDistinct};
 ghost use Rattle.package_form.specs.Naming.{package_scopes};
 ghost use Rattle.package_form.specs.Form.{IsInPackageForm};
-ghost use Rattle.wit_component.specs.Standing.{Stands};
-ghost use Rattle.wit_component.specs.Reads.{Refuses};
+ghost use Rattle.wit_component.specs.ToComponent.{Stands};
+ghost use Rattle.wit_component.specs.FromComponent.{Refuses};
 
 use crate::same::{is_empty_package, is_same};
 use crate::to_component::to_raw;

@@ -6,7 +6,7 @@ ghost use Rattle.ctype_bin.specs.View.{decl_view, decls_of, defined_view};
 ghost use Rattle.ctype_bin.specs.Raw.{Define, Func, Entry, Export};
 ghost use Rattle.package_form.specs.Ids.{is_use};
 ghost use Rattle.wit_component.specs.Rows.{Place, signature_of, defined_of, definition_of, definition_index, type_export, row_declarations, outer_alias, defined_types, row_types, row_offset, place_after, declarations_of, places_after};
-ghost use Rattle.wit_component.specs.Standing.{is_labelled};
+ghost use Rattle.wit_component.specs.ToComponent.{is_labelled};
 
 use crate::valtypes::{
     cases_of, fields_of, index_of, labels_of, members_of, optional_of, parameters_of,

@@ -5,7 +5,7 @@ ghost use Rattle.ctype_bin.specs.View.{type_view};
 ghost use Rattle.ctype_bin.specs.FileView.{file_view};
 ghost use Rattle.ctype_bin.specs.File.{file};
 ghost use Rattle.ctype_bin.specs.Writing.{file_bytes};
-ghost use Rattle.wit_component.specs.Reads.{has_no_decls, is_empty_package};
+ghost use Rattle.wit_component.specs.FromComponent.{has_no_decls, is_empty_package};
 
 use ctype_bin::{RawComponent, RawType, encode, files_are_read_exactly};
 use std::alloc::{AllocError, Global};

@@ -3,7 +3,7 @@ ghost use Rattle.std.specs.Prelude.{◌≡◌, ◌⊎◌, [], ◌∷◌, IsTrue,
 ghost use Rattle.ctype_bin.specs.View.{file_of, export_view};
 ghost use Rattle.wit_component.specs.Component.{component_of, package_export};
 ghost use Rattle.package_form.specs.Form.{IsInPackageForm};
-ghost use Rattle.wit_component.specs.Standing.{Stands, are_labelled};
+ghost use Rattle.wit_component.specs.ToComponent.{Stands, are_labelled};
 
 use crate::component::declarations;
 use atoms::Label;

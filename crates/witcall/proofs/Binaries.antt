@@ -13,7 +13,7 @@ use Rattle.layout.specs.declared.error.LayoutError.{LayoutError}
 use Rattle.tables.specs.declared.tables.Resolve.{Resolve}
 use Rattle.package_form.specs.Scope.{AreDistinct}
 use Rattle.package_form.specs.Naming.{package_scopes}
-use Rattle.wit_component.specs.Standing.{Stands}
+use Rattle.wit_component.specs.ToComponent.{Stands}
 use Rattle.witcall.specs.Opening.{is_binary, IsOfText, IsOfBinary, IsOfBytes, IsBinaryOf, IsWrittenAs, TextRefuses, BinaryRefuses, OpenRefuses}
 use Rattle.witcall.specs.declared.package.OpenError.TheVariants as error
 

@@ -28,8 +28,8 @@ use Rattle.tables.specs.declared.error.ResolveError.TheVariants as resolve_error
 use Rattle.layout.specs.declared.error.LayoutError.TheVariants as layout_error
 use Rattle.wit_component.specs.Component.{component_of}
 use Rattle.package_form.specs.Naming.{package_scopes}
-use Rattle.wit_component.specs.Reads as component
-use Rattle.wit_component.specs.Standing.{Stands}
+use Rattle.wit_component.specs.FromComponent as component
+use Rattle.wit_component.specs.ToComponent.{Stands}
 use Rattle.layout.specs.Layout.{AreWithin, RefusesFirst}
 use Rattle.witcall.specs.declared.package.OpenError.{OpenError}
 use Rattle.witcall.specs.declared.package.OpenError.TheVariants as error

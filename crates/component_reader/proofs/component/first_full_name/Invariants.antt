@@ -1,6 +1,6 @@
 use Rattle.std.proofs.Common.{◌≡◌, map, drop}
 use Rattle.ctype_bin.specs.View.{decl_view, decls_of}
-use Rattle.component_reader.specs.Candidate.{first_full_name}
+use Rattle.component_reader.specs.Component.{first_full_name}
 use Rattle.component_reader.proofs.component.first_full_name.Given as goal
 
 abbrev pub invariant-loop-decl : goal.invariant-loop-decl

@@ -1,5 +1,5 @@
 use Rattle.std.proofs.Common.{◌≡◌, Some, take}
-use Rattle.component_reader.specs.Reading.{all_found, case_read}
+use Rattle.component_reader.specs.Types.{all_found, case_read}
 use Rattle.component_reader.proofs.types.cases.Given as goal
 
 abbrev pub invariant-loop-case : goal.invariant-loop-case

@@ -1,5 +1,5 @@
 use Rattle.std.proofs.Common.{◌≡◌, Some, take}
-use Rattle.component_reader.specs.Reading.{all_found, field_read}
+use Rattle.component_reader.specs.Types.{all_found, field_read}
 use Rattle.component_reader.proofs.types.fields.Given as goal
 
 abbrev pub invariant-loop-field : goal.invariant-loop-field

@@ -1,5 +1,5 @@
 use Rattle.std.proofs.Common.{◌≡◌, Some, take}
-use Rattle.component_reader.specs.Reading.{all_found, val_type}
+use Rattle.component_reader.specs.Types.{all_found, val_type}
 use Rattle.component_reader.proofs.types.members.Given as goal
 
 abbrev pub invariant-loop-ty : goal.invariant-loop-ty

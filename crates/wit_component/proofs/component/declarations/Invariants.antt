@@ -2,7 +2,7 @@ use Rattle.std.proofs.Common.{◌≡◌, ◌≤◌, ◌+◌, ◌++◌, IsTrue, m
 use Rattle.ctype_bin.specs.View.{decl_view}
 use Rattle.package_form.specs.Ends.{is_parted}
 use Rattle.wit_component.specs.Component.{interfaces_declared, no_front}
-use Rattle.wit_component.specs.Standing.{are_labelled}
+use Rattle.wit_component.specs.ToComponent.{are_labelled}
 use Rattle.wit_component.proofs.component.declarations.Given as goal
 
 abbrev pub invariant-loop-interface : goal.invariant-loop-interface

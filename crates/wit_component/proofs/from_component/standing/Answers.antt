@@ -6,10 +6,10 @@ use Rattle.ctype_bin.specs.FileView.{file_view}
 use Rattle.tables.specs.declared.tables.Resolve.{Resolve}
 use Rattle.tables.specs.declared.error.ResolveError.{ResolveError}
 use Rattle.tables.specs.declared.error.ResolveError.TheVariants as error
-use Rattle.wit_component.specs.Standing.{Stands}
+use Rattle.wit_component.specs.ToComponent.{Stands}
 use Rattle.package_form.specs.Form.{IsInPackageForm}
 use Rattle.component_reader.specs.declared.unread.Unread.{Unread}
-use Rattle.component_reader.specs.Candidate.{candidate_of, Makes}
+use Rattle.component_reader.specs.Component.{candidate_of, Makes}
 use Rattle.wit_component.proofs.Candidates.{no-other-shape, in-form, written-again, is-that-package}
 use Rattle.wit_component.proofs.from_component.standing.Goals as goal
 

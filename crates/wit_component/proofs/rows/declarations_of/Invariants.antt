@@ -2,7 +2,7 @@ use Rattle.std.proofs.Common.{◌≡◌, ◌≤◌, ◌+◌, ◌*◌, IsTrue, ma
 use Rattle.std.specs.List.{list_all}
 use Rattle.ctype_bin.specs.View.{decl_view}
 use Rattle.wit_component.specs.Rows.{declarations_of, places_after}
-use Rattle.wit_component.specs.Standing.{is_labelled}
+use Rattle.wit_component.specs.ToComponent.{is_labelled}
 use Rattle.wit_component.proofs.rows.declarations_of.Given as goal
 
 abbrev pub invariant-loop-row : goal.invariant-loop-row

@@ -3,8 +3,8 @@ use Rattle.std.specs.Option.{option_map}
 use Rattle.std.proofs.lemmas.List.{map-append}
 use Rattle.atoms.specs.FullName.{full_name_text}
 use Rattle.tables.specs.declared.tables.Interface.{Interface}
-use Rattle.component_reader.specs.Candidate.{ComponentRead, with_interface}
-use Rattle.component_reader.specs.ExportNames.{parts_view}
+use Rattle.component_reader.specs.Component.{ComponentRead, with_interface}
+use Rattle.component_reader.specs.Names.{parts_view}
 use Rattle.component_reader.specs.Readers.{names_view, read_with, component_view}
 use Rattle.component_reader.proofs.Cutting.{parts-cut}
 use Rattle.component_reader.proofs.component.ComponentReader.export_instance.Goals as goal

@@ -3,8 +3,8 @@ use Rattle.std.specs.Option.{option_map}
 use Rattle.std.specs.String.{string_bytes}
 use Rattle.atoms.specs.FullName.{full_name_text}
 use Rattle.tables.specs.Parts.{is_package}
-use Rattle.component_reader.specs.Candidate.{Candidate, namespace_in, package_in, version_in}
-use Rattle.component_reader.specs.ExportNames.{parts_view}
+use Rattle.component_reader.specs.Component.{Candidate, namespace_in, package_in, version_in}
+use Rattle.component_reader.specs.Names.{parts_view}
 use Rattle.component_reader.proofs.Cutting.{parts-cut}
 use Rattle.component_reader.proofs.ExportNames.{package-label}
 use Rattle.tables.proofs.Rows.{both}

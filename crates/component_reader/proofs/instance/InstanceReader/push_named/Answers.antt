@@ -1,7 +1,7 @@
 use Rattle.std.proofs.Common.{◌≡◌, List, ℕ, [], ◌∷◌, ◌++◌, length, Some, ap, ◌∙◌}
 use Rattle.package_form.specs.Ids.{type_id}
 use Rattle.tables.specs.declared.tables.TypeId.{TypeId}
-use Rattle.component_reader.specs.Candidate.{named, named_row, uses_with, types_with}
+use Rattle.component_reader.specs.Instance.{named, named_row, uses_with, types_with}
 use Rattle.component_reader.specs.Readers.{awaited_view, names_view}
 use Rattle.component_reader.proofs.Instances.{same-instance, names-inserted}
 use Rattle.component_reader.proofs.instance.InstanceReader.push_named.Goals as goal

@@ -1,8 +1,8 @@
 use Rattle.std.proofs.Common.{sym, subst}
 use Rattle.ctype_bin.specs.View.{decl_view, type_view}
 use Rattle.ctype_bin.specs.declared.raw.RawDecl.{RawDecl}
-use Rattle.component_reader.specs.Reading.{Becomes}
-use Rattle.component_reader.specs.Candidate.{use_read, defined, decl_read}
+use Rattle.component_reader.specs.Types.{Becomes}
+use Rattle.component_reader.specs.Instance.{use_read, defined, decl_read}
 use Rattle.component_reader.specs.Readers.{read_with}
 use Rattle.component_reader.proofs.Instances.{becomes-behind}
 use Rattle.component_reader.proofs.instance.InstanceReader.read_decl.Goals as goal

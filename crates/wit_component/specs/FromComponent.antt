@@ -6,7 +6,7 @@ use Rattle.ctype_bin.specs.declared.component.RawComponent.{RawComponent}
 use Rattle.tables.specs.declared.error.ResolveError.{ResolveError}
 use Rattle.tables.specs.declared.error.ResolveError.TheVariants as error
 use Rattle.tables.specs.declared.tables.Resolve.{Resolve}
-use Rattle.wit_component.specs.Standing.{Stands}
+use Rattle.wit_component.specs.ToComponent.{Stands}
 use Rattle.package_form.specs.Naming.{Repeats}
 
 abbrev pub is_none : Decls → Bool
