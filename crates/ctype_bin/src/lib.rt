@@ -31,6 +31,3 @@ pub use raw::{
     Primitive, RawAlias, RawCase, RawDecl, RawDefinedType, RawDescription, RawExport, RawField,
     RawFunction, RawType, RawValType,
 };
-
-#[cfg(test)]
-mod tests;
