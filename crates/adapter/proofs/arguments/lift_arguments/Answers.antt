@@ -1,6 +1,7 @@
 use Rattle.std.proofs.Common.{◌≡◌, inr, ℕ, List, refl, sym, subst, rules}
 use Rattle.canonical_abi.specs.Types.{Fields, FunctionType}
 use Rattle.canonical_abi.specs.Layout.{max_flat_params}
+use Rattle.canonical_abi.specs.Call.{argument_flats, KindsFit}
 use Rattle.canonical_abi.specs.declared.flat.Flat.{Flat}
 use Rattle.canonical_abi.specs.declared.trap.Fault.{Fault}
 use Rattle.canonical_abi.specs.declared.trap.Fault.TheVariants as ended
@@ -9,7 +10,7 @@ use Rattle.tables.specs.Closed.{function_type}
 use Rattle.lift_lower.specs.Crossing.{fields_of_types}
 use Rattle.lift_lower.specs.Passing.{IsTrapOf, ParamsStop}
 use Rattle.lift_lower.proofs.Known.{all-known-inside}
-use Rattle.adapter.specs.Crossing.{at_step, argument_flats, KindsFit, AreNoArguments}
+use Rattle.adapter.specs.Crossing.{at_step, AreNoArguments}
 use Rattle.adapter.proofs.Signatures.{function-stands}
 use Rattle.adapter.proofs.arguments.lift_arguments.Goals as goal
 
