@@ -47,10 +47,11 @@ impl<'a> Link<'a> {
 
     /// Calls a function of the package: the flat values are lifted from the caller and lowered into the
     /// callee, the body makes one run on them, and its answer goes the same way back. Then its post-return
-    /// runs, unless there was a trap. Over honest guests within the limit and a live return area the callee finds
-    /// exactly what the caller holds and is run once, and the caller then holds exactly its answer. Where the host has no memory for the arguments' tree, nothing was done;
-    /// where it has none for the result's, the body has answered. The call of a scalar function asks for
-    /// none. After a fault the link can be used again.
+    /// runs, unless there was a trap. Over honest guests within the limit and a live return area the callee
+    /// finds exactly what the caller holds and is run once, and the caller then holds exactly its answer.
+    /// Where the host has no memory for the arguments' tree, nothing was done; where it has none for the
+    /// result's, the body has answered. The call of a scalar function asks for none. After a fault the link
+    /// can be used again.
     pub fn call<C: Guest, E: Guest, B: Body<E>>(
         &mut self,
         alloc: Global,
