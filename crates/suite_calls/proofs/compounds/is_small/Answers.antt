@@ -5,7 +5,7 @@ use Rattle.tables.specs.Closed.{closed_type}
 use Rattle.lift_lower.proofs.Alone.{alone-size}
 use Rattle.lift_lower.proofs.TypesExtents.{has-row}
 use Rattle.lift_lower.proofs.Known.{known-inside}
-use Rattle.suite.proofs.compounds.is_small.Goals as goal
+use Rattle.suite_calls.proofs.compounds.is_small.Goals as goal
 
 pub size-requires : goal.size-requires
 size-requires c =

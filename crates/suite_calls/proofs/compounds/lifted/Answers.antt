@@ -4,7 +4,7 @@ use Rattle.canonical_abi.specs.Layout.{size}
 use Rattle.canonical_abi.specs.Types.{record_type}
 use Rattle.lift_lower.specs.Crossing.{fields_of_types}
 use Rattle.lift_lower.proofs.Known.{all-known-inside}
-use Rattle.suite.proofs.compounds.lifted.Goals as goal
+use Rattle.suite_calls.proofs.compounds.lifted.Goals as goal
 
 pub lift-requires-clause-small : goal.lift-requires-clause-small
 lift-requires-clause-small g c =

@@ -1,7 +1,7 @@
 use Rattle.std.proofs.Common.{sym, subst}
 use Rattle.lift_lower.proofs.Known.{known-inside}
 use Rattle.lift_lower.specs.Types.{IsInside}
-use Rattle.suite.proofs.compounds.loaded.Goals as goal
+use Rattle.suite_calls.proofs.compounds.loaded.Goals as goal
 
 pub load-requires-clause-inside : goal.load-requires-clause-inside
 load-requires-clause-inside g c =

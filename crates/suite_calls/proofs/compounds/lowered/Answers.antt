@@ -2,7 +2,7 @@ use Rattle.std.proofs.Common.{◌≤◌, [], ◌∷◌, sym, subst}
 use Rattle.canonical_abi.specs.Layout.{size}
 use Rattle.canonical_abi.specs.Types.{record_type}
 use Rattle.lift_lower.specs.Crossing.{fields_of_types}
-use Rattle.suite.proofs.compounds.lowered.Goals as goal
+use Rattle.suite_calls.proofs.compounds.lowered.Goals as goal
 
 pub lower-requires-clause-small : goal.lower-requires-clause-small
 lower-requires-clause-small g c =
