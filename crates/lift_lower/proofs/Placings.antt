@@ -12,7 +12,7 @@ use Rattle.canonical_abi.specs.Lowering.{PassesParams}
 use Rattle.canonical_abi.specs.Memory.{Holds, Faulty, BlockHolds, BlockFaulty, HoldsInBlock, FaultyInBlock}
 use Rattle.canonical_abi.specs.Reading.{kind_of}
 use Rattle.canonical_abi.specs.Session.{as_list, HasResult, HasResultFault}
-use Rattle.canonical_abi.specs.Trace.{Event, grant, TraceLeads}
+use Rattle.canonical_abi.specs.Trace.{Event, grant, TraceLeads, RequestEnds}
 use Rattle.canonical_abi.specs.declared.flat.Flat.{Flat}
 use Rattle.canonical_abi.specs.declared.trap.Fault.{Fault}
 use Rattle.canonical_abi.specs.declared.trap.Fault.TheVariants as ended
@@ -28,7 +28,7 @@ use Rattle.lift_lower.specs.Crossing.{AreLowered, LowerFails}
 use Rattle.lift_lower.specs.NoValue.{AnswerStands}
 use Rattle.lift_lower.specs.Lowered.{PassesParamsBy}
 use Rattle.lift_lower.specs.Placing.{IsAreaIn, IsAreaAsked, AreaFails}
-use Rattle.lift_lower.specs.Scripts.{IsDone, HasEnded, RequestEnds, GrantsBlock}
+use Rattle.lift_lower.specs.Scripts.{IsDone, HasEnded, GrantsBlock}
 use Rattle.lift_lower.specs.Val.{value_of}
 use Rattle.lift_lower.specs.declared.val.Val.{Val}
 use Rattle.lift_lower.proofs.Alone.{alone-align, alone-size, first-place}

@@ -3,10 +3,10 @@ use Rattle.std.proofs.Common.{◌≡◌, inl, inr, ℕ, ◌^◌, ◌<◌, List, 
 use Rattle.std.specs.List.{AllByRecursion}
 use Rattle.canonical_abi.specs.Guest.{Memory, Allocation}
 use Rattle.canonical_abi.specs.Requests.{request}
-use Rattle.canonical_abi.specs.Trace.{Grant, Event, node, grant, write, Request, requests_of, RequestFails, TraceBreaks}
+use Rattle.canonical_abi.specs.Trace.{Grant, Event, node, grant, write, Request, requests_of, RequestFails, RequestEnds, TraceBreaks}
 use Rattle.canonical_abi.specs.declared.trap.TrapKind.{TrapKind}
 use Rattle.lift_lower.specs.Passing.{AreAddressable}
-use Rattle.lift_lower.specs.Scripts.{RequestEnds, HasEnded}
+use Rattle.lift_lower.specs.Scripts.{HasEnded}
 
 request-in : (P : Request → Type 0) (done : List Event) (g : Grant) (rest : List Event) → AllByRecursion P (requests_of (done ++ grant g ∷ rest)) → P (request g.align g.size)
 request-in P [] g rest h = h.0

@@ -1,12 +1,11 @@
 -- What passes values on in a call: there no limit stands but that of addresses.
-use Rattle.std.specs.Prelude.{◌≡◌, ◌⊎◌, ℕ, ◌+◌, ◌^◌, ◌<◌, ◌≤◌, true, false, List, length}
+use Rattle.std.specs.Prelude.{◌≡◌, ◌⊎◌, ℕ, ◌+◌, ◌^◌, ◌<◌, ◌≤◌, true, List, length}
 use Rattle.std.specs.List.{AllByRecursion}
 use Rattle.canonical_abi.specs.Types.{Fields, record_type}
 use Rattle.canonical_abi.specs.Values.{Value}
-use Rattle.canonical_abi.specs.Layout.{size, align, fits_flat}
+use Rattle.canonical_abi.specs.Layout.{size, fits_flat}
 use Rattle.canonical_abi.specs.Guest.{Memory, Allocation}
 use Rattle.canonical_abi.specs.Lowering.{PassesParams, PassesResult}
-use Rattle.canonical_abi.specs.Memory.{BlockHolds, BlockFaulty}
 use Rattle.canonical_abi.specs.Script.{AddressFaulty, ParamsUntil, ResultUntil}
 use Rattle.canonical_abi.specs.Trace.{Event, Request, TraceLeads, TraceBreaks}
 use Rattle.canonical_abi.specs.declared.flat.Flat.{Flat}
@@ -22,14 +21,6 @@ AreAddressable qs = AllByRecursion (λ q. q.size < 2 ^ 32) qs
 abbrev pub HasArea : ℕ → Fields → ℕ → List ℕ → Type 0
 HasArea limit ts area m =
     (fits_flat limit ts ≡ true) ⊎ ((area + size (record_type ts) ≤ length m) × (area + size (record_type ts) < 2 ^ 32))
-
--- where the result does not go flat, the return area is aligned and ends inside the memory
-abbrev pub AreaHolds : ℕ → Fields → ℕ → List ℕ → Type 0
-AreaHolds limit ts area m =
-    (fits_flat limit ts ≡ true) ⊎ ((fits_flat limit ts ≡ false) × BlockHolds m area (align (record_type ts)) (size (record_type ts)))
-
-abbrev pub AreaIsFaulty : ℕ → Fields → ℕ → List ℕ → TrapKind → Type 0
-AreaIsFaulty limit ts area m k = (fits_flat limit ts ≡ false) × BlockFaulty m area (align (record_type ts)) (size (record_type ts)) k
 
 -- the parameters stand in the memory, and these core values carry them
 abbrev pub ParamsPassed : ℕ → Allocation → Fields → List Value → Memory → List Flat → Memory → Type 0

@@ -1,26 +1,9 @@
 -- How much of a script, the events by which values are put into a memory, was done.
-use Rattle.std.specs.Prelude.{◌≡◌, ◌⊎◌, ℕ, ◌<◌, ◌≤◌, List, [], ◌∷◌, ◌++◌, length}
-use Rattle.std.specs.List.{AllByRecursion}
+use Rattle.std.specs.Prelude.{◌≡◌, ℕ, ◌≤◌, List, [], ◌∷◌, ◌++◌, length}
 use Rattle.canonical_abi.specs.Guest.{Memory, Allocation}
 use Rattle.canonical_abi.specs.Storing.{IsBlock}
-use Rattle.canonical_abi.specs.Trace.{Grant, Event, grant, write, grants_of, LeavesOutWrites, TraceLeads, RequestFails}
+use Rattle.canonical_abi.specs.Trace.{Grant, Event, grant, write, AreWithin, TraceLeads, TraceEnds}
 use Rattle.canonical_abi.specs.declared.trap.TrapKind.{TrapKind}
-use Rattle.canonical_abi.specs.declared.trap.TrapKind.TheVariants as trap
-
--- no block that was granted is for more bytes than the limit
-abbrev pub AreWithin : ℕ → List Event → Type 0
-AreWithin limit es = AllByRecursion (λ g. g.size ≤ limit) (grants_of es)
-
--- the request is for more than the limit, and isn't made; or it is made and fails
-abbrev pub RequestEnds : ℕ → Allocation → Memory → ℕ → ℕ → TrapKind → Memory → Type 0
-RequestEnds limit allocates old align size k new =
-    ((limit < size) × (k ≡ trap.Bounds) × (new ≡ old)) ⊎ ((size ≤ limit) × RequestFails allocates old align size k new)
-
--- a beginning of the trace was done, all its blocks within the limit, and the next request failed
-abbrev pub TraceEnds : ℕ → Allocation → Memory → List Event → TrapKind → Memory → Type 0
-TraceEnds limit allocates old es k new =
-    (done made rest : List Event) × (next : Grant) × (asked : Memory) × (es ≡ done ++ grant next ∷ rest) × AreWithin limit done × LeavesOutWrites done made
-    × TraceLeads allocates old made asked × RequestEnds limit allocates asked next.align next.size k new
 
 -- the whole script was done
 pub record IsDone (limit : ℕ) (allocates : Allocation) (S : List Event → Type 0) (old new : Memory) : Type 0 where

@@ -4,10 +4,10 @@ ghost use Rattle.canonical_abi.specs.Guest.{IsAlignment};
 ghost use Rattle.canonical_abi.specs.Layout.{prim_width};
 ghost use Rattle.canonical_abi.specs.Reading.{byte_width};
 ghost use Rattle.canonical_abi.specs.Storing.{header, number_in};
-ghost use Rattle.canonical_abi.specs.Trace.{EventLeads, write};
+ghost use Rattle.canonical_abi.specs.Trace.{EventLeads, RequestEnds, write};
 ghost use Rattle.std.specs.Int.{to_le_bytes, byte_len};
 ghost use Rattle.lift_lower.specs.Scalar.{prim_in, value_in};
-ghost use Rattle.lift_lower.specs.Scripts.{IsDone, HasEnded, RequestEnds, GrantsBlock, PutsText, PutsTextAt};
+ghost use Rattle.lift_lower.specs.Scripts.{IsDone, HasEnded, GrantsBlock, PutsText, PutsTextAt};
 
 use crate::bytes::test_block;
 use crate::scalar::Scalar;

@@ -5,12 +5,13 @@ ghost use Rattle.canonical_abi.specs.Types.{record_type, result_fields, AreStand
 ghost use Rattle.canonical_abi.specs.Values.{HaveTypes};
 ghost use Rattle.canonical_abi.specs.Layout.{size, max_flat_params, max_flat_results};
 ghost use Rattle.canonical_abi.specs.Lowering.{PassesResult};
+ghost use Rattle.canonical_abi.specs.Call.{AreaStands, AreaFaulty};
 ghost use Rattle.canonical_abi.specs.Requests.{params_requests, fields_requests};
 ghost use Rattle.tables.specs.Closed.{closed_type};
 ghost use Rattle.lift_lower.specs.Crossing.{fields_of_types};
 ghost use Rattle.lift_lower.specs.Lowered.{PassesResultBy};
 ghost use Rattle.lift_lower.specs.Members.{AreAllInside, AreTypesOf};
-ghost use Rattle.lift_lower.specs.Passing.{AreAddressable, AreaHolds, AreaIsFaulty, HasArea, ParamsPassed, ParamsFailed, ResultPassed, ResultFailed};
+ghost use Rattle.lift_lower.specs.Passing.{AreAddressable, HasArea, ParamsPassed, ParamsFailed, ResultPassed, ResultFailed};
 ghost use Rattle.lift_lower.specs.Scripts.{IsDone, HasEnded};
 ghost use Rattle.lift_lower.specs.Types.{IsInside};
 ghost use Rattle.lift_lower.specs.Val.{value_of};
@@ -54,11 +55,11 @@ pub fn check_area<G: Guest>(
     area: u32,
 ) -> Result<(), TrapKind>
     requires inside { IfSome ty (IsInside table.now) }
-    ensures holds { OnOk result (AreaHolds max_flat_results (result_fields (option_map (closed_type table.now) ty))
+    ensures holds { OnOk result (AreaStands max_flat_results (result_fields (option_map (closed_type table.now) ty))
         area (G.memory guest.now).bytes) }
     ensures area { OnOk result (HasArea max_flat_results (result_fields (option_map (closed_type table.now) ty))
         area (G.memory guest.now).bytes) }
-    ensures fault { IfErr result (AreaIsFaulty max_flat_results (result_fields (option_map (closed_type table.now) ty))
+    ensures fault { IfErr result (AreaFaulty max_flat_results (result_fields (option_map (closed_type table.now) ty))
         area (G.memory guest.now).bytes) }
 {
     let Some(ty) = ty else {

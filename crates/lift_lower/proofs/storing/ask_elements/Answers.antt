@@ -2,7 +2,8 @@ use Rattle.std.proofs.Common.{◌≡◌, ◌*◌, ◌<◌, ◌≤◌, ◌^◌, m
 use Rattle.canonical_abi.specs.Layout.{size}
 use Rattle.canonical_abi.proofs.Sizes.{is-alignment, one-size, le-times}
 use Rattle.tables.specs.Closed.{closed_type}
-use Rattle.lift_lower.specs.Scripts.{RequestEnds, HasEnded, AsksBlock}
+use Rattle.canonical_abi.specs.Trace.{RequestEnds}
+use Rattle.lift_lower.specs.Scripts.{HasEnded, AsksBlock}
 use Rattle.lift_lower.proofs.Scripting.{asked, saturated-ends, if-err-as, if-ok-as}
 use Rattle.lift_lower.proofs.storing.ask_elements.Goals as goal
 

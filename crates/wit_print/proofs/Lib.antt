@@ -1,0 +1,10 @@
+mod Written
+mod Fronts
+mod Standing
+mod Lexed
+mod Tokens
+mod Types
+mod Functions
+mod Definitions
+mod Entries
+mod Files

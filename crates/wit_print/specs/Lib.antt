@@ -1,0 +1,5 @@
+pub mod Words
+pub mod Canonical
+pub mod Printable
+pub mod Unplaced
+pub mod Laws

@@ -1,0 +1,52 @@
+-- A text as words: each a token, with the blanks that stand before it.
+use Rattle.std.specs.Prelude.{ℕ, List, [], ◌∷◌, ◌++◌, is_some, if◌then◌else◌}
+use Rattle.wit_tokens.specs.declared.token.Keyword.{Keyword}
+use Rattle.wit_tokens.specs.declared.token.Punctuation.{Punctuation}
+use Rattle.wit_tokens.specs.declared.token.Punctuation.TheVariants as mark
+use Rattle.wit_tokens.specs.declared.token.TokenKind.{TokenKind}
+use Rattle.wit_tokens.specs.declared.token.TokenKind.TheVariants as kind
+use Rattle.wit_tokens.specs.Keywords.{spelling, keyword_of}
+
+pub record Word : Type 0 where
+  pub space : List ℕ
+  pub kind : TokenKind
+  pub bytes : List ℕ
+
+-- the text of these words, with these bytes behind them
+abbrev pub text_of : List Word → List ℕ → List ℕ
+text_of [] rest = rest
+text_of (w ∷ ws) rest = w.space ++ (w.bytes ++ text_of ws rest)
+
+abbrev pub mark_text : Punctuation → List ℕ
+mark_text mark.Arrow = 45 ∷ 62 ∷ []
+mark_text mark.Colon = 58 ∷ []
+mark_text mark.Semicolon = 59 ∷ []
+mark_text mark.Comma = 44 ∷ []
+mark_text mark.Dot = 46 ∷ []
+mark_text mark.OpenBrace = 123 ∷ []
+mark_text mark.CloseBrace = 125 ∷ []
+mark_text mark.OpenParenthesis = 40 ∷ []
+mark_text mark.CloseParenthesis = 41 ∷ []
+mark_text mark.Less = 60 ∷ []
+mark_text mark.Greater = 62 ∷ []
+mark_text mark.Equals = 61 ∷ []
+mark_text mark.Slash = 47 ∷ []
+mark_text mark.At = 64 ∷ []
+mark_text mark.Underscore = 95 ∷ []
+
+-- a name that is spelled as a keyword has `%` before it
+abbrev pub escaped : List ℕ → List ℕ
+escaped name = if is_some (keyword_of name) then 37 ∷ name else name
+
+abbrev pub mark_word : List ℕ → Punctuation → Word
+mark_word space p = record { space = space; kind = kind.Punctuation p; bytes = mark_text p }
+
+abbrev pub keyword_word : List ℕ → Keyword → Word
+keyword_word space k = record { space = space; kind = kind.Keyword k; bytes = spelling k }
+
+abbrev pub name_word : List ℕ → List ℕ → Word
+name_word space name = record { space = space; kind = kind.Identifier; bytes = escaped name }
+
+-- a version with its `@`
+abbrev pub version_word : List ℕ → Word
+version_word version = record { space = []; kind = kind.Version; bytes = 64 ∷ version }
