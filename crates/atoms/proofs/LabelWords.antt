@@ -5,9 +5,18 @@ use Rattle.std.specs.Str.{IsUtf8, IsAscii}
 use Rattle.std.proofs.lemmas.Bool.Decides.{nat_tests}
 use Rattle.std.proofs.lemmas.Str.{IsUtf8-from_ascii}
 use Rattle.std.proofs.lemmas.Str.Ascii.{IsAscii-nil, IsAscii-cons}
-use Rattle.atoms.specs.Label.{is_lower, is_upper, is_digit, is_hyphen, is_word, is_label, IsLabel, label_from}
+use Rattle.atoms.specs.Label.{is_lower, is_upper, is_digit, is_hyphen, is_word, are_words, is_label, IsLabel}
 use Rattle.atoms.specs.declared.label.Place.{Place}
 use Rattle.atoms.specs.declared.label.Place.TheVariants as place
+
+-- words by one way over the bytes: what may follow at the start of a word and in one
+abbrev pub label_from : Place → List ℕ → Bool
+label_from place.Start [] = false
+label_from place.Start (c ∷ cs) = if is_lower c then label_from place.Lower cs else (if is_upper c then label_from place.Upper cs else false)
+label_from place.Lower [] = true
+label_from place.Lower (c ∷ cs) = if is_lower c || is_digit c then label_from place.Lower cs else (if is_hyphen c then label_from place.Start cs else false)
+label_from place.Upper [] = true
+label_from place.Upper (c ∷ cs) = if is_upper c || is_digit c then label_from place.Upper cs else (if is_hyphen c then label_from place.Start cs else false)
 
 abbrev lower_or_digit : ℕ → Bool
 lower_or_digit b = is_lower b || is_digit b
@@ -94,16 +103,21 @@ words (c ∷ cs) =
     rw (more.0, more.2) (goes_on (upper_or_digit c) (is_hyphen c) (in_word upper_or_digit parts) (list_all is_word parts) (no_upper c) ∙ ap (λ (x : Bool). if is_hyphen c then list_all is_word parts else x) (sym (one_more upper_or_digit c parts))) in
     (start ∙ moved c cs (list_all is_word), lower ∙ moved c cs (in_word lower_or_digit), upper ∙ moved c cs (in_word upper_or_digit))
 
--- the way over the bytes finds labels
+-- the way over the bytes finds words, and so labels
+pub words_by : (text : List ℕ) → label_from place.Start text ≡ are_words text
+words_by text = (words text).0
+
 pub is_label_by : (text : List ℕ) → is_label text ≡ (nat_le (length text) 255 && label_from place.Start text)
 unfolding is_label
 is_label_by text = rw (words text).0 refl
 
-pub short_label : (text : List ℕ) (b : Bool) → length text ≤ 255 → b ≡ label_from place.Start text → b ≡ is_label text
-short_label text b h e = let l : nat_le (length text) 255 ≡ true = grind (arith, nat_tests) in sym (is_label_by text ∙ rw (l, e) refl)
+pub short_label : (text : List ℕ) (b : Bool) → length text ≤ 255 → b ≡ are_words text → b ≡ is_label text
+unfolding is_label
+short_label text b h e = let l : nat_le (length text) 255 ≡ true = grind (arith, nat_tests) in rw l e
 
 pub long_label : (text : List ℕ) (b : Bool) → 255 < length text → b ≡ nat_le (length text) 255 → b ≡ is_label text
-long_label text b h e = let l : nat_le (length text) 255 ≡ false = grind (arith, nat_tests) in sym (is_label_by text ∙ rw (l) (sym (e ∙ l)))
+unfolding is_label
+long_label text b h e = let l : nat_le (length text) 255 ≡ false = grind (arith, nat_tests) in rw l (e ∙ l)
 
 -- ---- a label's bytes are ASCII
 

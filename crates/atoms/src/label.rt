@@ -1,7 +1,6 @@
 //! Labels: the names of packages, interfaces, types, functions and their parts.
 ghost use Rattle.std.specs.Prelude.{◌≡◌, ◌⊎◌, List, ℕ, IfOk, IfErr, false};
-ghost use Rattle.atoms.specs.Label.{IsLabel, is_label, label_from};
-ghost use Rattle.atoms.specs.declared.label.Place.TheVariants as place;
+ghost use Rattle.atoms.specs.Label.{IsLabel, is_label, are_words};
 ghost use Rattle.atoms.specs.declared.error.AtomError.TheVariants as error;
 
 use crate::error::AtomError;
@@ -18,7 +17,7 @@ pub enum Place {
 
 /// Whether the bytes are words joined by single hyphens, by one way over them.
 fn is_words(text: &[u8]) -> bool
-    ensures { result ≡ label_from place.Start text.now }
+    ensures { result ≡ are_words text.now }
 {
     let mut rest = text;
     let mut place = Place::Start;

@@ -3,11 +3,11 @@ use Rattle.std.proofs.Common.{◌≡◌, ◌+◌, ℕ, suc, List, [], ◌∷◌,
 use Rattle.std.specs.Prelude.{Bool, true, false, not, ◌&&◌, ◌||◌, ◌==◌, if◌then◌else◌}
 use Rattle.std.proofs.lemmas.Bool.{and_parts, and_from, and_left, or_left, or_right, or_parts, or_from, not-true, false≢true}
 use Rattle.std.proofs.lemmas.Bool.Decides.{nat_tests}
-use Rattle.atoms.proofs.LabelWords.{is_label_by}
+use Rattle.atoms.proofs.LabelWords.{label_from, is_label_by}
 use Rattle.atoms.specs.declared.label.Place.{Place}
 use Rattle.atoms.specs.declared.label.Place.TheVariants as place
 use Rattle.std.specs.Prelude.{nat_le}
-use Rattle.atoms.specs.Label.{is_lower, is_upper, is_digit, is_hyphen, is_label, label_from}
+use Rattle.atoms.specs.Label.{is_lower, is_upper, is_digit, is_hyphen, is_label}
 use Rattle.wit_tokens.specs.declared.token.TokenKind.TheVariants as kind
 use Rattle.wit_tokens.specs.declared.token.Punctuation.TheVariants as mark
 use Rattle.wit_tokens.specs.declared.lexer.Front.TheVariants as front
