@@ -1,3 +1,8 @@
-mod AlikeLemmas
 pub mod AlikeExamples
+mod BumpAlike
+mod FirstFitAlike
+mod FirstFitSteps
+mod HoleGifts
+mod HoleLists
 mod OneWay
+mod SpaceAlike

@@ -1,6 +1,10 @@
 pub mod Alike
 pub mod Bump
 pub mod BumpLaws
+pub mod FirstFit
+pub mod FirstFitLaws
+pub mod Holes
+pub mod HolesView
 pub mod Scripted
 pub mod Space
 pub mod SpaceLaws

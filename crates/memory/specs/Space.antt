@@ -1,7 +1,8 @@
 -- A memory of one of several kinds: its state begins with the number of its kind.
-use Rattle.std.specs.Prelude.{◌≡◌, ℕ, List, [], ◌∷◌}
+use Rattle.std.specs.Prelude.{◌≡◌, ◌⊎◌, ℕ, List, [], ◌∷◌}
 use Rattle.canonical_abi.specs.Guest.{Memory, Allocation, Release}
 use Rattle.memory.specs.Bump.{BumpAllocates, BumpReleases}
+use Rattle.memory.specs.FirstFit.{FirstFitAllocates, FirstFitReleases}
 
 -- a memory of a kind, as a memory of one of several kinds
 abbrev pub of_kind : ℕ → Memory → Memory
@@ -23,7 +24,9 @@ ReleasesAs kind releases old at size answer new =
 
 -- the steps of each kind; a further kind is one more alternative
 abbrev pub SpaceAllocates : Allocation
-SpaceAllocates = AllocatesAs 0 BumpAllocates
+SpaceAllocates old align size answer new =
+    AllocatesAs 0 BumpAllocates old align size answer new ⊎ AllocatesAs 1 FirstFitAllocates old align size answer new
 
 abbrev pub SpaceReleases : Release
-SpaceReleases = ReleasesAs 0 BumpReleases
+SpaceReleases old at size answer new =
+    ReleasesAs 0 BumpReleases old at size answer new ⊎ ReleasesAs 1 FirstFitReleases old at size answer new

@@ -1,8 +1,9 @@
 -- What is honest stays so under the number of a kind.
-use Rattle.std.specs.Prelude.{◌≡◌, ◌≤◌, ℕ, true, Some, length, slice_get}
-use Rattle.std.proofs.Common.{sym, ap, ◌∙◌, arith}
+use Rattle.std.specs.Prelude.{◌≡◌, ◌⊎◌, ◌≤◌, ℕ, true, Some, length, slice_get}
+use Rattle.std.proofs.Common.{sym, ap, ◌∙◌, arith, inl, inr}
 use Rattle.canonical_abi.specs.Guest.{Memory, Allocation, Release, IsAlignment, IsGrant, IsRelease, IsHonest, KeepsLimit}
 use Rattle.memory.specs.BumpLaws.{BumpIsHonest, BumpKeepsLimit}
+use Rattle.memory.specs.FirstFitLaws.{FirstFitIsHonest, FirstFitKeepsLimit}
 use Rattle.memory.specs.Space.{of_kind, AllocatesAs, ReleasesAs, SpaceAllocates, SpaceReleases}
 
 -- a grant of the kind's allocator is a grant
@@ -44,9 +45,19 @@ kind_is_honest kind allocates releases honest = record {
   not_taken = λ old at size new step. step.4 ∙ ap (of_kind kind) (honest.not_taken _ at size _ step.3) ∙ sym step.2;
 }
 
+-- steps of one of two kinds are honest where those of both are
+pub either_is_honest : (allocates others : Allocation) (releases returns : Release) → IsHonest allocates releases → IsHonest others returns
+    → IsHonest (λ old align size answer new. allocates old align size answer new ⊎ others old align size answer new) (λ old at size answer new. releases old at size answer new ⊎ returns old at size answer new)
+either_is_honest allocates others releases returns one two = record {
+  granted = λ old align size at new pos step. elim step [ inl s ↦ one.granted old align size at new pos s | inr s ↦ two.granted old align size at new pos s ];
+  full = λ old align size new step. elim step [ inl s ↦ one.full old align size new s | inr s ↦ two.full old align size new s ];
+  taken = λ old at size new step. elim step [ inl s ↦ one.taken old at size new s | inr s ↦ two.taken old at size new s ];
+  not_taken = λ old at size new step. elim step [ inl s ↦ one.not_taken old at size new s | inr s ↦ two.not_taken old at size new s ];
+}
+
 -- a `Space` is honest, whichever kind it has
 pub SpaceIsHonest : IsHonest SpaceAllocates SpaceReleases
-SpaceIsHonest = kind_is_honest 0 _ _ BumpIsHonest
+SpaceIsHonest = either_is_honest _ _ _ _ (kind_is_honest 0 _ _ BumpIsHonest) (kind_is_honest 1 _ _ FirstFitIsHonest)
 
 -- a memory of any kind whose allocator keeps the limit keeps it
 pub kind_keeps_limit : (kind : ℕ) (allocates : Allocation) → KeepsLimit allocates → KeepsLimit (AllocatesAs kind allocates)
@@ -56,4 +67,5 @@ kind_keeps_limit kind allocates keeps old new align size at (before, after, old_
     let kept : length after.bytes ≤ 16777216 = keeps before after align size at step (omega arith) in omega arith
 
 pub SpaceKeepsLimit : KeepsLimit SpaceAllocates
-SpaceKeepsLimit = kind_keeps_limit 0 _ BumpKeepsLimit
+SpaceKeepsLimit old new align size at (inl step) few = kind_keeps_limit 0 _ BumpKeepsLimit old new align size at step few
+SpaceKeepsLimit old new align size at (inr step) few = kind_keeps_limit 1 _ FirstFitKeepsLimit old new align size at step few

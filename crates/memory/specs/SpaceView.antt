@@ -1,10 +1,13 @@
 -- A `Space` as a memory.
 use Rattle.canonical_abi.specs.Guest.{Memory}
 use Rattle.memory.specs.Bump.{bump}
+use Rattle.memory.specs.Holes.{first_fit}
+use Rattle.memory.specs.HolesView.{listed}
 use Rattle.memory.specs.Space.{of_kind}
 use Rattle.memory.specs.declared.space.Space as declared
-use Rattle.memory.specs.declared.space.Space.TheVariants.{Bump}
+use Rattle.memory.specs.declared.space.Space.TheVariants.{Bump, FirstFit}
 
 -- its state begins with its kind's number
 abbrev pub space_memory : declared.Space → Memory
 space_memory (Bump b) = of_kind 0 (bump b.bytes.items b.top)
+space_memory (FirstFit f) = of_kind 1 (first_fit f.bytes.items f.holes.limit (listed f.holes))

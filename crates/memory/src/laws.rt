@@ -1,13 +1,27 @@
 //! Laws of the memories.
-ghost use Rattle.canonical_abi.specs.Guest.{KeepsLimit};
+ghost use Rattle.std.specs.Prelude.{ℕ, ◌↔◌};
+ghost use Rattle.canonical_abi.specs.Guest.{IsLimited, KeepsLimit};
 ghost use Rattle.canonical_abi.specs.Told.{AllocatesInOneWay, IgnoresBytes};
 ghost use Rattle.memory.specs.Alike.{AnswersAlike, ReleasesAlike};
 ghost use Rattle.memory.specs.Bump.{bump_make, BumpAllocates, BumpReleases};
+ghost use Rattle.memory.specs.FirstFit.{first_fit_make, FirstFitAllocates, FirstFitReleases, IsHole};
+ghost use Rattle.memory.specs.Holes.{IsListed};
+ghost use Rattle.memory.specs.HolesView.{listed};
 ghost use Rattle.memory.specs.Space.{space_make, SpaceAllocates, SpaceReleases};
+
+use crate::bump::Bump;
+use crate::first_fit::FirstFit;
+use crate::space::Space;
+use canonical_abi::Guest;
 
 /// Two `Bump`s of equal length with the same live addresses give equal answers from then on.
 pub fn bumps_answer_alike()
     ensures { AnswersAlike bump_make BumpAllocates }
+{}
+
+/// So do two `FirstFit`s.
+pub fn first_fits_answer_alike()
+    ensures { AnswersAlike first_fit_make FirstFitAllocates }
 {}
 
 /// So do two `Space`s of one kind.
@@ -20,14 +34,45 @@ pub fn bumps_release_alike()
     ensures { ReleasesAlike bump_make BumpReleases }
 {}
 
+/// So do two `FirstFit`s.
+pub fn first_fits_release_alike()
+    ensures { ReleasesAlike first_fit_make FirstFitReleases }
+{}
+
 /// So do two `Space`s of one kind.
 pub fn spaces_release_alike()
     ensures { ReleasesAlike space_make SpaceReleases }
 {}
 
+/// The holes that a `FirstFit` keeps are just the longest runs of what is usable and not live.
+pub fn holes_are_longest_runs(_memory: &FirstFit)
+    ensures { (start end : ℕ) → IsListed (listed _memory.now.holes) start end
+        ↔ IsHole (⟦<FirstFit as Guest>⟧.memory _memory.now) start end }
+{}
+
+/// No `Bump` is longer than the limit.
+pub fn bumps_are_limited(_memory: &Bump)
+    ensures { IsLimited (⟦<Bump as Guest>⟧.memory _memory.now) }
+{}
+
+/// Nor is a `FirstFit`.
+pub fn first_fits_are_limited(_memory: &FirstFit)
+    ensures { IsLimited (⟦<FirstFit as Guest>⟧.memory _memory.now) }
+{}
+
+/// Nor is a `Space`.
+pub fn spaces_are_limited(_memory: &Space)
+    ensures { IsLimited (⟦<Space as Guest>⟧.memory _memory.now) }
+{}
+
 /// No step of a `Bump`'s allocator takes its memory past the limit.
 pub fn bumps_keep_the_limit()
     ensures { KeepsLimit BumpAllocates }
+{}
+
+/// Nor does one of a `FirstFit`'s.
+pub fn first_fits_keep_the_limit()
+    ensures { KeepsLimit FirstFitAllocates }
 {}
 
 /// Nor does one of a `Space`'s.
@@ -39,6 +84,12 @@ pub fn spaces_keep_the_limit()
 pub fn bumps_answer_in_one_way()
     ensures one_way { AllocatesInOneWay BumpAllocates }
     ensures ignores { IgnoresBytes BumpAllocates }
+{}
+
+/// So they have of a `FirstFit`.
+pub fn first_fits_answer_in_one_way()
+    ensures one_way { AllocatesInOneWay FirstFitAllocates }
+    ensures ignores { IgnoresBytes FirstFitAllocates }
 {}
 
 /// So they have of a `Space`.

@@ -1,12 +1,14 @@
 //! Linear memories, each with its allocator: what stands behind a component.
 //!
 //! A memory is a `Guest`: it tells its bytes, its live addresses and the steps that its allocator may
-//! make. `Bump` and `Space` are `Honest` as well: they never grant what is live. `Scripted` answers from
-//! a list and is not. Stands on `canonical_abi`, whose `Guest` is the promise that the layers above use.
+//! make. `Bump`, `FirstFit`, which takes blocks back, and `Space` are `Honest` as well: they never grant
+//! what is live. `Scripted` answers from a list and is not. Stands on `canonical_abi`, whose `Guest` is the promise that the layers above use.
 #![tactic(auto)]
 
 mod bump;
 mod error;
+mod first_fit;
+mod holes;
 mod laws;
 mod scripted;
 mod space;
@@ -14,9 +16,13 @@ mod space;
 pub use bump::Bump;
 pub use canonical_abi::{Full, Guest, Honest, NotTaken};
 pub use error::{MAX_LEN, MemoryError};
+pub use first_fit::FirstFit;
 pub use laws::{
-    bumps_answer_alike, bumps_answer_in_one_way, bumps_keep_the_limit, bumps_release_alike,
-    spaces_answer_alike, spaces_answer_in_one_way, spaces_keep_the_limit, spaces_release_alike,
+    bumps_answer_alike, bumps_answer_in_one_way, bumps_are_limited, bumps_keep_the_limit,
+    bumps_release_alike, first_fits_answer_alike, first_fits_answer_in_one_way,
+    first_fits_are_limited, first_fits_keep_the_limit, first_fits_release_alike,
+    holes_are_longest_runs, spaces_answer_alike, spaces_answer_in_one_way, spaces_are_limited,
+    spaces_keep_the_limit, spaces_release_alike,
 };
 pub use scripted::Scripted;
 pub use space::Space;

@@ -1,4 +1,4 @@
-use Rattle.memory.proofs.AlikeLemmas.{spaces_free_alike}
+use Rattle.memory.proofs.SpaceAlike.{spaces_free_alike}
 use Rattle.memory.proofs.laws.spaces_release_alike.Goals as goal
 
 pub returns : goal.returns

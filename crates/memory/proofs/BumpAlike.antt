@@ -1,10 +1,9 @@
 -- What a bump allocator answers is told by its length and its top, and the top by the live addresses.
 use Rattle.std.proofs.Common.{◌≡◌, inl, inr, ◌+◌, ◌%◌, ◌<◌, ℕ, true, false, Some, None, length, nat_lt, refl, sym, ap, ◌∙◌, subst, arith}
 use Rattle.std.proofs.lemmas.Bool.{lt-ltb, both_ways, le-ltb, cases_order}
-use Rattle.canonical_abi.specs.Guest.{Memory, Allocation, Release, IsAlignment}
+use Rattle.canonical_abi.specs.Guest.{Memory, IsAlignment}
 use Rattle.memory.specs.Alike.{AreAlike, AnswersAlike, ReleasesAlike}
 use Rattle.memory.specs.Bump.{bump, bump_make, IsRoundedUp, BumpAllocates, BumpReleases}
-use Rattle.memory.specs.Space.{of_kind, space_make, AllocatesAs, ReleasesAs, SpaceAllocates, SpaceReleases}
 
 -- the same addresses lie below two tops: they are one
 same_top : (s t : ℕ) → ((a : ℕ) → nat_lt a s ≡ nat_lt a t) → s ≡ t
@@ -75,35 +74,3 @@ bumps_free_alike m n at size false false m' n' alike m'_is n'_is = (
     same_live = λ a. ap (λ w. w.live a) m'_is ∙ alike.same_live a ∙ sym (ap (λ w. w.live a) n'_is);
   },
 )
-
--- ---- under the number of a kind, where nothing else is given when a memory is made
-
-inner_alike : (kind : ℕ) (m n before before' : Memory) → AreAlike space_make m n → m ≡ of_kind kind before → n ≡ of_kind kind before' → AreAlike bump_make before before'
-inner_alike kind m n before before' alike m_is n_is = record {
-  same_make = refl;
-  same_length = sym (ap (λ w. length w.bytes) m_is) ∙ alike.same_length ∙ ap (λ w. length w.bytes) n_is;
-  same_live = λ x. sym (ap (λ w. w.live x) m_is) ∙ alike.same_live x ∙ ap (λ w. w.live x) n_is;
-}
-
-outer_alike : (kind : ℕ) (m' n' after after' : Memory) → AreAlike bump_make after after' → m' ≡ of_kind kind after → n' ≡ of_kind kind after' → AreAlike space_make m' n'
-outer_alike kind m' n' after after' alike m'_is n'_is = record {
-  same_make = ap (λ w. space_make w.state) m'_is ∙ sym (ap (λ w. space_make w.state) n'_is);
-  same_length = ap (λ w. length w.bytes) m'_is ∙ alike.same_length ∙ sym (ap (λ w. length w.bytes) n'_is);
-  same_live = λ x. ap (λ w. w.live x) m'_is ∙ alike.same_live x ∙ sym (ap (λ w. w.live x) n'_is);
-}
-
-kind_alike : (kind : ℕ) (allocates : Allocation) → AnswersAlike bump_make allocates → AnswersAlike space_make (AllocatesAs kind allocates)
-kind_alike kind allocates h m n align size a b m' n' alignment alike (before, after, m_is, step, m'_is) (before', after', n_is, step', n'_is) =
-    let then = h before before' align size a b after after' alignment (inner_alike kind m n before before' alike m_is n_is) step step' in
-    (then.0, outer_alike kind m' n' after after' then.1 m'_is n'_is)
-
-kind_free_alike : (kind : ℕ) (releases : Release) → ReleasesAlike bump_make releases → ReleasesAlike space_make (ReleasesAs kind releases)
-kind_free_alike kind releases h m n at size a b m' n' alike (before, after, m_is, step, m'_is) (before', after', n_is, step', n'_is) =
-    let then = h before before' at size a b after after' (inner_alike kind m n before before' alike m_is n_is) step step' in
-    (then.0, outer_alike kind m' n' after after' then.1 m'_is n'_is)
-
-pub spaces_alike : AnswersAlike space_make SpaceAllocates
-spaces_alike = kind_alike 0 BumpAllocates bumps_alike
-
-pub spaces_free_alike : ReleasesAlike space_make SpaceReleases
-spaces_free_alike = kind_free_alike 0 BumpReleases bumps_free_alike

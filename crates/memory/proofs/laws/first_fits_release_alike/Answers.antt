@@ -1,0 +1,5 @@
+use Rattle.memory.proofs.FirstFitAlike.{first_fits_free_alike}
+use Rattle.memory.proofs.laws.first_fits_release_alike.Goals as goal
+
+pub returns : goal.returns
+returns c = first_fits_free_alike

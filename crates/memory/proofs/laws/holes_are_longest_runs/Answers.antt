@@ -1,0 +1,10 @@
+use Rattle.std.proofs.Common.{◌≡◌, ◌*◌, ◌/◌, length, arith}
+use Rattle.memory.specs.HolesView.{listed}
+use Rattle.memory.proofs.FirstFitSteps.{listed_are_holes}
+use Rattle.memory.proofs.laws.holes_are_longest_runs.Goals as goal
+
+pub returns : goal.returns
+returns c =
+    let s = c.args._memory.now in
+    let whole : s.holes.limit ≡ length s.bytes.items / 8 * 8 = omega (arith, s.bytes.ok.0, s.usable) in
+    listed_are_holes s.bytes.items s.holes.limit (listed s.holes) whole s.holes.apart
