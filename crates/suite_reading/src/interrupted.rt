@@ -1,9 +1,7 @@
 //! Calls of std's readers and writers that are interrupted or fail.
-ghost use Rattle.std.specs.Prelude.{◌≡◌, false};
 
-use super::*;
-use crate::{ReadUpToError, read_up_to, write_all};
-use std::io;
+use atoms::{Failed, ReadUpToError, Sink, Source, Watched, read_up_to, write_all};
+use std::io::{self, Error, ErrorKind, Read, Write};
 use std::test::*;
 
 /// A reader of sevens and a writer that takes two bytes a call. Its first calls are interrupted, and then it works or
@@ -53,19 +51,18 @@ impl Write for Interrupted {
     }
 }
 
-fn watched_when(works: bool) -> Watched<Interrupted>
-    ensures { result.failed ≡ false }
-{
-    Watched::new(Interrupted {
+/// One whose first three calls are interrupted.
+fn thrice_interrupted(works: bool) -> Interrupted {
+    Interrupted {
         times: 3,
         works,
         taken: 0,
-    })
+    }
 }
 
 #[test]
 fn reads(rt: HostRuntime) -> Result<(), Fail> {
-    let mut reader = watched_when(true);
+    let mut reader = Watched::new(thrice_interrupted(true));
     let mut buffer = [0; 4];
     assert_eq!(rt; reader.read(&mut buffer), Ok(1));
     assert_eq!(rt; buffer, [7, 0, 0, 0]);
@@ -73,7 +70,7 @@ fn reads(rt: HostRuntime) -> Result<(), Fail> {
     let bytes = read_up_to(rt.alloc(), &mut reader, 4);
     assert!(rt; bytes.is_ok_and(|bytes| bytes.as_slice() == [7; 5].as_slice()));
 
-    let mut broken = watched_when(false);
+    let mut broken = Watched::new(thrice_interrupted(false));
     let read = read_up_to(rt.alloc(), &mut broken, 4);
     assert!(rt; matches!(read, Err(ReadUpToError::Failed(0))));
     assert!(rt; Source::failed(&broken));
@@ -82,12 +79,12 @@ fn reads(rt: HostRuntime) -> Result<(), Fail> {
 
 #[test]
 fn writes(rt: HostRuntime) -> Result<(), Fail> {
-    let mut writer = watched_when(true);
+    let mut writer = Watched::new(thrice_interrupted(true));
     assert_eq!(rt; write_all(&mut writer, b"abcde"), Ok(()));
     assert!(rt; !Sink::failed(&writer));
     assert_eq!(rt; writer.into_inner().taken, 5);
 
-    let mut broken = watched_when(false);
+    let mut broken = Watched::new(thrice_interrupted(false));
     assert_eq!(rt; write_all(&mut broken, b"abcde"), Err(Failed));
     assert!(rt; Sink::failed(&broken));
     Ok(())
