@@ -1,6 +1,6 @@
 //! Calls through one link: what reaches the body, what comes back, and where each trap is found.
 
-ghost use Rattle.std.specs.Prelude.{IfOk};
+ghost use Rattle.std.specs.Prelude.{◌≡◌, IfOk};
 ghost use Rattle.tables.specs.Closed.{IsScalarFunction};
 
 use adapter::{BoxedBody, Export, Link, Stopped};
@@ -85,31 +85,50 @@ fn function(rt: &impl Abort, package: &Package, name: &str) -> Result<FunctionId
     Ok(func)
 }
 
+/// What a call of a function of the link's package answers.
+fn carried(
+    alloc: Global,
+    link: &mut Link<'_>,
+    func: FunctionId,
+    flats: &[Flat],
+    caller: &mut Bump,
+    callee: &mut Space,
+    body: Telling,
+) -> Result<Result<Flats, Fault>, Fail>
+    requires { IsScalarFunction link.old.resolve func }
+    ensures { link.new ≡ link.old }
+{
+    let mut body = BoxedBody::new(Box::new(alloc, body)?);
+    Ok(link.call(alloc, func, flats, caller, callee, &mut body))
+}
+
 /// What a call of `f` answers, and the callee's memory behind it. The same link then carries `g`.
 fn called(
     rt: &impl Abort,
     alloc: Global,
-    package: &Package,
+    f: &str,
     body: Telling,
     flats: &[Flat],
 ) -> Result<(Result<Flats, Fault>, Vec<u8>), Fail> {
-    let f = function(rt, package, "f")?;
-    let g = function(rt, package, "g")?;
+    let package = package(alloc, f)?;
+    let f = function(rt, &package, "f")?;
+    let g = function(rt, &package, "g")?;
     let mut caller = Bump::new(alloc, 16)?;
     let mut callee = Space::Bump(Bump::new(alloc, 16)?);
     let mut link = Link::new(package.resolve(), package.layouts());
-    let mut body = BoxedBody::new(Box::new(alloc, body)?);
-    let answer = link.call(alloc, f, flats, &mut caller, &mut callee, &mut body);
+    let answer = carried(alloc, &mut link, f, flats, &mut caller, &mut callee, body)?;
     let memory = callee.bytes().to_vec(alloc)?;
-    let mut plain = BoxedBody::new(Box::new(alloc, Telling::answering(Flat::I32(8)))?);
-    let again = link.call(
+    let plain = Telling::answering(Flat::I32(8));
+    let seven = [Flat::I32(7)];
+    let again = carried(
         alloc,
+        &mut link,
         g,
-        &[Flat::I32(7)],
+        seven.as_slice(),
         &mut caller,
         &mut callee,
-        &mut plain,
-    );
+        plain,
+    )?;
     let Ok(back) = again else {
         return Err(Fail::from("the link does not carry the next call"));
     };
@@ -117,30 +136,39 @@ fn called(
     Ok((answer, memory))
 }
 
+/// Whether a call of `f` is such a trap, and the callee's memory begins with these bytes then.
 fn assert_trap(
     rt: &impl Abort,
-    answer: Result<Flats, Fault>,
-    kind: TrapKind,
-    step: Step,
+    alloc: Global,
+    f: &str,
+    body: Telling,
+    flats: &[Flat],
+    trap: Trap,
+    wanted: [u8; 2],
 ) -> Result<(), Fail> {
-    let Err(fault) = answer else {
-        return Err(Fail::from("no trap"));
+    let (answer, memory) = called(rt, alloc, f, body, flats)?;
+    assert_eq!(rt; answer.err(), Some(Fault::Trap(trap)), "{f}");
+    let [first, second, rest @ ..] = memory.as_slice() else {
+        return Err(Fail::from("no memory"));
     };
-    assert_eq!(rt; fault, Fault::Trap(Trap { kind, step }));
+    assert_eq!(rt; [*first, *second], wanted, "{f}");
+    assert_eq!(rt; rest, [0; 14].as_slice(), "{f}");
     Ok(())
 }
 
 /// No run was made.
-const IDLE: [u8; 16] = [0; 16];
+const IDLE: [u8; 2] = [0, 0];
 
 /// One run on the number 7.
-const RAN_ON_SEVEN: [u8; 16] = [1, 7, 0, 0, 0, 0, 0, 0, 0, 0, 0, 0, 0, 0, 0, 0];
+const RAN_ON_SEVEN: [u8; 2] = [1, 7];
+
+const NUMBERS: &str = "func(x: u32) -> u32";
 
 #[test]
 fn low_bits_and_signs(rt: HostRuntime) -> Result<(), Fail> {
-    let package = package(rt.alloc(), "func(x: s8) -> u8")?;
     let body = Telling::answering(Flat::I32(511));
-    let (answer, memory) = called(&rt, rt.alloc(), &package, body, &[Flat::I32(255)])?;
+    let f = "func(x: s8) -> u8";
+    let (answer, memory) = called(&rt, rt.alloc(), f, body, &[Flat::I32(255)])?;
     let Ok(back) = answer else {
         return Err(Fail::from("a trap"));
     };
@@ -150,78 +178,69 @@ fn low_bits_and_signs(rt: HostRuntime) -> Result<(), Fail> {
     Ok(())
 }
 
+/// A surrogate, two flat values for one parameter, and one of another kind.
 #[test]
-fn surrogate(rt: HostRuntime) -> Result<(), Fail> {
-    let package = package(rt.alloc(), "func(x: char) -> u32")?;
-    let body = Telling::answering(Flat::I32(0));
-    let (answer, memory) = called(&rt, rt.alloc(), &package, body, &[Flat::I32(0xD800)])?;
-    assert_trap(&rt, answer, TrapKind::Char, Step::LiftArgs)?;
-    assert_eq!(rt; memory.as_slice(), IDLE.as_slice());
+fn faults_of_arguments(rt: HostRuntime) -> Result<(), Fail> {
+    let step = Step::LiftArgs;
+    for (f, flats, kind) in [
+        (
+            "func(x: char) -> u32",
+            [Flat::I32(0xD800)].as_slice(),
+            TrapKind::Char,
+        ),
+        (
+            NUMBERS,
+            [Flat::I32(7), Flat::I32(7)].as_slice(),
+            TrapKind::CoreSignature,
+        ),
+        (NUMBERS, [Flat::I64(7)].as_slice(), TrapKind::CoreSignature),
+    ] {
+        let body = Telling::answering(Flat::I32(0));
+        assert_trap(&rt, rt.alloc(), f, body, flats, Trap { kind, step }, IDLE)?;
+    }
     Ok(())
 }
 
-#[test]
-fn two_flat_values_for_one_parameter(rt: HostRuntime) -> Result<(), Fail> {
-    let package = package(rt.alloc(), "func(x: u32) -> u32")?;
-    let body = Telling::answering(Flat::I32(0));
-    let flats = [Flat::I32(7), Flat::I32(7)];
-    let (answer, memory) = called(&rt, rt.alloc(), &package, body, &flats)?;
-    assert_trap(&rt, answer, TrapKind::CoreSignature, Step::LiftArgs)?;
-    assert_eq!(rt; memory.as_slice(), IDLE.as_slice());
-    Ok(())
-}
-
-#[test]
-fn a_flat_value_of_another_kind(rt: HostRuntime) -> Result<(), Fail> {
-    let package = package(rt.alloc(), "func(x: u32) -> u32")?;
-    let body = Telling::answering(Flat::I32(0));
-    let (answer, memory) = called(&rt, rt.alloc(), &package, body, &[Flat::I64(7)])?;
-    assert_trap(&rt, answer, TrapKind::CoreSignature, Step::LiftArgs)?;
-    assert_eq!(rt; memory.as_slice(), IDLE.as_slice());
-    Ok(())
+/// Whether a call of `f` with 7 is a trap behind one run of this body.
+fn assert_late_trap(
+    rt: &impl Abort,
+    alloc: Global,
+    f: &str,
+    body: Telling,
+    kind: TrapKind,
+    step: Step,
+) -> Result<(), Fail> {
+    let trap = Trap { kind, step };
+    assert_trap(rt, alloc, f, body, &[Flat::I32(7)], trap, RAN_ON_SEVEN)
 }
 
 #[test]
 fn no_flat_value_answered(rt: HostRuntime) -> Result<(), Fail> {
-    let package = package(rt.alloc(), "func(x: u32) -> u32")?;
     let mut body = Telling::answering(Flat::I32(0));
     body.is_silent = true;
-    let (answer, memory) = called(&rt, rt.alloc(), &package, body, &[Flat::I32(7)])?;
-    assert_trap(&rt, answer, TrapKind::CoreSignature, Step::LiftResult)?;
-    assert_eq!(rt; memory.as_slice(), RAN_ON_SEVEN.as_slice());
-    Ok(())
+    let (kind, step) = (TrapKind::CoreSignature, Step::LiftResult);
+    assert_late_trap(&rt, rt.alloc(), NUMBERS, body, kind, step)
 }
 
 #[test]
 fn surrogate_answered(rt: HostRuntime) -> Result<(), Fail> {
-    let package = package(rt.alloc(), "func(x: u32) -> char")?;
     let body = Telling::answering(Flat::I32(0x11_0000));
-    let (answer, memory) = called(&rt, rt.alloc(), &package, body, &[Flat::I32(7)])?;
-    assert_trap(&rt, answer, TrapKind::Char, Step::LiftResult)?;
-    assert_eq!(rt; memory.as_slice(), RAN_ON_SEVEN.as_slice());
-    Ok(())
+    let (kind, step) = (TrapKind::Char, Step::LiftResult);
+    assert_late_trap(&rt, rt.alloc(), "func(x: u32) -> char", body, kind, step)
 }
 
 #[test]
 fn body_stops(rt: HostRuntime) -> Result<(), Fail> {
-    let package = package(rt.alloc(), "func(x: u32) -> u32")?;
     let mut body = Telling::answering(Flat::I32(0));
     body.answer = None;
-    let (answer, memory) = called(&rt, rt.alloc(), &package, body, &[Flat::I32(7)])?;
-    assert_trap(&rt, answer, TrapKind::Body, Step::Body)?;
-    assert_eq!(rt; memory.as_slice(), RAN_ON_SEVEN.as_slice());
-    Ok(())
+    assert_late_trap(&rt, rt.alloc(), NUMBERS, body, TrapKind::Body, Step::Body)
 }
 
 #[test]
 fn post_return_stops(rt: HostRuntime) -> Result<(), Fail> {
-    let package = package(rt.alloc(), "func(x: u32) -> u32")?;
     let mut body = Telling::answering(Flat::I32(0));
     body.ends = false;
-    let (answer, memory) = called(&rt, rt.alloc(), &package, body, &[Flat::I32(7)])?;
-    assert_trap(&rt, answer, TrapKind::Body, Step::Post)?;
-    assert_eq!(rt; memory.as_slice(), RAN_ON_SEVEN.as_slice());
-    Ok(())
+    assert_late_trap(&rt, rt.alloc(), NUMBERS, body, TrapKind::Body, Step::Post)
 }
 
 #[test]

@@ -3,7 +3,7 @@
 use atoms::Watched;
 use canonical_abi::{Step, Trap, TrapKind};
 use std::alloc::Global;
-use std::test::Fail;
+use std::process::Abort;
 use witcall::{JsonError, OpenError, Refused, Reply, open, report, run_call};
 use words::WordsError;
 
@@ -25,10 +25,35 @@ fn written(
 }
 
 /// The line and the status of a refusal.
-fn told(alloc: Global, refused: &Refused) -> Result<(Vec<u8>, u8), Fail> {
+fn told(alloc: Global, refused: &Refused) -> (Vec<u8>, u8) {
     let mut errors = Watched::new(Vec::new(alloc));
     let status = report(refused, &mut errors);
-    Ok((errors.into_inner(), status))
+    (errors.into_inner(), status)
+}
+
+fn assert_told(rt: &impl Abort, alloc: Global, refused: &Refused, wanted: &str, status: u8) {
+    let (line, found) = told(alloc, refused);
+    assert!(rt; line.as_slice() == wanted.as_bytes(), "{wanted}");
+    assert_eq!(rt; found, status, "{wanted}");
+}
+
+/// What a call writes, or its line where it is refused, with the status 1.
+fn line_of(
+    rt: &impl Abort,
+    alloc: Global,
+    func: &str,
+    name: &str,
+    args: &str,
+    reply: &str,
+) -> Vec<u8> {
+    match written(alloc, func, name, args, reply) {
+        Ok(line) => line,
+        Err(refused) => {
+            let (line, status) = told(alloc, &refused);
+            assert_eq!(rt; status, 1, "{func} {args} {reply}");
+            line
+        }
+    }
 }
 
 static CALLS: [(&str, &str, &str, &str, &str); 72] = [
@@ -438,24 +463,15 @@ static CALLS: [(&str, &str, &str, &str, &str); 72] = [
 ];
 
 #[test]
-fn calls(rt: HostRuntime) -> Result<(), Fail> {
-    let alloc = rt.alloc();
+fn calls(rt: HostRuntime) {
     for row in CALLS.as_slice() {
         let (func, name, args, reply, wanted) = *row;
-        let line = match written(alloc, func, name, args, reply) {
-            Ok(line) => line,
-            Err(refused) => {
-                let (line, status) = told(alloc, &refused)?;
-                assert_eq!(rt; status, 1, "{func} {args} {reply}");
-                line
-            }
-        };
+        let line = line_of(&rt, rt.alloc(), func, name, args, reply);
         assert!(rt;
             line.as_slice() == wanted.as_bytes(),
             "{func} {args} {reply}"
         );
     }
-    Ok(())
 }
 
 static TRAPS: [(TrapKind, Step, &str); 8] = [
@@ -486,35 +502,49 @@ static TRAPS: [(TrapKind, Step, &str); 8] = [
 ];
 
 #[test]
-fn reports(rt: HostRuntime) -> Result<(), Fail> {
-    let alloc = rt.alloc();
+fn traps(rt: HostRuntime) {
     for row in TRAPS.as_slice() {
         let (kind, step, wanted) = *row;
-        let (line, status) = told(alloc, &Refused::Trap(Trap { kind, step }))?;
-        assert!(rt; line.as_slice() == wanted.as_bytes(), "{wanted}");
-        assert_eq!(rt; status, 3);
+        let refused = Refused::Trap(Trap { kind, step });
+        assert_told(&rt, rt.alloc(), &refused, wanted, 3);
     }
-    let usage = "usage: witcall show|bin|text|layout FILE, or call FILE IFACE FUNC ARGS REPLY\n";
-    let (line, status) = told(alloc, &Refused::Words(WordsError::Usage))?;
-    assert!(rt; line.as_slice() == usage.as_bytes());
-    assert_eq!(rt; status, 2);
-    for (refused, wanted) in [
-        (Refused::Words(WordsError::NoMemory), "error 66 no memory\n"),
-        (Refused::File, "error 64 file\n"),
-        (Refused::Open(OpenError::Read(5)), "error 20 read at 5\n"),
-        (
-            Refused::Open(OpenError::NotUtf8(3)),
-            "error 60 not UTF-8 at 3\n",
-        ),
-        (Refused::Open(OpenError::NoMemory), "error 66 no memory\n"),
-        (Refused::NoFunction, "error 63 no function\n"),
-        (Refused::Json(JsonError::NoMemory), "error 66 no memory\n"),
-        (Refused::Write, "error 65 write\n"),
-        (Refused::NoMemory, "error 66 no memory\n"),
-    ] {
-        let (line, status) = told(alloc, &refused)?;
-        assert!(rt; line.as_slice() == wanted.as_bytes(), "{wanted}");
-        assert_eq!(rt; status, 1);
-    }
-    Ok(())
+}
+
+#[test]
+fn usage(rt: HostRuntime) {
+    let wanted = "usage: witcall show|bin|text|layout FILE, or call FILE IFACE FUNC ARGS REPLY\n";
+    let refused = Refused::Words(WordsError::Usage);
+    assert_told(&rt, rt.alloc(), &refused, wanted, 2);
+}
+
+/// Whether the refusal's line is this one, with the status 1.
+fn assert_error(rt: &impl Abort, alloc: Global, refused: &Refused, wanted: &str) {
+    assert_told(rt, alloc, refused, wanted, 1);
+}
+
+#[test]
+fn files(rt: HostRuntime) {
+    let alloc = rt.alloc();
+    assert_error(&rt, alloc, &Refused::File, "error 64 file\n");
+    assert_error(&rt, alloc, &Refused::NoFunction, "error 63 no function\n");
+    assert_error(&rt, alloc, &Refused::Write, "error 65 write\n");
+}
+
+#[test]
+fn faults_of_bytes(rt: HostRuntime) {
+    let read = Refused::Open(OpenError::Read(5));
+    assert_error(&rt, rt.alloc(), &read, "error 20 read at 5\n");
+    let text = Refused::Open(OpenError::NotUtf8(3));
+    assert_error(&rt, rt.alloc(), &text, "error 60 not UTF-8 at 3\n");
+}
+
+const NO_MEMORY: &str = "error 66 no memory\n";
+
+#[test]
+fn wants_of_memory(rt: HostRuntime) {
+    let alloc = rt.alloc();
+    assert_error(&rt, alloc, &Refused::NoMemory, NO_MEMORY);
+    assert_error(&rt, alloc, &Refused::Words(WordsError::NoMemory), NO_MEMORY);
+    assert_error(&rt, alloc, &Refused::Open(OpenError::NoMemory), NO_MEMORY);
+    assert_error(&rt, alloc, &Refused::Json(JsonError::NoMemory), NO_MEMORY);
 }

@@ -45,8 +45,11 @@ impl Acting {
     }
 
     fn write<G: Guest>(&self, memory: &mut G) -> Result<(), Stopped> {
-        let end = u64::from(self.at) + self.writes.len() as u64;
-        if end > u64::from(memory.len()) {
+        let len = memory.len() as usize;
+        let Some(last) = len.checked_sub(self.writes.len()) else {
+            return Err(Stopped);
+        };
+        if self.at as usize > last {
             return Err(Stopped);
         }
         memory.write(self.at, self.writes.as_slice());

@@ -67,13 +67,25 @@ fn reads(rt: HostRuntime) -> Result<(), Fail> {
     assert_eq!(rt; reader.read(&mut buffer), Ok(1));
     assert_eq!(rt; buffer, [7, 0, 0, 0]);
     assert!(rt; !Source::failed(&reader));
-    let bytes = read_up_to(rt.alloc(), &mut reader, 4);
-    assert!(rt; bytes.is_ok_and(|bytes| bytes.as_slice() == [7; 5].as_slice()));
+    Ok(())
+}
 
-    let mut broken = Watched::new(thrice_interrupted(false));
-    let read = read_up_to(rt.alloc(), &mut broken, 4);
+#[test]
+fn reads_up_to(rt: HostRuntime) -> Result<(), Fail> {
+    let mut reader = Watched::new(thrice_interrupted(true));
+    let Ok(bytes) = read_up_to(rt.alloc(), &mut reader, 4) else {
+        return Err(Fail::from("a failed read"));
+    };
+    assert_eq!(rt; bytes.as_slice(), [7; 5].as_slice());
+    Ok(())
+}
+
+#[test]
+fn reads_that_fail(rt: HostRuntime) -> Result<(), Fail> {
+    let mut reader = Watched::new(thrice_interrupted(false));
+    let read = read_up_to(rt.alloc(), &mut reader, 4);
     assert!(rt; matches!(read, Err(ReadUpToError::Failed(0))));
-    assert!(rt; Source::failed(&broken));
+    assert!(rt; Source::failed(&reader));
     Ok(())
 }
 
@@ -83,9 +95,13 @@ fn writes(rt: HostRuntime) -> Result<(), Fail> {
     assert_eq!(rt; write_all(&mut writer, b"abcde"), Ok(()));
     assert!(rt; !Sink::failed(&writer));
     assert_eq!(rt; writer.into_inner().taken, 5);
+    Ok(())
+}
 
-    let mut broken = Watched::new(thrice_interrupted(false));
-    assert_eq!(rt; write_all(&mut broken, b"abcde"), Err(Failed));
-    assert!(rt; Sink::failed(&broken));
+#[test]
+fn writes_that_fail(rt: HostRuntime) -> Result<(), Fail> {
+    let mut writer = Watched::new(thrice_interrupted(false));
+    assert_eq!(rt; write_all(&mut writer, b"abcde"), Err(Failed));
+    assert!(rt; Sink::failed(&writer));
     Ok(())
 }

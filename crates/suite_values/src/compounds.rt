@@ -145,192 +145,205 @@ fn fault(kind: TrapKind, step: Step) -> Fault {
     Fault::Trap(Trap { kind, step })
 }
 
-/// The flat values of a value that is lowered into a memory of 64 bytes.
-fn flats_of(rt: &impl Abort, alloc: Global, package: &Package, value: Val) -> Result<Flats, Fail> {
-    let mut guest = filled(alloc, 64)?;
-    match lowered(rt, package, value, &mut guest)? {
-        Ok(flats) => Ok(flats),
-        Err(_) => Err(Fail::from("a fault")),
-    }
-}
-
-/// The bytes of a memory of ee in which a value is stored at address 0.
-fn bytes_of(
+/// Whether a value of the type is lowered to these flat values, in a memory of 64 bytes.
+fn assert_flats(
     rt: &impl Abort,
     alloc: Global,
-    package: &Package,
-    value: &Val,
-) -> Result<Vec<u8>, Fail> {
-    let mut guest = filled(alloc, 12)?;
-    match stored(rt, package, value, &mut guest, 0)? {
-        Ok(()) => Ok(guest.bytes().to_vec(alloc)?),
-        Err(_) => Err(Fail::from("a fault")),
-    }
-}
-
-#[test]
-fn records_and_variants(rt: HostRuntime) -> Result<(), Fail> {
-    let alloc = rt.alloc();
-    let record = package(alloc, "record t { a: u8, b: u32, c: u16 }")?;
-    let value = Val::Record(vec![in alloc; Val::U8(1), Val::U32(2), Val::U16(3)]?);
-    let told = [1, 0xee, 0xee, 0xee, 2, 0, 0, 0, 3, 0, 0xee, 0xee];
-    assert_eq!(rt;
-        bytes_of(&rt, alloc, &record, &value)?.as_slice(),
-        told.as_slice()
-    );
-
-    let variant = package(alloc, "variant t { a, b(u64), c(string) }")?;
-    let a = flats_of(&rt, alloc, &variant, Val::Variant(0, None))?;
-    assert_eq!(rt;
-        a.as_slice(),
-        [Flat::I32(0), Flat::I64(0), Flat::I32(0)].as_slice()
-    );
-    let b = flats_of(&rt, alloc, &variant, case_with(alloc, 1, Val::U64(5))?)?;
-    assert_eq!(rt;
-        b.as_slice(),
-        [Flat::I32(1), Flat::I64(5), Flat::I32(0)].as_slice()
-    );
-    let hi = text(alloc, "hi")?;
-    let c = flats_of(&rt, alloc, &variant, case_with(alloc, 2, hi)?)?;
-    assert_eq!(rt;
-        c.as_slice(),
-        [Flat::I32(2), Flat::I64(0), Flat::I32(2)].as_slice()
-    );
-
-    let options = package(alloc, "type t = option<option<u8>>;")?;
-    let none = Val::Variant(0, None);
-    let some = case_with(alloc, 1, Val::Variant(0, None))?;
-    let bytes = bytes_of(&rt, alloc, &options, &none)?;
-    assert!(rt; matches!(bytes.as_slice(), [0, 0xee, 0xee, ..]));
-    let bytes = bytes_of(&rt, alloc, &options, &some)?;
-    assert!(rt; matches!(bytes.as_slice(), [1, 0, 0xee, ..]));
-    let flats = flats_of(&rt, alloc, &options, some)?;
-    assert_eq!(rt;
-        flats.as_slice(),
-        [Flat::I32(1), Flat::I32(0), Flat::I32(0)].as_slice()
-    );
+    definition: &str,
+    value: Val,
+    wanted: &[Flat],
+) -> Result<(), Fail> {
+    let package = package(alloc, definition)?;
+    let mut guest = filled(alloc, 64)?;
+    let Ok(flats) = lowered(rt, &package, value, &mut guest)? else {
+        return Err(Fail::from("a fault"));
+    };
+    assert_eq!(rt; flats.as_slice(), wanted);
     Ok(())
 }
 
-#[test]
-fn numbers_and_flags(rt: HostRuntime) -> Result<(), Fail> {
-    let alloc = rt.alloc();
-    let guest = filled(alloc, 8)?;
-    let signed = package(alloc, "type t = s8;")?;
-    let bytes = bytes_of(&rt, alloc, &signed, &Val::S8(-1))?;
-    assert!(rt; matches!(bytes.as_slice(), [0xff, 0xee, ..]));
-    let flats = flats_of(&rt, alloc, &signed, Val::S8(-1))?;
-    assert_eq!(rt; flats.as_slice(), [Flat::I32(4294967295)].as_slice());
-    let unsigned = package(alloc, "type t = u8;")?;
-    let Ok(values) = lifted(alloc, &unsigned, &[Flat::I32(511)], &guest)? else {
-        return Err(Fail::from("a fault"));
-    };
-    assert!(rt; matches!(values.as_slice(), [Val::U8(255)]));
+/// Whether a value of the type is stored as these bytes, at the beginning of twelve of ee.
+fn assert_bytes(
+    rt: &impl Abort,
+    alloc: Global,
+    definition: &str,
+    value: &Val,
+    wanted: &[u8],
+) -> Result<(), Fail> {
+    let package = package(alloc, definition)?;
+    let mut guest = filled(alloc, 12)?;
+    assert_eq!(rt; stored(rt, &package, value, &mut guest, 0)?, Ok(()));
+    assert_eq!(rt; guest.bytes().get(..wanted.len()), Some(wanted));
+    Ok(())
+}
 
-    let joined = package(alloc, "variant t { a(s32), b(u64) }")?;
-    let flats = flats_of(&rt, alloc, &joined, case_with(alloc, 0, Val::S32(-1))?)?;
-    assert_eq!(rt;
-        flats.as_slice(),
-        [Flat::I32(0), Flat::I64(4294967295)].as_slice()
-    );
-    let Ok(values) = lifted(alloc, &joined, flats.as_slice(), &guest)? else {
+/// The first value that flat values of the type denote, over zeros.
+fn lifted_one(alloc: Global, definition: &str, flats: &[Flat]) -> Result<Option<Val>, Fail> {
+    let package = package(alloc, definition)?;
+    let guest = filled(alloc, 8)?;
+    let Ok(mut values) = lifted(alloc, &package, flats, &guest)? else {
         return Err(Fail::from("a fault"));
     };
-    let [Val::Variant(0, Some(payload))] = values.as_slice() else {
+    Ok(values.pop())
+}
+
+#[test]
+fn records(rt: HostRuntime) -> Result<(), Fail> {
+    let alloc = rt.alloc();
+    let value = Val::Record(vec![in alloc; Val::U8(1), Val::U32(2), Val::U16(3)]?);
+    let told = [1, 0xee, 0xee, 0xee, 2, 0, 0, 0, 3, 0, 0xee, 0xee];
+    let record = "record t { a: u8, b: u32, c: u16 }";
+    assert_bytes(&rt, alloc, record, &value, told.as_slice())
+}
+
+const VARIANT: &str = "variant t { a, b(u64), c(string) }";
+
+#[test]
+fn cases_without_payload(rt: HostRuntime) -> Result<(), Fail> {
+    let flats = [Flat::I32(0), Flat::I64(0), Flat::I32(0)];
+    let value = Val::Variant(0, None);
+    assert_flats(&rt, rt.alloc(), VARIANT, value, flats.as_slice())
+}
+
+#[test]
+fn cases_with_numbers(rt: HostRuntime) -> Result<(), Fail> {
+    let flats = [Flat::I32(1), Flat::I64(5), Flat::I32(0)];
+    let value = case_with(rt.alloc(), 1, Val::U64(5))?;
+    assert_flats(&rt, rt.alloc(), VARIANT, value, flats.as_slice())
+}
+
+#[test]
+fn cases_with_texts(rt: HostRuntime) -> Result<(), Fail> {
+    let flats = [Flat::I32(2), Flat::I64(0), Flat::I32(2)];
+    let value = case_with(rt.alloc(), 2, text(rt.alloc(), "hi")?)?;
+    assert_flats(&rt, rt.alloc(), VARIANT, value, flats.as_slice())
+}
+
+const OPTIONS: &str = "type t = option<option<u8>>;";
+
+#[test]
+fn bytes_of_options(rt: HostRuntime) -> Result<(), Fail> {
+    let alloc = rt.alloc();
+    let none = Val::Variant(0, None);
+    assert_bytes(&rt, alloc, OPTIONS, &none, &[0, 0xee, 0xee])?;
+    let some = case_with(alloc, 1, Val::Variant(0, None))?;
+    assert_bytes(&rt, alloc, OPTIONS, &some, &[1, 0, 0xee])
+}
+
+#[test]
+fn flats_of_options(rt: HostRuntime) -> Result<(), Fail> {
+    let some = case_with(rt.alloc(), 1, Val::Variant(0, None))?;
+    let flats = [Flat::I32(1), Flat::I32(0), Flat::I32(0)];
+    assert_flats(&rt, rt.alloc(), OPTIONS, some, flats.as_slice())
+}
+
+#[test]
+fn signs(rt: HostRuntime) -> Result<(), Fail> {
+    let (alloc, signed) = (rt.alloc(), "type t = s8;");
+    assert_bytes(&rt, alloc, signed, &Val::S8(-1), &[0xff, 0xee])?;
+    assert_flats(&rt, alloc, signed, Val::S8(-1), &[Flat::I32(4294967295)])
+}
+
+#[test]
+fn unused_bits(rt: HostRuntime) -> Result<(), Fail> {
+    let value = lifted_one(rt.alloc(), "type t = u8;", &[Flat::I32(511)])?;
+    assert!(rt; matches!(value, Some(Val::U8(255))));
+    Ok(())
+}
+
+const JOINED: &str = "variant t { a(s32), b(u64) }";
+
+#[test]
+fn joined_kinds_are_lowered(rt: HostRuntime) -> Result<(), Fail> {
+    let flats = [Flat::I32(0), Flat::I64(4294967295)];
+    let value = case_with(rt.alloc(), 0, Val::S32(-1))?;
+    assert_flats(&rt, rt.alloc(), JOINED, value, flats.as_slice())
+}
+
+#[test]
+fn joined_kinds_are_lifted(rt: HostRuntime) -> Result<(), Fail> {
+    let flats = [Flat::I32(0), Flat::I64(4294967295)];
+    let value = lifted_one(rt.alloc(), JOINED, flats.as_slice())?;
+    let Some(Val::Variant(0, Some(payload))) = value else {
         return Err(Fail::from("another case"));
     };
-    assert!(rt; matches!(**payload, Val::S32(-1)));
+    assert!(rt; matches!(*payload, Val::S32(-1)));
+    Ok(())
+}
 
-    let flags = package(alloc, "flags t { a, b, c }")?;
-    let mut memory = filled(alloc, 8)?;
+const FLAGS: &str = "flags t { a, b, c }";
+
+#[test]
+fn flags_are_loaded(rt: HostRuntime) -> Result<(), Fail> {
+    let package = package(rt.alloc(), FLAGS)?;
+    let mut memory = filled(rt.alloc(), 8)?;
     if memory.len() > 0 {
         memory.write(0, &[0xff]);
     }
-    let Ok(value) = loaded(alloc, &flags, &memory)? else {
-        return Err(Fail::from("a fault"));
-    };
-    assert!(rt; matches!(value, Val::Flags(7)));
-    let bytes = bytes_of(&rt, alloc, &flags, &value)?;
-    assert!(rt; matches!(bytes.as_slice(), [7, 0xee, ..]));
+    let answer = loaded(rt.alloc(), &package, &memory)?;
+    assert!(rt; matches!(answer, Ok(Val::Flags(7))));
     Ok(())
 }
 
 #[test]
-fn faults_of_lifting(rt: HostRuntime) -> Result<(), Fail> {
-    let alloc = rt.alloc();
-    let mut guest = filled(alloc, 32)?;
+fn flags_are_stored(rt: HostRuntime) -> Result<(), Fail> {
+    assert_bytes(&rt, rt.alloc(), FLAGS, &Val::Flags(7), &[7, 0xee])
+}
+
+/// The fault of flat values of the type, over a memory of so many bytes that begins with no text.
+fn assert_unlifted(
+    rt: &impl Abort,
+    alloc: Global,
+    definition: &str,
+    flats: &[Flat],
+    len: u32,
+    kind: TrapKind,
+) -> Result<(), Fail> {
+    let mut guest = filled(alloc, len)?;
     if guest.len() >= 2 {
         guest.write(0, b"\xc0\x80");
     }
-    for (definition, flats, kind) in [
-        (
-            "type t = list<u32>;",
-            [Flat::I32(2), Flat::I32(0)].as_slice(),
-            TrapKind::Align,
-        ),
-        (
-            "type t = list<u32>;",
-            [Flat::I32(36), Flat::I32(0)].as_slice(),
-            TrapKind::Bounds,
-        ),
-        (
-            "type t = string;",
-            [Flat::I32(0), Flat::I32(2)].as_slice(),
-            TrapKind::Utf8,
-        ),
-        (
-            "type t = char;",
-            [Flat::I32(0xd800)].as_slice(),
-            TrapKind::Char,
-        ),
-        (
-            "enum t { a, b, c }",
-            [Flat::I32(3)].as_slice(),
-            TrapKind::Case,
-        ),
-        (
-            "type t = u64;",
-            [Flat::I32(3)].as_slice(),
-            TrapKind::CoreSignature,
-        ),
-    ] {
-        let package = package(alloc, definition)?;
-        let Err(told) = lifted(alloc, &package, flats, &guest)? else {
-            return Err(Fail::from("no fault"));
-        };
-        assert_eq!(rt; told, fault(kind, Step::Take));
-    }
-    let empty = package(alloc, "type t = list<u32>;")?;
-    let Ok(values) = lifted(alloc, &empty, &[Flat::I32(32), Flat::I32(0)], &guest)? else {
-        return Err(Fail::from("a fault"));
+    let package = package(alloc, definition)?;
+    let Err(told) = lifted(alloc, &package, flats, &guest)? else {
+        return Err(Fail::from("no fault"));
     };
-    let [Val::List(items)] = values.as_slice() else {
-        return Err(Fail::from("no list"));
-    };
-    assert!(rt; items.is_empty());
+    assert_eq!(rt; told, fault(kind, Step::Take));
     Ok(())
 }
 
 #[test]
-fn ends_past_32_bits(rt: HostRuntime) -> Result<(), Fail> {
-    let alloc = rt.alloc();
-    let guest = filled(alloc, 16)?;
-    for (definition, flats) in [
-        (
-            "type t = string;",
-            [Flat::I32(4294967295), Flat::I32(1)].as_slice(),
-        ),
-        (
-            "type t = list<u64>;",
-            [Flat::I32(8), Flat::I32(536870912)].as_slice(),
-        ),
+fn faults_of_one_flat_value(rt: HostRuntime) -> Result<(), Fail> {
+    for (definition, flat, kind) in [
+        ("type t = char;", Flat::I32(0xd800), TrapKind::Char),
+        ("enum t { a, b, c }", Flat::I32(3), TrapKind::Case),
+        ("type t = u64;", Flat::I32(3), TrapKind::CoreSignature),
     ] {
-        let package = package(alloc, definition)?;
-        let Err(told) = lifted(alloc, &package, flats, &guest)? else {
-            return Err(Fail::from("no fault"));
-        };
-        assert_eq!(rt; told, fault(TrapKind::Bounds, Step::Take));
+        assert_unlifted(&rt, rt.alloc(), definition, &[flat], 32, kind)?;
     }
+    Ok(())
+}
+
+#[test]
+fn faults_of_addresses(rt: HostRuntime) -> Result<(), Fail> {
+    for (definition, at, count, kind) in [
+        ("type t = list<u32>;", 2, 0, TrapKind::Align),
+        ("type t = list<u32>;", 36, 0, TrapKind::Bounds),
+        ("type t = string;", 0, 2, TrapKind::Utf8),
+        // ends past 32 bits
+        ("type t = string;", 4294967295, 1, TrapKind::Bounds),
+        ("type t = list<u64>;", 8, 536870912, TrapKind::Bounds),
+    ] {
+        let flats = [Flat::I32(at), Flat::I32(count)];
+        assert_unlifted(&rt, rt.alloc(), definition, flats.as_slice(), 32, kind)?;
+    }
+    Ok(())
+}
+
+#[test]
+fn empty_list_at_the_end(rt: HostRuntime) -> Result<(), Fail> {
+    let flats = [Flat::I32(8), Flat::I32(0)];
+    let value = lifted_one(rt.alloc(), "type t = list<u32>;", flats.as_slice())?;
+    assert!(rt; matches!(value, Some(Val::List(items)) if items.is_empty()));
     Ok(())
 }
 
@@ -339,60 +352,100 @@ fn texts(alloc: Global, one: &str, other: &str) -> Result<Vec<Val>, Fail> {
     Ok(vec![in alloc; text(alloc, one)?, text(alloc, other)?]?)
 }
 
+/// What lowering two texts as a list answers, in a memory of so many bytes ee, and the bytes then.
+fn lowered_texts(
+    rt: &impl Abort,
+    alloc: Global,
+    len: u32,
+) -> Result<(Result<Flats, Fault>, Vec<u8>), Fail> {
+    let package = package(alloc, "type t = list<string>;")?;
+    let mut guest = filled(alloc, len)?;
+    let value = Val::List(texts(alloc, "a", "bc")?);
+    let answer = lowered(rt, &package, value, &mut guest)?;
+    Ok((answer, guest.bytes().to_vec(alloc)?))
+}
+
 #[test]
 fn texts_are_lowered(rt: HostRuntime) -> Result<(), Fail> {
-    let alloc = rt.alloc();
-    let package = package(alloc, "type t = list<string>;")?;
-    let Ok(mut guest) = Bump::new(alloc, 64) else {
-        return Err(Fail::from("no memory"));
-    };
-    let value = Val::List(texts(alloc, "a", "bc")?);
-    let Ok(flats) = lowered(&rt, &package, value, &mut guest)? else {
+    let (answer, bytes) = lowered_texts(&rt, rt.alloc(), 64)?;
+    let Ok(flats) = answer else {
         return Err(Fail::from("a fault"));
     };
     assert_eq!(rt; flats.as_slice(), [Flat::I32(0), Flat::I32(2)].as_slice());
-    let told = [
-        16, 0, 0, 0, 1, 0, 0, 0, 17, 0, 0, 0, 2, 0, 0, 0, 0x61, 0x62, 0x63,
-    ];
-    assert_eq!(rt; guest.bytes().get(..19), Some(told.as_slice()));
-
-    let mut small = filled(alloc, 18)?;
-    let value = Val::List(texts(alloc, "a", "bc")?);
-    let Err(told) = lowered(&rt, &package, value, &mut small)? else {
-        return Err(Fail::from("no fault"));
-    };
-    assert_eq!(rt; told, fault(TrapKind::Full, Step::Place));
-    assert_eq!(rt; small.bytes().get(17), Some(&0xee));
+    let told = b"\x10\0\0\0\x01\0\0\0\x11\0\0\0\x02\0\0\0abc";
+    assert_eq!(rt; bytes.get(..19), Some(told.as_slice()));
     Ok(())
 }
 
 #[test]
-fn addresses_of_an_allocator(rt: HostRuntime) -> Result<(), Fail> {
-    let alloc = rt.alloc();
-    let string = package(alloc, "type t = string;")?;
-    let mut guest = scripted(alloc, vec![in alloc; Ok(14)]?)?;
-    let answer = lowered(&rt, &string, text(alloc, "four")?, &mut guest)?;
-    assert!(rt; matches!(answer, Err(told) if told == fault(TrapKind::Bounds, Step::Place)));
+fn texts_without_room(rt: HostRuntime) -> Result<(), Fail> {
+    let (answer, bytes) = lowered_texts(&rt, rt.alloc(), 18)?;
+    assert!(rt; matches!(answer, Err(told) if told == fault(TrapKind::Full, Step::Place)));
+    assert_eq!(rt; bytes.get(17), Some(&0xee));
+    Ok(())
+}
 
-    let list = package(alloc, "type t = list<u32>;")?;
-    let mut guest = scripted(alloc, vec![in alloc; Ok(2)]?)?;
-    let one = Val::List(vec![in alloc; Val::U32(1)]?);
-    let answer = lowered(&rt, &list, one, &mut guest)?;
-    assert!(rt; matches!(answer, Err(told) if told == fault(TrapKind::Align, Step::Place)));
-    let mut guest = scripted(alloc, vec![in alloc; Ok(4294967292)]?)?;
-    let two = Val::List(vec![in alloc; Val::U32(1), Val::U32(2)]?);
-    let answer = lowered(&rt, &list, two, &mut guest)?;
-    assert!(rt; matches!(answer, Err(told) if told == fault(TrapKind::Bounds, Step::Place)));
+/// What lowering answers over sixteen zeros whose allocator gives these addresses, and the bytes then.
+fn granted(
+    rt: &impl Abort,
+    alloc: Global,
+    definition: &str,
+    value: Val,
+    answers: Vec<Result<u32, Full>>,
+) -> Result<(Result<Flats, Fault>, Vec<u8>), Fail> {
+    let package = package(alloc, definition)?;
+    let mut guest = scripted(alloc, answers)?;
+    let answer = lowered(rt, &package, value, &mut guest)?;
+    Ok((answer, guest.bytes().to_vec(alloc)?))
+}
 
-    let pair = package(alloc, "type t = tuple<string, string>;")?;
-    let mut guest = scripted(alloc, vec![in alloc; Ok(0), Ok(0)]?)?;
-    let answer = lowered(
+/// Whether the address is refused with this fault.
+fn assert_ungranted(
+    rt: &impl Abort,
+    alloc: Global,
+    definition: &str,
+    value: Val,
+    at: u32,
+    kind: TrapKind,
+) -> Result<(), Fail> {
+    let answers = vec![in alloc; Ok(at)]?;
+    let (answer, _bytes) = granted(rt, alloc, definition, value, answers)?;
+    assert!(rt; matches!(answer, Err(told) if told == fault(kind, Step::Place)));
+    Ok(())
+}
+
+#[test]
+fn address_of_a_text(rt: HostRuntime) -> Result<(), Fail> {
+    let four = text(rt.alloc(), "four")?;
+    assert_ungranted(
         &rt,
-        &pair,
-        Val::Record(texts(alloc, "ab", "cd")?),
-        &mut guest,
-    )?;
+        rt.alloc(),
+        "type t = string;",
+        four,
+        14,
+        TrapKind::Bounds,
+    )
+}
+
+const NUMBERS: &str = "type t = list<u32>;";
+
+#[test]
+fn addresses_of_lists(rt: HostRuntime) -> Result<(), Fail> {
+    let alloc = rt.alloc();
+    let one = Val::List(vec![in alloc; Val::U32(1)]?);
+    assert_ungranted(&rt, alloc, NUMBERS, one, 2, TrapKind::Align)?;
+    let two = Val::List(vec![in alloc; Val::U32(1), Val::U32(2)]?);
+    assert_ungranted(&rt, alloc, NUMBERS, two, 4294967292, TrapKind::Bounds)
+}
+
+#[test]
+fn two_blocks_at_one_address(rt: HostRuntime) -> Result<(), Fail> {
+    let alloc = rt.alloc();
+    let value = Val::Record(texts(alloc, "ab", "cd")?);
+    let answers = vec![in alloc; Ok(0), Ok(0)]?;
+    let pair = "type t = tuple<string, string>;";
+    let (answer, bytes) = granted(&rt, alloc, pair, value, answers)?;
     assert!(rt; answer.is_ok());
-    assert!(rt; matches!(guest.bytes(), [0x63, 0x64, 0, ..]));
+    assert!(rt; matches!(bytes.as_slice(), [0x63, 0x64, 0, ..]));
     Ok(())
 }
