@@ -15,6 +15,3 @@ mod signature;
 
 pub use body::{Body, BoxedBody, Export, Stopped};
 pub use link::Link;
-
-#[cfg(test)]
-mod tests;

@@ -18,6 +18,3 @@ pub use reading::{ReadUpToError, read_up_to};
 pub use stream::{Failed, Sink, Source};
 pub use watched::Watched;
 pub use writing::write_all;
-
-#[cfg(test)]
-mod tests;

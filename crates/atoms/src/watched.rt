@@ -88,6 +88,3 @@ impl<T: Write> Sink for Watched<T> {
         self.failed
     }
 }
-
-#[cfg(test)]
-mod tests;

@@ -23,6 +23,3 @@ pub use parts::Parts;
 pub use queries::{CaseInfo, FieldInfo, Shape};
 pub use rows::{MAX_DEPTH, MAX_SIZE, Row};
 pub use signature::CoreSignature;
-
-#[cfg(test)]
-mod tests;

@@ -147,73 +147,74 @@ fn one_byte_changed(rt: HostRuntime) -> Result<(), Fail> {
     Ok(())
 }
 
+/// The bytes with these in the place of those from one place to another.
+fn spliced(alloc: Global, from: usize, bytes: &[u8], to: usize) -> Result<Vec<u8>, AllocError> {
+    let mut all = Vec::from_slice(alloc, P1.get(..from).unwrap_or(&[]))?;
+    all.extend_from_slice(bytes)?;
+    all.extend_from_slice(P1.get(to..).unwrap_or(&[]))?;
+    Ok(all)
+}
+
 #[test]
 fn more_or_other_bytes(rt: HostRuntime) -> Result<(), Fail> {
     let alloc = rt.alloc();
-    let mut custom = Vec::from_slice(alloc, &P1)?;
-    custom.extend_from_slice(&[0, 2, 1, 0x78])?;
-    assert_eq!(rt; answer(alloc, custom.as_slice())?.as_str(), "component");
-    let mut trailing = Vec::from_slice(alloc, &P1)?;
-    trailing.push(7)?;
-    assert_eq!(rt;
-        answer(alloc, trailing.as_slice())?.as_str(),
-        "error 19 trailing at 55"
-    );
-    let mut negative = changed(alloc, 21, 0xf9)?;
-    if let Some(byte) = negative.as_mut_slice().get_mut(22) {
-        *byte = 0x7f;
+    for (from, bytes, to, wanted) in [
+        (55, b"\x00\x02\x01x".as_slice(), 55, "component"),
+        (55, b"\x07".as_slice(), 55, "error 19 trailing at 55"),
+        (
+            21,
+            b"\xf9\x7f".as_slice(),
+            23,
+            "error 13 unknown opcode f9 at 21",
+        ),
+        (9, b"\x9e\x00".as_slice(), 10, "component"),
+        (
+            9,
+            b"\x9e\x80\x80\x80\x80\x00".as_slice(),
+            10,
+            "error 23 overlong at 9",
+        ),
+        (
+            8,
+            b"\x07\x03\x01r\x00".as_slice(),
+            55,
+            "error 16 empty type at 12",
+        ),
+        (
+            8,
+            b"\x07\x08\x01r\xff\xff\xff\xff\x0f".as_slice(),
+            55,
+            "error 11 truncated at 17",
+        ),
+        (
+            8,
+            b"\x07\x0f\x01A\x01\x01A\x01\x01A\x01\x01A\x01\x01A\x00".as_slice(),
+            55,
+            "error 17 limit at 23",
+        ),
+    ] {
+        let found = answer(alloc, spliced(alloc, from, bytes, to)?.as_slice())?;
+        assert!(rt; found.as_str() == wanted, "{wanted}: {found}");
     }
-    assert_eq!(rt;
-        answer(alloc, negative.as_slice())?.as_str(),
-        "error 13 unknown opcode f9 at 21"
-    );
-    let mut spelled = Vec::from_slice(alloc, &P1[..9])?;
-    spelled.extend_from_slice(&[0x9e, 0])?;
-    spelled.extend_from_slice(&P1[10..])?;
-    assert_eq!(rt; answer(alloc, spelled.as_slice())?.as_str(), "component");
-    let mut overlong = Vec::from_slice(alloc, &P1[..9])?;
-    overlong.extend_from_slice(&[0x9e, 0x80, 0x80, 0x80, 0x80, 0])?;
-    overlong.extend_from_slice(&P1[10..])?;
-    assert_eq!(rt;
-        answer(alloc, overlong.as_slice())?.as_str(),
-        "error 23 overlong at 9"
-    );
-    let mut empty = Vec::from_slice(alloc, &P1[..8])?;
-    empty.extend_from_slice(&[7, 3, 1, 0x72, 0])?;
-    assert_eq!(rt;
-        answer(alloc, empty.as_slice())?.as_str(),
-        "error 16 empty type at 12"
-    );
-    let mut growing = Vec::from_slice(alloc, &P1[..8])?;
-    growing.extend_from_slice(&[7, 8, 1, 0x72, 0xff, 0xff, 0xff, 0xff, 0x0f])?;
-    assert_eq!(rt;
-        answer(alloc, growing.as_slice())?.as_str(),
-        "error 11 truncated at 17"
-    );
-    let mut deep = Vec::from_slice(alloc, &P1[..8])?;
-    deep.extend_from_slice(&[7, 15, 1])?;
-    for _ in 0..4 {
-        deep.extend_from_slice(&[0x41, 1, 1])?;
-    }
-    deep.extend_from_slice(&[0x41, 0])?;
-    assert_eq!(rt;
-        answer(alloc, deep.as_slice())?.as_str(),
-        "error 17 limit at 23"
-    );
     Ok(())
 }
 
 #[test]
-fn readers(rt: HostRuntime) -> Result<(), Fail> {
+fn readers_that_fail(rt: HostRuntime) -> Result<(), Fail> {
     let alloc = rt.alloc();
     for n in 0..56 {
         let found = line(alloc, decode_from(alloc, &mut dripping(&P1, Some(n))))?;
         let wanted = format!(in alloc; "error 20 read at {n}")?;
         assert!(rt; found.as_str() == wanted.as_str(), "{n}: {found}");
     }
+    Ok(())
+}
+
+#[test]
+fn a_reader_without_end(rt: HostRuntime) -> Result<(), Fail> {
     let mut reader = dripping(&P1, None);
     reader.endless = true;
-    let found = line(alloc, decode_from(alloc, &mut reader))?;
+    let found = line(rt.alloc(), decode_from(rt.alloc(), &mut reader))?;
     assert_eq!(rt; found.as_str(), "error 17 limit at 1048576");
     Ok(())
 }

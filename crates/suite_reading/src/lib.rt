@@ -5,6 +5,12 @@
 #[cfg(test)]
 mod binaries;
 #[cfg(test)]
+mod functions;
+#[cfg(test)]
+mod interrupted;
+#[cfg(test)]
+mod names;
+#[cfg(test)]
 mod parts;
 #[cfg(test)]
 mod syntax;

@@ -7,6 +7,7 @@ use ctype_bin::{
     RawDescription, RawExport, RawField, RawFunction, RawType, RawValType, encode,
 };
 use std::alloc::{AllocError, Global};
+use std::process::Abort;
 use std::test::*;
 
 const U32: RawValType = RawValType::Primitive(Primitive::U32);
@@ -98,62 +99,90 @@ fn made_and_written(rt: HostRuntime) -> Result<(), Fail> {
     Ok(())
 }
 
+/// Whether making it answers this.
+fn assert_line(
+    rt: &impl Abort,
+    alloc: Global,
+    ty: RawType,
+    exported: u32,
+    wanted: &str,
+) -> Result<(), Fail> {
+    let found = line(alloc, ty, exported)?;
+    assert_eq!(rt; found.as_str(), wanted);
+    Ok(())
+}
+
+const BAD_INDEX: &str = "error 15 bad index at 0";
+
 #[test]
 fn indices(rt: HostRuntime) -> Result<(), Fail> {
     let alloc = rt.alloc();
-    assert_eq!(rt;
-        line(alloc, package(alloc, 1)?, 0)?.as_str(),
-        "error 15 bad index at 0"
-    );
-    assert_eq!(rt;
-        line(alloc, package(alloc, 0)?, 1)?.as_str(),
-        "error 15 bad index at 0"
-    );
-    let own = RawDecl::Alias(RawAlias::Outer { count: 1, index: 0 });
-    let own = component(alloc, own)?;
-    assert_eq!(rt; line(alloc, own, 0)?.as_str(), "error 15 bad index at 0");
-    let far = RawDecl::Alias(RawAlias::Outer { count: 2, index: 0 });
-    let far = component(alloc, far)?;
-    assert_eq!(rt; line(alloc, far, 0)?.as_str(), "error 15 bad index at 0");
-    let missing = RawDecl::Alias(RawAlias::InstanceExport {
-        instance: 0,
-        name: label(alloc, "x")?,
-    });
-    let missing = component(alloc, missing)?;
-    assert_eq!(rt;
-        line(alloc, missing, 0)?.as_str(),
-        "error 15 bad index at 0"
-    );
+    assert_line(&rt, alloc, package(alloc, 1)?, 0, BAD_INDEX)?;
+    assert_line(&rt, alloc, package(alloc, 0)?, 1, BAD_INDEX)
+}
+
+#[test]
+fn indices_of_scopes(rt: HostRuntime) -> Result<(), Fail> {
+    let alloc = rt.alloc();
+    for count in [1, 2] {
+        let outer = RawDecl::Alias(RawAlias::Outer { count, index: 0 });
+        assert_line(&rt, alloc, component(alloc, outer)?, 0, BAD_INDEX)?;
+    }
     Ok(())
 }
 
 #[test]
-fn shapes(rt: HostRuntime) -> Result<(), Fail> {
+fn indices_of_instances(rt: HostRuntime) -> Result<(), Fail> {
     let alloc = rt.alloc();
-    let empty = RawType::Defined(RawDefinedType::Record(Vec::new(alloc)));
-    assert_eq!(rt; line(alloc, empty, 0)?.as_str(), "error 16 empty type at 0");
+    let name = label(alloc, "x")?;
+    let missing = RawDecl::Alias(RawAlias::InstanceExport { instance: 0, name });
+    assert_line(&rt, alloc, component(alloc, missing)?, 0, BAD_INDEX)
+}
+
+#[test]
+fn empty_types(rt: HostRuntime) -> Result<(), Fail> {
+    let empty = RawType::Defined(RawDefinedType::Record(Vec::new(rt.alloc())));
+    assert_line(&rt, rt.alloc(), empty, 0, "error 16 empty type at 0")
+}
+
+/// So many labels.
+fn labels(alloc: Global, count: u32) -> Result<Vec<Label>, AllocError> {
     let mut labels = Vec::new(alloc);
-    for n in 0..33 {
+    for n in 0..count {
         let text = format!(in alloc; "f{n}")?;
         labels.push(label(alloc, text.as_str())?)?;
     }
-    let flags = RawType::Defined(RawDefinedType::Flags(labels));
-    assert_eq!(rt; line(alloc, flags, 0)?.as_str(), "error 17 limit at 0");
+    Ok(labels)
+}
+
+const LIMIT: &str = "error 17 limit at 0";
+
+#[test]
+fn flags_of_33(rt: HostRuntime) -> Result<(), Fail> {
+    let flags = RawType::Defined(RawDefinedType::Flags(labels(rt.alloc(), 33)?));
+    assert_line(&rt, rt.alloc(), flags, 0, LIMIT)
+}
+
+/// A function type inside so many component types.
+fn nested(alloc: Global, count: u32) -> Result<RawType, AllocError> {
     let mut deep = function(alloc)?;
-    for _ in 0..4 {
+    for _ in 0..count {
         deep = component(alloc, RawDecl::Type(deep))?;
     }
-    assert_eq!(rt; line(alloc, deep, 0)?.as_str(), "component");
-    let mut deep = function(alloc)?;
-    for _ in 0..5 {
-        deep = component(alloc, RawDecl::Type(deep))?;
-    }
-    assert_eq!(rt; line(alloc, deep, 0)?.as_str(), "error 17 limit at 0");
+    Ok(deep)
+}
+
+#[test]
+fn depths(rt: HostRuntime) -> Result<(), Fail> {
+    let alloc = rt.alloc();
+    assert_line(&rt, alloc, nested(alloc, 4)?, 0, "component")?;
+    assert_line(&rt, alloc, nested(alloc, 5)?, 0, LIMIT)
+}
+
+#[test]
+fn imports_of_instances(rt: HostRuntime) -> Result<(), Fail> {
+    let alloc = rt.alloc();
     let import = RawDecl::Import(named(alloc, "x")?, RawDescription::Function(7));
     let import = instance(alloc, import)?;
-    assert_eq!(rt;
-        line(alloc, import, 0)?.as_str(),
-        "error 13 unknown opcode 03 at 0"
-    );
-    Ok(())
+    assert_line(&rt, alloc, import, 0, "error 13 unknown opcode 03 at 0")
 }

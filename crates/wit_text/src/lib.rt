@@ -27,6 +27,3 @@ pub use wit_tokens::{
     Expected, Feature, Keyword, Punctuation, Span, TextError, Token, TokenKind, lex,
     texts_have_one_lexing,
 };
-
-#[cfg(test)]
-mod tests;

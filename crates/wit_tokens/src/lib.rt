@@ -13,6 +13,3 @@ pub use error::{Expected, Feature, TextError};
 pub use laws::texts_have_one_lexing;
 pub use lexer::lex;
 pub use token::{Keyword, Punctuation, Span, Token, TokenKind};
-
-#[cfg(test)]
-mod tests;

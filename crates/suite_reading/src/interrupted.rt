@@ -1,9 +1,7 @@
 //! Calls of std's readers and writers that are interrupted or fail.
-ghost use Rattle.std.specs.Prelude.{◌≡◌, false};
 
-use super::*;
-use crate::{ReadUpToError, read_up_to, write_all};
-use std::io;
+use atoms::{Failed, ReadUpToError, Sink, Source, Watched, read_up_to, write_all};
+use std::io::{self, Error, ErrorKind, Read, Write};
 use std::test::*;
 
 /// A reader of sevens and a writer that takes two bytes a call. Its first calls are interrupted, and then it works or
@@ -53,42 +51,57 @@ impl Write for Interrupted {
     }
 }
 
-fn watched_when(works: bool) -> Watched<Interrupted>
-    ensures { result.failed ≡ false }
-{
-    Watched::new(Interrupted {
+/// One whose first three calls are interrupted.
+fn thrice_interrupted(works: bool) -> Interrupted {
+    Interrupted {
         times: 3,
         works,
         taken: 0,
-    })
+    }
 }
 
 #[test]
 fn reads(rt: HostRuntime) -> Result<(), Fail> {
-    let mut reader = watched_when(true);
+    let mut reader = Watched::new(thrice_interrupted(true));
     let mut buffer = [0; 4];
     assert_eq!(rt; reader.read(&mut buffer), Ok(1));
     assert_eq!(rt; buffer, [7, 0, 0, 0]);
     assert!(rt; !Source::failed(&reader));
-    let bytes = read_up_to(rt.alloc(), &mut reader, 4);
-    assert!(rt; bytes.is_ok_and(|bytes| bytes.as_slice() == [7; 5].as_slice()));
+    Ok(())
+}
 
-    let mut broken = watched_when(false);
-    let read = read_up_to(rt.alloc(), &mut broken, 4);
+#[test]
+fn reads_up_to(rt: HostRuntime) -> Result<(), Fail> {
+    let mut reader = Watched::new(thrice_interrupted(true));
+    let Ok(bytes) = read_up_to(rt.alloc(), &mut reader, 4) else {
+        return Err(Fail::from("a failed read"));
+    };
+    assert_eq!(rt; bytes.as_slice(), [7; 5].as_slice());
+    Ok(())
+}
+
+#[test]
+fn reads_that_fail(rt: HostRuntime) -> Result<(), Fail> {
+    let mut reader = Watched::new(thrice_interrupted(false));
+    let read = read_up_to(rt.alloc(), &mut reader, 4);
     assert!(rt; matches!(read, Err(ReadUpToError::Failed(0))));
-    assert!(rt; Source::failed(&broken));
+    assert!(rt; Source::failed(&reader));
     Ok(())
 }
 
 #[test]
 fn writes(rt: HostRuntime) -> Result<(), Fail> {
-    let mut writer = watched_when(true);
+    let mut writer = Watched::new(thrice_interrupted(true));
     assert_eq!(rt; write_all(&mut writer, b"abcde"), Ok(()));
     assert!(rt; !Sink::failed(&writer));
     assert_eq!(rt; writer.into_inner().taken, 5);
+    Ok(())
+}
 
-    let mut broken = watched_when(false);
-    assert_eq!(rt; write_all(&mut broken, b"abcde"), Err(Failed));
-    assert!(rt; Sink::failed(&broken));
+#[test]
+fn writes_that_fail(rt: HostRuntime) -> Result<(), Fail> {
+    let mut writer = Watched::new(thrice_interrupted(false));
+    assert_eq!(rt; write_all(&mut writer, b"abcde"), Err(Failed));
+    assert!(rt; Sink::failed(&writer));
     Ok(())
 }

@@ -1,8 +1,10 @@
+//! Sizes, alignments, flat kinds, places and core signatures of packages that are made of their parts.
+
 ghost use Rattle.std.specs.Prelude.{◌<◌};
 
-use super::*;
 use atoms::Label;
 use canonical_abi::CoreKind;
+use layout::{CoreSignature, Kinds, LayoutError, Layouts, Shape};
 use std::alloc::Global;
 use std::test::*;
 use tables::{

@@ -1,5 +1,7 @@
-use crate::{lex, parse};
+//! A text's tokens and its tree.
+
 use std::test::Fail;
+use wit_text::{lex, parse};
 
 #[test]
 fn a_function_is_read(rt: HostRuntime) -> Result<(), Fail> {

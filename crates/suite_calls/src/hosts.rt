@@ -1,0 +1,103 @@
+//! A host that brings its own memory and its own body, as docs/ARCHITECTURE.md shows.
+
+ghost use Rattle.std.specs.Prelude.{◌<◌, vec_len};
+
+use adapter::{Body, Link, Stopped};
+use canonical_abi::{Flat, Full, Guest, NotTaken};
+use lift_lower::Flats;
+use std::test::Fail;
+use witcall::open;
+
+/// A memory that grants no block.
+#[derive(Drop)]
+struct Fixed {
+    bytes: Vec<u8>,
+    ghost small: { vec_len bytes < 4294967296 },
+}
+
+impl Guest for Fixed {
+    ghost use Rattle.std.specs.Prelude.{◌≡◌, [], None, false};
+
+    ghost memory = { λ m. record { bytes = m.bytes.items; live = λ _. false; state = [] } };
+
+    ghost allocates = { λ old _ _ at new. (at ≡ None) × (new ≡ old) };
+
+    ghost releases = { λ old _ _ taken new. (taken ≡ false) × (new ≡ old) };
+
+    fn len(&self) -> u32 {
+        self.bytes.len() as u32
+    }
+
+    fn bytes(&self) -> &[u8] {
+        self.bytes.as_slice()
+    }
+
+    fn write(&mut self, at: u32, src: &[u8]) {
+        let start = at as usize;
+        self.bytes[start..start + src.len()].copy_from_slice(src);
+    }
+
+    fn alloc(&mut self, _align: u32, _size: u32) -> Result<u32, Full> {
+        Err(Full)
+    }
+
+    fn free(&mut self, _at: u32, _size: u32) -> Result<(), NotTaken> {
+        Err(NotTaken)
+    }
+}
+
+/// A body that answers one value, over any memory.
+#[derive(Drop)]
+struct Constant(Flat);
+
+impl<G: Guest> Body<G> for Constant {
+    ghost use Rattle.std.specs.Prelude.{◌≡◌, [], ◌∷◌, Some};
+
+    ghost state = { λ _. [] };
+
+    ghost runs = { λ c s m f s' m' a. (s' ≡ s) × (m' ≡ m) × (a ≡ Some (c.0 ∷ [])) };
+
+    ghost posts = { λ _ s m f s' m' a. (s' ≡ s) × (m' ≡ m) × (a ≡ Some tt) };
+
+    fn call(&mut self, _memory: &mut G, _arguments: &[Flat]) -> Result<Flats, Stopped> {
+        let mut flats = Flats::new();
+        flats.push(self.0);
+        Ok(flats)
+    }
+
+    fn post_return(&mut self, _memory: &mut G, _answer: &[Flat]) -> Result<(), Stopped> {
+        Ok(())
+    }
+}
+
+#[test]
+fn calls_of_a_host(rt: HostRuntime) -> Result<(), Fail> {
+    let alloc = rt.alloc();
+    let text = "package a:b; interface c { f: func(x: u32) -> u32; }";
+    let package = open(alloc, text.as_bytes())?;
+    let Some(f) = package.resolve().function("a:b/c", "f") else {
+        return Err(Fail::from("no function"));
+    };
+    assert!(&rt; package.resolve().is_scalar(f));
+    let mut caller = Fixed {
+        bytes: Vec::new(alloc),
+    };
+    let mut callee = Fixed {
+        bytes: Vec::new(alloc),
+    };
+    let mut body = Constant(Flat::I32(8));
+    let mut link = Link::new(package.resolve(), package.layouts());
+    let answer = link.call(
+        alloc,
+        f,
+        &[Flat::I32(7)],
+        &mut caller,
+        &mut callee,
+        &mut body,
+    );
+    let Ok(back) = answer else {
+        return Err(Fail::from("a trap"));
+    };
+    assert_eq!(&rt; back.as_slice(), [Flat::I32(8)].as_slice());
+    Ok(())
+}

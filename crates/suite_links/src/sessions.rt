@@ -1,0 +1,196 @@
+//! Typed calls of compound values: where the caller's and the callee's bytes stand, and the traps of what is placed and taken.
+
+use crate::acting::{Acting, acting, filled, function, package, scripted, trap};
+use canonical_abi::{Fault, Flat, Guest, Step, TrapKind};
+use lift_lower::Val;
+use memory::Bump;
+use std::alloc::Global;
+use std::process::Abort;
+use std::test::Fail;
+use witcall::Session;
+
+/// What a call answered, and the memories behind it.
+#[derive(Drop)]
+struct Told {
+    answer: Result<Option<Val>, Fault>,
+    caller: Vec<u8>,
+    callee: Vec<u8>,
+}
+
+impl Told {
+    fn is_trap(&self, kind: TrapKind, step: Step) -> bool {
+        matches!(&self.answer, Err(fault) if *fault == trap(kind, step))
+    }
+
+    /// Whether this text was answered.
+    fn is_text(&self, wanted: &str) -> bool {
+        matches!(&self.answer, Ok(Some(Val::String(text))) if text.as_str() == wanted)
+    }
+}
+
+/// Calls `f` of an interface of these items.
+fn called<C: Guest + Drop>(
+    rt: &impl Abort,
+    alloc: Global,
+    items: &str,
+    arguments: &[Val],
+    caller: C,
+    callee: Bump,
+    body: Acting,
+) -> Result<Told, Fail> {
+    let package = package(alloc, items)?;
+    let f = function(&package)?;
+    assert!(rt; package.takes(f, arguments));
+    let mut session = Session::new(&package, caller, callee, body);
+    let answer = session.call(alloc, f, arguments);
+    Ok(Told {
+        answer,
+        caller: session.caller().bytes().to_vec(alloc)?,
+        callee: session.callee().bytes().to_vec(alloc)?,
+    })
+}
+
+/// An empty text takes a block of no bytes, here and there.
+#[test]
+fn empty_text(rt: HostRuntime) -> Result<(), Fail> {
+    let alloc = rt.alloc();
+    let mut body = acting(alloc, 0, &[8, 0, 0, 0, 0, 0, 0, 0], Some(Flat::I32(0)))?;
+    body.asks = true;
+    let told = called(
+        &rt,
+        alloc,
+        "f: func(s: string) -> string;",
+        &[Val::String(String::new(alloc))],
+        filled(alloc, 32, &[])?,
+        filled(alloc, 32, &[])?,
+        body,
+    )?;
+    assert!(rt; told.is_text(""));
+    assert_eq!(rt;
+        told.caller.get(..9),
+        Some([8, 0, 0, 0, 0, 0, 0, 0, 0].as_slice())
+    );
+    Ok(())
+}
+
+const SEVENTEEN: &str =
+    "f: func(a: u32, b: u32, c: u32, d: u32, e: u32, g: u32, h: u32, i: u32, j: u32, k: u32, l: u32, m: u32, n: u32, o: u32, p: u32, q: u32, r: u32)";
+
+/// The numbers 0 to 16.
+fn seventeen(alloc: Global) -> Result<Vec<Val>, Fail> {
+    let mut arguments = Vec::new(alloc);
+    for n in 0..17u32 {
+        arguments.push(Val::U32(n))?;
+    }
+    Ok(arguments)
+}
+
+/// Calls a function of seventeen numbers, in a callee of so many bytes.
+fn called_with_seventeen(
+    rt: &impl Abort,
+    alloc: Global,
+    answer: &str,
+    len: u32,
+    body: Acting,
+) -> Result<Told, Fail> {
+    let items = format!(in alloc; "{SEVENTEEN}{answer};")?;
+    let arguments = seventeen(alloc)?;
+    let caller = filled(alloc, 128, &[])?;
+    let callee = filled(alloc, len, &[])?;
+    called(
+        rt,
+        alloc,
+        items.as_str(),
+        arguments.as_slice(),
+        caller,
+        callee,
+        body,
+    )
+}
+
+#[test]
+fn seventeen_go_through_memory(rt: HostRuntime) -> Result<(), Fail> {
+    let alloc = rt.alloc();
+    let body = acting(alloc, 0, &[], None)?;
+    let told = called_with_seventeen(&rt, alloc, "", 68, body)?;
+    assert!(rt; matches!(told.answer, Ok(None)));
+    assert_eq!(rt; told.callee.get(64..68), Some([16, 0, 0, 0].as_slice()));
+    let body = acting(alloc, 0, &[], None)?;
+    let told = called_with_seventeen(&rt, alloc, "", 67, body)?;
+    assert!(rt; told.is_trap(TrapKind::Full, Step::LowerArgs));
+    Ok(())
+}
+
+#[test]
+fn seventeen_and_an_area(rt: HostRuntime) -> Result<(), Fail> {
+    let alloc = rt.alloc();
+    let text = [80, 0, 0, 0, 2, 0, 0, 0, 0x68, 0x69];
+    let body = acting(alloc, 72, text.as_slice(), Some(Flat::I32(72)))?;
+    let told = called_with_seventeen(&rt, alloc, " -> string", 128, body)?;
+    assert!(rt; told.is_text("hi"));
+    let wanted = [16, 0, 0, 0, 76, 0, 0, 0, 2, 0, 0, 0, 0x68, 0x69];
+    assert_eq!(rt; told.caller.get(64..78), Some(wanted.as_slice()));
+    Ok(())
+}
+
+/// The header and the bytes of a text at address 0.
+const HI: [u8; 10] = [8, 0, 0, 0, 2, 0, 0, 0, 0x68, 0x69];
+
+/// Calls a function whose result is a text.
+fn text_of<C: Guest + Drop>(
+    rt: &impl Abort,
+    alloc: Global,
+    caller: C,
+    body: Acting,
+) -> Result<Told, Fail> {
+    let callee = filled(alloc, 32, &[])?;
+    called(rt, alloc, "f: func() -> string;", &[], caller, callee, body)
+}
+
+/// The caller's bytes stand whatever the callee does with its own after the result was read.
+#[test]
+fn bytes_after_post_return(rt: HostRuntime) -> Result<(), Fail> {
+    let alloc = rt.alloc();
+    for ends in [true, false] {
+        let mut body = acting(alloc, 0, HI.as_slice(), Some(Flat::I32(0)))?;
+        body.fills = 10;
+        body.ends = ends;
+        let told = text_of(&rt, alloc, filled(alloc, 32, &[])?, body)?;
+        assert_eq!(rt; told.is_text("hi"), ends);
+        assert_eq!(rt; told.is_trap(TrapKind::Body, Step::Post), !ends);
+        assert_eq!(rt; told.caller.get(..10), Some(HI.as_slice()));
+        assert_eq!(rt; told.callee.get(..10), Some([0xee; 10].as_slice()));
+    }
+    Ok(())
+}
+
+/// The area and the text at one address: eight bytes of text are overwritten by their own header.
+#[test]
+fn text_under_its_header(rt: HostRuntime) -> Result<(), Fail> {
+    let alloc = rt.alloc();
+    let caller = scripted(alloc, 256, &[Ok(128), Ok(128)])?;
+    let text = b"\x08\0\0\0\x08\0\0\0aaaaaaaa";
+    let body = acting(alloc, 0, text, Some(Flat::I32(0)))?;
+    let told = text_of(&rt, alloc, caller, body)?;
+    assert!(rt; told.is_trap(TrapKind::Utf8, Step::Take));
+    Ok(())
+}
+
+/// A text of 16,777,217 bytes is not asked for.
+#[test]
+fn text_past_the_limit(rt: HostRuntime) -> Result<(), Fail> {
+    let alloc = rt.alloc();
+    let text = String::from_utf8(vec![in alloc; b'a'; 16_777_217]?)?;
+    let told = called(
+        &rt,
+        alloc,
+        "f: func(x: string);",
+        &[Val::String(text)],
+        filled(alloc, 64, &[0xee; 64])?,
+        filled(alloc, 32, &[])?,
+        acting(alloc, 0, &[], None)?,
+    )?;
+    assert!(rt; told.is_trap(TrapKind::Bounds, Step::Place));
+    assert_eq!(rt; told.caller.as_slice(), [0xee; 64].as_slice());
+    Ok(())
+}
