@@ -1,0 +1,35 @@
+-- Where there is one package, each interface is of it.
+use Rattle.std.proofs.Common.{◌≡◌, ℕ, ◌<◌, List, [], ◌∷◌, length, slice_get, refl, ap, sym, ◌∙◌, arith, Contains}
+use Rattle.std.proofs.lemmas.List.{append_cancel_left, append_cancel_right}
+use Rattle.atoms.specs.FullName.{version_suffix, name_text, package_text, full_name_text}
+use Rattle.tables.specs.PackageNames.{PackageParts, name_parts}
+use Rattle.tables.specs.Names.{full_name_in, full_name}
+use Rattle.tables.specs.declared.tables.Interface.{Interface}
+use Rattle.tables.specs.declared.tables.Resolve.{Resolve}
+use Rattle.tables.proofs.Earlier.{grouped-at}
+
+pub single : {A : Type 0} (xs : List A) → length xs ≡ 1 → (x : A) × (xs ≡ x ∷ [])
+single [] h = absurd (omega (arith, h))
+single (x ∷ []) h = (x, refl)
+single (x ∷ y ∷ xs) h = absurd (omega (arith, h))
+
+-- full names of one package differ where names do
+pub one-full-name : (p : PackageParts) (a b : List ℕ) → full_name_text (name_parts p a) ≡ full_name_text (name_parts p b) → a ≡ b
+one-full-name p a b e =
+    let behind_space : 58 ∷ package_text (name_parts p a) ≡ 58 ∷ package_text (name_parts p b) = append_cancel_left p.namespace _ _ e in
+    let whole : package_text (name_parts p a) ≡ package_text (name_parts p b) = cc in
+    let behind_package : 47 ∷ name_text (name_parts p a) ≡ 47 ∷ name_text (name_parts p b) = append_cancel_left p.name _ _ whole in
+    let last : name_text (name_parts p a) ≡ name_text (name_parts p b) = cc in
+    append_cancel_right a b (version_suffix p.version) last
+
+module _ (r : Resolve) (p : PackageParts) (one : r.packages ≡ p ∷ []) where
+  pub first-place : (i : Interface) → Contains r.interfaces i → i.«package».0 ≡ 0
+  first-place i c =
+      let inside = grouped-at (length r.packages) 0 r.interfaces c.0 i r.grouped c.1 c.2 in
+      omega (arith, inside, ap length one)
+
+  -- an interface's full name is that of its name in the package
+  pub own-full-name : (i : Interface) → Contains r.interfaces i → full_name r i ≡ full_name_text (name_parts p i.name)
+  own-full-name i c =
+      ap (λ ps. full_name_in (slice_get ps i.«package».0) i.name) one
+      ∙ ap (λ k. full_name_in (slice_get (p ∷ []) k) i.name) (first-place i c)
