@@ -33,8 +33,11 @@ within n h = grind (arith, nat_tests)
 
 entries-few : (r : Resolve) → IsTrue (is_in_form r) → 1 + length r.interfaces + sum (map entries_of r.definitions) ≤ 65535
 entries-few r h =
-    let worlds = (split _ _ (split _ _ (split _ _ h).1).1).1 in
-    within-entries r.definitions (length r.interfaces) _ refl (not-true _ (split _ _ worlds).0)
+    let interfaces = split _ _ h in
+    let worlds = split _ _ interfaces.1 in
+    let alone = split (length r.packages == 1) _ worlds.1 in
+    let entries = split _ _ alone.1 in
+    within-entries r.definitions (length r.interfaces) _ refl (not-true _ entries.0)
 
 few-entries : (r : Resolve) → 1 + length r.interfaces + sum (map entries_of r.definitions) ≤ 65535 → length (map (λ (i : Interface). i.name) r.interfaces) ≡ length r.interfaces → type_entries (table_of r) ≤ 65535
 few-entries r few same = omega (arith, few, same)

@@ -1,5 +1,5 @@
 -- Where there is one package, each interface is of it.
-use Rattle.std.proofs.Common.{◌≡◌, ℕ, ◌<◌, List, [], ◌∷◌, length, slice_get, refl, ap, sym, ◌∙◌, arith, Contains}
+use Rattle.std.proofs.Common.{◌≡◌, ℕ, List, [], ◌∷◌, length, slice_get, refl, ap, ◌∙◌, arith, Contains}
 use Rattle.std.proofs.lemmas.List.{append_cancel_left, append_cancel_right}
 use Rattle.atoms.specs.FullName.{version_suffix, name_text, package_text, full_name_text}
 use Rattle.tables.specs.PackageNames.{PackageParts, name_parts}

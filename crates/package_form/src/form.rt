@@ -33,7 +33,7 @@ fn is_lower_case(label: &Label) -> bool
 
 /// Whether a package's name is that of full names.
 fn is_package_name(alloc: Global, package: &PackageName) -> Result<bool, AllocError>
-    ensures { IfOk result (λ b. b ≡ is_package_name package.now) }
+    ensures { IfOk result (λ b. b ≡ is_package_name «package».now) }
 {
     if !is_lower_case(&package.namespace) || !is_lower_case(&package.name) {
         return Ok(false);
