@@ -24,4 +24,5 @@ invariant_of-result c =
       standard = subst (λ (ds : List Definition). IsTrue (are_standard ds)) (sym tested) (sym c.are_standard.ensures ∙ c.if-not-are_standard.false);
       placed = subst (λ (is : List Interface). IsTrue (are_placed c.new-3.result is)) (sym c.in_ok-interfaces_in.ensures)
           (subst (λ (ds : List Definition). IsTrue (are_placed c.new-3.result (interfaces_from ds 0 c.deref-3.result.now))) listed (all-placed-ids c.new-3.result 0 c.deref-3.result.now));
+      grouped = ?;
     }
