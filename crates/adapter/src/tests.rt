@@ -50,9 +50,7 @@ fn package(alloc: Global) -> Result<Resolve, Fail> {
         result: Some(ValType::Primitive(Primitive::U8)),
     };
     Ok(Resolve {
-        namespace: Label::new(alloc, "a")?,
-        name: Label::new(alloc, "b")?,
-        version: None,
+        packages: Sequence::new(Vec::new(alloc)),
         interfaces: Sequence::new(Vec::new(alloc)),
         worlds: Sequence::new(Vec::new(alloc)),
         definitions: Sequence::new(vec![in alloc; Definition::Function(function)]?),

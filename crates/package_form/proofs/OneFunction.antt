@@ -20,7 +20,7 @@ use Rattle.package_form.specs.Form.{is_named, ids_of, is_local, has_ids, are_int
 use Rattle.package_form.specs.Naming.{interface_name, row_names, rows_scopes, interfaces_scopes}
 use Rattle.package_form.specs.Laws.{NamesOneFunction}
 use Rattle.package_form.proofs.Lists.{all-head, all-tail, all-left, all-right, contains-here, contains-right, contains-map, compared}
-use Rattle.package_form.proofs.OnePackage.{single, one-full-name, own-full-name}
+use Rattle.package_form.proofs.OnePackage.{single, one-full-name, first-place, own-full-name}
 use Rattle.package_form.proofs.OneRow.{distinct-apart, distinct-back, twice, in-rows, parted-on, forms-on}
 
 -- ---- the place of a function
@@ -99,7 +99,9 @@ module _ (rows : List Definition) where
 same-name : (r : Resolve) → length r.packages ≡ 1 → (i j : Interface) → Contains r.interfaces i → Contains r.interfaces j → full_name r i ≡ full_name r j → i.name ≡ j.name
 same-name r alone i j ci cj e =
     let one = single r.packages alone in
-    one-full-name one.0 i.name j.name (sym (own-full-name r one.0 one.1 i ci) ∙ e ∙ own-full-name r one.0 one.1 j cj)
+    let p = one.0 in
+    one-full-name p i.name j.name
+    (sym (own-full-name r p one.1 i (first-place r p one.1 i ci)) ∙ e ∙ own-full-name r p one.1 j (first-place r p one.1 j cj))
 
 pub one-function : (r : Resolve) → NamesOneFunction r
 one-function r form distinct iface name f g x y =

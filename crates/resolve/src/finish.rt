@@ -10,8 +10,8 @@ use atoms::Label;
 use package_form::passes_entries;
 use std::alloc::{AllocError, Global};
 use tables::{
-    Definition, FunctionId, Interface, Owner, PackageId, PackageName, Resolve, ResolveError, Sequence,
-    TypeDefKind, TypeId, are_standard, copy_version,
+    Definition, FunctionId, Interface, Owner, PackageId, PackageName, Resolve, ResolveError,
+    Sequence, TypeDefKind, TypeId, are_standard, copy_version,
 };
 
 /// The interface that a row has a name in.
