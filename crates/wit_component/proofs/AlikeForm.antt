@@ -11,7 +11,7 @@ use Rattle.std.proofs.lemmas.Bool.Decides.{nat_tests}
 use Rattle.ctype_bin.specs.Raw.{Decl, Entry, Instance, Component, Export, File}
 use Rattle.ctype_bin.specs.View.{decls_of}
 use Rattle.ctype_bin.specs.declared.raw.RawDescription.TheVariants as described
-use Rattle.tables.specs.Tables.{type_of, function_of, is_there, is_type_id, is_function_id, is_type, option_all, kind_all, definition_all, definition_below, are_earlier, name_types, is_standard, are_standard, is_placed, are_placed}
+use Rattle.tables.specs.Tables.{type_of, function_of, is_there, is_type_id, is_function_id, is_type, option_all, kind_all, definition_all, definition_below, are_earlier, name_types, is_standard, are_standard, is_placed, are_placed, are_grouped}
 use Rattle.tables.specs.Parts.{is_package}
 use Rattle.tables.specs.PackageNames.{PackageParts}
 use Rattle.tables.specs.Names.{full_name_in, full_name}
