@@ -8,7 +8,7 @@ use Rattle.atoms.proofs.FullNames.{label_lacks, has_mark}
 use Rattle.tables.proofs.Rows.{split}
 
 -- a full name has a mark that no label has
-no-label : (parts : NameParts) → is_label (full_name_text parts) ≡ false
+pub no-label : (parts : NameParts) → is_label (full_name_text parts) ≡ false
 no-label parts = by (is_label (full_name_text parts)) refl
   where
     by : (b : Bool) → is_label (full_name_text parts) ≡ b → b ≡ false

@@ -1,7 +1,6 @@
 -- The package that a component may stand for: its declarations read one after the other. Whether it stands for it is seen by writing it again.
 use Rattle.std.specs.Prelude.{◌≡◌, ◌⊎◌, ℕ, Result, Ok, Err, List, [], ◌∷◌, ◌++◌, length, slice_get, Option, None, Some, if◌then◌else◌}
 use Rattle.std.specs.Option.{option_map}
-use Rattle.std.specs.String.{string_bytes}
 use Rattle.atoms.specs.Label.{is_label}
 use Rattle.ctype_bin.specs.Names.{cut_at}
 use Rattle.ctype_bin.specs.Raw.{Definition as AnyType, Define, Func, Component, Instance, Decl, Entry, Alias, Import, Export, Decls, none, then as more, File}
@@ -10,6 +9,8 @@ use Rattle.ctype_bin.specs.declared.raw.RawAlias.TheVariants as alias
 use Rattle.ctype_bin.specs.declared.raw.RawDescription.{RawDescription}
 use Rattle.ctype_bin.specs.declared.raw.RawDescription.TheVariants as described
 use Rattle.package_form.specs.Scoped.{Entry as Named}
+use Rattle.package_form.specs.Ids.{package_id}
+use Rattle.tables.specs.PackageNames.{PackageParts}
 use Rattle.tables.specs.Parts.{is_package}
 use Rattle.tables.specs.declared.tables.TypeId.{TypeId}
 use Rattle.tables.specs.declared.tables.Definition.{Definition}
@@ -85,7 +86,7 @@ abbrev pub version_in : List ℕ → Option (List ℕ)
 version_in text = second (cut_at 64 (behind_package text))
 
 abbrev pub interface_named : List ℕ → InstanceRead → Interface
-interface_named text i = record { name = interface_in text; uses = i.uses; types = i.types; functions = i.functions }
+interface_named text i = record { «package» = package_id 0; name = interface_in text; uses = i.uses; types = i.types; functions = i.functions }
 
 -- the instance type read last is exported as an interface of this full name
 abbrev pub with_interface : List ℕ → ComponentRead → InstanceRead → ComponentRead
@@ -136,16 +137,18 @@ first_full_name (more d ds) = first_of (full_name_declared d) (first_full_name d
 
 -- the parts of a package without worlds
 pub record Candidate : Type 0 where
-  pub namespace : List ℕ
-  pub name : List ℕ
-  pub version : Option (List ℕ)
+  pub packages : List PackageParts
   pub interfaces : List Interface
   pub definitions : List Definition
 
+-- the name of the package in a full name
+abbrev pub package_named : List ℕ → PackageParts
+package_named text = record { namespace = namespace_in text; name = package_in text; version = version_in text }
+
 abbrev pub candidate_named : List ℕ → ComponentRead → Option Candidate
 candidate_named text s =
-    if is_package s.rows s.interfaces
-    then Some (record { namespace = namespace_in text; name = package_in text; version = version_in text; interfaces = s.interfaces; definitions = s.rows })
+    if is_package 1 s.rows s.interfaces
+    then Some (record { packages = package_named text ∷ []; interfaces = s.interfaces; definitions = s.rows })
     else None
 
 abbrev pub candidate_of_decls : Decls → Option Candidate
@@ -168,9 +171,7 @@ candidate_of f = candidate_of_types f.types
 
 -- the package has these parts alone
 pub record IsMadeOf (c : Candidate) (r : Resolve) : Type 0 where
-  pub namespace : r.namespace ≡ c.namespace
-  pub name : r.name ≡ c.name
-  pub version : option_map string_bytes r.version ≡ c.version
+  pub packages : r.packages ≡ c.packages
   pub interfaces : r.interfaces ≡ c.interfaces
   pub worlds : r.worlds ≡ []
   pub definitions : r.definitions ≡ c.definitions

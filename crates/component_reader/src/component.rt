@@ -5,7 +5,7 @@ ghost use Rattle.ctype_bin.specs.Names.{name_view};
 ghost use Rattle.ctype_bin.specs.FileView.{file_view};
 ghost use Rattle.ctype_bin.specs.View.{decl_view, decls_of, type_view};
 ghost use Rattle.component_reader.specs.Types.{ReadsAs, Becomes};
-ghost use Rattle.component_reader.specs.Component.{Makes, no_component, alias_read, type_read, instance_exported, export_read, declaration_read, declarations_read, full_name_declared, first_full_name, candidate_named, candidate_of_decls, candidate_of_type, candidate_of};
+ghost use Rattle.component_reader.specs.Component.{Makes, no_component, alias_read, type_read, instance_exported, export_read, declaration_read, declarations_read, full_name_declared, first_full_name, package_named, candidate_named, candidate_of_decls, candidate_of_type, candidate_of};
 ghost use Rattle.component_reader.specs.Names.{parts_view};
 ghost use Rattle.component_reader.specs.Readers.{component_view};
 
@@ -16,7 +16,9 @@ use atoms::Label;
 use ctype_bin::{ExternName, RawAlias, RawComponent, RawDecl, RawDescription, RawType};
 use indexmap::IndexMap;
 use std::alloc::{AllocError, Global};
-use tables::{Definition, Interface, InterfaceId, Resolve, Sequence, TypeId, copy_version};
+use tables::{
+    Definition, Interface, InterfaceId, PackageName, Resolve, Sequence, TypeId, copy_version,
+};
 
 /// What was read of a component type.
 #[derive(Drop)]
@@ -146,19 +148,30 @@ impl ComponentReader {
         requires { IsFullName (full_name_text (parts_view name)) (parts_view name) }
         ensures { Makes (candidate_named (full_name_text (parts_view name.entry)) (component_view self)) result }
     {
-        let package = Resolve::from_parts(
-            Label::from_bytes(alloc, name.namespace)?,
-            Label::from_bytes(alloc, name.package)?,
-            copy_version(name.version)?,
+        let package = package_name(alloc, name)?;
+        let resolve = Resolve::from_parts(
+            Sequence::new(vec![in alloc; package]?),
             Sequence::new(self.interfaces),
             Sequence::new(Vec::new(alloc)),
             Sequence::new(self.rows),
         );
-        match package {
-            Ok(package) => Ok(package),
+        match resolve {
+            Ok(resolve) => Ok(resolve),
             Err(_) => Err(Unread::NotThisShape),
         }
     }
+}
+
+/// The name of the package in a full name.
+fn package_name(alloc: Global, name: FullNameParts<'_>) -> Result<PackageName, AllocError>
+    requires { IsFullName (full_name_text (parts_view name)) (parts_view name) }
+    ensures { IfOk result (λ p. p ≡ package_named (full_name_text (parts_view name.entry))) }
+{
+    Ok(PackageName {
+        namespace: Label::from_bytes(alloc, name.namespace)?,
+        name: Label::from_bytes(alloc, name.package)?,
+        version: copy_version(name.version)?,
+    })
 }
 
 /// The full name that a declaration exports.

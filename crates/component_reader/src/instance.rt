@@ -3,6 +3,7 @@ ghost use Rattle.std.specs.Prelude.{◌≡◌, List, length, map, IfOk, OnOk};
 ghost use Rattle.atoms.specs.Label.{IsLabel};
 ghost use Rattle.ctype_bin.specs.View.{decl_view, decls_of, type_view};
 ghost use Rattle.tables.specs.declared.tables.Definition.{Definition};
+ghost use Rattle.package_form.specs.Ids.{package_id};
 ghost use Rattle.component_reader.specs.Types.{ReadsAs, Becomes, both_found, all_found, parameter_read, optional_type};
 ghost use Rattle.component_reader.specs.Instance.{AFunction, nothing_read, settled, with_unnamed, with_named, uses_with, types_with, renamed, type_exported, function_exported, exported, use_read, defined, decl_read, instance_read};
 ghost use Rattle.component_reader.specs.Readers.{awaited_view, read_with};
@@ -15,8 +16,8 @@ use ctype_bin::{RawAlias, RawDecl, RawDescription, RawFunction, RawType};
 use indexmap::IndexMap;
 use std::alloc::{AllocError, Global};
 use tables::{
-    Definition, Function, FunctionId, Interface, InterfaceId, Owner, Parameter, Sequence, TypeDef,
-    TypeDefKind, TypeId, TypeName, ValType,
+    Definition, Function, FunctionId, Interface, InterfaceId, Owner, PackageId, Parameter,
+    Sequence, TypeDef, TypeDefKind, TypeId, TypeName, ValType,
 };
 
 /// What the last definition or alias defines, while its export may still come.
@@ -307,12 +308,13 @@ impl InstanceReader {
         Ok(reader)
     }
 
-    /// The interface of this name, and the types that it exports by their names.
+    /// The interface of this name in the first package, and the types that it exports by their names.
     pub fn into_interface(self, name: Label) -> (Interface, IndexMap<Vec<u8>, TypeId>)
-        ensures interface { result.0 ≡ record { name = name; uses = self.uses.items; types = self.types.items; functions = self.functions.items } }
+        ensures interface { result.0 ≡ record { «package» = package_id 0; name = name; uses = self.uses.items; types = self.types.items; functions = self.functions.items } }
         ensures names { result.1 ≡ self.names }
     {
         let interface = Interface {
+            package: PackageId(0),
             name,
             uses: Sequence::new(self.uses),
             types: Sequence::new(self.types),

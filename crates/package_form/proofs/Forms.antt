@@ -1,5 +1,5 @@
 -- The test of a package's form.
-use Rattle.std.proofs.Common.{◌≡◌, ◌≢◌, ◌≤◌, ◌+◌, ℕ, Bool, true, false, not, ◌==◌, nat_lt, IsTrue, List, [], ◌∷◌, length, map, sum, refl, ap, sym, ◌∙◌, arith, ◌↔◌, Result, Ok, Err, IfOk}
+use Rattle.std.proofs.Common.{◌≡◌, ◌≢◌, ◌≤◌, ◌+◌, ℕ, Bool, true, false, not, ◌==◌, nat_lt, IsTrue, List, [], ◌∷◌, length, map, sum, refl, ap, sym, ◌∙◌, arith, ◌↔◌, eqb-true, Result, Ok, Err, IfOk}
 use Rattle.std.proofs.lemmas.List.{length-map}
 use Rattle.std.proofs.lemmas.Bool.Decides.{nat_tests}
 use Rattle.package_form.specs.Entries.{entries_of, type_entries, table_of}
@@ -33,8 +33,11 @@ within n h = grind (arith, nat_tests)
 
 entries-few : (r : Resolve) → IsTrue (is_in_form r) → 1 + length r.interfaces + sum (map entries_of r.definitions) ≤ 65535
 entries-few r h =
-    let worlds = (split _ _ (split _ _ h).1).1 in
-    within-entries r.definitions (length r.interfaces) _ refl (not-true _ (split _ _ worlds).0)
+    let interfaces = split _ _ h in
+    let worlds = split _ _ interfaces.1 in
+    let alone = split (length r.packages == 1) _ worlds.1 in
+    let entries = split _ _ alone.1 in
+    within-entries r.definitions (length r.interfaces) _ refl (not-true _ entries.0)
 
 few-entries : (r : Resolve) → 1 + length r.interfaces + sum (map entries_of r.definitions) ≤ 65535 → length (map (λ (i : Interface). i.name) r.interfaces) ≡ length r.interfaces → type_entries (table_of r) ≤ 65535
 few-entries r few same = omega (arith, few, same)
@@ -43,7 +46,8 @@ in-form : (r : Resolve) → is_in_form r ≡ true → IsInPackageForm r
 in-form r h =
     let interfaces = split _ _ h in
     let worlds = split _ _ interfaces.1 in
-    let entries = split _ _ worlds.1 in
+    let alone = split (length r.packages == 1) _ worlds.1 in
+    let entries = split _ _ alone.1 in
     let parted = split _ _ entries.1 in
     let names = split _ _ parted.1 in
     let each = split _ _ names.1 in
@@ -52,6 +56,7 @@ in-form r h =
     record {
       some = is-some r.interfaces (not-true _ interfaces.0);
       worlds = is-empty r.worlds worlds.0;
+      alone = eqb-true (length r.packages) 1 alone.0;
       names = names.0;
       parted = parted.0;
       interfaces = each.0;
@@ -75,10 +80,11 @@ form-in : (r : Resolve) → IsInPackageForm r → is_in_form r ≡ true
 form-in r f =
     both _ _ (false-not _ (some-is r.interfaces f.some))
     (both _ _ (ap (λ ws. length ws == 0) f.worlds)
+    (both _ _ (ap (λ n. n == 1) f.alone)
     (both _ _ (false-not _ (within _ (entries-told r f)))
     (both _ _ f.parted
     (both _ _ f.names
-    (both _ _ f.interfaces (postfix-used r.definitions r.earlier f.postfix))))))
+    (both _ _ f.interfaces (postfix-used r.definitions r.earlier f.postfix)))))))
 
 pub tested : {E : Type 0} (r : Resolve) (result : Result Bool E) → IfOk result (λ b. b ≡ is_in_form r) → IfOk result (λ b. IsTrue b ↔ IsInPackageForm r)
 tested r (Ok b) h = (λ q. in-form r (sym h ∙ q), λ f. h ∙ form-in r f)

@@ -8,6 +8,7 @@ pub mod Postfixed
 pub mod Fronts
 pub mod Postfix
 pub mod Forms
+pub mod OnePackage
 pub mod OneRow
 pub mod OneFunction
 pub mod DistinctTypes

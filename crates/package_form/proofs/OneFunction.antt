@@ -2,10 +2,10 @@
 use Rattle.std.proofs.Common.{◌≡◌, ℕ, zero, suc, ◌+◌, ◌-◌, ◌<◌, ◌≤◌, Bool, true, false, cond, ◌&&◌, List, [], ◌∷◌, map, flat_map, drop, length, slice_get, Option, None, Some, refl, ap, sym, subst, ◌∙◌, arith, All, Contains, inl, inr}
 use Rattle.std.specs.Option.{option_map}
 use Rattle.std.specs.List.{list_all}
-use Rattle.std.proofs.lemmas.List.{append_cancel_left, append_cancel_right, length-take}
+use Rattle.std.proofs.lemmas.List.{length-take}
 use Rattle.std.proofs.lemmas.Slice.Eq.{bytes_eq-Decides}
 use Rattle.tables.specs.Tables.{function_of}
-use Rattle.tables.specs.Names.{full_name, name_in_namespace, name_in_package, version_suffix}
+use Rattle.tables.specs.Names.{full_name}
 use Rattle.tables.specs.declared.tables.FunctionId.{FunctionId}
 use Rattle.tables.specs.declared.tables.Function.{Function}
 use Rattle.tables.specs.declared.tables.Definition.{Definition}
@@ -20,6 +20,7 @@ use Rattle.package_form.specs.Form.{is_named, ids_of, is_local, has_ids, are_int
 use Rattle.package_form.specs.Naming.{interface_name, row_names, rows_scopes, interfaces_scopes}
 use Rattle.package_form.specs.Laws.{NamesOneFunction}
 use Rattle.package_form.proofs.Lists.{all-head, all-tail, all-left, all-right, contains-here, contains-right, contains-map, compared}
+use Rattle.package_form.proofs.OnePackage.{single, one-full-name, first-place, own-full-name}
 use Rattle.package_form.proofs.OneRow.{distinct-apart, distinct-back, twice, in-rows, parted-on, forms-on}
 
 -- ---- the place of a function
@@ -95,18 +96,17 @@ module _ (rows : List Definition) where
 
 -- ---- full names
 
-same-name : (r : Resolve) (i j : Interface) → full_name r i ≡ full_name r j → i.name ≡ j.name
-same-name r i j e =
-    let a : 58 ∷ name_in_namespace r i ≡ 58 ∷ name_in_namespace r j = append_cancel_left r.namespace _ _ e in
-    let b : name_in_namespace r i ≡ name_in_namespace r j = cc in
-    let c : 47 ∷ name_in_package r i ≡ 47 ∷ name_in_package r j = append_cancel_left r.name _ _ b in
-    let d : name_in_package r i ≡ name_in_package r j = cc in
-    append_cancel_right i.name j.name (version_suffix r.version) d
+same-name : (r : Resolve) → length r.packages ≡ 1 → (i j : Interface) → Contains r.interfaces i → Contains r.interfaces j → full_name r i ≡ full_name r j → i.name ≡ j.name
+same-name r alone i j ci cj e =
+    let one = single r.packages alone in
+    let p = one.0 in
+    one-full-name p i.name j.name
+    (sym (own-full-name r p one.1 i (first-place r p one.1 i ci)) ∙ e ∙ own-full-name r p one.1 j (first-place r p one.1 j cj))
 
 pub one-function : (r : Resolve) → NamesOneFunction r
 one-function r form distinct iface name f g x y =
     let scopes = all-tail AreDistinct _ _ distinct in
     let names = all-head AreDistinct _ _ distinct in
-    let same = same-name r x.0 y.0 (sym x.2 ∙ y.2) in
+    let same = same-name r form.alone x.0 y.0 x.1 y.1 (sym x.2 ∙ y.2) in
     ap function_id (one-of r.definitions 0 0 r.interfaces form.parted form.interfaces names scopes x.0 y.0 x.1 y.1 same f g name x.3.0 y.3.0
     (function-at r.definitions f name x.3.1) (function-at r.definitions g name y.3.1))

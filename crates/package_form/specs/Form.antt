@@ -1,10 +1,9 @@
 -- The tables that packages have: what from_ast makes, and what a component type spells.
 use Rattle.std.specs.Prelude.{◌≡◌, ◌≢◌, ◌≤◌, ℕ, ◌+◌, Bool, true, false, ◌&&◌, not, ◌==◌, nat_lt, List, [], ◌∷◌, ◌++◌, map, sum, length, IsTrue, Option, None, Some, slice_get}
 use Rattle.std.specs.List.{list_all}
-use Rattle.std.specs.Option.{option_map}
-use Rattle.std.specs.String.{string_bytes}
 use Rattle.std.specs.Str.{bytes_eq}
 use Rattle.atoms.specs.FullName.{is_package_label, is_version_or_none}
+use Rattle.tables.specs.PackageNames.{PackageParts}
 use Rattle.tables.specs.Tables.{type_of}
 use Rattle.tables.specs.declared.tables.TypeId.{TypeId}
 use Rattle.tables.specs.declared.tables.TypeDef.{TypeDef}
@@ -22,9 +21,12 @@ use Rattle.package_form.specs.Unused.{are_used}
 use Rattle.package_form.specs.References.{row_references}
 use Rattle.package_form.specs.Ends.{end_of, rows_of, is_parted}
 
--- the package's names are those of full names: the namespace and the package in lower case, and a version of SemVer
+-- the names of packages are those of full names: the namespace and the package in lower case, and a version of SemVer
+abbrev pub is_package_name : PackageParts → Bool
+is_package_name p = is_package_label p.namespace && (is_package_label p.name && is_version_or_none p.version)
+
 abbrev pub has_full_names : Resolve → Bool
-has_full_names r = is_package_label r.namespace && (is_package_label r.name && is_version_or_none (option_map string_bytes r.version))
+has_full_names r = list_all is_package_name r.packages
 
 -- ---- what a row of interface k refers to
 
@@ -94,11 +96,12 @@ are_interfaces rows k start [] = true
 are_interfaces rows k start (i ∷ is) =
     (has_ids rows start i && list_all (is_local rows k) (rows_of rows start i)) && are_interfaces rows (k + 1) (end_of start i) is
 
--- A package without worlds. Rows stand interface by interface, in each its uses, then its types, each behind the rows without names that
+-- One package, without worlds. Rows stand interface by interface, in each its uses, then its types, each behind the rows without names that
 -- it is made of, then its functions; they refer to rows of their own interface, and a use to a named type of an earlier one.
 pub record IsInPackageForm (r : Resolve) : Type 0 where
   pub some : r.interfaces ≢ []
   pub worlds : r.worlds ≡ []
+  pub alone : length r.packages ≡ 1
   pub names : IsTrue (has_full_names r)
   pub parted : IsTrue (is_parted (length r.definitions) 0 r.interfaces)
   pub interfaces : IsTrue (are_interfaces r.definitions 0 0 r.interfaces)
@@ -110,8 +113,9 @@ abbrev pub is_in_form : Resolve → Bool
 is_in_form r =
     not (length r.interfaces == 0)
     && (length r.worlds == 0
+    && (length r.packages == 1
     && (not (nat_lt 65535 (1 + length r.interfaces + sum (map entries_of r.definitions)))
     && (is_parted (length r.definitions) 0 r.interfaces
     && (has_full_names r
     && (are_interfaces r.definitions 0 0 r.interfaces
-    && are_used r.definitions 0 [] r.definitions)))))
+    && are_used r.definitions 0 [] r.definitions))))))

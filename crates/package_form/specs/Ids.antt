@@ -1,5 +1,6 @@
 -- The ids of interfaces: the places of their used names, their types and their functions in the table.
 use Rattle.std.specs.Prelude.{ℕ, ◌+◌, Bool, true, false, List, [], ◌∷◌, map, Option, None, Some, if◌then◌else◌, ◌==◌, ◌&&◌, not}
+use Rattle.tables.specs.declared.tables.PackageId.{PackageId}
 use Rattle.tables.specs.declared.tables.TypeId.{TypeId}
 use Rattle.tables.specs.declared.tables.FunctionId.{FunctionId}
 use Rattle.tables.specs.declared.tables.TypeDefKind.{TypeDefKind}
@@ -41,15 +42,19 @@ abbrev pub is_function_in : ℕ → Definition → Bool
 is_function_in i (row.Type d) = false
 is_function_in i (row.Function f) = is_owned_by i f.owner
 
+abbrev pub package_id : ℕ → PackageId
+package_id n = record { 0 = n }
+
 abbrev pub type_id : ℕ → TypeId
 type_id n = record { 0 = n }
 
 abbrev pub function_id : ℕ → FunctionId
 function_id n = record { 0 = n }
 
--- interface i of these rows: its used names, its types and its functions in table order
+-- interface i of these rows, in the first package: its used names, its types and its functions in table order
 abbrev pub interface_in : List Definition → ℕ → List ℕ → Interface
 interface_in rows i name = record {
+  «package» = package_id 0;
   name = name;
   uses = map type_id (places_where (is_use_in i) 0 rows);
   types = map type_id (places_where (is_type_in i) 0 rows);

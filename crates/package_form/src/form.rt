@@ -5,7 +5,7 @@ ghost use Rattle.atoms.specs.FullName.{is_package_label};
 ghost use Rattle.atoms.specs.Label.{is_upper};
 ghost use Rattle.package_form.specs.Ids.{places_where};
 ghost use Rattle.package_form.specs.Ends.{end_of, is_parted};
-ghost use Rattle.package_form.specs.Form.{has_full_names, is_own_name, is_own, is_earlier_name, is_earlier, uses_earlier, is_owned, is_local, is_named, ids_of, is_use_at, has_ids, are_interfaces, is_in_form, IsInPackageForm};
+ghost use Rattle.package_form.specs.Form.{is_package_name, has_full_names, is_own_name, is_own, is_earlier_name, is_earlier, uses_earlier, is_owned, is_local, is_named, ids_of, is_use_at, has_ids, are_interfaces, is_in_form, IsInPackageForm};
 
 use crate::ends::end_of;
 use crate::entries::passes_entries;
@@ -13,7 +13,9 @@ use crate::references::references;
 use crate::unused::{are_used, is_unnamed};
 use atoms::{Label, is_version};
 use std::alloc::{AllocError, Global};
-use tables::{Definition, Interface, Owner, Resolve, TypeDefKind, TypeId, TypeName, ValType};
+use tables::{
+    Definition, Interface, Owner, PackageName, Resolve, TypeDefKind, TypeId, TypeName, ValType,
+};
 
 fn has_no_upper_case(text: &[u8]) -> bool
     ensures { result ≡ list_all (λ c. not (is_upper c)) text.now }
@@ -29,17 +31,29 @@ fn is_lower_case(label: &Label) -> bool
     has_no_upper_case(label.as_bytes())
 }
 
-/// Whether the package's names are those of full names.
-fn has_full_names(alloc: Global, resolve: &Resolve) -> Result<bool, AllocError>
-    ensures { IfOk result (λ b. b ≡ has_full_names resolve.now) }
+/// Whether a package's name is that of full names.
+fn is_package_name(alloc: Global, package: &PackageName) -> Result<bool, AllocError>
+    ensures { IfOk result (λ b. b ≡ is_package_name «package».now) }
 {
-    if !is_lower_case(&resolve.namespace) || !is_lower_case(&resolve.name) {
+    if !is_lower_case(&package.namespace) || !is_lower_case(&package.name) {
         return Ok(false);
     }
-    match &resolve.version {
+    match &package.version {
         Some(version) => is_version(alloc, version.as_str()),
         None => Ok(true),
     }
+}
+
+/// Whether the names of packages are those of full names.
+fn has_full_names(alloc: Global, resolve: &Resolve) -> Result<bool, AllocError>
+    ensures { IfOk result (λ b. b ≡ has_full_names resolve.now) }
+{
+    for package in resolve.packages.as_slice() {
+        if !is_package_name(alloc, package)? {
+            return Ok(false);
+        }
+    }
+    Ok(true)
 }
 
 fn is_own_name(place: usize, name: &Option<TypeName>) -> bool
@@ -281,7 +295,7 @@ fn passes_tests(alloc: Global, resolve: &Resolve) -> Result<bool, AllocError>
 {
     let rows = resolve.definitions.as_slice();
     let interfaces = resolve.interfaces.as_slice();
-    if interfaces.is_empty() || !resolve.worlds.is_empty() {
+    if interfaces.is_empty() || !resolve.worlds.is_empty() || resolve.packages.len() != 1 {
         return Ok(false);
     }
     if passes_entries(interfaces.len(), rows) || !is_parted(rows.len(), interfaces) {

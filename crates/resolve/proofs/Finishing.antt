@@ -6,7 +6,7 @@ use Rattle.std.proofs.lemmas.Bool.{eq-eqb, ne_eqb}
 use Rattle.tables.specs.declared.tables.TypeName.{TypeName}
 use Rattle.tables.specs.declared.tables.TypeDefKind.{TypeDefKind}
 use Rattle.tables.specs.declared.tables.TypeDefKind.TheVariants as kind
-use Rattle.tables.specs.Tables.{is_type_id, is_function_id, is_placed, are_placed, is_there, type_of, function_of}
+use Rattle.tables.specs.Tables.{is_type_id, is_function_id, is_placed, are_placed, are_grouped, is_there, type_of, function_of}
 use Rattle.package_form.specs.Ids.{places_where, is_in, is_use, is_owned_by, is_use_in, is_type_in, is_function_in, type_id, function_id, interface_in, interfaces_from}
 use Rattle.resolve.specs.Finished.{named_in, owned_in, interface_of, with_type, with_row}
 use Rattle.tables.specs.declared.tables.TypeDef.{TypeDef}
@@ -72,6 +72,7 @@ some-inj e = cc
 -- the interface with the id of this row, where the row stands in it
 abbrev added : ℕ → Definition → ℕ → Interface → Interface
 added k d i x = record {
+  «package» = x.«package»;
   name = x.name;
   uses = x.uses ++ map type_id (cond (is_use_in i d) (k ∷ []) []);
   types = x.types ++ map type_id (cond (is_type_in i d) (k ∷ []) []);
@@ -82,6 +83,7 @@ type-there : (k : ℕ) (d : TypeDef) (i : ℕ) (x : Interface) → is_in i d.nam
 type-there k d i x e = rw e (by d.kind)
   where
     by : (t : TypeDefKind) → record {
+      «package» = x.«package»;
       name = x.name;
       uses = x.uses ++ map type_id (cond (is_use t) (k ∷ []) []);
       types = x.types ++ map type_id (cond (not (is_use t)) (k ∷ []) []);
@@ -98,7 +100,7 @@ type-there k d i x e = rw e (by d.kind)
     by (kind.Enum ns) = rw (append-nil x.uses, append-nil x.functions) refl
     by (kind.Flags ns) = rw (append-nil x.uses, append-nil x.functions) refl
 
-nothing-added : (x : Interface) → record { name = x.name; uses = x.uses ++ []; types = x.types ++ []; functions = x.functions ++ [] } ≡ x
+nothing-added : (x : Interface) → record { «package» = x.«package»; name = x.name; uses = x.uses ++ []; types = x.types ++ []; functions = x.functions ++ [] } ≡ x
 nothing-added x = rw (append-nil x.uses, append-nil x.types, append-nil x.functions) refl
 
 named-there : (n : Option TypeName) (i : ℕ) → named_in n ≡ Some i → is_in i n ≡ true
@@ -208,3 +210,8 @@ one-placed rows i n =
 pub all-placed-ids : (rows : List Definition) (i : ℕ) (ns : List (List ℕ)) → IsTrue (are_placed rows (interfaces_from rows i ns))
 all-placed-ids rows i [] = refl
 all-placed-ids rows i (n ∷ ns) = both _ _ (one-placed rows i n) (all-placed-ids rows (i + 1) ns)
+
+-- all of them are of the first package
+pub all-grouped : (rows : List Definition) (i : ℕ) (ns : List (List ℕ)) → IsTrue (are_grouped 1 0 (interfaces_from rows i ns))
+all-grouped rows i [] = refl
+all-grouped rows i (n ∷ ns) = all-grouped rows (i + 1) ns

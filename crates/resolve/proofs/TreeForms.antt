@@ -1,17 +1,12 @@
 -- What a syntax tree resolves to is in package form.
 use Rattle.std.proofs.Common.{◌≡◌, ◌≢◌, ℕ, zero, suc, ◌+◌, ◌<◌, ◌≤◌, Bool, true, false, not, ◌||◌, ◌==◌, nat_lt, IsTrue, List, [], ◌∷◌, ◌++◌, map, flat_map, filter_map, take, length, get_or, Option, None, Some, refl, ap, sym, subst, ◌∙◌, arith, All, Contains, inl, inr}
 use Rattle.std.specs.Prelude.{slice_index_or}
-use Rattle.std.specs.Option.{option_map}
-use Rattle.std.specs.String.{string_bytes}
-use Rattle.std.specs.declared.string.String.{String}
-use Rattle.std.specs.declared.alloc.Global.{Global}
 use Rattle.std.specs.List.{list_all}
 use Rattle.std.proofs.lemmas.Bool.Decides.{nat_tests}
 use Rattle.std.proofs.lemmas.List.{length-map, length-take, get_or-take, get_or_default, get_or-map, get_or_past}
 use Rattle.atoms.specs.Label.{is_label}
 use Rattle.atoms.specs.FullName.{is_package_label, is_version_or_none}
 use Rattle.wit_syntax.specs.Syntax.{FileEntry, AnInterface, AWorld, File}
-use Rattle.wit_syntax.specs.View.{version_view}
 use Rattle.wit_syntax.specs.FullNames.{has_label, has_full_names}
 use Rattle.tables.specs.Package.{NamedDefinition, definitions_from, interface_names as names_in}
 use Rattle.tables.specs.declared.tables.World.{World}
@@ -21,14 +16,14 @@ use Rattle.resolve.specs.Order.{IsPlacement, is_among}
 use Rattle.package_form.specs.Scope.{AreDistinct}
 use Rattle.resolve.specs.Declarations.{UsedItem, FunctionItem, InterfaceTree, interfaces, interface_of, interface_at, no_interface, interface_name, interface_names, use_interface}
 use Rattle.resolve.specs.Resolved.{use_meaning, type_meaning, function_meaning, in_order, interface_meaning, no_type, definition_meaning, fields_of, member_meaning, resolved_if}
-use Rattle.resolve.specs.Resolves.{place_of, uses_of_interface, interface_uses, names_in_order, IsKnownUse, HasKnownNames, HasNoFaults, IsPackageOf}
+use Rattle.resolve.specs.Resolves.{place_of, uses_of_interface, interface_uses, names_in_order, IsKnownUse, HasKnownNames, HasNoFaults, package_named, IsPackageOf}
 use Rattle.package_form.specs.Ids.{interfaces_from}
 use Rattle.package_form.proofs.Lists.{all-at, all-contained, contains-map, contains-unmap, contains-here, compared}
 use Rattle.resolve.proofs.Placing.{all-from, place-found, all-places, among-at}
 use Rattle.package_form.proofs.OneRow.{same-place}
 use Rattle.resolve.proofs.Packaging.{interface-name, name-in-order}
 use Rattle.resolve.proofs.Trees.{distinct-interfaces}
-use Rattle.package_form.specs.Form.{IsInPackageForm, are_interfaces, has_full_names as has_names}
+use Rattle.package_form.specs.Form.{IsInPackageForm, is_package_name, are_interfaces, has_full_names as has_names}
 use Rattle.tables.proofs.Rows.{split, both}
 use Rattle.package_form.proofs.Postfix.{postfix-used}
 use Rattle.resolve.proofs.Referring.{if-refers, members-refer, body-refers}
@@ -222,10 +217,6 @@ some-interface (AWorld at n ws ∷ es) some h = absurd (h at n ws (contains-here
 no-worlds : (ws : List World) → ws ≡ [] → map (λ (w : World). w.name) ws ≡ []
 no-worlds ws e = ap (map (λ (w : World). w.name)) e
 
-version-is : (v : Option (String Global)) → version_view v ≡ option_map string_bytes v
-version-is None = refl
-version-is (Some v) = refl
-
 module _ (f : File) (r : Resolve) (h : HasNoFaults f) (full : IsTrue (has_full_names f)) (p : IsPackageOf f r) where
   abbrev pub trees : List InterfaceTree
   trees = interfaces f
@@ -251,9 +242,9 @@ module _ (f : File) (r : Resolve) (h : HasNoFaults f) (full : IsTrue (has_full_n
   have-names : IsTrue (has_names r)
   have-names =
       let s = names-split in
-      both (is_package_label r.namespace) _ (subst (λ (n : List ℕ). IsTrue (is_package_label n)) (sym p.namespace) s.0)
-      (both (is_package_label r.name) _ (subst (λ (n : List ℕ). IsTrue (is_package_label n)) (sym p.name) s.1.0)
-      (subst (λ (v : Option (List ℕ)). IsTrue (is_version_or_none v)) (sym p.version ∙ version-is r.version) s.1.1.0))
+      ap (list_all is_package_name) p.packages
+      ∙ both (is_package_name (package_named f)) true
+      (both (is_package_label f.namespace) _ s.0 (both (is_package_label f.name) (is_version_or_none f.version) s.1.0 s.1.1.0)) refl
 
   pub named : names_in r ≡ names_in_order trees order
   named = p.resolves.names
@@ -295,6 +286,7 @@ module _ (f : File) (r : Resolve) (h : HasNoFaults f) (full : IsTrue (has_full_n
   has-form = record {
     some = some-interfaces;
     worlds = p.worlds;
+    alone = ap length p.packages;
     names = have-names;
     parted = ap (is_parted (length r.definitions) 0) interfaces-are ∙ in-place.0;
     interfaces = ap (are_interfaces r.definitions 0 0) interfaces-are ∙ in-place.1;

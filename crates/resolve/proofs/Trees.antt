@@ -1,6 +1,10 @@
 -- The interfaces of a file, and its package.
-use Rattle.std.proofs.Common.{◌≡◌, ◌⊎◌, inl, inr, ℕ, ◌+◌, ◌<◌, ◌≤◌, List, [], ◌∷◌, Result, Ok, Err, IfOk, IfErr, map, length, get_or, refl, ap, sym, ◌∙◌, subst, arith, Contains, Bor}
+use Rattle.std.proofs.Common.{◌≡◌, ◌⊎◌, inl, inr, ℕ, ◌+◌, ◌<◌, ◌≤◌, List, [], ◌∷◌, Result, Ok, Err, IfOk, IfErr, Option, None, Some, map, length, get_or, refl, ap, sym, ◌∙◌, subst, arith, Contains, Bor}
 use Rattle.std.specs.List.{filter_map}
+use Rattle.std.specs.Option.{option_map}
+use Rattle.std.specs.String.{string_bytes}
+use Rattle.std.specs.declared.string.String.{String}
+use Rattle.std.specs.declared.alloc.Global.{Global}
 use Rattle.wit_tokens.specs.declared.token.Span.{Span}
 use Rattle.wit_syntax.specs.Syntax.{FileEntry, AnInterface, AWorld, WorldEntry, File}
 use Rattle.wit_syntax.specs.View.{version_view}
@@ -97,6 +101,10 @@ names-kept : (rows : List Definition) (i : ℕ) (ns : List (List ℕ)) → map (
 names-kept rows i [] = refl
 names-kept rows i (n ∷ ns) = ap (λ (ms : List (List ℕ)). n ∷ ms) (names-kept rows (i + 1) ns)
 
+version-is : (v : Option (String Global)) → version_view v ≡ option_map string_bytes v
+version-is None = refl
+version-is (Some v) = refl
+
 module _ (id : PackageId) (t : Table) (r : Resolve) (f : IsFinished id t r) where
   names-same : names_in r ≡ t.interfaces
   names-same = ap (λ (xs : List Interface). map (λ (x : Interface). x.name) xs) f.interfaces ∙ names-kept t.rows 0 t.interfaces
@@ -111,9 +119,7 @@ module _ (id : PackageId) (t : Table) (r : Resolve) (f : IsFinished id t r) wher
 
   pub is-package : (g : File) → g.namespace ≡ id.namespace → g.name ≡ id.name → g.version ≡ version_view id.version → Resolves (interfaces g) (package_in t) → IsPostfix t.rows → IsPackageOf g r
   is-package g ens en ev resolves postfix = record {
-    namespace = f.namespace ∙ sym ens;
-    name = f.name ∙ sym en;
-    version = f.version ∙ sym ev;
+    packages = f.packages ∙ rw (ens, en, ev ∙ version-is id.version) refl;
     worlds = f.worlds;
     resolves = subst (Resolves (interfaces g)) (sym package-same) resolves;
     postfix = subst IsPostfix (sym f.definitions) postfix;

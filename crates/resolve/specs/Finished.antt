@@ -1,6 +1,8 @@
 -- A package that was made of a table.
 use Rattle.std.specs.Prelude.{◌≡◌, ◌≤◌, ℕ, [], ◌∷◌, ◌++◌, Option, None, Some}
-use Rattle.wit_syntax.specs.View.{version_view}
+use Rattle.std.specs.Option.{option_map}
+use Rattle.std.specs.String.{string_bytes}
+use Rattle.tables.specs.PackageNames.{PackageParts}
 use Rattle.wit_syntax.specs.declared.ast.PackageId.{PackageId}
 use Rattle.package_form.specs.Entries.{Table, type_entries}
 use Rattle.package_form.specs.Ids.{type_id, function_id, interfaces_in}
@@ -29,17 +31,19 @@ interface_of (row.Function f) = owned_in f.owner
 
 -- the interface with one more definition, which stands at place k
 abbrev pub with_type : ℕ → TypeDefKind → Interface → Interface
-with_type k (kind.Use t) i = record { name = i.name; uses = i.uses ++ type_id k ∷ []; types = i.types; functions = i.functions }
-with_type k _ i = record { name = i.name; uses = i.uses; types = i.types ++ type_id k ∷ []; functions = i.functions }
+with_type k (kind.Use t) i = record { «package» = i.«package»; name = i.name; uses = i.uses ++ type_id k ∷ []; types = i.types; functions = i.functions }
+with_type k _ i = record { «package» = i.«package»; name = i.name; uses = i.uses; types = i.types ++ type_id k ∷ []; functions = i.functions }
 
 abbrev pub with_row : ℕ → Definition → Interface → Interface
 with_row k (row.Type d) i = with_type k d.kind i
-with_row k (row.Function f) i = record { name = i.name; uses = i.uses; types = i.types; functions = i.functions ++ function_id k ∷ [] }
+with_row k (row.Function f) i = record { «package» = i.«package»; name = i.name; uses = i.uses; types = i.types; functions = i.functions ++ function_id k ∷ [] }
+
+-- the name of the package that a header gives
+abbrev pub header : PackageId → PackageParts
+header p = record { namespace = p.namespace; name = p.name; version = option_map string_bytes p.version }
 
 pub record IsFinished (p : PackageId) (t : Table) (r : Resolve) : Type 0 where
-  pub namespace : r.namespace ≡ p.namespace
-  pub name : r.name ≡ p.name
-  pub version : version_view r.version ≡ version_view p.version
+  pub packages : r.packages ≡ header p ∷ []
   pub worlds : r.worlds ≡ []
   pub interfaces : r.interfaces ≡ interfaces_in t
   pub definitions : r.definitions ≡ t.rows

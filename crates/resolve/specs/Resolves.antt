@@ -5,7 +5,7 @@ use Rattle.std.specs.Option.{option_map}
 use Rattle.std.specs.Str.{bytes_eq}
 use Rattle.wit_tokens.specs.declared.token.Span.{Span}
 use Rattle.wit_syntax.specs.Syntax.{Ty, depth, Member, CaseOf, Definition as Body, Alias, Record, Variant, Enumeration, FlagSet, Function as Signature, Entry, Uses, Defines, Declares, WorldEntry, FileEntry, AnInterface, AWorld, File}
-use Rattle.wit_syntax.specs.View.{version_view}
+use Rattle.tables.specs.PackageNames.{PackageParts}
 use Rattle.package_form.specs.Scope.{AreDistinct, IsDuplicate}
 use Rattle.resolve.specs.Order.{IsPlacement, IsCycle}
 use Rattle.tables.specs.Tables.{are_earlier, name_types, are_standard}
@@ -156,11 +156,13 @@ file_fits f = list_all interface_fits f.entries
 
 -- ---- what is answered
 
+-- the name of a tree's package
+abbrev pub package_named : File → PackageParts
+package_named f = record { namespace = f.namespace; name = f.name; version = f.version }
+
 -- The package of a tree. The rows without names and the ids of the interfaces are told as well, so that there is one answer alone.
 pub record IsPackageOf (f : File) (r : Resolve) : Type 0 where
-  pub namespace : r.namespace ≡ f.namespace
-  pub name : r.name ≡ f.name
-  pub version : version_view r.version ≡ f.version
+  pub packages : r.packages ≡ package_named f ∷ []
   pub worlds : r.worlds ≡ []
   pub resolves : Resolves (interfaces f) (package_of r)
   pub postfix : IsPostfix r.definitions

@@ -3,17 +3,16 @@ ghost use Rattle.std.specs.Prelude.{◌≡◌, ◌≤◌, ◌⊎◌, [], length,
 ghost use Rattle.tables.specs.Tables.{are_earlier, name_types};
 ghost use Rattle.resolve.specs.Resolves.{PassesLimit};
 ghost use Rattle.package_form.specs.Ids.{interfaces_from};
-ghost use Rattle.resolve.specs.Finished.{IsFinished, interface_of, with_row};
+ghost use Rattle.resolve.specs.Finished.{IsFinished, header, interface_of, with_row};
 
 use crate::builder::Builder;
 use atoms::Label;
 use package_form::passes_entries;
 use std::alloc::{AllocError, Global};
 use tables::{
-    Definition, FunctionId, Interface, Owner, Resolve, ResolveError, Sequence, TypeDefKind, TypeId,
-    are_standard,
+    Definition, FunctionId, Interface, Owner, PackageId, PackageName, Resolve, ResolveError,
+    Sequence, TypeDefKind, TypeId, are_standard, copy_version,
 };
-use wit_syntax::PackageId;
 
 /// The interface that a row has a name in.
 fn interface_of(row: &Definition) -> Option<usize>
@@ -46,13 +45,14 @@ fn push_id(interface: &mut Interface, place: usize, row: &Definition) -> Result<
     Ok(())
 }
 
-/// Interfaces of these names, without definitions.
+/// Interfaces of these names in the first package, without definitions.
 fn empty_interfaces(alloc: Global, names: &[Label]) -> Result<Vec<Interface>, AllocError>
     ensures { IfOk result (λ is. is.items ≡ interfaces_from [] 0 names.now) }
 {
     let mut interfaces = Vec::new(alloc);
     for name in names {
         interfaces.push(Interface {
+            package: PackageId(0),
             name: name.copy(alloc)?,
             uses: Sequence::new(Vec::new(alloc)),
             types: Sequence::new(Vec::new(alloc)),
@@ -82,8 +82,23 @@ fn interfaces_in(
     Ok(Sequence::new(interfaces))
 }
 
+/// The name of the package that a tree's header gives.
+fn package_name(alloc: Global, id: &wit_syntax::PackageId) -> Result<PackageName, AllocError>
+    ensures { IfOk result (λ p. p ≡ header id.now) }
+{
+    Ok(PackageName {
+        namespace: id.namespace.copy(alloc)?,
+        name: id.name.copy(alloc)?,
+        version: copy_version(&id.version)?,
+    })
+}
+
 /// The package of this table, under this name.
-pub fn finish(alloc: Global, builder: Builder, id: &PackageId) -> Result<Resolve, ResolveError>
+pub fn finish(
+    alloc: Global,
+    builder: Builder,
+    id: &wit_syntax::PackageId,
+) -> Result<Resolve, ResolveError>
     requires earlier { IsTrue (are_earlier 0 builder.rows) }
     requires typed { IsTrue (name_types builder.rows) }
     ensures ok { IfOk result (IsFinished id.now builder) }
@@ -93,14 +108,9 @@ pub fn finish(alloc: Global, builder: Builder, id: &PackageId) -> Result<Resolve
     if passes_entries(names.len(), &rows) || !are_standard(&rows) {
         return Err(ResolveError::Limit);
     }
-    let version = match &id.version {
-        Some(version) => Some(version.clone()?),
-        None => None,
-    };
+    let package = package_name(alloc, id)?;
     Ok(Resolve {
-        namespace: id.namespace.copy(alloc)?,
-        name: id.name.copy(alloc)?,
-        version,
+        packages: Sequence::new(vec![in alloc; package]?),
         interfaces: interfaces_in(alloc, &rows, &names)?,
         worlds: Sequence::new(Vec::new(alloc)),
         definitions: Sequence::new(rows),

@@ -33,9 +33,7 @@ fn label(alloc: Global) -> Result<Label, ResolveError> {
 
 fn package(alloc: Global, definitions: Vec<Definition>) -> Result<Resolve, ResolveError> {
     Resolve::from_parts(
-        label(alloc)?,
-        label(alloc)?,
-        None,
+        Sequence::new(Vec::new(alloc)),
         Sequence::new(Vec::new(alloc)),
         Sequence::new(Vec::new(alloc)),
         Sequence::new(definitions),

@@ -1,10 +1,11 @@
 -- Whether definitions name earlier types alone, one after the other.
-use Rattle.std.proofs.Common.{◌≡◌, ℕ, suc, ◌+◌, ◌<◌, Bool, true, false, IsTrue, Option, None, Some, ◌&&◌, List, [], ◌∷◌, ◌++◌, length, take, get_or, refl, ap, sym, subst, ◌∙◌, true≢false, arith}
+use Rattle.std.proofs.Common.{◌≡◌, ℕ, zero, suc, ◌+◌, ◌<◌, Bool, true, false, IsTrue, Option, None, Some, ◌&&◌, nat_le, nat_lt, List, [], ◌∷◌, ◌++◌, length, take, get_or, refl, ap, sym, subst, ◌∙◌, true≢false, arith}
 use Rattle.std.proofs.lemmas.Grind.{take_at_read}
 use Rattle.std.proofs.lemmas.List.{length-take}
+use Rattle.std.proofs.lemmas.Bool.{ltb-true}
 use Rattle.std.specs.List.{list_all}
 use Rattle.std.proofs.lemmas.List.Folds.{list_all_more, list_all_at}
-use Rattle.tables.specs.Tables.{option_all, kind_all, definition_all, is_below, definition_below, are_earlier, is_type, name_types, is_earlier, are_standard, are_placed}
+use Rattle.tables.specs.Tables.{option_all, kind_all, definition_all, is_below, definition_below, are_earlier, is_type, name_types, is_earlier, are_standard, are_placed, are_grouped}
 use Rattle.tables.specs.Parts.{is_package}
 use Rattle.tables.specs.declared.tables.Interface.{Interface}
 use Rattle.tables.specs.declared.tables.ValType.{ValType}
@@ -123,10 +124,20 @@ names-never ds i d h is here = by (definition_below i d) (definition_all (is_typ
 
 -- ---- parts of a package
 
-pub package-parts : (ds : List Definition) (is : List Interface) → is_package ds is ≡ true
-    → IsTrue (are_earlier 0 ds) × IsTrue (name_types ds) × IsTrue (are_standard ds) × IsTrue (are_placed ds is)
-package-parts ds is h =
-    let halves = split (are_earlier 0 ds && name_types ds) (are_standard ds && are_placed ds is) h in
+pub package-parts : (count : ℕ) (ds : List Definition) (is : List Interface) → is_package count ds is ≡ true
+    → IsTrue (are_earlier 0 ds) × IsTrue (name_types ds) × IsTrue (are_standard ds) × IsTrue (are_placed ds is) × IsTrue (are_grouped count 0 is)
+package-parts count ds is h =
+    let halves = split (are_earlier 0 ds && name_types ds) (are_standard ds && (are_placed ds is && are_grouped count 0 is)) h in
     let named = split (are_earlier 0 ds) (name_types ds) halves.0 in
-    let rest = split (are_standard ds) (are_placed ds is) halves.1 in
-    (named.0, named.1, rest.0, rest.1)
+    let rest = split (are_standard ds) (are_placed ds is && are_grouped count 0 is) halves.1 in
+    let last = split (are_placed ds is) (are_grouped count 0 is) rest.1 in
+    (named.0, named.1, rest.0, last.0, last.1)
+
+-- an interface of a table is of one of its packages
+pub grouped-at : (count first : ℕ) (is : List Interface) (k : ℕ) (i : Interface) → IsTrue (are_grouped count first is) → k < length is → get_or is k i ≡ i → i.«package».0 < count
+grouped-at count first [] k i h q e = absurd (omega arith)
+grouped-at count first (j ∷ is) zero i h q e =
+    let here = split (nat_le first j.«package».0) (nat_lt j.«package».0 count) (split (nat_le first j.«package».0 && nat_lt j.«package».0 count) _ h).0 in
+    subst (λ (x : Interface). x.«package».0 < count) e (ltb-true j.«package».0 count here.1)
+grouped-at count first (j ∷ is) (suc k) i h q e =
+    grouped-at count j.«package».0 is k i (split (nat_le first j.«package».0 && nat_lt j.«package».0 count) _ h).1 (omega (arith, q)) e

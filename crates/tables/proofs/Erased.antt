@@ -1,10 +1,10 @@
 -- Without their labels, the labelled types of a table are its closed types.
-use Rattle.std.proofs.Common.{◌≡◌, ℕ, zero, suc, List, [], ◌∷◌, ◌++◌, map, length, get_or, Option, Some, None, refl, ap, sym, ◌∙◌}
+use Rattle.std.proofs.Common.{◌≡◌, ℕ, zero, suc, List, [], ◌∷◌, ◌++◌, map, get_or, Option, Some, None, refl, ap, ◌∙◌}
 use Rattle.std.specs.Option.{option_map}
 use Rattle.std.proofs.lemmas.List.{map-append}
-use Rattle.canonical_abi.specs.Types.{ClosedType, string_type, record_type, variant_type, fields_of, cases_of, field, Cases, plain_case, case_with}
+use Rattle.canonical_abi.specs.Types.{ClosedType, string_type, record_type, variant_type, fields_of, cases_of, Cases, plain_case}
 use Rattle.canonical_abi.specs.Labelled.{Label, LabelledType, labelled_string, closed, closed_members, closed_fields, closed_cases, closed_payload, plain_cases}
-use Rattle.tables.specs.Closed.{closed_val, closed_kind, closed_definition, closed_rows, closed_type}
+use Rattle.tables.specs.Closed.{closed_val, closed_kind, closed_definition, closed_rows}
 use Rattle.tables.specs.declared.tables.ValType.{ValType}
 use Rattle.tables.specs.declared.tables.ValType.TheVariants as val
 use Rattle.tables.specs.declared.tables.TypeDefKind.{TypeDefKind}

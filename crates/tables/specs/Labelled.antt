@@ -1,5 +1,5 @@
 -- The labelled types of a table: what its types are once each name is unfolded, with their labels.
-use Rattle.std.specs.Prelude.{◌≡◌, ℕ, List, [], ◌∷◌, ◌++◌, slice_index_or, Option, None, Some}
+use Rattle.std.specs.Prelude.{◌≡◌, List, [], ◌∷◌, ◌++◌, slice_index_or, Option, None, Some}
 use Rattle.canonical_abi.specs.Labelled.{LabelledType, labelled_prim, labelled_string, labelled_list, labelled_option, labelled_tuple, labelled_result, labelled_record, labelled_variant, labelled_enum, labelled_flags, LabelledTypes, no_member, member, Payload, no_payload, payload, LabelledFields, no_labelled_field, labelled_field, LabelledCases, no_labelled_case, labelled_case, closed}
 use Rattle.tables.specs.Closed.{prim_of, closed_type}
 use Rattle.tables.specs.declared.tables.ValType.{ValType}

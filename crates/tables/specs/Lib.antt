@@ -1,3 +1,4 @@
+pub mod PackageNames
 pub mod Tables
 pub mod Closed
 pub mod Names

@@ -1,28 +1,20 @@
 -- WIT.md, "Package Names": full names, and which function a full name and a name stand for.
-use Rattle.std.specs.Prelude.{◌≡◌, ℕ, List, [], ◌∷◌, ◌++◌, Option, None, Some, Contains}
+use Rattle.std.specs.Prelude.{◌≡◌, ℕ, List, slice_get, Option, None, Some, Contains}
 use Rattle.std.specs.Option.{option_map}
-use Rattle.std.specs.String.{string_bytes}
-use Rattle.std.specs.declared.string.String.{String}
-use Rattle.std.specs.declared.alloc.Global.{Global}
+use Rattle.atoms.specs.FullName.{full_name_text}
+use Rattle.tables.specs.PackageNames.{PackageParts, name_parts}
 use Rattle.tables.specs.Closed.{function_at}
 use Rattle.tables.specs.declared.tables.FunctionId.{FunctionId}
 use Rattle.tables.specs.declared.tables.Interface.{Interface}
 use Rattle.tables.specs.declared.tables.Resolve.{Resolve}
 
--- a version stands behind an @
-abbrev pub version_suffix : Option (String Global) → List ℕ
-version_suffix None = []
-version_suffix (Some v) = 64 ∷ string_bytes v
-
--- namespace:package/interface, and the version if there is one; from its end
-abbrev pub name_in_package : Resolve → Interface → List ℕ
-name_in_package r i = i.name ++ version_suffix r.version
-
-abbrev pub name_in_namespace : Resolve → Interface → List ℕ
-name_in_namespace r i = r.name ++ 47 ∷ name_in_package r i
+-- the full name of a name in the package, if there is one: each interface of a table is of a package
+abbrev pub full_name_in : Option PackageParts → List ℕ → List ℕ
+full_name_in None name = name
+full_name_in (Some p) name = full_name_text (name_parts p name)
 
 abbrev pub full_name : Resolve → Interface → List ℕ
-full_name r i = r.namespace ++ 58 ∷ name_in_namespace r i
+full_name r i = full_name_in (slice_get r.packages i.«package».0) i.name
 
 abbrev pub function_name : Resolve → FunctionId → Option (List ℕ)
 function_name r f = option_map (λ g. g.name) (function_at r f)

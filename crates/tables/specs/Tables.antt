@@ -111,6 +111,11 @@ is_placed ds i = list_all (is_type_id ds) i.uses && (list_all (is_type_id ds) i.
 abbrev pub are_placed : List Definition → List Interface → Bool
 are_placed ds is = list_all (is_placed ds) is
 
+-- each interface is of one of `count` packages, none of which stands before `first`, and those of a package stand together
+abbrev pub are_grouped : ℕ → ℕ → List Interface → Bool
+are_grouped count first [] = true
+are_grouped count first (i ∷ is) = (nat_le first i.«package».0 && nat_lt i.«package».0 count) && are_grouped count i.«package».0 is
+
 -- the type is a primitive or string, or a type of the table, not a function
 abbrev pub is_type : List Definition → ValType → Bool
 is_type ds (val.Primitive p) = true

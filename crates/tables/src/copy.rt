@@ -4,8 +4,8 @@ ghost use Rattle.tables.specs.Same.{IsSamePackage};
 
 use crate::sequence::Sequence;
 use crate::tables::{
-    Case, Definition, Field, Function, FunctionId, Interface, Parameter, Resolve, TypeDef,
-    TypeDefKind, TypeId, TypeName, ValType, World, WorldItem,
+    Case, Definition, Field, Function, FunctionId, Interface, PackageName, Parameter, Resolve,
+    TypeDef, TypeDefKind, TypeId, TypeName, ValType, World, WorldItem,
 };
 use atoms::Label;
 use std::alloc::{AllocError, Global};
@@ -150,10 +150,21 @@ impl Copied for Definition {
 impl Copied for Interface {
     fn copied(&self, alloc: Global) -> Result<Self, AllocError> {
         Ok(Interface {
+            package: self.package,
             name: self.name.copy(alloc)?,
             uses: copied_all(alloc, &self.uses)?,
             types: copied_all(alloc, &self.types)?,
             functions: copied_all(alloc, &self.functions)?,
+        })
+    }
+}
+
+impl Copied for PackageName {
+    fn copied(&self, alloc: Global) -> Result<Self, AllocError> {
+        Ok(PackageName {
+            namespace: self.namespace.copy(alloc)?,
+            name: self.name.copy(alloc)?,
+            version: copy_version(&self.version)?,
         })
     }
 }
@@ -183,9 +194,7 @@ impl Resolve {
         ensures { IfOk result (λ r. IsSamePackage r self.now) }
     {
         Ok(Resolve {
-            namespace: self.namespace.copy(alloc)?,
-            name: self.name.copy(alloc)?,
-            version: copy_version(&self.version)?,
+            packages: copied_all(alloc, &self.packages)?,
             interfaces: copied_all(alloc, &self.interfaces)?,
             worlds: copied_all(alloc, &self.worlds)?,
             definitions: copied_all(alloc, &self.definitions)?,

@@ -1,6 +1,6 @@
 //! The tables of a package: what its names and indices stand for.
 //!
-//! `Resolve` holds a package's interfaces and worlds, and one table of definitions in which types and
+//! `Resolve` holds a package's name, its interfaces and worlds, and one table of definitions in which types and
 //! functions stand in order, each after those that it names. The closed types of a table are defined in
 //! `specs/Closed.antt`, in `canonical_abi`'s words; the crates above ask by them alone. It knows no syntax,
 //! and stands on `canonical_abi` and `atoms`.
@@ -20,6 +20,6 @@ pub use parts::are_standard;
 pub use sequence::Sequence;
 pub use tables::{
     Case, Definition, Direction, Field, Function, FunctionId, Interface, InterfaceId, Owner,
-    Parameter, Primitive, Resolve, TypeDef, TypeDefKind, TypeId, TypeName, ValType, World, WorldId,
-    WorldItem, WorldItemKind,
+    PackageId, PackageName, Parameter, Primitive, Resolve, TypeDef, TypeDefKind, TypeId, TypeName,
+    ValType, World, WorldId, WorldItem, WorldItemKind,
 };

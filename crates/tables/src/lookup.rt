@@ -1,10 +1,13 @@
 //! Functions of a package by their names, and what is known of one.
-ghost use Rattle.std.specs.Prelude.{◌≡◌, ◌↔◌, ◌≢◌, ◌++◌, ◌∷◌, ℕ, List, IsTrue, IfSome, IfNone, None, Some, MatchOption};
+ghost use Rattle.std.specs.Prelude.{◌≡◌, ◌↔◌, ◌≢◌, ◌<◌, ◌++◌, ◌∷◌, ℕ, List, length, IsTrue, IfSome, IfNone, None, Some, MatchOption};
+ghost use Rattle.atoms.specs.FullName.{full_name_text, package_text, name_text, version_suffix};
 ghost use Rattle.tables.specs.Closed.{function_at, IsFunction, is_scalar, is_scalar_function};
-ghost use Rattle.tables.specs.Names.{full_name, name_in_namespace, name_in_package, version_suffix, IsNamed, IsNamedIn};
+ghost use Rattle.tables.specs.PackageNames.{name_parts};
+ghost use Rattle.tables.specs.Names.{full_name, IsNamed, IsNamedIn};
 ghost use Rattle.tables.specs.declared.tables.FunctionId.{FunctionId};
 
-use crate::tables::{Definition, Function, FunctionId, Interface, Resolve, ValType};
+use crate::tables::{Definition, Function, FunctionId, Interface, PackageName, Resolve, ValType};
+use atoms::Label;
 
 /// The most parameters of a function that is called without a record in memory.
 const MAX_SCALARS: usize = 16;
@@ -33,30 +36,30 @@ impl ValType {
     }
 }
 
-impl Resolve {
-    /// Whether the text is the interface's full name.
-    fn is_full_name(&self, interface: &Interface, text: &str) -> bool
-        ensures { IsTrue result ↔ (text.now ≡ full_name self.now interface.now) }
+impl PackageName {
+    /// Whether the text is the full name of this name in the package.
+    fn is_full_name(&self, name: &Label, text: &str) -> bool
+        ensures { IsTrue result ↔ (text.now ≡ full_name_text (name_parts self.now name.now)) }
     {
         match behind_part(text.as_bytes(), self.namespace.as_bytes(), b':') {
-            Some(rest) => self.is_in_namespace(interface, rest),
+            Some(rest) => self.is_in_namespace(name, rest),
             None => false,
         }
     }
 
-    fn is_in_namespace(&self, interface: &Interface, text: &[u8]) -> bool
-        ensures { IsTrue result ↔ (text.now ≡ name_in_namespace self.now interface.now) }
+    fn is_in_namespace(&self, name: &Label, text: &[u8]) -> bool
+        ensures { IsTrue result ↔ (text.now ≡ package_text (name_parts self.now name.now)) }
     {
         match behind_part(text, self.name.as_bytes(), b'/') {
-            Some(rest) => self.is_in_package(interface, rest),
+            Some(rest) => self.is_in_package(name, rest),
             None => false,
         }
     }
 
-    fn is_in_package(&self, interface: &Interface, text: &[u8]) -> bool
-        ensures { IsTrue result ↔ (text.now ≡ name_in_package self.now interface.now) }
+    fn is_in_package(&self, name: &Label, text: &[u8]) -> bool
+        ensures { IsTrue result ↔ (text.now ≡ name_text (name_parts self.now name.now)) }
     {
-        match behind(text, interface.name.as_bytes()) {
+        match behind(text, name.as_bytes()) {
             Some(rest) => self.is_suffix(rest),
             None => false,
         }
@@ -72,6 +75,17 @@ impl Resolve {
                 None => false,
             },
         }
+    }
+}
+
+impl Resolve {
+    /// Whether the text is the interface's full name.
+    fn is_full_name(&self, interface: &Interface, text: &str) -> bool
+        requires { interface.now.«package».0 < length self.now.packages }
+        ensures { IsTrue result ↔ (text.now ≡ full_name self.now interface.now) }
+    {
+        let package = &self.packages.as_slice()[interface.package.0 as usize];
+        package.is_full_name(&interface.name, text)
     }
 
     fn function_of(&self, func: FunctionId) -> Option<&Function>

@@ -1,16 +1,15 @@
 //! A package of parts that were made elsewhere.
-ghost use Rattle.std.specs.Prelude.{◌≡◌, ◌&&◌, false, IfOk, IfErr};
+ghost use Rattle.std.specs.Prelude.{◌≡◌, ◌&&◌, false, IfOk, IfErr, length};
 ghost use Rattle.std.specs.List.{list_all};
-ghost use Rattle.tables.specs.Tables.{option_all, kind_all, function_all, definition_all, is_earlier, are_earlier, name_types, is_within, is_standard_kind, is_standard, are_standard, is_type_id, is_function_id, is_placed, are_placed};
+ghost use Rattle.tables.specs.Tables.{option_all, kind_all, function_all, definition_all, is_earlier, are_earlier, name_types, is_within, is_standard_kind, is_standard, are_standard, is_type_id, is_function_id, is_placed, are_placed, are_grouped};
 ghost use Rattle.tables.specs.Parts.{HasParts, is_package};
 
 use crate::error::ResolveError;
 use crate::sequence::Sequence;
 use crate::tables::{
-    Case, Definition, Field, Function, FunctionId, Interface, Parameter, Resolve, TypeDefKind,
-    TypeId, ValType, World,
+    Case, Definition, Field, Function, FunctionId, Interface, PackageName, Parameter, Resolve,
+    TypeDefKind, TypeId, ValType, World,
 };
-use atoms::Label;
 
 /// The most cases of a variant or an enum.
 const MAX_CASES: usize = 100_000;
@@ -228,35 +227,52 @@ fn are_placed(definitions: &[Definition], interfaces: &[Interface]) -> bool
     true
 }
 
-fn is_package(definitions: &[Definition], interfaces: &[Interface]) -> bool
-    ensures { result ≡ is_package definitions.now interfaces.now }
+/// Whether each interface is of one of so many packages, and those of a package stand together.
+fn are_grouped(count: usize, interfaces: &[Interface]) -> bool
+    ensures { result ≡ are_grouped count 0 interfaces.now }
+{
+    let mut last = 0;
+    for interface in interfaces {
+        let package = interface.package.0 as usize;
+        if package < last || count <= package {
+            return false;
+        }
+        last = package;
+    }
+    true
+}
+
+fn is_package(count: usize, definitions: &[Definition], interfaces: &[Interface]) -> bool
+    ensures { result ≡ is_package count definitions.now interfaces.now }
 {
     name_earlier_types(definitions)
         && are_standard(definitions)
         && are_placed(definitions, interfaces)
+        && are_grouped(count, interfaces)
 }
 
 impl Resolve {
     /// The package of these parts. 44 exactly where a definition names one that isn't a type before it, or has no
-    /// or too many parts, or where an interface names a place that is of another kind.
+    /// or too many parts, where an interface names a place that is of another kind, or where interfaces are of no
+    /// package or stand in another order than their packages.
     pub fn from_parts(
-        namespace: Label,
-        name: Label,
-        version: Option<String>,
+        packages: Sequence<PackageName>,
         interfaces: Sequence<Interface>,
         worlds: Sequence<World>,
         definitions: Sequence<Definition>,
     ) -> Result<Resolve, ResolveError>
-        ensures ok { IfOk result (λ r. HasParts namespace name version interfaces worlds definitions r) }
-        ensures err { IfErr result (λ e. (e ≡ ResolveError.NotThisShape) × (is_package definitions interfaces ≡ false)) }
+        ensures ok { IfOk result (λ r. HasParts packages interfaces worlds definitions r) }
+        ensures err { IfErr result (λ e. (e ≡ ResolveError.NotThisShape) × (is_package (length packages) definitions interfaces ≡ false)) }
     {
-        if !is_package(definitions.as_slice(), interfaces.as_slice()) {
+        if !is_package(
+            packages.len(),
+            definitions.as_slice(),
+            interfaces.as_slice(),
+        ) {
             return Err(ResolveError::NotThisShape);
         }
         Ok(Resolve {
-            namespace,
-            name,
-            version,
+            packages,
             interfaces,
             worlds,
             definitions,

@@ -1,9 +1,10 @@
-//! The tables of a package: interfaces, worlds, and one table of definitions.
-ghost use Rattle.std.specs.Prelude.{IsTrue};
-ghost use Rattle.tables.specs.Tables.{are_earlier, name_types, are_standard, are_placed};
+//! The tables of a package: its name, interfaces, worlds, and one table of definitions.
+ghost use Rattle.std.specs.Prelude.{IsTrue, length};
+ghost use Rattle.tables.specs.Tables.{are_earlier, name_types, are_standard, are_placed, are_grouped};
 
 use crate::sequence::Sequence;
 use atoms::Label;
+use std::marker::Model;
 
 /// The place of a type in the table of definitions.
 #[derive(Clone, Copy, PartialEq, Eq, Debug)]
@@ -12,6 +13,10 @@ pub struct TypeId(pub u32);
 /// The place of a function in the table of definitions.
 #[derive(Clone, Copy, PartialEq, Eq, Debug)]
 pub struct FunctionId(pub u32);
+
+/// The place of a package's name in the table.
+#[derive(Clone, Copy, PartialEq, Eq, Debug)]
+pub struct PackageId(pub u32);
 
 /// The place of an interface in package order, in which each stands after those that it uses.
 #[derive(Clone, Copy, PartialEq, Eq, Debug)]
@@ -121,9 +126,28 @@ pub enum Definition {
     Function(Function),
 }
 
-/// An interface: its used names, its types and its functions, each in table order.
+/// The name of a package: `namespace:name`, followed by `@version` where there is a version.
+#[derive(Debug, Drop)]
+pub struct PackageName {
+    pub namespace: Label,
+    pub name: Label,
+    pub version: Option<String>,
+}
+
+impl Model for PackageName {
+    ghost use Rattle.std.specs.Prelude.{option_map, string_bytes};
+    ghost use Rattle.tables.specs.PackageNames.{PackageParts};
+
+    ghost Value = { PackageParts };
+
+    ghost view = { λ p. record { namespace = p.namespace; name = p.name; version = option_map string_bytes p.version } };
+}
+
+/// An interface: the package that it is of, its name, and its used names, its types and its functions, each in
+/// table order. Its full name is `namespace:package/name`, followed by `@version` where the package has a version.
 #[derive(Debug, Drop)]
 pub struct Interface {
+    pub package: PackageId,
     pub name: Label,
     pub uses: Sequence<TypeId>,
     pub types: Sequence<TypeId>,
@@ -158,13 +182,10 @@ pub struct World {
     pub items: Sequence<WorldItem>,
 }
 
-/// A package. The full name of its interface i is `namespace:name/i`, followed by `@version` where there
-/// is a version.
+/// A package. The interfaces of each name of a package stand together, in the order of these names.
 #[derive(Debug, Drop)]
 pub struct Resolve {
-    pub namespace: Label,
-    pub name: Label,
-    pub version: Option<String>,
+    pub packages: Sequence<PackageName>,
     pub interfaces: Sequence<Interface>,
     pub worlds: Sequence<World>,
     /// Types and functions, each after the types that it names.
@@ -173,4 +194,5 @@ pub struct Resolve {
     ghost typed: { IsTrue (name_types definitions) },
     ghost standard: { IsTrue (are_standard definitions) },
     ghost placed: { IsTrue (are_placed definitions interfaces) },
+    ghost grouped: { IsTrue (are_grouped (length packages) 0 interfaces) },
 }

@@ -4,7 +4,6 @@ use Rattle.std.specs.Option.{option_map}
 use Rattle.std.specs.List.{list_all}
 use Rattle.std.specs.Str.{bytes_eq}
 use Rattle.atoms.specs.Label.{is_label}
-use Rattle.atoms.specs.FullName.{is_package_label, is_version_or_none}
 use Rattle.std.specs.String.{string_bytes}
 use Rattle.std.specs.declared.string.String.{String}
 use Rattle.std.specs.declared.alloc.Global.{Global}
@@ -12,9 +11,10 @@ use Rattle.std.proofs.lemmas.Bool.Decides.{nat_tests}
 use Rattle.ctype_bin.specs.Raw.{Decl, Entry, Instance, Component, Export, File}
 use Rattle.ctype_bin.specs.View.{decls_of}
 use Rattle.ctype_bin.specs.declared.raw.RawDescription.TheVariants as described
-use Rattle.tables.specs.Tables.{type_of, function_of, is_there, is_type_id, is_function_id, is_type, option_all, kind_all, definition_all, definition_below, are_earlier, name_types, is_standard, are_standard, is_placed, are_placed}
+use Rattle.tables.specs.Tables.{type_of, function_of, is_there, is_type_id, is_function_id, is_type, option_all, kind_all, definition_all, definition_below, are_earlier, name_types, is_standard, are_standard, is_placed, are_placed, are_grouped}
 use Rattle.tables.specs.Parts.{is_package}
-use Rattle.tables.specs.Names.{version_suffix, full_name}
+use Rattle.tables.specs.PackageNames.{PackageParts}
+use Rattle.tables.specs.Names.{full_name_in, full_name}
 use Rattle.tables.specs.declared.tables.TypeId.{TypeId}
 use Rattle.tables.specs.declared.tables.FunctionId.{FunctionId}
 use Rattle.tables.specs.declared.tables.ValType.{ValType}
@@ -35,7 +35,7 @@ use Rattle.package_form.specs.Unused.{unnamed_at, inner_rows, is_next, unused_af
 use Rattle.wit_component.specs.Rows.{Place, row_declarations, place_after, declarations_of, places_after}
 use Rattle.wit_component.specs.Component.{used_in, name_of, name_at, instance_export, row_alias, aliases_of, Front, first_place, interface_declarations, front_after, interfaces_declared, no_front, package_export, component_of}
 use Rattle.package_form.specs.Ends.{end_of, rows_of, is_parted}
-use Rattle.package_form.specs.Form.{is_named, is_own_name, is_own_type, is_own, is_earlier_name, is_earlier_type, is_earlier, uses_earlier, is_owned, is_local, is_use_type, is_use_at, has_ids, are_interfaces, has_full_names, ids_of, IsInPackageForm}
+use Rattle.package_form.specs.Form.{is_named, is_own_name, is_own_type, is_own, is_earlier_name, is_earlier_type, is_earlier, uses_earlier, is_owned, is_local, is_use_type, is_use_at, has_ids, are_interfaces, is_package_name, has_full_names, ids_of, IsInPackageForm}
 use Rattle.wit_component.specs.ToComponent.{is_labelled, are_labelled}
 use Rattle.tables.proofs.Rows.{split, both}
 use Rattle.package_form.proofs.Postfix.{used-postfix, postfix-used}
@@ -367,40 +367,30 @@ module _ (rows new : List Definition) (h : Alikes rows rows new) where
 abbrev file_with : List Decl → File
 file_with ds = record { types = Component (decls_of ds) ∷ []; exports = record { name = package_export; type = 0 } ∷ [] }
 
-version-same : (v w : Option (String Global)) → option_map string_bytes v ≡ option_map string_bytes w → version_suffix v ≡ version_suffix w
-version-same None None e = refl
-version-same None (Some w) e = absurd (cc)
-version-same (Some v) None e = absurd (cc)
-version-same (Some v) (Some w) e = let is : string_bytes v ≡ string_bytes w = cc in ap (λ (bs : List ℕ). 64 ∷ bs) is
-
 -- a package with the names and the interfaces of another, and rows alike
 pub record IsAlikePackage (r p : Resolve) : Type 0 where
-  pub namespace : p.namespace ≡ r.namespace
-  pub name : p.name ≡ r.name
-  pub version : option_map string_bytes p.version ≡ option_map string_bytes r.version
+  pub packages : p.packages ≡ r.packages
   pub interfaces : p.interfaces ≡ r.interfaces
   pub worlds : p.worlds ≡ []
   pub definitions : AreAlike r.definitions 0 r.definitions p.definitions
 
 -- tables alike are those of a package together
-pub package-same : (r : Resolve) (new : List Definition) → AreAlike r.definitions 0 r.definitions new → is_package new r.interfaces ≡ true
+pub package-same : (r : Resolve) (new : List Definition) → AreAlike r.definitions 0 r.definitions new → is_package (length r.packages) new r.interfaces ≡ true
 package-same r new a =
     let h = alikes r.definitions 0 r.definitions new a in
-    both (are_earlier 0 new && name_types new) (are_standard new && are_placed new r.interfaces)
+    both (are_earlier 0 new && name_types new) (are_standard new && (are_placed new r.interfaces && are_grouped (length r.packages) 0 r.interfaces))
     (both (are_earlier 0 new) (name_types new) (earlier-new r.definitions new h 0 r.definitions new a r.earlier)
     (alikes-all r.definitions (definition_all (is_type r.definitions)) (definition_all (is_type new)) (typed-same r.definitions new h) r.definitions new h ∙ r.typed))
-    (both (are_standard new) (are_placed new r.interfaces) (alikes-all r.definitions is_standard is_standard (same-standard r.definitions) r.definitions new h ∙ r.standard)
-    (all-same r.definitions new h (is_placed r.definitions) (is_placed new) (placed-same r.definitions new h) r.interfaces ∙ r.placed))
+    (both (are_standard new) (are_placed new r.interfaces && are_grouped (length r.packages) 0 r.interfaces) (alikes-all r.definitions is_standard is_standard (same-standard r.definitions) r.definitions new h ∙ r.standard)
+    (both (are_placed new r.interfaces) (are_grouped (length r.packages) 0 r.interfaces)
+    (all-same r.definitions new h (is_placed r.definitions) (is_placed new) (placed-same r.definitions new h) r.interfaces ∙ r.placed) r.grouped))
 
 module _ (r p : Resolve) (a : IsAlikePackage r p) where
   abbrev like : Alikes r.definitions r.definitions p.definitions
   like = alikes r.definitions 0 r.definitions p.definitions a.definitions
 
   full-name : (i : Interface) → full_name p i ≡ full_name r i
-  full-name i =
-      ap (λ (n : List ℕ). n ++ 58 ∷ (p.name ++ 47 ∷ (i.name ++ version_suffix p.version))) a.namespace
-      ∙ ap (λ (n : List ℕ). r.namespace ++ 58 ∷ (n ++ 47 ∷ (i.name ++ version_suffix p.version))) a.name
-      ∙ ap (λ (v : List ℕ). r.namespace ++ 58 ∷ (r.name ++ 47 ∷ (i.name ++ v))) (version-same p.version r.version a.version)
+  full-name i = ap (λ (ps : List PackageParts). full_name_in (slice_get ps i.«package».0) i.name) a.packages
 
   written : (at : Front) (start : ℕ) (is : List Interface) → interfaces_declared p at start is ≡ interfaces_declared r at start is
   written at start [] = refl
@@ -424,16 +414,14 @@ module _ (r p : Resolve) (a : IsAlikePackage r p) where
       ∙ ap (λ (ns : List ℕ). 1 + length (map (λ (i : Interface). i.name) r.interfaces) + sum ns) (alikes-map r.definitions entries_of (same-entries r.definitions) r.definitions p.definitions like)
 
   names-same : has_full_names p ≡ has_full_names r
-  names-same =
-      ap (λ (n : List ℕ). is_package_label n && (is_package_label p.name && is_version_or_none (option_map string_bytes p.version))) a.namespace
-      ∙ ap (λ (n : List ℕ). is_package_label r.namespace && (is_package_label n && is_version_or_none (option_map string_bytes p.version))) a.name
-      ∙ ap (λ (v : Option (List ℕ)). is_package_label r.namespace && (is_package_label r.name && is_version_or_none v)) a.version
+  names-same = ap (list_all is_package_name) a.packages
 
   -- they are in package form together
   pub form-same : IsInPackageForm r → IsInPackageForm p
   form-same f = record {
     some = λ e. f.some (sym a.interfaces ∙ e);
     worlds = a.worlds;
+    alone = ap length a.packages ∙ f.alone;
     names = names-same ∙ f.names;
     parted =
         ap (is_parted (length p.definitions) 0) a.interfaces

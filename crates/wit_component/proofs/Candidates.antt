@@ -1,5 +1,5 @@
 -- The candidate of a component is the package that it stands for.
-use Rattle.std.proofs.Common.{◌≡◌, ◌≢◌, true, false, cond, List, [], ◌∷◌, ◌++◌, append_assoc, None, Some, Ok, Err, refl, ap, sym, subst, ◌∙◌, All, Contains, inl, inr}
+use Rattle.std.proofs.Common.{◌≡◌, ◌≢◌, true, false, cond, ℕ, List, [], ◌∷◌, ◌++◌, append_assoc, None, Some, Ok, Err, refl, ap, sym, subst, ◌∙◌, All, Contains, inl, inr}
 use Rattle.ctype_bin.specs.Raw.{Decl, File}
 use Rattle.ctype_bin.specs.View.{decls_of}
 use Rattle.ctype_bin.specs.FileView.{file_view}
@@ -22,7 +22,7 @@ use Rattle.package_form.specs.Naming.{package_scopes, table_scopes}
 use Rattle.package_form.specs.Form.{IsInPackageForm}
 use Rattle.wit_component.specs.ToComponent.{Stands}
 use Rattle.component_reader.specs.Instance.{if_found}
-use Rattle.component_reader.specs.Component.{namespace_in, package_in, version_in, no_component, declarations_read, candidate_named, candidate_of, Candidate, IsMadeOf, Makes}
+use Rattle.component_reader.specs.Component.{package_named, no_component, declarations_read, candidate_named, candidate_of, Candidate, IsMadeOf, Makes}
 use Rattle.wit_component.proofs.Alike.{AreAlike}
 use Rattle.wit_component.proofs.Reread.{reread, name-reread}
 use Rattle.wit_component.proofs.AlikeForm.{IsAlikePackage, package-same, component-same, form-same}
@@ -35,25 +35,22 @@ module _ (raw : RawComponent) (r : Resolve) (s : Stands raw r) where
       let x = reread r s.form s.labels in
       let n = name-reread r s.form s.labels in
       let made = x.0 in
-      let ok : is_package made.rows made.interfaces ≡ true = ap (is_package made.rows) x.2 ∙ package-same r made.rows x.3 in
-      let c : Candidate = record { namespace = namespace_in n.0; name = package_in n.0; version = version_in n.0; interfaces = made.interfaces; definitions = made.rows } in (
+      let ok : is_package 1 made.rows made.interfaces ≡ true =
+      ap (is_package 1 made.rows) x.2 ∙ ap (λ (k : ℕ). is_package k made.rows r.interfaces) (sym s.form.alone) ∙ package-same r made.rows x.3 in
+      let c : Candidate = record { packages = package_named n.0 ∷ []; interfaces = made.interfaces; definitions = made.rows } in (
         c,
         ap candidate_of s.component
             ∙ ap (λ o. if_found o (λ text. if_found (declarations_read (decls_of (interfaces_declared r no_front 0 r.interfaces)) no_component) (candidate_named text))) n.1
             ∙ ap (λ o. if_found o (candidate_named n.0)) x.1
             ∙ ap (λ b. cond b (Some c) None) ok,
         λ p m. record {
-          namespace = m.namespace ∙ n.2;
-          name = m.name ∙ n.3;
-          version = m.version ∙ n.4;
+          packages = m.packages ∙ n.2;
           interfaces = m.interfaces ∙ x.2;
           worlds = m.worlds;
           definitions = subst (λ (ds : List Definition). AreAlike r.definitions 0 r.definitions ds) (sym m.definitions) x.3;
         },
         λ d. record {
-          namespace = sym n.2;
-          name = sym n.3;
-          version = sym n.4;
+          packages = sym n.2;
           interfaces = sym x.2;
           worlds = s.form.worlds;
           definitions = sym (same-definitions r made.rows x.3 s.form d);

@@ -1,5 +1,5 @@
 -- The declarations of one interface, read again.
-use Rattle.std.proofs.Common.{◌≡◌, ◌≤◌, ◌<◌, ◌⊎◌, inl, inr, ℕ, suc, ◌+◌, Bool, true, false, cond, nat_lt, List, [], ◌∷◌, ◌++◌, map, take, drop, length, slice_get, None, Some, refl, ap, sym, subst, ◌∙◌, arith, append_assoc, length-append}
+use Rattle.std.proofs.Common.{◌≡◌, ◌≤◌, ◌<◌, ◌⊎◌, inl, inr, ℕ, suc, ◌+◌, Bool, true, false, cond, nat_lt, List, [], ◌∷◌, ◌++◌, map, take, drop, length, slice_get, None, Some, refl, ap, sym, subst, ◌∙◌, arith, append_assoc, length-append, eqb-true}
 use Rattle.std.specs.Option.{option_map}
 use Rattle.std.proofs.lemmas.Bool.Decides.{nat_tests}
 use Rattle.std.proofs.lemmas.List.{length-map}
@@ -8,7 +8,7 @@ use Rattle.ctype_bin.specs.Raw.{Decl, Instance, Entry, Export}
 use Rattle.ctype_bin.specs.View.{decls_of}
 use Rattle.ctype_bin.specs.declared.raw.RawDescription.TheVariants as described
 use Rattle.package_form.proofs.Lists.{get-front}
-use Rattle.package_form.specs.Ids.{places_where, type_id, function_id}
+use Rattle.package_form.specs.Ids.{places_where, package_id, type_id, function_id}
 use Rattle.tables.specs.declared.tables.TypeId.{TypeId}
 use Rattle.tables.specs.declared.tables.FunctionId.{FunctionId}
 use Rattle.tables.specs.declared.tables.TypeName.{TypeName}
@@ -58,13 +58,9 @@ below-or-from i n = by (nat_lt i n) refl
     by true e = inl (grind (arith, nat_tests))
     by false e = inr (grind (arith, nat_tests))
 
-same-interface : (i : Interface) (n : List ℕ) (us ts : List TypeId) (fs : List FunctionId) → n ≡ i.name → us ≡ i.uses → ts ≡ i.types → fs ≡ i.functions
-    → record { name = n; uses = us; types = ts; functions = fs } ≡ i
-same-interface i n us ts fs a b c d =
-    ap (λ (x : List ℕ). record { name = x; uses = us; types = ts; functions = fs }) a
-    ∙ ap (λ (x : List TypeId). record { name = i.name; uses = x; types = ts; functions = fs }) b
-    ∙ ap (λ (x : List TypeId). record { name = i.name; uses = i.uses; types = x; functions = fs }) c
-    ∙ ap (λ (x : List FunctionId). record { name = i.name; uses = i.uses; types = i.types; functions = x }) d
+same-interface : (i : Interface) (n : List ℕ) (us ts : List TypeId) (fs : List FunctionId) → i.«package».0 ≡ 0 → n ≡ i.name → us ≡ i.uses → ts ≡ i.types → fs ≡ i.functions
+    → record { «package» = package_id 0; name = n; uses = us; types = ts; functions = fs } ≡ i
+same-interface i n us ts fs first a b c d = λ j. record { «package» = package_id (sym first j); name = a j; uses = b j; types = c j; functions = d j }
 
 module _ (table : List Definition) (at : Front) (k start : ℕ) (i : Interface) (is : IsInterfaceAt table start k i) where
   -- rows like the interface's give it again
@@ -72,7 +68,8 @@ module _ (table : List Definition) (at : Front) (k start : ℕ) (i : Interface) 
       → interface_named text (rows_after k es (nothing_read rows)) ≡ i
   interface-again es rows text len own alike name =
       let ids = ids-own table start k i is in
-      same-interface i (interface_in text) (rows_after k es (nothing_read rows)).uses (rows_after k es (nothing_read rows)).types (rows_after k es (nothing_read rows)).functions name
+      let first = eqb-true i.«package».0 0 is.first in
+      same-interface i (interface_in text) (rows_after k es (nothing_read rows)).uses (rows_after k es (nothing_read rows)).types (rows_after k es (nothing_read rows)).functions first name
       (rows-uses k es own (nothing_read rows)
       ∙ ap (λ n. map type_id (places_where is_use_row n es)) len ∙ ap (map type_id) (sym (alike-places table is_use_row (λ x t u. refl) start (rows_of table start i) es alike)) ∙ ids.uses)
       (rows-types k es own (nothing_read rows)

@@ -49,9 +49,7 @@ same-definitions r rows a f d =
 -- so is a package alike to it
 pub same-package : (r p : Resolve) → IsAlikePackage r p → IsInPackageForm r → All AreDistinct (package_scopes r) → IsSamePackage p r
 same-package r p a f d = record {
-  namespace = a.namespace;
-  name = a.name;
-  version = a.version;
+  packages = a.packages;
   interfaces = a.interfaces;
   worlds = a.worlds ∙ sym f.worlds;
   definitions = same-definitions r p.definitions a.definitions f d;

@@ -1,18 +1,18 @@
 -- What is written of a package is read as that package, but that a used name may stand for another row of the same name.
-use Rattle.std.proofs.Common.{◌≡◌, ◌≢◌, IsTrue, true, cond, ◌&&◌, nat_le, ℕ, ◌+◌, List, [], ◌∷◌, ◌++◌, take, drop, length, Option, None, Some, string_bytes, refl, ap, sym, subst, ◌∙◌, arith, append_assoc, append-nil, take_all, eqb-true}
+use Rattle.std.proofs.Common.{◌≡◌, ◌≢◌, IsTrue, true, cond, ◌&&◌, nat_le, ℕ, ◌+◌, List, [], ◌∷◌, ◌++◌, take, drop, length, Option, None, Some, refl, ap, sym, subst, ◌∙◌, arith, append_assoc, append-nil, take_all, eqb-true}
 use Rattle.std.specs.List.{list_all}
-use Rattle.std.specs.Option.{option_map}
 use Rattle.atoms.specs.Label.{is_label}
 use Rattle.ctype_bin.specs.Raw.{Decl, Instance, Entry, Export}
 use Rattle.ctype_bin.specs.View.{decls_of}
 use Rattle.ctype_bin.specs.declared.raw.RawDescription.TheVariants as described
+use Rattle.tables.specs.PackageNames.{PackageParts}
 use Rattle.tables.specs.Names.{full_name}
-use Rattle.tables.specs.Tables.{are_earlier, is_placed}
+use Rattle.tables.specs.Tables.{are_earlier, is_placed, are_grouped}
 use Rattle.tables.specs.declared.tables.TypeName.{TypeName}
 use Rattle.tables.specs.declared.tables.Definition.{Definition}
 use Rattle.tables.specs.declared.tables.Interface.{Interface}
 use Rattle.tables.specs.declared.tables.Resolve.{Resolve}
-use Rattle.component_reader.specs.Component.{ComponentRead, no_component, declarations_read, namespace_in, package_in, version_in, first_of, first_full_name}
+use Rattle.component_reader.specs.Component.{ComponentRead, no_component, declarations_read, package_named, first_of, first_full_name}
 use Rattle.wit_component.specs.Component.{name_at, instance_export, used_in, aliases_of, Front, no_front, first_place, front_after, interfaces_declared}
 use Rattle.package_form.specs.Ends.{end_of, rows_of, is_parted}
 use Rattle.package_form.specs.Form.{has_full_names, is_local, has_ids, are_interfaces, IsInPackageForm}
@@ -24,11 +24,13 @@ use Rattle.wit_component.proofs.FullNamesRead.{full-name-cut, full-no-label}
 use Rattle.wit_component.proofs.InterfaceFacts.{IsInterfaceAt, next-earlier, next-used}
 use Rattle.wit_component.proofs.InterfaceReading.{HasReadTo, interface-reread}
 use Rattle.wit_component.proofs.Keeping.{le-test}
+use Rattle.package_form.proofs.OnePackage.{single, is_first, all-first}
 use Rattle.package_form.proofs.Postfix.{postfix-used}
 use Rattle.tables.proofs.Rows.{split}
 
 -- what is known of these interfaces, the first of which is interface k and whose rows begin at start
 record AreInterfaces (table : List Definition) (k start : ℕ) (is : List Interface) : Type 0 where
+  first : list_all is_first is ≡ true
   form : are_interfaces table k start is ≡ true
   parted : is_parted (length table) start is ≡ true
   labels : are_labelled table start is ≡ true
@@ -46,6 +48,7 @@ module _ (table : List Definition) (k start : ℕ) (i : Interface) (is : List In
       record {
         low = le-test start (end_of start i) parted.0;
         high = le-test (end_of start i) (length table) high.0;
+        first = (split (is_first i) _ are.first).0;
         ids = form.0;
         local = form.1;
         label = labels.0;
@@ -57,6 +60,7 @@ module _ (table : List Definition) (k start : ℕ) (i : Interface) (is : List In
 
   tail : AreInterfaces table (k + 1) (end_of start i) is
   tail = record {
+    first = (split (is_first i) _ are.first).1;
     form = (split (has_ids table start i && list_all (is_local table k) (rows_of table start i)) _ are.form).1;
     parted = (split (nat_le (end_of start i) (length table)) _ (split (nat_le start (end_of start i)) _ are.parted).1).1;
     labels = (split (is_label i.name && list_all is_labelled (rows_of table start i)) _ are.labels).1;
@@ -65,7 +69,7 @@ module _ (table : List Definition) (k start : ℕ) (i : Interface) (is : List In
     used = next-used table start k i head;
   }
 
-module _ (r : Resolve) (names : IsTrue (has_full_names r)) where
+module _ (r : Resolve) (p : PackageParts) (one : r.packages ≡ p ∷ []) (names : IsTrue (has_full_names r)) where
   interfaces-reread : (is : List Interface) (at : Front) (k start : ℕ) (done : List Interface) (s : ComponentRead) → AreInterfaces r.definitions k start is → HasReadTo r.definitions at k start done s
       → (s2 : ComponentRead) × (declarations_read (decls_of (interfaces_declared r at start is)) s ≡ Some s2) × (s2.interfaces ≡ done ++ is) × AreAlike r.definitions 0 r.definitions s2.rows
   interfaces-reread [] at k start done s are has =
@@ -76,11 +80,13 @@ module _ (r : Resolve) (names : IsTrue (has_full_names r)) where
       take-whole n ds e = take_all n ds (omega (arith, e))
   interfaces-reread (i ∷ is) at k start done s are has =
       let here = head r.definitions k start i is are in
-      let one = interface-reread r.definitions at k start i here done s has (full_name r i) (full-no-label r i names here.label) (full-name-cut r i names here.label).2 in
+      let first = eqb-true i.«package».0 0 here.first in
+      let own = interface-reread r.definitions at k start i here done s has (full_name r i)
+      (full-no-label r p one i first names here.label) (full-name-cut r p one i first names here.label).1 in
       let ds = rows_of r.definitions start i in
-      let all = interfaces-reread is (front_after r.definitions at ds) (k + 1) (end_of start i) (done ++ i ∷ []) one.0 (tail r.definitions k start i is are) one.1 in (
+      let all = interfaces-reread is (front_after r.definitions at ds) (k + 1) (end_of start i) (done ++ i ∷ []) own.0 (tail r.definitions k start i is are) own.1 in (
         all.0,
-        one.2 (interfaces_declared r (front_after r.definitions at ds) (end_of start i) is) ∙ all.1,
+        own.2 (interfaces_declared r (front_after r.definitions at ds) (end_of start i) is) ∙ all.1,
         all.2 ∙ append_assoc done (i ∷ []) is,
         all.3,
       )
@@ -88,6 +94,7 @@ module _ (r : Resolve) (names : IsTrue (has_full_names r)) where
 module _ (r : Resolve) (form : IsInPackageForm r) (labels : IsTrue (are_labelled r.definitions 0 r.interfaces)) where
   all-interfaces : AreInterfaces r.definitions 0 0 r.interfaces
   all-interfaces = record {
+    first = all-first 0 r.interfaces (subst (λ (n : ℕ). IsTrue (are_grouped n 0 r.interfaces)) form.alone r.grouped);
     form = form.interfaces;
     parted = form.parted;
     labels = labels;
@@ -111,7 +118,7 @@ module _ (r : Resolve) (form : IsInPackageForm r) (labels : IsTrue (are_labelled
 
   pub reread : (s : ComponentRead) × (declarations_read (decls_of (interfaces_declared r no_front 0 r.interfaces)) no_component ≡ Some s)
       × (s.interfaces ≡ r.interfaces) × AreAlike r.definitions 0 r.definitions s.rows
-  reread = interfaces-reread r form.names r.interfaces no_front 0 0 [] no_component all-interfaces begun
+  reread = let one = single r.packages form.alone in interfaces-reread r one.0 one.1 form.names r.interfaces no_front 0 0 [] no_component all-interfaces begun
 
 -- ---- the package's name
 
@@ -125,26 +132,24 @@ aliases-no-name table (d ∷ ds) more = by (name_at table (used_in d)) ∙ alias
     by (Some y) = refl
 
 module _ (r : Resolve) (form : IsInPackageForm r) (labels : IsTrue (are_labelled r.definitions 0 r.interfaces)) where
-  -- the first full name that is exported is the first interface's, of the package's parts
-  pub name-reread : (text : List ℕ) × (first_full_name (decls_of (interfaces_declared r no_front 0 r.interfaces)) ≡ Some text)
-      × (namespace_in text ≡ r.namespace) × (package_in text ≡ r.name) × (version_in text ≡ option_map string_bytes r.version)
-  name-reread = by r.interfaces form.some labels
+  -- the first full name that is exported is the first interface's, which has the name of the package
+  pub name-reread : (text : List ℕ) × (first_full_name (decls_of (interfaces_declared r no_front 0 r.interfaces)) ≡ Some text) × (package_named text ∷ [] ≡ r.packages)
+  name-reread = by r.interfaces form.some (all-interfaces r form labels).first labels
     where
-      by : (is : List Interface) → is ≢ [] → IsTrue (are_labelled r.definitions 0 is)
-          → (text : List ℕ) × (first_full_name (decls_of (interfaces_declared r no_front 0 is)) ≡ Some text)
-          × (namespace_in text ≡ r.namespace) × (package_in text ≡ r.name) × (version_in text ≡ option_map string_bytes r.version)
-      by [] some labels = absurd (some refl)
-      by (i ∷ is) some labels =
+      by : (is : List Interface) → is ≢ [] → list_all is_first is ≡ true → IsTrue (are_labelled r.definitions 0 is)
+          → (text : List ℕ) × (first_full_name (decls_of (interfaces_declared r no_front 0 is)) ≡ Some text) × (package_named text ∷ [] ≡ r.packages)
+      by [] some first labels = absurd (some refl)
+      by (i ∷ is) some first labels =
           let label = (split (is_label i.name) _ (split (is_label i.name && list_all is_labelled (rows_of r.definitions 0 i)) _ labels).0).0 in
-          let cut = full-name-cut r i form.names label in
+          let one = single r.packages form.alone in
+          let here = eqb-true i.«package».0 0 (split (is_first i) _ first).0 in
+          let cut = full-name-cut r one.0 one.1 i here form.names label in
           let ds = rows_of r.definitions 0 i in
           let body = decls_of (declarations_of (first_place no_front) ds) in
           let rest = interfaces_declared r (front_after r.definitions no_front ds) (end_of 0 i) is in (
             full_name r i,
             ap (λ es. first_full_name (decls_of es)) (append_assoc (aliases_of r.definitions ds) (Entry (Instance body) ∷ Export (full_name r i) (described.Instance (0 + length (aliases_of r.definitions ds))) ∷ []) rest)
                 ∙ aliases-no-name r.definitions ds (Entry (Instance body) ∷ Export (full_name r i) (described.Instance (0 + length (aliases_of r.definitions ds))) ∷ rest)
-                ∙ ap (λ b. first_of (cond b None (Some (full_name r i))) (first_full_name (decls_of rest))) (full-no-label r i form.names label),
-            cut.0,
-            cut.1,
-            cut.3,
+                ∙ ap (λ b. first_of (cond b None (Some (full_name r i))) (first_full_name (decls_of rest))) (full-no-label r one.0 one.1 i here form.names label),
+            ap (λ (p : PackageParts). p ∷ []) cut.0 ∙ sym one.1,
           )

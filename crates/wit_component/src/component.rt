@@ -44,15 +44,17 @@ fn full_name(
     resolve: &Resolve,
     interface: &Interface,
 ) -> Result<ExternName, AllocError>
-    requires { IsTrue (has_full_names resolve.now) }
+    requires named { IsTrue (has_full_names resolve.now) }
+    requires placed { interface.now.«package».0 < length resolve.now.packages }
     ensures name { IfOk result (λ n. name_view n ≡ full_name resolve.now interface.now) }
     ensures label { OnOk result (IsLabel interface.now.name) }
 {
+    let package = &resolve.packages.as_slice()[interface.package.0 as usize];
     Ok(ExternName::FullName(FullName {
-        namespace: resolve.namespace.copy(alloc)?,
-        package: resolve.name.copy(alloc)?,
+        namespace: package.namespace.copy(alloc)?,
+        package: package.name.copy(alloc)?,
         name: Label::from_bytes(alloc, interface.name.as_bytes())?,
-        version: copy_version(&resolve.version)?,
+        version: copy_version(&package.version)?,
     }))
 }
 
@@ -64,7 +66,8 @@ fn instance_export(
     interface: &Interface,
     index: u32,
 ) -> Result<RawDecl, AllocError>
-    requires { IsTrue (has_full_names resolve.now) }
+    requires named { IsTrue (has_full_names resolve.now) }
+    requires placed { interface.now.«package».0 < length resolve.now.packages }
     ensures declaration { IfOk result (λ d. decl_view d ≡ Export (full_name resolve.now interface.now) (Instance index)) }
     ensures label { OnOk result (IsLabel interface.now.name) }
 {
@@ -81,6 +84,7 @@ fn interface_declarations(
     interface: &Interface,
 ) -> Result<(Vec<RawDecl>, InterfacePlace), AllocError>
     requires named { IsTrue (has_full_names resolve.now) }
+    requires placed { interface.now.«package».0 < length resolve.now.packages }
     requires types { place.types ≤ 131070 }
     requires rows { length rows.now ≤ 65535 }
     ensures declarations { IfOk result (λ x. map decl_view x.0.items ≡ interface_declarations resolve.now.definitions place rows.now (full_name resolve.now interface.now)) }

@@ -48,6 +48,7 @@ pub same_form : (a b : Resolve) → IsSamePackage a b → IsInPackageForm b → 
 same_form a b same form = record {
   some = λ e. form.some (sym same.interfaces ∙ e);
   worlds = same.worlds ∙ form.worlds;
+  alone = ap length same.packages ∙ form.alone;
   names = same_full_names a b same ∙ form.names;
   parted = ap (λ ds. is_parted (length ds) 0 a.interfaces) same.definitions ∙ (ap (is_parted (length b.definitions) 0) same.interfaces ∙ form.parted);
   interfaces = ap (λ ds. are_interfaces ds 0 0 a.interfaces) same.definitions ∙ (ap (are_interfaces b.definitions 0 0) same.interfaces ∙ form.interfaces);

@@ -1,10 +1,10 @@
-use Rattle.std.proofs.Common.{◌≡◌, ◌∙◌, List, IsTrue, length, ap, sym, subst, arith}
-use Rattle.tables.specs.Tables.{are_earlier, name_types, are_standard, are_placed}
+use Rattle.std.proofs.Common.{◌≡◌, ◌∙◌, ℕ, List, IsTrue, length, ap, sym, subst, arith}
+use Rattle.tables.specs.Tables.{are_earlier, name_types, are_standard, are_placed, are_grouped}
 use Rattle.package_form.specs.Ids.{interfaces_from}
 use Rattle.tables.specs.declared.tables.Definition.{Definition}
 use Rattle.tables.specs.declared.tables.Interface.{Interface}
 use Rattle.package_form.proofs.RowEntries.{within-entries, few-rows}
-use Rattle.resolve.proofs.Finishing.{all-placed-ids}
+use Rattle.resolve.proofs.Finishing.{all-placed-ids, all-grouped}
 use Rattle.resolve.proofs.finish.finish.Goals as goal
 
 pub interfaces_in-requires : goal.interfaces_in-requires
@@ -15,13 +15,17 @@ interfaces_in-requires c =
 
 pub invariant_of-result : goal.invariant_of-result
 invariant_of-result c =
-    let rows : c.new-3.result ≡ c.args.builder.rows = c.new-3.ensures ∙ c.into_parts-names.ensures.rows in
-    let tested : c.new-3.result ≡ c.deref-else-passes_entries.result.now = c.new-3.ensures ∙ sym c.deref-else-passes_entries.ensures.value in
-    let listed : c.new-3.result ≡ c.deref-2.result.now = c.new-3.ensures ∙ sym c.deref-2.ensures.value in
+    let rows : c.new-4.result ≡ c.args.builder.rows = c.new-4.ensures ∙ c.into_parts-names.ensures.rows in
+    let tested : c.new-4.result ≡ c.deref-else-passes_entries.result.now = c.new-4.ensures ∙ sym c.deref-else-passes_entries.ensures.value in
+    let listed : c.new-4.result ≡ c.deref-2.result.now = c.new-4.ensures ∙ sym c.deref-2.ensures.value in
+    let one : length c.new.result ≡ 1 = ap length (c.new.ensures ∙ c.in_ok-vec.ensures.items) in
     record {
       earlier = subst (λ (ds : List Definition). IsTrue (are_earlier 0 ds)) (sym rows) c.requires.earlier;
       typed = subst (λ (ds : List Definition). IsTrue (name_types ds)) (sym rows) c.requires.typed;
       standard = subst (λ (ds : List Definition). IsTrue (are_standard ds)) (sym tested) (sym c.are_standard.ensures ∙ c.if-not-are_standard.false);
-      placed = subst (λ (is : List Interface). IsTrue (are_placed c.new-3.result is)) (sym c.in_ok-interfaces_in.ensures)
-          (subst (λ (ds : List Definition). IsTrue (are_placed c.new-3.result (interfaces_from ds 0 c.deref-3.result.now))) listed (all-placed-ids c.new-3.result 0 c.deref-3.result.now));
+      placed = subst (λ (is : List Interface). IsTrue (are_placed c.new-4.result is)) (sym c.in_ok-interfaces_in.ensures)
+          (subst (λ (ds : List Definition). IsTrue (are_placed c.new-4.result (interfaces_from ds 0 c.deref-3.result.now))) listed (all-placed-ids c.new-4.result 0 c.deref-3.result.now));
+      grouped = subst (λ (is : List Interface). IsTrue (are_grouped (length c.new.result) 0 is)) (sym c.in_ok-interfaces_in.ensures)
+          (subst (λ (n : ℕ). IsTrue (are_grouped n 0 (interfaces_from c.deref-2.result.now 0 c.deref-3.result.now))) (sym one)
+          (all-grouped c.deref-2.result.now 0 c.deref-3.result.now));
     }

@@ -3,6 +3,7 @@ use Rattle.std.specs.Option.{option_map}
 use Rattle.std.proofs.lemmas.List.{map-append}
 use Rattle.atoms.specs.FullName.{full_name_text}
 use Rattle.tables.specs.declared.tables.Interface.{Interface}
+use Rattle.package_form.specs.Ids.{package_id}
 use Rattle.component_reader.specs.Component.{ComponentRead, with_interface}
 use Rattle.component_reader.specs.Names.{parts_view}
 use Rattle.component_reader.specs.Readers.{names_view, read_with, component_view}
@@ -18,7 +19,7 @@ returns c =
     let reader = c.in-Some.reader in
     let i = read_with own.rows.items reader in
     let named = c.in_ok-from_bytes.ensures ∙ sym (parts-cut text parts c.requires).2 in
-    let interface = c.into_interface-interface.ensures.interface ∙ ap (λ (n : List ℕ). record { name = n; uses = i.uses; types = i.types; functions = i.functions }) named in
+    let interface = c.into_interface-interface.ensures.interface ∙ ap (λ (n : List ℕ). record { «package» = package_id 0; name = n; uses = i.uses; types = i.types; functions = i.functions }) named in
     let interfaces = c.in_ok-push.ensures.items ∙ ap (λ (x : Interface). own.interfaces.items ++ x ∷ []) interface in
     let exports = ap (map (λ m. names_view m.entries)) c.in_ok-push-2.ensures.items
     ∙ map-append (λ m. names_view m.entries) own.exports.items (c.into_interface-interface.result.1 ∷ [])

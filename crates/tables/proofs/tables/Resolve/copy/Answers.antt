@@ -3,10 +3,11 @@ use Rattle.tables.proofs.tables.Resolve.copy.Goals as goal
 pub invariant_of-result : goal.invariant_of-result
 invariant_of-result c =
     let r = c.args.self.now in
-    let rows = c.in_ok-copied_all-3.ensures in
+    let rows = c.in_ok-copied_all-4.ensures in
     record {
       earlier = rw rows r.earlier;
       typed = rw rows r.typed;
       standard = rw rows r.standard;
-      placed = rw (rows, c.in_ok-copied_all.ensures) r.placed;
+      placed = rw (rows, c.in_ok-copied_all-2.ensures) r.placed;
+      grouped = rw (c.in_ok-copied_all.ensures, c.in_ok-copied_all-2.ensures) r.grouped;
     }

@@ -1,12 +1,13 @@
-use Rattle.std.proofs.Common.{refl, sym, ◌∙◌}
+use Rattle.std.proofs.Common.{length, refl, sym, ◌∙◌}
 use Rattle.tables.proofs.Earlier.{package-parts}
 use Rattle.tables.proofs.tables.Resolve.from_parts.Goals as goal
 
 pub returns-then-not-is_package-clause-err : goal.returns-then-not-is_package-clause-err
 returns-then-not-is_package-clause-err c =
-    (refl, rw (sym c.as_slice.ensures, sym c.as_slice-2.ensures) (sym c.is_package.ensures ∙ c.if-not-is_package.true))
+    (refl, rw (sym c.len.ensures, sym c.as_slice.ensures, sym c.as_slice-2.ensures) (sym c.is_package.ensures ∙ c.if-not-is_package.true))
 
 pub invariant_of-result : goal.invariant_of-result
 invariant_of-result c =
-    let parts = package-parts c.args.definitions c.args.interfaces (rw (sym c.as_slice.ensures, sym c.as_slice-2.ensures) (sym c.is_package.ensures ∙ c.if-not-is_package.false)) in
-    record { earlier = parts.0; typed = parts.1; standard = parts.2; placed = parts.3 }
+    let parts = package-parts (length c.args.packages) c.args.definitions c.args.interfaces
+    (rw (sym c.len.ensures, sym c.as_slice.ensures, sym c.as_slice-2.ensures) (sym c.is_package.ensures ∙ c.if-not-is_package.false)) in
+    record { earlier = parts.0; typed = parts.1; standard = parts.2; placed = parts.3; grouped = parts.4 }

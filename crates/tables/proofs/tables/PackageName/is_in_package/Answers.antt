@@ -1,5 +1,5 @@
 use Rattle.tables.proofs.Names.{tells-behind}
-use Rattle.tables.proofs.tables.Resolve.is_in_package.Goals as goal
+use Rattle.tables.proofs.tables.PackageName.is_in_package.Goals as goal
 
 pub returns-in-Some : goal.returns-in-Some
 returns-in-Some c = tells-behind c.in-Some.ensures c.as_bytes.ensures.is c.is_suffix.ensures

@@ -1,0 +1,12 @@
+-- WIT.md, "Package Names": the name of a package, and the full names of its interfaces.
+use Rattle.std.specs.Prelude.{ℕ, List, Option}
+use Rattle.atoms.specs.FullName.{NameParts}
+
+pub record PackageParts : Type 0 where
+  pub namespace : List ℕ
+  pub name : List ℕ
+  pub version : Option (List ℕ)
+
+-- the parts of the full name of an interface of the package
+abbrev pub name_parts : PackageParts → List ℕ → NameParts
+name_parts p name = record { namespace = p.namespace; package_name = p.name; name = name; version = p.version }

@@ -1,0 +1,13 @@
+use Rattle.std.proofs.Common.{List, length, get_or, ap, sym, ◌∙◌, arith}
+use Rattle.tables.proofs.Earlier.{grouped-at}
+use Rattle.tables.specs.declared.tables.Interface.{Interface}
+use Rattle.wit_component.proofs.component.declarations.Goals as goal
+
+pub interface_declarations-requires-clause-placed : goal.interface_declarations-requires-clause-placed
+interface_declarations-requires-clause-placed c =
+    let r = c.args.resolve.now in
+    let i = c.interface-item.result in
+    let same = c.as_slice-interface-items.ensures in
+    grouped-at (length r.packages) 0 r.interfaces c.loop-interface.interface-index i r.grouped
+    (omega (arith, c.loop-interface-test.true, ap length same))
+    (ap (λ (is : List Interface). get_or is c.loop-interface.interface-index i) (sym same) ∙ sym c.interface-item.is)
