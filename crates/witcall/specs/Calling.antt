@@ -1,10 +1,10 @@
 -- One call whose arguments and result are JSON, over two fresh memories.
-use Rattle.std.specs.Prelude.{◌≡◌, ℕ, List, [], ◌∷◌, ◌++◌, Option, Some, None, Result, Ok, Err, replicate}
+use Rattle.std.specs.Prelude.{◌≡◌, ◌*◌, ◌/◌, ℕ, List, [], ◌∷◌, ◌++◌, Option, Some, None, Result, Ok, Err, replicate}
 use Rattle.canonical_abi.specs.Values.{Value}
 use Rattle.canonical_abi.specs.Guest.{Memory}
 use Rattle.canonical_abi.specs.Call.{Run, PostRun, Parties, World, either}
 use Rattle.canonical_abi.specs.Session.{TypedCall}
-use Rattle.memory.specs.Bump.{bump}
+use Rattle.memory.specs.Holes.{first_fit, whole}
 use Rattle.memory.specs.Space.{of_kind, SpaceAllocates}
 use Rattle.tables.specs.Closed.{function_at, function_type}
 use Rattle.tables.specs.Names.{IsNamed}
@@ -19,9 +19,9 @@ use Rattle.witcall.specs.declared.refused.Refused.TheVariants as refused
 use Rattle.witcall.specs.Json.{IsCompactTextOf, IsArrayTextOf, RefusesArray}
 use Rattle.witcall.specs.Signature.{signature_of, IsMissing}
 
--- a memory of so many zeros, none of them live
+-- a memory of so many zeros that takes blocks back; all that is usable is one hole
 unfoldable pub fresh : ℕ → Memory
-fresh len = of_kind 0 (bump (replicate len 0) 0)
+fresh len = of_kind 1 (first_fit (replicate len 0) (len / 8 * 8) (whole (len / 8 * 8)))
 
 -- the compact JSON of the value and a newline
 abbrev pub IsLineOf : ValType → Value → List ℕ → Type 0

@@ -20,7 +20,7 @@ use crate::signature::{ScalarTypes, scalar_function};
 use adapter::{BoxedBody, Export};
 use atoms::Sink;
 use lift_lower::Val;
-use memory::{Bump, Guest, MemoryError, Space};
+use memory::{FirstFit, Guest, MemoryError, Space};
 use resolve::FunctionId;
 use std::alloc::{AllocError, Global};
 
@@ -90,8 +90,8 @@ fn fresh_memory(alloc: Global, len: u32) -> Result<Space, MemoryError>
     ensures fresh { IfOk result (λ space. ⟦<Space as Guest>⟧.memory space ≡ fresh len) }
     ensures err { IfErr result (λ e. e ≡ MemoryError.NoMemory) }
 {
-    let bump = Bump::new(alloc, len)?;
-    Ok(Space::Bump(bump))
+    let memory = FirstFit::new(alloc, len)?;
+    Ok(Space::FirstFit(memory))
 }
 
 /// What is printed for the result of a function.
