@@ -101,7 +101,12 @@ impl<G: Guest> Body<G> for Acting {
 }
 
 /// A body that writes these bytes at an address.
-pub fn acting(alloc: Global, at: u32, writes: &[u8], answer: Option<Flat>) -> Result<Acting, Fail> {
+pub fn body_writing(
+    alloc: Global,
+    at: u32,
+    writes: &[u8],
+    answer: Option<Flat>,
+) -> Result<Acting, Fail> {
     Ok(Acting {
         asks: false,
         at,

@@ -1,6 +1,6 @@
 //! Calls through one link: what reaches the callee's memory and the body, what comes back, and each trap with its step.
 
-use crate::acting::{Acting, acting, filled, function, package, scripted, trap};
+use crate::acting::{Acting, body_writing, filled, function, package, scripted, trap};
 use adapter::Link;
 use canonical_abi::{Fault, Flat, Full, Guest, Step, TrapKind};
 use lift_lower::Flats;
@@ -61,7 +61,7 @@ fn passed(alloc: Global, items: &str, flats: &[Flat], bytes: &[u8]) -> Result<To
         flats,
         caller,
         callee,
-        acting(alloc, 0, &[], None)?,
+        body_writing(alloc, 0, &[], None)?,
     )
 }
 
@@ -158,7 +158,7 @@ fn addresses_of_the_callees_allocator(rt: HostRuntime) -> Result<(), Fail> {
     ] {
         let caller = filled(alloc, 16, b"four")?;
         let callee = scripted(alloc, 16, &[Ok(at)])?;
-        let body = acting(alloc, 0, &[], None)?;
+        let body = body_writing(alloc, 0, &[], None)?;
         let flats = [Flat::I32(0), Flat::I32(count)];
         let told = linked(alloc, items, flats.as_slice(), caller, callee, body)?;
         assert_eq!(rt; told.fault(), Some(trap(kind, Step::LowerArgs)), "{at}");
@@ -183,7 +183,7 @@ fn answered<C: Guest + Drop>(
     answer: u32,
 ) -> Result<Told, Fail> {
     let callee = filled(alloc, 32, &[])?;
-    let body = acting(alloc, 0, bytes, Some(Flat::I32(answer)))?;
+    let body = body_writing(alloc, 0, bytes, Some(Flat::I32(answer)))?;
     linked(alloc, items, &[Flat::I32(area)], caller, callee, body)
 }
 

@@ -1,6 +1,6 @@
 //! Typed calls of compound values: where the caller's and the callee's bytes stand, and the traps of what is placed and taken.
 
-use crate::acting::{Acting, acting, filled, function, package, scripted, trap};
+use crate::acting::{Acting, body_writing, filled, function, package, scripted, trap};
 use canonical_abi::{Fault, Flat, Guest, Step, TrapKind};
 use lift_lower::Val;
 use memory::Bump;
@@ -54,7 +54,7 @@ fn called<C: Guest + Drop>(
 #[test]
 fn empty_text(rt: HostRuntime) -> Result<(), Fail> {
     let alloc = rt.alloc();
-    let mut body = acting(alloc, 0, &[8, 0, 0, 0, 0, 0, 0, 0], Some(Flat::I32(0)))?;
+    let mut body = body_writing(alloc, 0, &[8, 0, 0, 0, 0, 0, 0, 0], Some(Flat::I32(0)))?;
     body.asks = true;
     let told = called(
         &rt,
@@ -111,11 +111,11 @@ fn called_with_seventeen(
 #[test]
 fn seventeen_go_through_memory(rt: HostRuntime) -> Result<(), Fail> {
     let alloc = rt.alloc();
-    let body = acting(alloc, 0, &[], None)?;
+    let body = body_writing(alloc, 0, &[], None)?;
     let told = called_with_seventeen(&rt, alloc, "", 68, body)?;
     assert!(rt; matches!(told.answer, Ok(None)));
     assert_eq!(rt; told.callee.get(64..68), Some([16, 0, 0, 0].as_slice()));
-    let body = acting(alloc, 0, &[], None)?;
+    let body = body_writing(alloc, 0, &[], None)?;
     let told = called_with_seventeen(&rt, alloc, "", 67, body)?;
     assert!(rt; told.is_trap(TrapKind::Full, Step::LowerArgs));
     Ok(())
@@ -125,7 +125,7 @@ fn seventeen_go_through_memory(rt: HostRuntime) -> Result<(), Fail> {
 fn seventeen_and_an_area(rt: HostRuntime) -> Result<(), Fail> {
     let alloc = rt.alloc();
     let text = [80, 0, 0, 0, 2, 0, 0, 0, 0x68, 0x69];
-    let body = acting(alloc, 72, text.as_slice(), Some(Flat::I32(72)))?;
+    let body = body_writing(alloc, 72, text.as_slice(), Some(Flat::I32(72)))?;
     let told = called_with_seventeen(&rt, alloc, " -> string", 128, body)?;
     assert!(rt; told.is_text("hi"));
     let wanted = [16, 0, 0, 0, 76, 0, 0, 0, 2, 0, 0, 0, 0x68, 0x69];
@@ -152,7 +152,7 @@ fn text_of<C: Guest + Drop>(
 fn bytes_after_post_return(rt: HostRuntime) -> Result<(), Fail> {
     let alloc = rt.alloc();
     for ends in [true, false] {
-        let mut body = acting(alloc, 0, HI.as_slice(), Some(Flat::I32(0)))?;
+        let mut body = body_writing(alloc, 0, HI.as_slice(), Some(Flat::I32(0)))?;
         body.fills = 10;
         body.ends = ends;
         let told = text_of(&rt, alloc, filled(alloc, 32, &[])?, body)?;
@@ -170,7 +170,7 @@ fn text_under_its_header(rt: HostRuntime) -> Result<(), Fail> {
     let alloc = rt.alloc();
     let caller = scripted(alloc, 256, &[Ok(128), Ok(128)])?;
     let text = b"\x08\0\0\0\x08\0\0\0aaaaaaaa";
-    let body = acting(alloc, 0, text, Some(Flat::I32(0)))?;
+    let body = body_writing(alloc, 0, text, Some(Flat::I32(0)))?;
     let told = text_of(&rt, alloc, caller, body)?;
     assert!(rt; told.is_trap(TrapKind::Utf8, Step::Take));
     Ok(())
@@ -188,7 +188,7 @@ fn text_past_the_limit(rt: HostRuntime) -> Result<(), Fail> {
         &[Val::String(text)],
         filled(alloc, 64, &[0xee; 64])?,
         filled(alloc, 32, &[])?,
-        acting(alloc, 0, &[], None)?,
+        body_writing(alloc, 0, &[], None)?,
     )?;
     assert!(rt; told.is_trap(TrapKind::Bounds, Step::Place));
     assert_eq!(rt; told.caller.as_slice(), [0xee; 64].as_slice());
