@@ -15,6 +15,7 @@ mod signature;
 
 pub use body::{Body, BoxedBody, Export, Stopped};
 pub use link::Link;
+pub use signature::parameter_types;
 
 #[cfg(test)]
 mod tests;
