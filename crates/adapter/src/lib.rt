@@ -15,3 +15,4 @@ mod signature;
 
 pub use body::{Body, BoxedBody, Export, Stopped};
 pub use link::Link;
+pub use signature::parameter_types;

@@ -2,7 +2,7 @@
 use Rattle.std.specs.Prelude.{◌≡◌, ◌⊎◌, ℕ, List, map}
 use Rattle.canonical_abi.specs.Types.{ClosedType, Fields, fields_of}
 use Rattle.canonical_abi.specs.Values.{Value}
-use Rattle.canonical_abi.specs.Layout.{size, align, max_flat_params}
+use Rattle.canonical_abi.specs.Layout.{size, align, max_flat_params, max_flat_results}
 use Rattle.canonical_abi.specs.Flat.{DenotesFault}
 use Rattle.canonical_abi.specs.Memory.{BlockHolds, BlockFaulty}
 use Rattle.canonical_abi.specs.Guest.{Memory, Allocation}
@@ -13,6 +13,7 @@ use Rattle.canonical_abi.specs.Session.{AreWithinLimit, TypedTraceBreaks}
 use Rattle.canonical_abi.specs.declared.flat.Flat.{Flat}
 use Rattle.canonical_abi.specs.declared.trap.Fault.{Fault}
 use Rattle.canonical_abi.specs.declared.trap.Fault.TheVariants.{Trap, NoMemory}
+use Rattle.canonical_abi.specs.declared.trap.TrapKind.{TrapKind}
 use Rattle.canonical_abi.specs.declared.trap.Step.TheVariants as step
 use Rattle.tables.specs.Closed.{closed_type}
 use Rattle.tables.specs.declared.tables.Resolve.{Resolve}
@@ -37,6 +38,16 @@ abbrev pub LowerFails : Allocation → Fields → List Value → Memory → Faul
 LowerFails allocates ts vs old (Trap t) new =
     (t.step ≡ step.Place) × (es : List Event) × (flats : List Flat) × PassesParams max_flat_params ts vs es flats × TypedTraceBreaks allocates old es t.kind new
 LowerFails allocates ts vs old NoMemory new = ⊥
+
+-- the values stand in the memory of the component that answers them, and these core values carry them: at most one, else a block's address
+abbrev pub AreAnswered : Allocation → Fields → List Value → Memory → List Flat → Memory → Type 0
+AreAnswered allocates ts vs old flats new =
+    (es : List Event) × PassesParams max_flat_results ts vs es flats × AreWithinLimit es × TraceLeads allocates old es new
+
+-- there is no room for them
+abbrev pub AnswerFails : Allocation → Fields → List Value → Memory → TrapKind → Memory → Type 0
+AnswerFails allocates ts vs old k new =
+    (es : List Event) × (flats : List Flat) × PassesParams max_flat_results ts vs es flats × TypedTraceBreaks allocates old es k new
 
 -- the value stands at the address, whose block was tested
 abbrev pub IsStoredAt : Allocation → ClosedType → ℕ → Value → Memory → Memory → Type 0

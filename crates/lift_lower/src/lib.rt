@@ -28,7 +28,7 @@ mod val;
 pub use lift_flat::low_word;
 pub use lifting::{are_kinds, lift, lift_params, lift_result};
 pub use loading::load;
-pub use lowering::lower;
+pub use lowering::{lower, lower_answer};
 pub use passing::{check_area, pass_params, pass_result};
 pub use placing::{ask_area, lower_arguments, take_result};
 pub use scalar::{Scalar, core_kind, lift_scalar, lower_scalar};

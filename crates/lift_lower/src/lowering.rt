@@ -5,7 +5,7 @@ ghost use Rattle.canonical_abi.specs.Values.{HaveTypes};
 ghost use Rattle.canonical_abi.specs.Layout.{size};
 ghost use Rattle.canonical_abi.specs.Lowering.{PassesParams, SpilledLower};
 ghost use Rattle.layout.specs.Layout.{layouts_of};
-ghost use Rattle.lift_lower.specs.Crossing.{fields_of_types, AreLowered, LowerFails};
+ghost use Rattle.lift_lower.specs.Crossing.{fields_of_types, AreLowered, LowerFails, AreAnswered, AnswerFails};
 ghost use Rattle.lift_lower.specs.Lowered.{PassesParamsBy, SpilledLowerBy};
 ghost use Rattle.lift_lower.specs.Members.{AreAllInside, AreTypesOf};
 ghost use Rattle.lift_lower.specs.Scripts.{IsDone, HasEnded};
@@ -41,32 +41,53 @@ pub fn lower<G: Guest>(
         (map value_of values.now) (G.memory guest.old) fault (G.memory guest.new)) }
 {
     let table = &Types::new(resolve, layouts);
-    match lower_params(table, MAX_BLOCK, types, values, guest) {
+    match lower_params(table, 16, MAX_BLOCK, types, values, guest) {
         Ok(flats) => Ok(flats),
         Err(kind) => Err(place_fault(kind)),
     }
 }
 
-/// Lowers parameters: flat, or into a block where more than sixteen core values would carry them.
+/// The core values with which a component answers values of these types: flat where one carries them, else the address of
+/// a block of its own, which is asked for before those of texts and lists. Takes no memory of the host.
+pub fn lower_answer<G: Guest>(
+    table: &Types,
+    types: &[ValType],
+    values: &[Val],
+    guest: &mut G,
+) -> Result<Flats, TrapKind>
+    requires known { AreTypesOf table.now types.now }
+    requires small { size (record_type (fields_of_types table.now types.now)) ≤ 16777216 }
+    requires typed { HaveTypes (map value_of values.now) (fields_of_types table.now types.now) }
+    ensures flats { IfOk result (λ flats. AreAnswered G.allocates (fields_of_types table.now types.now)
+        (map value_of values.now) (G.memory guest.old) flats.items (G.memory guest.new)) }
+    ensures fault { IfErr result (λ k. AnswerFails G.allocates (fields_of_types table.now types.now)
+        (map value_of values.now) (G.memory guest.old) k (G.memory guest.new)) }
+{
+    lower_params(table, 1, MAX_BLOCK, types, values, guest)
+}
+
+/// Lowers values as parameters: flat, or into a block where more than `flat` core values would carry them.
 pub(crate) fn lower_params<G: Guest>(
     table: &Types,
+    flat: usize,
     limit: u32,
     types: &[ValType],
     values: &[Val],
     guest: &mut G,
 ) -> Result<Flats, TrapKind>
+    requires few { flat ≤ 16 }
     requires inside { AreAllInside table.now types.now }
     requires small { size (record_type (fields_of_types table.now types.now)) ≤ 16777216 }
     requires standard { AreStandardFields (fields_of_types table.now types.now) }
     requires typed { HaveTypes (map value_of values.now) (fields_of_types table.now types.now) }
     ensures ok { IfOk result (λ flats. IsDone limit G.allocates
-        (λ es. PassesParams 16 (fields_of_types table.now types.now) (map value_of values.now) es flats.items)
+        (λ es. PassesParams flat (fields_of_types table.now types.now) (map value_of values.now) es flats.items)
         (G.memory guest.old) (G.memory guest.new)) }
     ensures fault { IfErr result (λ k. HasEnded limit G.allocates
-        (PassesParamsBy 16 (fields_of_types table.now types.now) (map value_of values.now))
+        (PassesParamsBy flat (fields_of_types table.now types.now) (map value_of values.now))
         (G.memory guest.old) k (G.memory guest.new)) }
 {
-    let Some(_) = table.kinds_within(types, 16) else {
+    let Some(_) = table.kinds_within(types, flat) else {
         return lower_spilled(table, limit, types, values, guest);
     };
     let mut flats = Flats::new();

@@ -44,7 +44,7 @@ pub fn pass_params<G: Guest>(
     ensures fault { IfErr result (λ k. ParamsFailed max_flat_params G.allocates (fields_of_types table.now types.now)
         (map value_of values.now) (G.memory guest.old) k (G.memory guest.new)) }
 {
-    lower_params(table, u32::MAX, types, values, guest)
+    lower_params(table, 16, u32::MAX, types, values, guest)
 }
 
 /// Tests the return area of a call: where the result does not go flat, its alignment, then its end.

@@ -11,4 +11,6 @@ pub mod Typed
 pub mod Writes
 pub mod OneValue
 pub mod Depths
+pub mod Floats
+pub mod Distinct
 pub mod OneLabel

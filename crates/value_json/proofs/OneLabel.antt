@@ -21,9 +21,13 @@ use Rattle.package_form.specs.Ends.{end_of, rows_of, is_parted}
 use Rattle.package_form.specs.Naming.{field_name, case_name, row_members, rows_scopes, interfaces_scopes}
 use Rattle.package_form.proofs.Lists.{all-tail, all-left, all-right, all_map-at, contains-here, contains-right}
 use Rattle.package_form.proofs.OneRow.{distinct-back, distinct-apart, in-rows, parted-on}
-use Rattle.value_json.specs.Apart.{AreApart, KindApart, RowApart}
+use Rattle.std.proofs.Math.Logic.{∥∥₁_elim}
+use Rattle.package_form.specs.Form.{IsInPackageForm}
+use Rattle.package_form.specs.Naming.{package_scopes}
+use Rattle.value_json.specs.Apart.{AreApart, KindApart, RowApart, HasApartLabels}
 use Rattle.value_json.specs.Json.{IsNotAmong, AreDistinctLabels, IsOfNoCase, HasDistinctLabels, MembersHaveDistinctLabels, PayloadHasDistinctLabels, FieldsHaveDistinctLabels, CasesHaveDistinctLabels}
 use Rattle.value_json.specs.Laws.{LabelsAreApart}
+use Rattle.value_json.proofs.Distinct.{prop-rows, prop-type}
 
 -- ---- the members of each row are a scope
 
@@ -156,8 +160,14 @@ rows-labels ts [] known h = known
 rows-labels ts (d ∷ ds) known (here, h) =
     rows-labels (ts ++ labelled_definition ts d ∷ []) ds (all-more HasDistinctLabels ts (labelled_definition ts d) known (definition-labels ts known d here)) h
 
-pub labels-apart : (r : Resolve) → LabelsAreApart r
-labels-apart r form distinct =
+labels-apart-in-form : (r : Resolve) → IsInPackageForm r → All AreDistinct (package_scopes r) → HasApartLabels r × ((ty : ValType) → HasDistinctLabels (labelled_type r ty))
+labels-apart-in-form r form distinct =
     let rows = r.definitions in
     let scopes = scopes-from rows rows 0 (λ a d h. scope-at rows 0 r.interfaces form.parted (all-tail AreDistinct _ _ distinct) a d (omega arith) h) in
     (all-apart rows scopes, val-labels (labelled_rows [] rows) (rows-labels [] rows tt scopes))
+
+pub labels-apart : (r : Resolve) → LabelsAreApart r
+labels-apart r form distinct =
+    let same : IsProp (HasApartLabels r × ((ty : ValType) → HasDistinctLabels (labelled_type r ty))) =
+    hlevel (prop-rows r.definitions, prop-type) in
+    ∥∥₁_elim form same (λ in_form. ∥∥₁_elim distinct same (labels-apart-in-form r in_form))

@@ -1,12 +1,19 @@
 -- What stands as JSON of a type is a value of the type.
-use Rattle.std.proofs.Common.{◌≡◌, inl, inr, ℕ, zero, suc, ◌+◌, ◌*◌, ◌<◌, ◌^◌, List, [], ◌∷◌, length, Some, slice_get, Bool, true, false, cond, ◌||◌, ◌&&◌, nat_lt, refl, sym, subst, arith}
+use Rattle.std.proofs.Common.{◌≡◌, ap, ◌∙◌, map, inl, inr, ℕ, zero, suc, ◌+◌, ◌*◌, ◌<◌, ◌^◌, List, [], ◌∷◌, length, Some, slice_get, Bool, true, false, cond, ◌||◌, ◌&&◌, nat_lt, refl, sym, subst, arith}
 use Rattle.std.proofs.Math.Nat.{pow-succ'}
 use Rattle.std.specs.Char.{IsScalar}
 use Rattle.std.specs.List.{AllByRecursion}
 use Rattle.canonical_abi.specs.Types.{Prim, boolean, unsigned, signed, scalar_value, Cases, no_case}
 use Rattle.canonical_abi.specs.Labelled.{Label, LabelledType, labelled_prim, labelled_string, labelled_list, labelled_option, labelled_tuple, labelled_result, labelled_record, labelled_variant, labelled_enum, labelled_flags, LabelledTypes, no_member, member, Payload, no_payload, payload, LabelledFields, no_labelled_field, labelled_field, LabelledCases, no_labelled_case, labelled_case, closed, closed_members, closed_fields, closed_cases, closed_payload, plain_cases}
 use Rattle.canonical_abi.specs.Values.{Value, is_scalar, HasPrimType, HasType, HaveTypes, IsOfCase, plain_value}
+use Rattle.canonical_abi.specs.Types.{field, fields_of}
 use Rattle.serde_json.specs.Data.{Data, Members}
+use Rattle.tables.specs.Closed.{closed_type}
+use Rattle.tables.specs.Labelled.{labelled_type, labelled_types, labelled_members}
+use Rattle.tables.specs.declared.tables.Resolve.{Resolve}
+use Rattle.tables.specs.declared.tables.ValType.{ValType}
+use Rattle.tables.proofs.Erased.{erases}
+use Rattle.lift_lower.specs.Crossing.{fields_of_types}
 use Rattle.value_json.specs.Json.{PrimJson, Json, EachJson, MembersJson, PayloadJson, CasesJson, FieldsJson, FlagsJson}
 
 or_is : (a b : Bool) → cond a true b ≡ true → (a || b) ≡ true
@@ -85,3 +92,17 @@ mutual
       let (k, c) = case-typed cs (suc i) v j b in
       let e : suc i + k ≡ i + suc k = omega arith in
       (suc k, skip p v (closed_cases cs) (i + suc k) k (subst (λ n. IsOfCase v (closed_cases cs) n k) e c))
+
+-- ---- types of a table
+
+pub value-typed : (r : Resolve) (t : ValType) (v : Value) (j : Data) → Json (labelled_type r t) v j → HasType v (closed_type r t)
+value-typed r t v j s = subst (HasType v) (erases r t) (json-typed (labelled_type r t) v j s)
+
+members-closed : (r : Resolve) (ts : List ValType) → closed_members (labelled_members (labelled_types r) ts) ≡ fields_of_types r ts
+members-closed r [] = refl
+members-closed r (t ∷ ts) =
+    ap (λ u. field u (closed_members (labelled_members (labelled_types r) ts))) (erases r t) ∙ ap (field (closed_type r t)) (members-closed r ts)
+
+pub values-typed : (r : Resolve) (ts : List ValType) (vs : List Value) (js : List Data)
+    → MembersJson (labelled_members (labelled_types r) ts) vs js → HaveTypes vs (fields_of_types r ts)
+values-typed r ts vs js each = subst (HaveTypes vs) (members-closed r ts) (members-typed (labelled_members (labelled_types r) ts) vs js each)

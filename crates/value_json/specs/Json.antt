@@ -84,6 +84,10 @@ abbrev mutual
 abbrev pub HasFields : LabelledFields → List Value → Data → Type 0
 HasFields fs vs j = (ms : Members) × FieldsJson fs vs ms × (j ≡ json.object ms)
 
+-- the JSON value is an array that stands for the values of these members
+abbrev pub HasMembers : LabelledTypes → List Value → Data → Type 0
+HasMembers ts vs j = (js : List Data) × MembersJson ts vs js × (j ≡ json.array (items_of js))
+
 -- the JSON value stands for no value of the type
 abbrev pub HasNone : LabelledType → Data → Type 0
 HasNone t j = (v : Value) → Json t v j → ⊥

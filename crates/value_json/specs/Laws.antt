@@ -12,4 +12,4 @@ use Rattle.value_json.specs.Json.{HasDistinctLabels}
 -- no record has a label twice, and no variant, enum or flags at any depth of a type
 abbrev pub LabelsAreApart : Resolve → Type 0
 LabelsAreApart r =
-    IsInPackageForm r → All AreDistinct (package_scopes r) → HasApartLabels r × ((ty : ValType) → HasDistinctLabels (labelled_type r ty))
+    ∥ IsInPackageForm r ∥₁ → ∥ All AreDistinct (package_scopes r) ∥₁ → HasApartLabels r × ((ty : ValType) → HasDistinctLabels (labelled_type r ty))

@@ -3,14 +3,17 @@ ghost use Rattle.std.specs.Prelude.{◌≡◌, ◌≤◌, ◌<◌, ◌^◌, ℕ,
 ghost use Rattle.std.specs.List.{list_all};
 ghost use Rattle.serde_json.specs.View.{view, items_of};
 ghost use Rattle.serde_json.specs.Data.{Data};
-ghost use Rattle.canonical_abi.specs.Values.{Value};
+ghost use Rattle.canonical_abi.specs.Values.{Value, HasType, HaveTypes};
 ghost use Rattle.canonical_abi.specs.Labelled.{labelled_string, labelled_enum, labelled_flags};
+ghost use Rattle.tables.specs.Closed.{closed_type};
 ghost use Rattle.tables.specs.Standard.{IsTypeOf};
 ghost use Rattle.tables.specs.Tables.{is_type_id, is_type, is_below, kind_all, option_all, is_standard_kind};
+ghost use Rattle.lift_lower.specs.Crossing.{fields_of_types};
+ghost use Rattle.lift_lower.specs.Members.{AreTypesOf};
 ghost use Rattle.lift_lower.specs.Val.{value_of};
 ghost use Rattle.tables.specs.Labelled.{labelled_type, labelled_types, labelled_val, labelled_kind, labelled_payload, labelled_members, labelled_fields, labelled_cases};
 ghost use Rattle.value_json.specs.Apart.{AreApart, KindApart, HasApartLabels};
-ghost use Rattle.value_json.specs.Json.{Json as StandsAs, HasNone, EachJson, MembersJson, PayloadJson, CasesJson, HasFields, FlagsJson};
+ghost use Rattle.value_json.specs.Json.{Json as StandsAs, HasNone, EachJson, MembersJson, PayloadJson, CasesJson, HasFields, HasMembers, FlagsJson};
 
 use crate::error::JsonError;
 use crate::parts::{is_text, only_member};
@@ -31,9 +34,34 @@ pub fn value_of_json(
     requires inside { IsTypeOf resolve.now ty }
     requires labels { HasApartLabels resolve.now }
     ensures ok { IfOk result (λ v. StandsAs (labelled_type resolve.now ty) (value_of v) (view json.now)) }
+    ensures typed { IfOk result (λ v. HasType (value_of v) (closed_type resolve.now ty)) }
     ensures other { IsErrOf result JsonError.NotThisType → HasNone (labelled_type resolve.now ty) (view json.now) }
 {
     read_value(alloc, resolve, ty, json)
+}
+
+/// The values of types of the package that stand as the items of an array: each of its type, and as many as the types.
+pub fn values_of_json(
+    alloc: Global,
+    resolve: &Resolve,
+    types: &[ValType],
+    json: &Json,
+) -> Result<Vec<Val>, JsonError>
+    requires known { AreTypesOf resolve.now types.now }
+    requires labels { HasApartLabels resolve.now }
+    ensures ok { IfOk result (λ vs. HasMembers (labelled_members (labelled_types resolve.now) types.now) (map value_of vs.items) (view json.now)) }
+    ensures typed { IfOk result (λ vs. HaveTypes (map value_of vs.items) (fields_of_types resolve.now types.now)) }
+    ensures other { IsErrOf result JsonError.NotThisType
+        → (vs : List Value) → HasMembers (labelled_members (labelled_types resolve.now) types.now) vs (view json.now) → ⊥ }
+{
+    let Some(items) = json.as_array() else {
+        return Err(JsonError::NotThisType);
+    };
+    let place = resolve.definitions.len();
+    match read_members(alloc, resolve, place, types, items.as_slice()) {
+        Ok(values) => Ok(values),
+        Err(error) => Err(error),
+    }
 }
 
 /// What the type at this place is.
@@ -131,6 +159,7 @@ fn read_kind(
             let Some(items) = json.as_array() else {
                 return Err(JsonError::NotThisType);
             };
+            let place = place as usize;
             match read_members(alloc, resolve, place, types.as_slice(), items.as_slice()) {
                 Ok(values) => Ok(Val::Record(values)),
                 Err(error) => Err(error),
@@ -177,7 +206,7 @@ fn read_items(
 fn read_members(
     alloc: Global,
     resolve: &Resolve,
-    _place: u32,
+    _place: usize,
     types: &[ValType],
     items: &[Json],
 ) -> Result<Vec<Val>, JsonError>

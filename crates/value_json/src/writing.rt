@@ -1,12 +1,13 @@
 //! JSON values of values: over the types that stand above in the table.
-ghost use Rattle.std.specs.Prelude.{◌≡◌, ◌<◌, ◌≤◌, ◌^◌, ◌++◌, ℕ, List, length, map, IfOk, IsTrue};
+ghost use Rattle.std.specs.Prelude.{◌≡◌, false, ◌<◌, ◌≤◌, ◌^◌, ◌++◌, ℕ, List, length, map, IfOk, IsTrue};
 ghost use Rattle.std.specs.List.{list_all, AllByRecursion};
 ghost use Rattle.canonical_abi.specs.Labelled.{labelled_enum, labelled_flags, labelled_string, closed, closed_members, closed_fields, closed_cases, plain_cases};
-ghost use Rattle.canonical_abi.specs.Types.{variant_type};
+ghost use Rattle.canonical_abi.specs.Types.{variant_type, depth};
 ghost use Rattle.canonical_abi.specs.Values.{HasType, HasPrimType, HaveTypes, Value};
-ghost use Rattle.serde_json.specs.Data.{string, put};
+ghost use Rattle.serde_json.specs.Data.{string, put, depth as json_depth};
 ghost use Rattle.serde_json.specs.View.{view, members_view};
-ghost use Rattle.tables.specs.Closed.{prim_of};
+ghost use Rattle.serde_json.specs.Written.{has_float};
+ghost use Rattle.tables.specs.Closed.{prim_of, closed_type};
 ghost use Rattle.tables.specs.Standard.{IsTypeOf};
 ghost use Rattle.tables.specs.Tables.{is_below, is_type, option_all, kind_all, is_standard_kind};
 ghost use Rattle.lift_lower.specs.Val.{value_of};
@@ -32,8 +33,10 @@ pub fn json_of_value(
 ) -> Result<Json, AllocError>
     requires inside { IsTypeOf resolve.now ty }
     requires labels { HasApartLabels resolve.now }
-    requires typed { HasType (value_of value.now) (closed (labelled_type resolve.now ty)) }
-    ensures { IfOk result (λ json. StandsAs (labelled_type resolve.now ty) (value_of value.now) (view json)) }
+    requires typed { HasType (value_of value.now) (closed_type resolve.now ty) }
+    ensures ok { IfOk result (λ json. StandsAs (labelled_type resolve.now ty) (value_of value.now) (view json)) }
+    ensures whole { IfOk result (λ json. has_float (view json) ≡ false) }
+    ensures nests { IfOk result (λ json. json_depth (view json) ≤ depth (closed_type resolve.now ty)) }
 {
     write_value(alloc, resolve, ty, value)
 }

@@ -12,22 +12,18 @@ use Rattle.tables.specs.Closed.{function_at, function_type}
 use Rattle.tables.specs.Names.{IsNamed}
 use Rattle.tables.specs.declared.tables.FunctionId.{FunctionId}
 use Rattle.tables.specs.declared.tables.Resolve.{Resolve}
-use Rattle.tables.specs.declared.tables.ValType.{ValType}
 use Rattle.witcall.specs.declared.refused.Refused.{Refused}
 use Rattle.witcall.specs.declared.refused.Refused.TheVariants as refused
 use Rattle.witcall.specs.Calling.{Asks, CallAnswers, CallRefuses, Refuses, fresh, program_parties}
 use Rattle.witcall.specs.Json.{IsArrayTextOf}
-use Rattle.witcall.specs.Signature.{Signature, signature_of}
+use Rattle.witcall.specs.Signature.{signature_of}
 use Rattle.witcall.specs.Status.{refusal_of}
 
 -- the words ask for the call of this function with the values that were read and handed on
-pub asks : (r own : Resolve) (iface func args : List ℕ) (f : FunctionId) (types : Signature) (params : List ValType) (values handed : List Val)
-    → IsNamed r iface func f → own ≡ r → types ≡ signature_of (function_at own f) → params ≡ types.params
-    → IsArrayTextOf params args (map value_of values) → handed ≡ values → Asks r iface func args f (map value_of handed)
-asks r own iface func args f types params values handed named same are params_are read same_values =
-    let own_params = params_are ∙ ap (λ t. t.params) (are ∙ ap (λ q. signature_of (function_at q f)) same) in
-    let own_read = subst (λ ts. IsArrayTextOf ts args (map value_of values)) own_params read in
-    record { named = named; are_read = subst (λ vs. IsArrayTextOf (signature_of (function_at r f)).params args (map value_of vs)) (sym same_values) own_read }
+pub asks : (r : Resolve) (iface func args : List ℕ) (f : FunctionId) (values handed : List Val) → IsNamed r iface func f
+    → IsArrayTextOf r (signature_of (function_at r f)).params args (map value_of values) → handed ≡ values → Asks r iface func args f (map value_of handed)
+asks r iface func args f values handed named read same =
+    record { named = named; are_read = subst (λ vs. IsArrayTextOf r (signature_of (function_at r f)).params args (map value_of vs)) (sym same) read }
 
 -- a typed call over memories that are fresh, on a body that was put into a box
 pub answers : (B : Type 0) (runs : B → Run) (posts : B → PostRun) (state : B → List ℕ) (b boxed : B) (r own : Resolve) (f : FunctionId)

@@ -24,14 +24,14 @@ unfoldable pub fresh : ℕ → Memory
 fresh len = of_kind 1 (first_fit (replicate len 0) (len / 8 * 8) (whole (len / 8 * 8)))
 
 -- the compact JSON of the value and a newline
-abbrev pub IsLineOf : ValType → Value → List ℕ → Type 0
-IsLineOf t v line = (text : List ℕ) × IsCompactTextOf t v text × (line ≡ text ++ 10 ∷ [])
+abbrev pub IsLineOf : Resolve → ValType → Value → List ℕ → Type 0
+IsLineOf r t v line = (text : List ℕ) × IsCompactTextOf r t v text × (line ≡ text ++ 10 ∷ [])
 
 -- the line of the result, or nothing where the function has no result
-abbrev pub IsOutputOf : Option ValType → Option Value → List ℕ → Type 0
-IsOutputOf (Some t) (Some v) output = IsLineOf t v output
-IsOutputOf None None output = output ≡ []
-IsOutputOf _ _ output = ⊥
+abbrev pub IsOutputOf : Resolve → Option ValType → Option Value → List ℕ → Type 0
+IsOutputOf r (Some t) (Some v) output = IsLineOf r t v output
+IsOutputOf r None None output = output ≡ []
+IsOutputOf r _ _ output = ⊥
 
 abbrev pub program_parties : Run → PostRun → Parties
 program_parties runs posts = record { caller_allocates = SpaceAllocates; callee_allocates = SpaceAllocates; runs = runs; posts = posts }
@@ -42,7 +42,7 @@ program_world state = record { caller = fresh 1048576; callee = fresh 1048576; b
 -- the words name this function of the package, and give it these arguments
 pub record Asks (r : Resolve) (iface func args : List ℕ) (f : FunctionId) (vs : List Value) : Type 0 where
   pub named : IsNamed r iface func f
-  pub are_read : IsArrayTextOf (signature_of (function_at r f)).params args vs
+  pub are_read : IsArrayTextOf r (signature_of (function_at r f)).params args vs
 
 -- a call of the function over two fresh memories, on a body that may make these runs, has this answer
 abbrev pub CallAnswers : Resolve → FunctionId → List Value → Run → PostRun → List ℕ → Result (Option Value) Fault → Type 0
@@ -56,7 +56,7 @@ pub record Prints (r : Resolve) (iface func args : List ℕ) (runs : Run) (posts
   pub asked : Asks r iface func args function arguments
   pub answer : Option Value
   pub called : CallAnswers r function arguments runs posts state (Ok answer)
-  pub printed : IsOutputOf (signature_of (function_at r function)).result answer output
+  pub printed : IsOutputOf r (signature_of (function_at r function)).result answer output
 
 -- the call came to its end, or memory of the host was wanting in it: it did not trap
 abbrev pub IsNoTrap : Result (Option Value) Fault → Type 0
@@ -76,7 +76,7 @@ CallRefuses r f vs runs posts state _ = ⊥
 abbrev pub Refuses : Resolve → (iface func args : List ℕ) → Run → PostRun → (state : List ℕ) → Refused → Type 0
 Refuses r iface func args runs posts state refused.NoFunction = IsMissing r iface func
 Refuses r iface func args runs posts state (refused.Json e) =
-    (f : FunctionId) × IsNamed r iface func f × RefusesArray (signature_of (function_at r f)).params args e
+    (f : FunctionId) × IsNamed r iface func f × RefusesArray r (signature_of (function_at r f)).params args e
 Refuses r iface func args runs posts state refused.Write = (output : List ℕ) × Prints r iface func args runs posts state output
 Refuses r iface func args runs posts state e =
     (f : FunctionId) × (vs : List Value) × Asks r iface func args f vs × CallRefuses r f vs runs posts state e

@@ -1,6 +1,5 @@
 -- The types of a function's parameters and of its result, as its package names them.
-use Rattle.std.specs.Prelude.{◌⊎◌, ℕ, List, [], map, Option, Some, None}
-use Rattle.tables.specs.Closed.{IsScalarFunction}
+use Rattle.std.specs.Prelude.{ℕ, List, [], map, Option, Some, None}
 use Rattle.tables.specs.Names.{IsNamed}
 use Rattle.tables.specs.declared.tables.FunctionId.{FunctionId}
 use Rattle.tables.specs.declared.tables.Resolve.{Resolve}
@@ -15,7 +14,6 @@ abbrev pub signature_of : Option Function → Signature
 signature_of None = record { params = []; result = None }
 signature_of (Some f) = record { params = map (λ p. p.ty) f.params; result = f.result }
 
--- nothing has this name, or what has it is no scalar function
+-- no function has this name
 abbrev pub IsMissing : Resolve → List ℕ → List ℕ → Type 0
-IsMissing r iface func =
-    ((f : FunctionId) → ¬ IsNamed r iface func f) ⊎ ((f : FunctionId) × IsNamed r iface func f × ¬ (IsScalarFunction r f))
+IsMissing r iface func = (f : FunctionId) → ¬ IsNamed r iface func f

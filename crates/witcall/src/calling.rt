@@ -6,17 +6,17 @@ ghost use Rattle.std.specs.Io.KnownBytes.{Appends, Keeps};
 ghost use Rattle.canonical_abi.specs.Values.{HasType, HaveTypes};
 ghost use Rattle.canonical_abi.specs.Types.{result_fields};
 ghost use Rattle.canonical_abi.specs.Session.{as_list};
-ghost use Rattle.tables.specs.Closed.{IsScalarFunction, function_at, function_type};
+ghost use Rattle.tables.specs.Closed.{IsFunction, function_at, function_type};
 ghost use Rattle.lift_lower.specs.Val.{value_of};
 ghost use Rattle.witcall.specs.Signature.{signature_of};
 ghost use Rattle.witcall.specs.Calling.{IsOutputOf, Prints, Refuses, CallAnswers, CallRefuses, fresh};
 
-use crate::json::{to_json, values_from_json};
+use crate::json::{arguments_from_json, to_json};
 use crate::output::write_bytes;
 use crate::package::Package;
 use crate::refused::Refused;
 use crate::session::Session;
-use crate::signature::{ScalarTypes, scalar_function};
+use crate::signature::{function_named, result_type};
 use adapter::{BoxedBody, Export};
 use atoms::Sink;
 use lift_lower::Val;
@@ -51,9 +51,8 @@ pub fn run_call<W: Sink>(
     ensures broken { IsErrOf result Refused.Write → W.has_failed writer.new ≡ true }
     ensures unwritten { IfErr result (λ e. e ≢ Refused.Write → Keeps (W.contents writer.old) (W.contents writer.new)) }
 {
-    let func = scalar_function(package, iface, func)?;
-    let types = ScalarTypes::of(package.resolve(), func);
-    let arguments = values_from_json(alloc, package, types.params(), args)?;
+    let func = function_named(package, iface, func)?;
+    let arguments = arguments_from_json(alloc, package, func, args)?;
     let answer = call_once(alloc, package, func, arguments.as_slice(), body)?;
     let output = output_of(alloc, package, func, answer)?;
     write_bytes(writer, output.as_bytes())?;
@@ -68,7 +67,7 @@ fn call_once(
     arguments: &[Val],
     body: Box<dyn Export>,
 ) -> Result<Option<Val>, Refused>
-    requires scalar { IsScalarFunction «package».now.resolve func }
+    requires function { IsFunction «package».now.resolve func }
     requires typed { HaveTypes (map value_of arguments.now) (function_type «package».now.resolve func).params }
     ensures call { IfOk result (λ v. CallAnswers «package».now.resolve func (map value_of arguments.now)
         (runs body) (posts body) (state body) (Ok (option_map value_of v))) }
@@ -101,14 +100,14 @@ fn output_of(
     func: FunctionId,
     answer: Option<Val>,
 ) -> Result<String, AllocError>
-    requires scalar { IsScalarFunction «package».now.resolve func }
+    requires function { IsFunction «package».now.resolve func }
     requires typed { HaveTypes (as_list (option_map value_of answer))
         (result_fields (function_type «package».now.resolve func).result) }
-    ensures { IfOk result (λ output. IsOutputOf (signature_of (function_at «package».now.resolve func)).result
+    ensures { IfOk result (λ output. IsOutputOf «package».now.resolve (signature_of (function_at «package».now.resolve func)).result
         (option_map value_of answer) (string_bytes output)) }
 {
-    let types = ScalarTypes::of(package.resolve(), func);
-    let (Some(value), Some(ty)) = (answer, types.result()) else {
+    let ty = result_type(package.resolve(), func);
+    let (Some(value), Some(ty)) = (answer, ty) else {
         return Ok(String::new(alloc));
     };
     let mut line = to_json(alloc, package, ty, &value)?;

@@ -1,40 +1,48 @@
 //! The program's own body: it answers one value.
 
-ghost use Rattle.std.specs.Prelude.{map, option_to_list};
+ghost use Rattle.std.specs.Prelude.{◌≡◌, List, map, option_to_list, IfOk, OnOk, OnErr};
+ghost use Rattle.canonical_abi.specs.Flat.{Denotes};
+ghost use Rattle.canonical_abi.specs.Layout.{max_flat_params};
 ghost use Rattle.canonical_abi.specs.Types.{result_fields};
-ghost use Rattle.canonical_abi.specs.Values.{HaveTypes};
+ghost use Rattle.canonical_abi.specs.Values.{HaveTypes, Value};
 ghost use Rattle.lift_lower.specs.Val.{value_of};
-ghost use Rattle.tables.specs.Closed.{IsScalarFunction, function_type};
+ghost use Rattle.memory.specs.SpaceView.{space_memory};
+ghost use Rattle.tables.specs.Closed.{IsFunction, function_at, function_type};
+ghost use Rattle.witcall.specs.Signature.{signature_of};
 
 use crate::json::values_from_json;
 use crate::package::Package;
 use crate::refused::Refused;
-use crate::signature::{ScalarTypes, scalar_function};
+use crate::signature::{function_named, result_type};
 use crate::typing::have_types;
-use adapter::{Export, Stopped};
+use adapter::{Export, Stopped, parameter_types};
 use canonical_abi::Flat;
-use lift_lower::{Flats, Val, lift_scalars, lower};
+use lift_lower::{Flats, Val, lift_params, lift_scalars, lower_answer};
 use memory::Space;
-use resolve::FunctionId;
+use resolve::{FunctionId, ValType};
 use std::alloc::Global;
 
 /// A body that lifts its arguments and then answers one value, whatever they are. Any fault of its own is
-/// `Stopped`, and its post-return does nothing. It takes no memory of the host.
+/// `Stopped`, and its post-return does nothing. For a scalar function it takes no memory of the host.
 #[derive(Drop)]
 pub struct Reply {
+    alloc: Global,
     package: Package,
     func: FunctionId,
+    /// The types of the parameters.
+    params: Vec<ValType>,
     /// The value of the result, if it has one.
     value: Option<Val>,
-    ghost scalar: { IsScalarFunction «package».resolve func },
+    ghost function: { IsFunction «package».resolve func },
+    ghost named: { params.items ≡ (signature_of (function_at «package».resolve func)).params },
     ghost typed: { ∥ HaveTypes (map value_of (option_to_list value)) (result_fields (function_type «package».resolve func).result) ∥₁ },
 }
 
 impl Reply {
     ghost use Rattle.std.specs.Prelude.{IfOk, IfErr};
-    ghost use Rattle.witcall.specs.Replying.{IsReplyOf, ReplyRefuses};
+    ghost use Rattle.witcall.specs.Replying.{IsReplyOf, ReplyRefuses, ArgumentsFail, RepliesWith, HasNoRoom};
 
-    /// The body of a function of the package: 63 where it has no scalar function of that name, 61 and 62
+    /// The body of a function of the package: 63 where it has no function of that name, 61 and 62
     /// where `reply` is no JSON array of the one value of its result, or of none where it has no result.
     pub fn of(
         alloc: Global,
@@ -46,46 +54,82 @@ impl Reply {
         ensures ok { IfOk result (IsReplyOf «package».now.resolve iface.now func.now reply.now) }
         ensures err { IfErr result (ReplyRefuses «package».now.resolve iface.now func.now reply.now) }
     {
-        let func = scalar_function(package, iface, func)?;
-        let types = ScalarTypes::of(package.resolve(), func);
-        let mut values = values_from_json(alloc, package, types.results(), reply)?;
+        let func = function_named(package, iface, func)?;
+        let ty = result_type(package.resolve(), func);
+        let mut values = values_from_json(alloc, package, ty.as_slice(), reply)?;
+        let package = package.copy(alloc)?;
+        let params = parameter_types(alloc, &package.types(), func)?;
         Ok(Reply {
-            package: package.copy(alloc)?,
+            alloc,
+            package,
             func,
+            params,
             value: values.pop(),
         })
+    }
+
+    /// Lifts the arguments that it was given.
+    fn lift_arguments(&self, memory: &Space, arguments: &[Flat]) -> Result<(), Stopped>
+        ensures ok { OnOk result ((vs : List Value) × Denotes max_flat_params
+            (function_type self.now.«package».resolve self.now.func).params (space_memory memory.now).bytes arguments.now vs) }
+        ensures err { OnErr result (ArgumentsFail self.now.«package».resolve self.now.func
+            (space_memory memory.now).bytes arguments.now) }
+    {
+        let table = self.package.types();
+        let types = self.params.as_slice();
+        if table.resolve().is_scalar(self.func) {
+            return match lift_scalars(types, arguments) {
+                Ok(_values) => Ok(()),
+                Err(_kind) => Err(Stopped),
+            };
+        }
+        match lift_params(self.alloc, &table, types, arguments, memory) {
+            Ok(_values) => Ok(()),
+            Err(_fault) => Err(Stopped),
+        }
+    }
+
+    /// Lowers its value as the answer.
+    fn lower_value(&self, memory: &mut Space) -> Result<Flats, Stopped>
+        ensures ok { IfOk result (λ flats. RepliesWith (function_type self.now.«package».resolve self.now.func)
+            (map value_of (option_to_list self.now.value)) (space_memory memory.old) flats.items (space_memory memory.new)) }
+        ensures err { OnErr result (HasNoRoom (function_type self.now.«package».resolve self.now.func)
+            (map value_of (option_to_list self.now.value)) (space_memory memory.old) (space_memory memory.new)) }
+    {
+        let table = self.package.types();
+        let ty = result_type(table.resolve(), self.func);
+        let types = ty.as_slice();
+        let values = self.value.as_slice();
+        // Its value has its type, as the test tells `lower_answer`.
+        if !have_types(table.resolve(), table.layouts(), types, values) {
+            unreachable!()
+        }
+        match lower_answer(&table, types, values, memory) {
+            Ok(flats) => Ok(flats),
+            Err(_kind) => Err(Stopped),
+        }
     }
 }
 
 impl Export for Reply {
-    ghost use Rattle.std.specs.Prelude.{◌≡◌, [], Some};
-    ghost use Rattle.witcall.specs.Replying.{Replies};
+    ghost use Rattle.std.specs.Prelude.{◌≡◌, ◌⊎◌, [], Some};
+    ghost use Rattle.witcall.specs.Replying.{Replies, WantsMemory};
 
     ghost state = { λ _. [] };
 
     // It was given its function's arguments and answers its value, or stops for a cause.
     ghost runs = { λ reply s m given s' m' answer. (s' ≡ s)
-        × Replies (function_type reply.«package».resolve reply.func)
-        (map value_of (option_to_list reply.value)) m given answer m' };
+        × (Replies (function_type reply.«package».resolve reply.func)
+        (map value_of (option_to_list reply.value)) m given answer m'
+        ⊎ WantsMemory reply.«package».resolve reply.func m answer m') };
 
     // Its post-return changes nothing.
     ghost posts = { λ _ s m _ s' m' done. (s' ≡ s) × (m' ≡ m) × (done ≡ Some tt) };
 
     fn call(&mut self, memory: &mut Space, arguments: &[Flat]) -> Result<Flats, Stopped> {
-        let resolve = self.package.resolve();
-        let layouts = self.package.layouts();
-        let types = ScalarTypes::of(resolve, self.func);
-        let values = self.value.as_slice();
-        // Its value has its type, as the test tells `lower`.
-        if !have_types(resolve, layouts, types.results(), values) {
-            unreachable!()
-        }
-        match lift_scalars(types.params(), arguments) {
-            Ok(_arguments) => match lower(resolve, layouts, types.results(), values, memory) {
-                Ok(flats) => Ok(flats),
-                Err(_fault) => Err(Stopped),
-            },
-            Err(_kind) => Err(Stopped),
+        match self.lift_arguments(memory, arguments) {
+            Ok(()) => self.lower_value(memory),
+            Err(stopped) => Err(stopped),
         }
     }
 

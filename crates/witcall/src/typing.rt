@@ -4,7 +4,7 @@ ghost use Rattle.std.specs.Prelude.{◌≡◌, ◌↔◌, IsTrue, map};
 ghost use Rattle.canonical_abi.specs.Values.{HaveTypes};
 ghost use Rattle.layout.specs.Layout.{layouts_of};
 ghost use Rattle.lift_lower.specs.Crossing.{fields_of_types};
-ghost use Rattle.lift_lower.specs.Scalars.{AreScalar};
+ghost use Rattle.lift_lower.specs.Members.{AreAllInside};
 ghost use Rattle.lift_lower.specs.Val.{value_of};
 ghost use Rattle.tables.specs.Closed.{IsFunction, function_type};
 
@@ -28,7 +28,7 @@ impl Package {
 /// Whether these are values of these types, each of its own.
 pub fn have_types(resolve: &Resolve, layouts: &Layouts, types: &[ValType], values: &[Val]) -> bool
     requires laid_out { layouts.now ≡ layouts_of resolve.now }
-    requires scalar { AreScalar types.now }
+    requires inside { AreAllInside resolve.now types.now }
     ensures { IsTrue result ↔ HaveTypes (map value_of values.now) (fields_of_types resolve.now types.now) }
 {
     if values.len() != types.len() {

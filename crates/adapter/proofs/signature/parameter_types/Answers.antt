@@ -1,4 +1,4 @@
-use Rattle.std.proofs.Common.{◌≡◌, ◌≤◌, List, sym, subst}
+use Rattle.std.proofs.Common.{◌≡◌, ◌≤◌, List, Some, map, sym, ap, ◌∙◌, subst}
 use Rattle.canonical_abi.specs.Types.{record_type}
 use Rattle.canonical_abi.specs.Layout.{size}
 use Rattle.tables.specs.Closed.{function_type}
@@ -9,12 +9,24 @@ use Rattle.lift_lower.proofs.Scripting.{if-ok-as}
 use Rattle.adapter.proofs.Signatures.{params-are, params-known, params-small}
 use Rattle.adapter.proofs.signature.parameter_types.Goals as goal
 
+some-same : {A : Type 0} (a b : A) → Some a ≡ Some b → a ≡ b
+some-same a b e = cc
+
 pub returns-clause-types : goal.returns-clause-types
 returns-clause-types c =
     let r = c.args.table.now in
     let s = c.signature.result.now in
     let P : List ValType → Type 0 = λ ts. (function_type r c.args.func).params ≡ fields_of_types r ts in
     if-ok-as c.types_of.result _ _ (λ types is. subst P (sym is) (rw c.as_slice.ensures (params-are r c.args.func c.requires.function s (rw c.resolve.ensures at c.signature.ensures)))) c.types_of.ensures
+
+pub returns-clause-named : goal.returns-clause-named
+returns-clause-named c =
+    let r = c.args.table.now in
+    let s = c.signature.result.now in
+    if-ok-as c.types_of.result _ _
+    (λ types is f found.
+    let own = some-same s f (sym (rw c.resolve.ensures at c.signature.ensures) ∙ found) in
+    is ∙ ap (map (λ p. p.ty)) c.as_slice.ensures ∙ ap (λ g. map (λ p. p.ty) g.params) own) c.types_of.ensures
 
 pub returns-clause-known : goal.returns-clause-known
 returns-clause-known c =

@@ -16,7 +16,7 @@ use Rattle.adapter.proofs.Signatures.{result-inside, result-is}
 use Rattle.witcall.specs.Session.{IsReady, IsNotReady}
 use Rattle.witcall.proofs.Prepared.{area_stays}
 use Rattle.witcall.proofs.Promised.{promised}
-use Rattle.witcall.proofs.ScalarFunctions.{result_plain}
+use Rattle.witcall.proofs.Functions.{result_plain}
 use Rattle.witcall.proofs.TypedCalls.{world, placed, place_fails, link_fails, came_back, takes}
 use Rattle.witcall.proofs.session.Session.call.Goals as goal
 
