@@ -1,5 +1,5 @@
 -- The parts of a call whose output is printed.
-use Rattle.std.proofs.Common.{◌≡◌, ℕ, List, Option, Result, Err, map, sym, ap, ◌∙◌, subst}
+use Rattle.std.proofs.Common.{◌≡◌, ℕ, List, Option, Result, Err, map, sym, subst}
 use Rattle.canonical_abi.specs.Values.{Value}
 use Rattle.canonical_abi.specs.Guest.{Memory}
 use Rattle.canonical_abi.specs.Call.{Run, PostRun, World, either}

@@ -1,5 +1,5 @@
 -- What the program's own body answers, and why it stops.
-use Rattle.std.proofs.Common.{◌≡◌, ◌≤◌, ◌⊎◌, inl, inr, ℕ, List, [], ◌∷◌, Option, Some, None, refl, subst, arith}
+use Rattle.std.proofs.Common.{◌≡◌, ◌≤◌, ◌⊎◌, inl, inr, ℕ, List, [], ◌∷◌, map, Option, Some, None, refl, subst, arith}
 use Rattle.std.specs.Prelude.{option_to_list, MatchOption, IfSome}
 use Rattle.canonical_abi.specs.Types.{ClosedType, Fields, record_type}
 use Rattle.canonical_abi.specs.Values.{Value}
@@ -13,7 +13,10 @@ use Rattle.tables.specs.Standard.{IsTypeOf}
 use Rattle.tables.specs.declared.tables.FunctionId.{FunctionId}
 use Rattle.tables.specs.declared.tables.Resolve.{Resolve}
 use Rattle.tables.specs.declared.tables.ValType.{ValType}
-use Rattle.lift_lower.specs.Crossing.{fields_of_types}
+use Rattle.memory.specs.Space.{SpaceAllocates}
+use Rattle.lift_lower.specs.Crossing.{fields_of_types, AnswerFails}
+use Rattle.lift_lower.specs.Val.{value_of}
+use Rattle.lift_lower.specs.declared.val.Val.{Val}
 use Rattle.lift_lower.specs.Scalars.{AreScalar, fields_in, StandFor, FailAs}
 use Rattle.lift_lower.proofs.Alone.{alone-size}
 use Rattle.witcall.specs.Replying.{ArgumentsFail, Replies, WantsMemory}
@@ -39,6 +42,11 @@ pub not-read : (r : Resolve) (f : FunctionId) (vs : List Value) (m : Memory) (gi
     → Replies (function_type r f) vs m given None m ⊎ WantsMemory r f m None m
 not-read r f vs m given (inl fault) = inl (inl (fault.0, fault.1, refl))
 not-read r f vs m given (inr more) = inr (more, refl, refl)
+
+pub no-room : (q : Resolve) (types : List ValType) (ts : Fields) (vs ws : List Val) (k : TrapKind) (old new : Memory) → fields_of_types q types ≡ ts → vs ≡ ws
+    → AnswerFails SpaceAllocates (fields_of_types q types) (map value_of vs) old k new → (kind : TrapKind) × AnswerFails SpaceAllocates ts (map value_of ws) old kind new
+no-room q types ts vs ws k old new e v h =
+    (k, subst (λ us. AnswerFails SpaceAllocates ts (map value_of us) old k new) v (subst (λ us. AnswerFails SpaceAllocates us (map value_of vs) old k new) e h))
 
 pub result-small : (r : Resolve) (o : Option ValType) → ((t : ValType) → IsTypeOf r t → size (closed_type r t) ≤ 16777216) → IfSome o (IsTypeOf r)
     → size (record_type (fields_of_types r (option_to_list o))) ≤ 16777216

@@ -1,4 +1,4 @@
-use Rattle.std.proofs.Common.{sym, subst, arith}
+use Rattle.std.proofs.Common.{subst, arith}
 use Rattle.lift_lower.specs.Val.{value_of}
 use Rattle.serde_json.specs.View.{view}
 use Rattle.tables.specs.Labelled.{labelled_type}

@@ -1,8 +1,7 @@
-use Rattle.std.proofs.Common.{◌≡◌, List, Option, Some, None, map, sym, ap, ◌∙◌, subst}
-use Rattle.std.specs.Option.{option_map}
+use Rattle.std.proofs.Common.{Some, map, sym, ap, subst}
 use Rattle.std.proofs.lemmas.Result.{err_from_is_err_and}
-use Rattle.canonical_abi.specs.Types.{Fields, result_fields}
-use Rattle.tables.specs.Closed.{closed_type, function_type}
+use Rattle.canonical_abi.specs.Types.{result_fields}
+use Rattle.tables.specs.Closed.{function_type}
 use Rattle.lift_lower.specs.Placing.{IsAreaIn, IsAreaAsked, AreaFails}
 use Rattle.lift_lower.specs.Val.{value_of}
 use Rattle.adapter.proofs.Signatures.{result-inside, result-is}
