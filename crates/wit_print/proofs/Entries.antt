@@ -26,7 +26,7 @@ use Rattle.wit_print.specs.Printable.{IsLabel, IsLabelOrNone, IsPrintableUse, Ar
 use Rattle.wit_print.specs.Unplaced.{nowhere, unplaced_entry, unplaced_world_entry}
 use Rattle.wit_print.proofs.Fronts.{breaks}
 use Rattle.wit_print.proofs.Standing.{IsSpace, AllStand, StandEverywhere, followed, followed-by, mark-stands, keyword-stands, name-stands}
-use Rattle.wit_print.proofs.Tokens.{is-mark, is-keyword, either-mark, other-mark, mark-then, keyword-then, id-writes, is-the-name, name-text}
+use Rattle.wit_print.proofs.Tokens.{no-name, is-mark, is-keyword, either-mark, other-mark, mark-then, keyword-then, id-writes, is-the-name, name-text}
 use Rattle.wit_print.proofs.Functions.{function_behind, function-writes, function-stands}
 use Rattle.wit_print.proofs.Definitions.{defined-writes, definition-stands}
 use Rattle.wit_print.proofs.Written.{Writes, IsThe, IsSome, loosen, give_writes, bind_writes, made_writes, then_writes, none_writes, some_writes, when_writes, else_writes, unless_writes, stop_writes, more_writes, last_writes, ended_writes, full_writes, item_writes}
@@ -89,10 +89,6 @@ uses-stand space (u ∷ v ∷ us) s h rest =
     (mark-stands [] mark.Comma _ refl refl, uses-stand blank (v ∷ us) refl h.1 rest)
 
 -- ---- items of interfaces
-
-no-name : (space : List ℕ) (k : Keyword) (l : Lexeme) → IsThe (keyword_word space k) l → is_name l ≡ false
-unfolding is_name
-no-name space k l e = let f : l.token.kind ≡ kind.Keyword k = ap (λ w. w.kind) e in rw f refl
 
 -- behind a keyword that begins an item
 keyword-writes : (end : ℕ) (k : Keyword) (s : ItemStart) (ws : List Word) (Q : Entry → Type 0) → item_kind (kind.Keyword k) ≡ s → is_item_start s ≡ true

@@ -91,6 +91,10 @@ lower-id-writes end space n h =
     (one_writes is_lower_name (name_word space n) (λ l e. let k : l.token.kind ≡ kind.Identifier = ap (λ w. w.kind) e in let t : l.text ≡ n = name-text space n l label e in rw (k, t) h))
     (λ l e. name-text space n l label e)
 
+pub no-name : (space : List ℕ) (k : Keyword) (l : Lexeme) → IsThe (keyword_word space k) l → is_name l ≡ false
+unfolding is_name
+no-name space k l e = let f : l.token.kind ≡ kind.Keyword k = ap (λ w. w.kind) e in rw f refl
+
 -- ---- versions
 
 pub version-text : (v : List ℕ) (l : Lexeme) → IsThe (version_word v) l → l.text ≡ v

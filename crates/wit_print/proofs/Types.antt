@@ -21,7 +21,7 @@ use Rattle.wit_print.specs.Words.{Word, mark_word, keyword_word, name_word}
 use Rattle.wit_print.specs.Canonical.{blank, primitive_keyword, ty_words, tys_words}
 use Rattle.wit_print.specs.Printable.{types_count, is_spelt, are_spelt}
 use Rattle.wit_print.proofs.Standing.{IsSpace, AllStand, StandEverywhere, followed, mark-stands, keyword-stands, name-stands}
-use Rattle.wit_print.proofs.Tokens.{is-mark, either-mark, other-mark, mark-then, is-the-name, name-text}
+use Rattle.wit_print.proofs.Tokens.{no-name, is-mark, either-mark, other-mark, mark-then, is-the-name, name-text}
 use Rattle.wit_print.proofs.Written.{Writes, IsThe, IsSome, loosen, give_writes, bind_writes, made_writes, then_writes, none_writes, some_writes, when_writes, else_writes, unless_writes, stop_writes, more_writes, last_writes}
 
 -- ---- behind the token that begins a type
@@ -29,10 +29,6 @@ use Rattle.wit_print.proofs.Written.{Writes, IsThe, IsSome, loosen, give_writes,
 keyword-begins : (space : List ℕ) (k : Keyword) (l : Lexeme) → is_start (kind_start (kind.Keyword k)) ≡ true → IsThe (keyword_word space k) l → begins_type l ≡ true
 unfolding begins_type
 keyword-begins space k l h e = or_right (is_name l) (is_start (kind_start l.token.kind)) (ap (λ w. is_start (kind_start w.kind)) e ∙ h)
-
-no-name : (space : List ℕ) (k : Keyword) (l : Lexeme) → IsThe (keyword_word space k) l → is_name l ≡ false
-unfolding is_name
-no-name space k l e = let f : l.token.kind ≡ kind.Keyword k = ap (λ w. w.kind) e in rw f refl
 
 begun-writes : (end : ℕ) (inner : Phrase Ty) (space : List ℕ) (k : Keyword) (ws : List Word) (Q : Ty → Type 0) → is_start (kind_start (kind.Keyword k)) ≡ true
     → Writes (begun end inner (kind_start (kind.Keyword k))).spells ws Q → Writes (type_of end inner).spells (keyword_word space k ∷ ws) Q
