@@ -11,8 +11,8 @@ use std::alloc::Global;
 use std::process::Abort;
 use std::test::Fail;
 use tables::{
-    Definition, Field, Interface, InterfaceId, Primitive, Resolve, Sequence, TypeDef, TypeDefKind,
-    TypeId, TypeName, ValType,
+    Definition, Field, Interface, InterfaceId, PackageId, PackageName, Primitive, Resolve,
+    Sequence, TypeDef, TypeDefKind, TypeId, TypeName, ValType,
 };
 use value_json::{JsonError, gives_typed, json_of_value, labels_are_apart, value_of_json};
 
@@ -30,16 +30,20 @@ fn named(alloc: Global, kind: TypeDefKind) -> Result<Definition, Fail> {
 
 /// A package of one interface, whose one named type is the last of these.
 fn package(alloc: Global, definitions: Vec<Definition>, ty: TypeId) -> Result<Resolve, Fail> {
+    let name = PackageName {
+        namespace: Label::new(alloc, "a")?,
+        name: Label::new(alloc, "b")?,
+        version: None,
+    };
     let interface = Interface {
+        package: PackageId(0),
         name: Label::new(alloc, "c")?,
         uses: Sequence::new(Vec::new(alloc)),
         types: Sequence::new(vec![in alloc; ty]?),
         functions: Sequence::new(Vec::new(alloc)),
     };
     Ok(Resolve::from_parts(
-        Label::new(alloc, "a")?,
-        Label::new(alloc, "b")?,
-        None,
+        Sequence::new(vec![in alloc; name]?),
         Sequence::new(vec![in alloc; interface]?),
         Sequence::new(Vec::new(alloc)),
         Sequence::new(definitions),

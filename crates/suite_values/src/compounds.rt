@@ -343,7 +343,10 @@ fn faults_of_addresses(rt: HostRuntime) -> Result<(), Fail> {
 fn empty_list_at_the_end(rt: HostRuntime) -> Result<(), Fail> {
     let flats = [Flat::I32(8), Flat::I32(0)];
     let value = lifted_one(rt.alloc(), "type t = list<u32>;", flats.as_slice())?;
-    assert!(rt; matches!(value, Some(Val::List(items)) if items.is_empty()));
+    let Some(Val::List(items)) = value else {
+        return Err(Fail::from("no list"));
+    };
+    assert!(rt; items.is_empty());
     Ok(())
 }
 
