@@ -64,10 +64,6 @@ pub record Fine (allocates : Allocation) (P : ℕ → Type 0) (old : Memory) (es
   pub confined : Confined P es
   pub leads : TraceLeads allocates old es new
 
-pub fine-at : (allocates : Allocation) (P : ℕ → Type 0) (old : Memory) (es : List Event) (m m' : Memory) → m' ≡ m → Fine allocates P old es m → Fine allocates P old es m'
-fine-at allocates P old es m m' same fine =
-    record { aligned = fine.aligned; confined = fine.confined; leads = subst (TraceLeads allocates old es) (sym same) fine.leads }
-
 pub fine-from : (allocates : Allocation) (P : ℕ → Type 0) (m m' : Memory) (es : List Event) (new : Memory) → m' ≡ m → Fine allocates P m es new → Fine allocates P m' es new
 fine-from allocates P m m' es new same fine =
     record { aligned = fine.aligned; confined = fine.confined; leads = subst (λ x. TraceLeads allocates x es new) (sym same) fine.leads }

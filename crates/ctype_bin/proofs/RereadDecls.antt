@@ -86,9 +86,6 @@ reread-external scope sort text d whole is formed = reread-next g.extern_name _ 
 
 -- ---- declarations
 
-RereadsReader : Type 0 → g.Reader → Definition → Type 0
-RereadsReader W t d = (around : List ℕ) (scope : Scope) → Rereads W (t around scope) (type_bytes d) (λ y. y.0 ≡ d)
-
 sorted : {W : Type 0} (t : g.Reader) (component : Bool) (around : List ℕ) (scope : Scope) (sort : ℕ) (back : List ℕ) (d : Decl) → OfFault W (unless (g.is_decl component sort) (UnknownOpcode sort)) → Rereads W (when (sort == 1) (g.definition t around scope) (when (sort == 2) (g.alias around scope) (g.external scope sort))) back (λ y. y.0 ≡ d) → Rereads W (g.decl t component around scope) (sort ∷ back) (λ y. y.0 ≡ d)
 unfolding g.decl
 sorted t component around scope sort back d tested h = reread-next (only byte (λ b. unless (g.is_decl component b) (UnknownOpcode b))) _ (sort ∷ []) back sort (λ y. y.0 ≡ d) (reread-tested byte (λ b. unless (g.is_decl component b) (UnknownOpcode b)) (sort ∷ []) sort (reread-byte sort) tested) h

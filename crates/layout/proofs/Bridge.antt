@@ -14,9 +14,9 @@ use Rattle.tables.specs.declared.tables.TypeDefKind.TheVariants as kind
 use Rattle.tables.specs.declared.tables.Definition.{Definition}
 use Rattle.tables.specs.declared.tables.Definition.TheVariants as row
 use Rattle.layout.specs.Kinds.{kinds_of, append_kinds, join_kinds}
-use Rattle.layout.specs.Layout.{row_of, capped, result_of}
+use Rattle.layout.specs.Layout.{row_of, capped}
 use Rattle.layout.specs.Parts.{payloads}
-use Rattle.layout.specs.Rows.{row_in, rows_at, choices_at, extents, deepest, record_row, variant_row, list_row, kind_row, definition_row, result_in, definition_result}
+use Rattle.layout.specs.Rows.{row_in, rows_at, choices_at, extents, deepest, record_row, variant_row, list_row, kind_row, definition_row, result_in}
 use Rattle.layout.specs.declared.rows.Row.{Row}
 use Rattle.layout.specs.declared.kinds.Kinds.{Kinds}
 use Rattle.layout.proofs.Joins.{join-nil, join-assoc}
@@ -124,7 +124,3 @@ definition_row-of ts (row.Function f) = ap record_row (rows_at-of ts (λ p. p.ty
 result-of : (ts : List ClosedType) (v : Option ValType) → result_in (map row_of ts) v ≡ kinds_of (field_kinds (result_fields (option_map (closed_val ts) v)))
 result-of ts None = refl
 result-of ts (Some v) = ap (λ (r : Row). r.kinds) (row_in-of ts v) ∙ ap kinds_of (sym (append-nil (flat_kinds (closed_val ts v))))
-
-pub definition_result-of : (ts : List ClosedType) (d : Definition) → definition_result (map row_of ts) d ≡ result_of ts d
-definition_result-of ts (row.Type d) = refl
-definition_result-of ts (row.Function f) = result-of ts f.result

@@ -5,7 +5,6 @@ pub mod VariantLoop
 pub mod Bridge
 pub mod Table
 pub mod Signatures
-pub mod Callers
 pub mod Agreement
 pub mod Laid
 pub mod Standing

@@ -12,17 +12,14 @@ use Rattle.tables.specs.declared.tables.Definition.TheVariants as row
 use Rattle.tables.specs.declared.tables.Resolve.{Resolve}
 use Rattle.layout.specs.Kinds.{kinds_of, passed, append_kinds}
 use Rattle.layout.specs.Layout.{row_of, result_of, layouts_of}
-use Rattle.layout.specs.Rows.{row_in, rows_at}
+use Rattle.layout.specs.Rows.{rows_at}
 use Rattle.layout.specs.Signature.{is_one, single, lifted_by, lowered_by}
 use Rattle.layout.specs.declared.rows.Row.{Row}
 use Rattle.layout.specs.declared.kinds.Kinds.{Kinds}
 use Rattle.layout.proofs.Cuts.{kinds_of-flat, kinds_of-spilled, few-or-many}
 use Rattle.std.proofs.lemmas.Bool.Decides.{nat_tests}
 use Rattle.tables.proofs.Rows.{length-closed_rows, stands, function-row, function-type}
-use Rattle.layout.proofs.Bridge.{row_in-of, rows_at-of, kinds-of}
-
-pub row-is : (rows : List Row) (r : Resolve) (v : ValType) → rows ≡ (layouts_of r).rows → row_in rows v ≡ row_of (closed_type r v)
-row-is rows r v e = rw e (row_in-of (closed_types r) v)
+use Rattle.layout.proofs.Bridge.{rows_at-of, kinds-of}
 
 pub kinds-are : (rows : List Row) (r : Resolve) (vs : List ValType) → rows ≡ (layouts_of r).rows
     → fold (λ ks r. append_kinds ks r.kinds) (kinds_of []) (rows_at rows (λ v. v) vs) ≡ kinds_of (field_kinds (fields_of (map (closed_type r) vs)))

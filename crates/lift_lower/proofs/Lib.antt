@@ -11,7 +11,6 @@ pub mod Alone
 pub mod Denoted
 pub mod Known
 pub mod Typings
-pub mod ScalarTypes
 pub mod Scripting
 pub mod Scripted
 pub mod Stopping

@@ -28,11 +28,6 @@ pub list-opened : (f : ℕ → Result Value TrapKind) (m : List ℕ) (start n al
     → list_at f m al' sz' start n ≡ listed (each_at f sz start n)
 list-opened f m start n al sz al' sz' e1 e2 h = rw (← e1, ← e2, h) refl
 
--- its block is at fault
-pub list-faulty : (f : ℕ → Result Value TrapKind) (m : List ℕ) (start n al sz al' sz' : ℕ) → al ≡ al' → sz ≡ sz' → (k : TrapKind) → block_at m start al (n * sz) ≡ Err k
-    → list_at f m al' sz' start n ≡ Err k
-list-faulty f m start n al sz al' sz' e1 e2 k h = rw (← e1, ← e2, h) refl
-
 -- a list stands in the block that its header tells
 pub read-list : (t u : ClosedType) (m : List ℕ) (at start n : ℕ) → t ≡ list_type u → start ≡ number_at m at w32 → n ≡ number_at m (at + 4) w32
     → reading t m at ≡ list_at (reading u m) m (align u) (size u) start n

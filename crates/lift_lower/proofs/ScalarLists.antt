@@ -1,19 +1,18 @@
 -- Lists of scalars: one more at the end, the first fault, and what the whole list says in the definitions' words.
-use Rattle.std.proofs.Common.{◌≡◌, ◌+◌, ◌<◌, ◌≤◌, ◌%◌, ◌^◌, ℕ, zero, suc, true, List, [], ◌∷◌, ◌++◌, length, map, take, get_or, refl, sym, ap, subst, ◌∙◌, arith, inl, inr, add-one}
+use Rattle.std.proofs.Common.{◌≡◌, ◌+◌, ◌<◌, ◌≤◌, ◌%◌, ◌^◌, ℕ, zero, suc, true, List, [], ◌∷◌, ◌++◌, length, map, take, get_or, refl, sym, ap, ◌∙◌, arith, inl, inr, add-one}
 use Rattle.std.proofs.lemmas.List.{length-map}
 use Rattle.std.specs.List.{list_all}
 use Rattle.std.proofs.lemmas.Bool.{le-leb}
 use borrow.Author.Gap.{read_sfits}
 use Rattle.canonical_abi.specs.Types.{Prim, boolean, unsigned, signed, scalar_value, IntWidth, int8, int16, int32, int64, width_of, bits, ClosedType, Fields}
 use Rattle.canonical_abi.specs.Values.{Value, unsigned_value, signed_value, char_value, HasPrimType, HaveTypes}
-use Rattle.canonical_abi.specs.Layout.{max_flat_params, prim_kind, field_kinds, fits_flat, passed_kinds}
+use Rattle.canonical_abi.specs.Layout.{prim_kind, field_kinds, fits_flat, passed_kinds}
 use Rattle.canonical_abi.specs.Reading.{kind_of, number_of, flat_bits, low_bits}
 use Rattle.canonical_abi.specs.Memory.{PrimIs, PrimFaulty}
 use Rattle.canonical_abi.specs.Flat.{FieldsLift, FieldsLiftFaulty}
 use Rattle.canonical_abi.specs.Guest.{Memory, Allocation}
 use Rattle.canonical_abi.specs.Trace.{Event, node, grant, write, TraceLeads}
-use Rattle.canonical_abi.specs.Lowering.{core_of, FieldsLower}
-use Rattle.canonical_abi.specs.Session.{AreWithinLimit}
+use Rattle.canonical_abi.specs.Lowering.{core_of}
 use Rattle.canonical_abi.specs.declared.flat.CoreKind.{CoreKind}
 use Rattle.canonical_abi.specs.declared.flat.Flat.{Flat}
 use Rattle.canonical_abi.specs.declared.trap.TrapKind.{TrapKind}
@@ -21,7 +20,6 @@ use Rattle.canonical_abi.specs.declared.trap.TrapKind.TheVariants as trap
 use Rattle.tables.specs.Closed.{prim_of, is_scalar}
 use Rattle.tables.specs.declared.tables.ValType.{ValType}
 use Rattle.tables.specs.declared.tables.ValType.TheVariants as val
-use Rattle.lift_lower.specs.Crossing.{AreLowered}
 use Rattle.lift_lower.specs.Scalar.{prim_in, value_in, core_in, ScalarIs}
 use Rattle.lift_lower.specs.Scalars.{AreScalar, fields_in, prim_of_type, KindsFit, Stands, FirstFault, StandFor, FailAs, IsQuiet, AreCarried}
 use Rattle.lift_lower.specs.declared.scalar.Scalar.{Scalar}
@@ -203,24 +201,6 @@ carried rows (val.Primitive p ∷ types) (s ∷ ss) a (v, rest, is, here, there)
 
 -- ---- typed values
 
--- a value of scalar types is of a primitive type
-pub typed_at : (rows : List ClosedType) (types : List ValType) (vs : List Value) (i : ℕ) (d : Value) → list_all is_scalar types ≡ true → HaveTypes vs (fields_in rows types) → i < length vs → (p : Prim) × HasPrimType (get_or vs i d) p
-typed_at rows types [] i d a h below = absurd (omega arith)
-typed_at rows [] (v ∷ vs) i d a h below = cc
-typed_at rows (val.String ∷ types) (v ∷ vs) i d a h below = cc
-typed_at rows (val.Id t ∷ types) (v ∷ vs) i d a h below = cc
-typed_at rows (val.Primitive p ∷ types) (v ∷ vs) zero d a (w, rest, is, here, there) below =
-    let same : v ≡ w = cc in
-    (prim_of p, rw same here)
-typed_at rows (val.Primitive p ∷ types) (v ∷ vs) (suc i) d a (w, rest, is, here, there) below =
-    let same : vs ≡ rest = cc in
-    typed_at rows types vs i d a (rw same there) (omega arith)
-
--- as many values as types
-pub typed_count : (rows : List ClosedType) (types : List ValType) (vs : List Value) → HaveTypes vs (fields_in rows types) → length vs ≡ length types
-typed_count rows [] vs h = ap length h
-typed_count rows (t ∷ types) vs (w, rest, is, here, there) = ap length is ∙ ap suc (typed_count rows types rest there)
-
 -- ---- nothing happens in memory
 
 pub quiet_leads : (allocates : Allocation) (m : Memory) (es : List Event) → IsQuiet es → TraceLeads allocates m es m
@@ -228,15 +208,3 @@ quiet_leads allocates m [] h = refl
 quiet_leads allocates m (node ∷ es) h = (m, refl, quiet_leads allocates m es h)
 quiet_leads allocates m (grant g ∷ es) h = absurd h
 quiet_leads allocates m (write at part ∷ es) h = absurd h
-
-quiet_limit : (es : List Event) → IsQuiet es → AreWithinLimit es
-quiet_limit [] h = tt
-quiet_limit (node ∷ es) h = quiet_limit es h
-quiet_limit (grant g ∷ es) h = absurd h
-quiet_limit (write at part ∷ es) h = absurd h
-
--- what is carried flat is lowered
-pub lowered_as : (allocates : Allocation) (m : Memory) (ts : Fields) (vs ws : List Value) (flats : List Flat) → vs ≡ ws → fits_flat max_flat_params ts ≡ true → AreCarried ts vs flats → AreLowered allocates ts ws m flats m
-lowered_as allocates m ts vs ws flats same fits done =
-    let P : List Value → Type 0 = λ xs. FieldsLower ts xs done.0 flats in
-    (done.0, inl (fits, subst P same done.2), quiet_limit done.0 done.1, quiet_leads allocates m done.0 done.1)

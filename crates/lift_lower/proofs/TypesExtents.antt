@@ -4,7 +4,7 @@ use Rattle.std.proofs.lemmas.Bool.{cases_lt}
 use Rattle.std.proofs.lemmas.List.{length-map}
 use Rattle.std.specs.Int.{next_multiple_of}
 use Rattle.canonical_abi.specs.Guest.{IsAlignment}
-use Rattle.canonical_abi.specs.Types.{ClosedType, record_type, variant_type, Fields, no_field, field, Cases, no_case, plain_case, case_with, case_count, nth_field, nth_case, record_fields, variant_cases, depth, fields_depth, cases_depth}
+use Rattle.canonical_abi.specs.Types.{ClosedType, record_type, variant_type, Fields, no_field, field, Cases, no_case, plain_case, case_with, case_count, nth_field, nth_case, variant_cases, depth, fields_depth, cases_depth}
 use Rattle.canonical_abi.specs.Layout.{size, align, discriminant_size, greatest_align, end_from, field_extents, payload_extents, payload_place}
 use Rattle.canonical_abi.proofs.Sizes.{is-alignment, greatest-le}
 use Rattle.layout.specs.Layout.{Table, layouts_of}
@@ -105,11 +105,6 @@ nth_case-depth (plain_case cs) zero t e = cc
 nth_case-depth (plain_case cs) (suc i) t e = nth_case-depth cs i t e
 nth_case-depth (case_with u cs) zero t e = let h : u ≡ t = cc in let d = ap depth h in omega arith
 nth_case-depth (case_with u cs) (suc i) t e = let d = nth_case-depth cs i t e in omega arith
-
--- a field is less deep than its record, and a payload than its variant
-pub field-depth : (r : ClosedType) (i : ℕ) (t : ClosedType) → nth_field (record_fields r) i ≡ Some t → depth t < depth r
-field-depth (record_type fs) i t e = let d = member-depth fs i t e in omega arith
-field-depth _ i t e = absurd (let n : None ≡ Some t = e in cc)
 
 pub case-depth : (r : ClosedType) (i : ℕ) (t : ClosedType) → nth_case (variant_cases r) i ≡ Some (Some t) → depth t < depth r
 case-depth (variant_type cs) i t e = let d = nth_case-depth cs i t e in omega arith

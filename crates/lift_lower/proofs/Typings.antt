@@ -102,14 +102,6 @@ not-record rows t (shape.List x) vs shaped other h = let e = has-form rows t (sh
 not-record rows t (shape.Variant n) vs shaped other h = let e = has-form rows t (shape.Variant n) (record_value vs) shaped h in cc
 not-record rows t (shape.Flags n) vs shaped other h = let e = has-form rows t (shape.Flags n) (record_value vs) shaped h in cc
 
-pub not-variant : (rows : List ClosedType) (t : ClosedType) (s : Shape) (v : Value) → form v ≡ 4 → HasShapeIn rows t s → ((n : ℕ) → s ≡ shape.Variant n → ⊥) → HasType v t → ⊥
-not-variant rows t (shape.Variant n) v is shaped other h = other n refl
-not-variant rows t (shape.Primitive p) v is shaped other h = let e = sym is ∙ has-form rows t (shape.Primitive p) v shaped h in cc
-not-variant rows t shape.String v is shaped other h = let e = sym is ∙ has-form rows t shape.String v shaped h in cc
-not-variant rows t (shape.List x) v is shaped other h = let e = sym is ∙ has-form rows t (shape.List x) v shaped h in cc
-not-variant rows t (shape.Record n) v is shaped other h = let e = sym is ∙ has-form rows t (shape.Record n) v shaped h in cc
-not-variant rows t (shape.Flags n) v is shaped other h = let e = sym is ∙ has-form rows t (shape.Flags n) v shaped h in cc
-
 pub not-flags : (rows : List ClosedType) (t : ClosedType) (s : Shape) (bits : ℕ) → HasShapeIn rows t s → ((n : ℕ) → s ≡ shape.Flags n → ⊥) → HasType (flags_value bits) t → ⊥
 not-flags rows t (shape.Flags n) bits shaped other h = other n refl
 not-flags rows t (shape.Primitive p) bits shaped other h = let e = has-form rows t (shape.Primitive p) (flags_value bits) shaped h in cc

@@ -37,9 +37,6 @@ front-append u p = ap (λ n. take n (u ++ p)) (front-length u p) ∙ take-append
 pub is-none : (n : ℕ) → (n == 0) ≡ true → n ≡ 0
 is-none n h = grind (arith, nat_tests)
 
-none-is : (n : ℕ) → n ≡ 0 → (n == 0) ≡ true
-none-is n h = grind (arith, nat_tests)
-
 pub no-length : (xs : List ℕ) → length xs ≡ 0 → xs ≡ []
 no-length [] h = refl
 no-length (x ∷ xs) h = absurd (omega arith)

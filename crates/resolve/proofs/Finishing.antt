@@ -18,14 +18,6 @@ use Rattle.tables.specs.declared.tables.Definition.TheVariants as row
 use Rattle.tables.proofs.Rows.{both}
 use Rattle.package_form.proofs.Meeting.{take-more}
 
-if-true : {A : Type 0} (b : Bool) (x y : A) → b ≡ true → cond b x y ≡ x
-if-true true x y e = refl
-if-true false x y e = absurd (cc)
-
-if-false : {A : Type 0} (b : Bool) (x y : A) → b ≡ false → cond b x y ≡ y
-if-false true x y e = absurd (cc)
-if-false false x y e = refl
-
 module _ (is : Definition → Bool) where
   places-end : (n : ℕ) (ds : List Definition) (d : Definition) → places_where is n (ds ++ d ∷ []) ≡ places_where is n ds ++ cond (is d) ((n + length ds) ∷ []) []
   places-end n [] d = by (is d)

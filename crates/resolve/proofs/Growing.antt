@@ -1,9 +1,9 @@
 -- The table and the scope of an interface, when a definition is put behind them.
-use Rattle.std.proofs.Common.{◌≡◌, ℕ, true, List, [], ◌∷◌, ◌++◌, Option, Some, map, length, get_or, refl, ap, sym, ◌∙◌, subst, All, Contains, append_assoc, append-nil}
+use Rattle.std.proofs.Common.{◌≡◌, ℕ, true, List, [], ◌∷◌, ◌++◌, Option, Some, map, length, get_or, refl, ap, sym, ◌∙◌, subst, All, Contains, append_assoc}
 use Rattle.std.proofs.lemmas.List.{map-append}
 use Rattle.std.specs.List.{list_all}
 use Rattle.tables.specs.Tables.{is_type, option_all, function_all}
-use Rattle.tables.specs.Package.{Tree, Reference, NamedDefinition, Meaning, IsUse, IsFunction, definition_of, read_params}
+use Rattle.tables.specs.Package.{Tree, Reference, NamedDefinition, Meaning, IsFunction, definition_of, read_params}
 use Rattle.package_form.specs.Postfix.{Leaves, whole, unnamed_if, unnamed_parameter}
 use Rattle.resolve.specs.Declarations.{UsedItem, TypeItem, FunctionItem, InterfaceTree, used_names}
 use Rattle.resolve.specs.Resolved.{Labelled, use_meaning, function_meaning, in_order, interface_meaning, no_type, fields_of}
@@ -24,7 +24,7 @@ use Rattle.tables.specs.declared.tables.Definition.{Definition}
 use Rattle.tables.specs.declared.tables.Definition.TheVariants as row
 use Rattle.tables.proofs.Rows.{both}
 use Rattle.package_form.proofs.Lists.{all-append, all-cons, all-none}
-use Rattle.resolve.proofs.Reading.{With, with-rows, with-front, with-definitions, with-stands, with-unnamed, front-trans, adds-trans, adds-none, extends-trans, extends-none}
+use Rattle.resolve.proofs.Reading.{With, with-rows, with-front, with-definitions, with-stands, with-unnamed, front-trans, adds-trans, extends-trans}
 use Rattle.resolve.proofs.Lowering.{scope-later, same_name, all-stay, parameter-stays, parameters-read}
 
 -- ---- one definition
@@ -71,15 +71,6 @@ define-grows first mid new before after k n m name id meaning en em at with is s
           ∙ ap (λ (z : List ℕ). scope_names before ++ z ∷ []) em;
     }
 
--- a used name needs no rows
-pub lowers-use : (t : Table) (target : TypeId) (u : Tree) → Stands t (val.Id target) u → LowersKind t t (kind.Use target) (IsUse u)
-lowers-use t target u s = record {
-  extends = extends-none t;
-  typed = s.typed;
-  means = ap (λ (x : Tree). IsUse x) s.reads;
-  names = refl;
-}
-
 -- a function behind the rows of its parameters and its result
 pub function-adds : (old mid last new : Table) (i : InterfaceId) (n name : List ℕ) (ps : List Parameter) (ls : List Labelled) (r : Option ValType) (t : Option Tree)
     → LowersParameters old mid ps ls → LowersIf mid last r t → n ≡ name
@@ -103,9 +94,6 @@ function-adds old mid last new i n name ps ls r t l m en with =
     }
 
 -- ---- growth after growth
-
-pub grows-none : (t : Table) (s : KnownTypes) → IsScope t s → Grows t s t s []
-grows-none t s h = record { adds = adds-none t; scoped = h; interface = refl; names = sym (append-nil (scope_names s)) }
 
 pub grows-trans : (a : Table) (s : KnownTypes) (b : Table) (t : KnownTypes) (c : Table) (u : KnownTypes) (ds es : List NamedDefinition)
     → Grows a s b t ds → Grows b t c u es → Grows a s c u (ds ++ es)

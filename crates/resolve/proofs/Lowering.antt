@@ -1,27 +1,24 @@
 -- Types that stand in a table, when more rows come behind it.
-use Rattle.std.proofs.Common.{◌≡◌, ℕ, zero, suc, ◌+◌, ◌<◌, Bool, true, List, [], ◌∷◌, ◌++◌, Option, None, Some, map, flat_map, take, length, get_or, refl, ap, sym, ◌∙◌, subst, arith, rules, Box, Global, Vec, All, Contains}
+use Rattle.std.proofs.Common.{◌≡◌, ℕ, zero, suc, ◌+◌, ◌<◌, Bool, true, List, [], ◌∷◌, ◌++◌, Option, None, Some, map, flat_map, take, length, get_or, refl, ap, sym, ◌∙◌, subst, arith, rules, Box, Global, Vec, All}
 use Rattle.std.specs.List.{list_all}
 use Rattle.std.specs.Option.{option_map}
 use Rattle.std.proofs.lemmas.List.{map-append}
 use Rattle.wit_syntax.specs.Syntax.{Ty, Prim, Named, ListOf, OptionOf, TupleOf, ResultOf, tys_of}
 use Rattle.wit_syntax.specs.View.{ty_view, boxed_view}
 use Rattle.wit_syntax.specs.declared.ast.TypeExpression.{TypeExpression, Named as Name, List as Listed, Option as Optional, Tuple, Result as Either, the_lemmas}
-use Rattle.wit_syntax.specs.declared.ast.Primitive.{Primitive as Keyword}
 use Rattle.wit_syntax.specs.declared.ast.Primitive.TheVariants as keyword
 use Rattle.tables.specs.Tables.{is_type, option_all}
-use Rattle.tables.specs.Package.{Tree, Reference, ListTree, IsType, read_val, read_tuple, read_fields, read_params, read_cases, read_choice, read_enum, read_kind, Fields, field, Choices, empty, RecordTree, VariantTree, FlagsTree, Plain, AsTuple, AsEnum}
+use Rattle.tables.specs.Package.{Tree, Reference, ListTree, IsType, read_val, read_tuple, read_fields, read_params, read_cases, read_choice, read_kind, Fields, field, Choices, RecordTree, VariantTree, Plain, AsTuple}
 use Rattle.package_form.specs.Postfix.{unnamed, unnamed_if, unnamed_field, unnamed_case, unnamed_parameter}
 use Rattle.resolve.specs.Declarations.{named, named_all}
-use Rattle.resolve.specs.Resolved.{Labelled, Choice, resolved, resolved_all, option_tree, tuple_tree, result_tree, fields_of, unlabelled, choices_of, choice, enumerated, primitive_tree, val_of_primitive}
+use Rattle.resolve.specs.Resolved.{Labelled, Choice, resolved, resolved_all, option_tree, tuple_tree, result_tree, fields_of, unlabelled, choices_of, choice}
 use Rattle.package_form.specs.Entries.{Table}
-use Rattle.resolve.specs.Building.{table_trees, Front, Extends, Stands, Lowers, LowersIf, LowersEach, LowersKind, LowersInner, IsEntry, IsScope, KnowsNames, scope_name, read_field, read_parameter, read_case, field_typed, parameter_typed, case_typed}
-use Rattle.package_form.specs.Scoped.{Entry}
+use Rattle.resolve.specs.Building.{table_trees, Front, Extends, Stands, Lowers, LowersIf, LowersEach, LowersKind, LowersInner, IsScope, KnowsNames, scope_name, read_field, read_parameter, read_case, field_typed, parameter_typed, case_typed}
 use Rattle.resolve.specs.declared.known.KnownTypes.{KnownTypes}
 use Rattle.canonical_abi.specs.Labelled.{ok_label, error_label}
 use Rattle.tables.specs.declared.tables.ValType.{ValType}
 use Rattle.tables.specs.declared.tables.ValType.TheVariants as val
 use Rattle.tables.specs.declared.tables.Definition.{Definition}
-use Rattle.tables.specs.declared.tables.TypeId.{TypeId}
 use Rattle.tables.specs.declared.tables.Field.{Field}
 use Rattle.tables.specs.declared.tables.Parameter.{Parameter}
 use Rattle.tables.specs.declared.tables.Case.{Case}
@@ -70,67 +67,6 @@ same_name old new s x = ap (λ (ns : List (List ℕ)). get_or ns s.interface.0 [
 
 -- ---- one type
 
-pub primitive-reads : (ts : List Tree) (p : Keyword) → read_val ts (val_of_primitive p) ≡ primitive_tree p
-primitive-reads ts keyword.Bool = refl
-primitive-reads ts keyword.S8 = refl
-primitive-reads ts keyword.U8 = refl
-primitive-reads ts keyword.S16 = refl
-primitive-reads ts keyword.U16 = refl
-primitive-reads ts keyword.S32 = refl
-primitive-reads ts keyword.U32 = refl
-primitive-reads ts keyword.S64 = refl
-primitive-reads ts keyword.U64 = refl
-primitive-reads ts keyword.Char = refl
-primitive-reads ts keyword.String = refl
-
-primitive-typed : (rows : List Definition) (p : Keyword) → is_type rows (val_of_primitive p) ≡ true
-primitive-typed rows keyword.Bool = refl
-primitive-typed rows keyword.S8 = refl
-primitive-typed rows keyword.U8 = refl
-primitive-typed rows keyword.S16 = refl
-primitive-typed rows keyword.U16 = refl
-primitive-typed rows keyword.S32 = refl
-primitive-typed rows keyword.U32 = refl
-primitive-typed rows keyword.S64 = refl
-primitive-typed rows keyword.U64 = refl
-primitive-typed rows keyword.Char = refl
-primitive-typed rows keyword.String = refl
-
-primitive-unnamed : (rows : List Definition) (p : Keyword) → unnamed rows (val_of_primitive p) ≡ []
-primitive-unnamed rows keyword.Bool = refl
-primitive-unnamed rows keyword.S8 = refl
-primitive-unnamed rows keyword.U8 = refl
-primitive-unnamed rows keyword.S16 = refl
-primitive-unnamed rows keyword.U16 = refl
-primitive-unnamed rows keyword.S32 = refl
-primitive-unnamed rows keyword.U32 = refl
-primitive-unnamed rows keyword.S64 = refl
-primitive-unnamed rows keyword.U64 = refl
-primitive-unnamed rows keyword.Char = refl
-primitive-unnamed rows keyword.String = refl
-
-alias-of : (t : Table) (v : ValType) (tree : Tree) → Stands t v tree → unnamed t.rows v ≡ [] → LowersInner t t (kind.Alias v) tree
-alias-of t v tree s free = record {
-  lowers = record {
-    extends = extends-none t;
-    typed = s.typed;
-    means = ap (λ (u : Tree). IsType u) s.reads;
-    names = free;
-  };
-  inner = refl;
-}
-
-pub lowers-primitive : (t : Table) (p : Keyword) → LowersInner t t (kind.Alias (val_of_primitive p)) (primitive_tree p)
-lowers-primitive t p =
-    alias-of t (val_of_primitive p) (primitive_tree p) (record { typed = primitive-typed t.rows p; reads = primitive-reads (table_trees t) p }) (primitive-unnamed t.rows p)
-
-pub lowers-named : (t : Table) (s : KnownTypes) (n : List ℕ) (id : TypeId) → IsScope t s → Contains s.entries (record { name = n; id = id })
-    → LowersInner t t (kind.Alias (val.Id id)) (Reference (record { interface = scope_name t s; name = n }))
-lowers-named t s n id scope c =
-    let e : Entry = record { name = n; id = id } in
-    let is : IsEntry t (scope_name t s) e = subst (IsEntry t (scope_name t s)) c.2 (scope.each c.0 e c.1) in
-    alias-of t (val.Id id) (Reference (record { interface = scope_name t s; name = n })) is.stands is.named
-
 pub lowers-list : (a b : Table) (v : ValType) (tree : Tree) → Lowers a b v tree → LowersInner a b (kind.List v) (ListTree tree)
 lowers-list a b v tree l = record {
   lowers = record { extends = l.extends; typed = l.stands.typed; means = ap (λ (t : Tree). IsType (ListTree t)) l.stands.reads; names = refl };
@@ -145,9 +81,6 @@ lowers-option a b v tree l = record {
 
 pub lowers-some : (a b : Table) (v : ValType) (tree : Tree) → Lowers a b v tree → LowersIf a b (Some v) (Some tree)
 lowers-some a b v tree l = record { extends = l.extends; typed = l.stands.typed; reads = ap (λ (t : Tree). Some t) l.stands.reads }
-
-pub lowers-none : (a : Table) → LowersIf a a None None
-lowers-none a = record { extends = extends-none a; typed = refl; reads = refl }
 
 -- ---- a type that may be left out
 
@@ -256,10 +189,6 @@ cases-read ts [] = refl
 cases-read ts (c ∷ cs) =
     choice-reads ts c.name c.ty (read_cases ts cs) ∙ ap (λ (ds : Choices). choice c.name (option_map (read_val ts) c.ty) ds) (cases-read ts cs)
 
-pub enum-reads : (ns : List (List ℕ)) → read_enum ns ≡ enumerated ns
-enum-reads [] = refl
-enum-reads (n ∷ ns) = ap (λ (cs : Choices). empty n cs) (enum-reads ns)
-
 pub lowers-tuple : (a b : Table) (vs : List ValType) (ts : List Tree) → LowersEach is_type read_val unnamed a b vs ts → LowersInner a b (kind.Tuple vs) (tuple_tree ts)
 lowers-tuple a b vs ts l = record {
   lowers = record {
@@ -318,22 +247,6 @@ lowers-variant a b cs ls l = record {
   extends = l.extends;
   typed = l.within;
   means = ap (λ (ds : Choices). IsType (VariantTree Plain ds)) (cases-read (table_trees b) cs ∙ ap choices_of l.reads);
-  names = refl;
-}
-
-pub lowers-enum : (a : Table) (ns ms : List (List ℕ)) → ns ≡ ms → LowersKind a a (kind.Enum ns) (IsType (VariantTree AsEnum (enumerated ms)))
-lowers-enum a ns ms e = record {
-  extends = extends-none a;
-  typed = refl;
-  means = ap (λ (ds : Choices). IsType (VariantTree AsEnum ds)) (enum-reads ns ∙ ap enumerated e);
-  names = refl;
-}
-
-pub lowers-flags : (a : Table) (ns ms : List (List ℕ)) → ns ≡ ms → LowersKind a a (kind.Flags ns) (IsType (FlagsTree ms))
-lowers-flags a ns ms e = record {
-  extends = extends-none a;
-  typed = refl;
-  means = ap (λ (ls : List (List ℕ)). IsType (FlagsTree ls)) e;
   names = refl;
 }
 

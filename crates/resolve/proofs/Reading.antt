@@ -6,7 +6,7 @@ use Rattle.tables.specs.Tables.{is_type, is_there, type_of, definition_all, defi
 use Rattle.tables.specs.Package.{Tree, TextTree, NamedDefinition, Meaning, IsUse, IsType, IsFunction, references, reference, definitions_from, definition_of, read_val, read_kind, meaning_of}
 use Rattle.package_form.specs.Postfix.{Leaves, inner, unnamed, is_inner, is_unnamed, is_unnamed_row, one_if, inner_row}
 use Rattle.package_form.specs.Entries.{Table}
-use Rattle.resolve.specs.Building.{table_trees, table_definitions, Front, Extends, Adds, Stands, Lowers, LowersKind, LowersInner, is_expressed}
+use Rattle.resolve.specs.Building.{table_trees, table_definitions, Front, Extends, Adds, Stands, Lowers, LowersInner, is_expressed}
 use Rattle.tables.specs.declared.tables.ValType.{ValType}
 use Rattle.tables.specs.declared.tables.ValType.TheVariants as val
 use Rattle.tables.specs.declared.tables.TypeId.{TypeId}
@@ -200,15 +200,6 @@ is-inner (kind.Record fs) n h = h
 is-inner (kind.Variant cs) n h = h
 is-inner (kind.Enum ns) n h = h
 is-inner (kind.Flags ns) n h = h
-
-pub alias-lowers : (first old : Table) (k : TypeDefKind) (v : ValType) (tree : Tree) → k ≡ kind.Alias v → LowersInner first old k tree → Lowers first old v tree
-alias-lowers first old k v tree is l = by (subst (λ (j : TypeDefKind). LowersKind first old j (IsType tree)) is l.lowers)
-  where
-    by : LowersKind first old (kind.Alias v) (IsType tree) → Lowers first old v tree
-    by m = record {
-      extends = subst (λ (us : List ℕ). Extends first old us) (sym m.names) m.extends;
-      stands = record { typed = m.typed; reads = ap tree_of m.means };
-    }
 
 pub inner-lowers : (first old new : Table) (k : TypeDefKind) (id : TypeId) (tree : Tree) → id.0 ≡ length old.rows → With old (inner_row k) new → is_inner k ≡ true
     → LowersInner first old k tree → Lowers first new (val.Id id) tree

@@ -13,7 +13,7 @@ use Rattle.std.proofs.lemmas.List.Elements.{All-contains, All-contains_itself, C
 use Rattle.std.proofs.lemmas.Bool.{false≢true, cases_eq, cases_lt}
 use Rattle.std.proofs.lemmas.Bool.Decides.{nat_tests}
 use Rattle.resolve.specs.Order.{is_ready, IsNext}
-use Rattle.resolve.specs.Waiting.{Waits, is_placed, uses_of, waiting_for, IsFree, IsWaiting, IsSettled, IsStuck}
+use Rattle.resolve.specs.Waiting.{Waits, is_placed, uses_of, waiting_for, IsFree, IsWaiting, IsSettled}
 
 -- ---- elements
 
@@ -232,13 +232,6 @@ ready_found w i s l h = elim (s.complete i l (ready_free w.uses (is_placed w) i 
   | inr (inl c) ↦ absurd (omega (arith, c.1))
   | inr (inr waits) ↦ absurd (waits_not w i waits h)
 ]
-
-pub none_ready : (w : Waits) → IsSettled w [] → w.ready ≡ [] → IsStuck w
-none_ready w s e i l = go (is_ready w.uses (is_placed w) i) refl
-  where
-    go : (b : Bool) → is_ready w.uses (is_placed w) i ≡ b → b ≡ false
-    go false h = refl
-    go true h = let c = rw e at (ready_found w i s l h) in absurd (omega (arith, c.1))
 
 pub least_is_next : (w : Waits) (node : ℕ) (others : List ℕ) → IsSettled w [] → w.ready ≡ node ∷ others → All (IsLtBy nat_cmp node) others
     → IsNext w.uses (is_placed w) node

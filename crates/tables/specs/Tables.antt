@@ -49,9 +49,6 @@ option_below n v = option_all (is_below n) v
 abbrev pub kind_below : ℕ → TypeDefKind → Bool
 kind_below n k = kind_all (is_below n) k
 
-abbrev pub function_below : ℕ → Function → Bool
-function_below n f = function_all (is_below n) f
-
 abbrev pub definition_below : ℕ → Definition → Bool
 definition_below n d = definition_all (is_below n) d
 

@@ -88,16 +88,6 @@ abbrev without : Label → Members → Members
 without l no_members = no_members
 without l (json.member k e ms) = match_ordering (slice_cmp nat_cmp l k) (json.member k e (without l ms)) ms (json.member k e (without l ms))
 
-without-absent : (l : Label) (ms : Members) → get_member l ms ≡ None → without l ms ≡ ms
-without-absent l no_members none = refl
-without-absent l (json.member k e ms) none = by (without-absent l ms) (slice_cmp nat_cmp l k) refl none
-  where
-    by : (get_member l ms ≡ None → without l ms ≡ ms) → (o : Ordering) → slice_cmp nat_cmp l k ≡ o → match_ordering o (get_member l ms) (Some e) (get_member l ms) ≡ None
-        → without l (json.member k e ms) ≡ json.member k e ms
-    by again Less is f = rw is (ap (json.member k e) (again f))
-    by again Equal is f = absurd (cc)
-    by again Greater is f = rw is (ap (json.member k e) (again f))
-
 without-put : (l : Label) (d : Data) (ms : Members) → slice_cmp nat_cmp l l ≡ Equal → get_member l ms ≡ None → without l (put l d ms) ≡ ms
 without-put l d no_members same none = rw same refl
 without-put l d (json.member k e ms) same none = by (without-put l d ms same) (slice_cmp nat_cmp l k) refl none

@@ -11,7 +11,7 @@ use Rattle.atoms.specs.Label.{is_lower, is_upper, is_digit, is_hyphen, is_label}
 use Rattle.wit_tokens.specs.declared.token.TokenKind.TheVariants as kind
 use Rattle.wit_tokens.specs.declared.token.Punctuation.TheVariants as mark
 use Rattle.wit_tokens.specs.declared.lexer.Front.TheVariants as front
-use Rattle.wit_tokens.specs.Lexing.{front_of, word_front, escape_front, punctuation_front, word_run, word_kind, is_blank, is_letter, begins_with, begins_letter}
+use Rattle.wit_tokens.specs.Lexing.{front_of, word_front, escape_front, word_run, word_kind, is_blank, is_letter, begins_with, begins_letter}
 
 -- a character of a word
 abbrev pub is_in_word : ℕ → Bool
@@ -139,11 +139,3 @@ word_stands w rest h b =
 pub escaped_stands : (w rest : List ℕ) → is_label w ≡ true → breaks rest ≡ true → front_of (37 ∷ (w ++ rest)) ≡ front.Token kind.Identifier (length w + 1)
 unfolding front_of escape_front
 escaped_stands w rest h b = rw (begins_behind w rest (letter-first w (from-start w h)), taken w rest h b, h, run_is w rest h b) refl
-
-pub colon_stands : (rest : List ℕ) → front_of (58 ∷ rest) ≡ front.Token (kind.Punctuation mark.Colon) 1
-unfolding front_of punctuation_front
-colon_stands rest = refl
-
-pub arrow_stands : (rest : List ℕ) → front_of (45 ∷ 62 ∷ rest) ≡ front.Token (kind.Punctuation mark.Arrow) 2
-unfolding front_of punctuation_front
-arrow_stands rest = refl

@@ -8,7 +8,6 @@ pub mod ReadBack
 pub mod Replied
 pub mod Results
 pub mod Functions
-pub mod Texts
 pub mod TypedCalls
 pub mod TypedLists
 pub mod Within

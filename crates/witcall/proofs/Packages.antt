@@ -1,7 +1,7 @@
 -- The same package as one that is within the limits is laid out too, and in the form of packages where that one is.
-use Rattle.std.proofs.Common.{◌≡◌, ◌≤◌, ◌<◌, ℕ, length, sym, ap, subst, ◌∙◌, arith}
+use Rattle.std.proofs.Common.{◌≡◌, ◌≤◌, ◌<◌, ℕ, length, sym, ap, subst, ◌∙◌}
 use Rattle.std.specs.Prelude.{slice_index_or}
-use Rattle.canonical_abi.specs.Types.{ClosedType, string_type}
+use Rattle.canonical_abi.specs.Types.{string_type}
 use Rattle.tables.specs.Closed.{closed_types}
 use Rattle.tables.specs.Same.{IsSamePackage}
 use Rattle.tables.specs.declared.tables.Definition.{Definition}
@@ -11,16 +11,7 @@ use Rattle.package_form.specs.Postfix.{IsPostfix}
 use Rattle.package_form.specs.Entries.{type_entries, table_of}
 use Rattle.package_form.specs.Ends.{is_parted}
 use Rattle.package_form.specs.Form.{IsInPackageForm, has_full_names, are_interfaces}
-use Rattle.layout.specs.Layout.{IsWithin, Refuses, StandsAt, AreWithin}
-use Rattle.layout.specs.declared.error.LayoutError.TheVariants.{TooDeep, TooLarge}
-
-deep_apart : (d : Definition) (t : ClosedType) → Refuses TooDeep d t → IsWithin d t → ⊥
-deep_apart (row.Type d) t deep (depth, size) = omega (arith, deep, depth)
-deep_apart (row.Function f) t g size = g
-
-large_apart : (d : Definition) (t : ClosedType) → Refuses TooLarge d t → IsWithin d t → ⊥
-large_apart (row.Type d) t (depth, large) (_, size) = omega (arith, large, size)
-large_apart (row.Function f) t large size = omega (arith, large, size)
+use Rattle.layout.specs.Layout.{IsWithin, AreWithin}
 
 same_types : (a b : Resolve) → IsSamePackage a b → closed_types a ≡ closed_types b
 same_types a b same = cc
@@ -31,12 +22,6 @@ within a b k d same all below is =
     let below_b = subst (λ ds. k < length ds) same.definitions below in
     let is_b = subst (λ ds. slice_index_or ds k d ≡ d) same.definitions is in
     subst (λ ts. IsWithin d (slice_index_or ts k string_type)) (sym (same_types a b same)) (all.each k d below_b is_b)
-
-pub not_deep : (a b : Resolve) → IsSamePackage a b → AreWithin b → ((k : ℕ) × StandsAt TooDeep a k) → ⊥
-not_deep a b same all (k, stands) = deep_apart stands.definition _ stands.refused (within a b k stands.definition same all stands.in_range stands.is)
-
-pub not_large : (a b : Resolve) → IsSamePackage a b → AreWithin b → ((k : ℕ) × StandsAt TooLarge a k) → ⊥
-not_large a b same all (k, stands) = large_apart stands.definition _ stands.refused (within a b k stands.definition same all stands.in_range stands.is)
 
 same_full_names : (a b : Resolve) → IsSamePackage a b → has_full_names a ≡ has_full_names b
 same_full_names a b same = cc

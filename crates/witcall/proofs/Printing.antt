@@ -12,7 +12,6 @@ use Rattle.tables.specs.Closed.{function_at, function_type}
 use Rattle.tables.specs.Names.{IsNamed}
 use Rattle.tables.specs.declared.tables.FunctionId.{FunctionId}
 use Rattle.tables.specs.declared.tables.Resolve.{Resolve}
-use Rattle.witcall.specs.declared.refused.Refused.{Refused}
 use Rattle.witcall.specs.declared.refused.Refused.TheVariants as refused
 use Rattle.witcall.specs.Calling.{Asks, CallAnswers, CallRefuses, Refuses, fresh, program_parties}
 use Rattle.witcall.specs.Json.{IsArrayTextOf}
@@ -42,17 +41,3 @@ pub call-refuses : (r : Resolve) (f : FunctionId) (vs : List Value) (runs : Run)
     → CallAnswers r f vs runs posts state (Err e) → CallRefuses r f vs runs posts state (refusal_of e)
 call-refuses r f vs runs posts state (fault.Trap t) answers = answers
 call-refuses r f vs runs posts state fault.NoMemory answers = (Err fault.NoMemory, answers, tt)
-
--- a refusal of the call that the words ask for
-pub refuses : (r : Resolve) (iface func args : List ℕ) (runs : Run) (posts : PostRun) (state : List ℕ) (f : FunctionId) (vs : List Value) (e : Refused)
-    → Asks r iface func args f vs → CallRefuses r f vs runs posts state e → Refuses r iface func args runs posts state e
-refuses r iface func args runs posts state f vs (refused.Words e) asked g = elim g [ ]
-refuses r iface func args runs posts state f vs refused.File asked g = elim g [ ]
-refuses r iface func args runs posts state f vs (refused.Open e) asked g = elim g [ ]
-refuses r iface func args runs posts state f vs (refused.Binary e) asked g = elim g [ ]
-refuses r iface func args runs posts state f vs refused.NoFunction asked g = elim g [ ]
-refuses r iface func args runs posts state f vs (refused.Json e) asked g = elim g [ ]
-refuses r iface func args runs posts state f vs (refused.Memory e) asked is = (f, vs, asked, is)
-refuses r iface func args runs posts state f vs (refused.Trap t) asked answers = (f, vs, asked, answers)
-refuses r iface func args runs posts state f vs refused.Write asked g = elim g [ ]
-refuses r iface func args runs posts state f vs refused.NoMemory asked is = (f, vs, asked, is)

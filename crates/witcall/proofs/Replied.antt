@@ -1,5 +1,5 @@
 -- What the program's own body answers, and why it stops.
-use Rattle.std.proofs.Common.{◌≡◌, ◌≤◌, ◌⊎◌, inl, inr, ℕ, List, [], ◌∷◌, map, Option, Some, None, refl, subst, arith}
+use Rattle.std.proofs.Common.{◌≡◌, ◌≤◌, ℕ, List, [], ◌∷◌, map, Option, Some, None, subst, arith}
 use Rattle.std.specs.Prelude.{option_to_list, MatchOption, IfSome}
 use Rattle.canonical_abi.specs.Types.{ClosedType, Fields, record_type}
 use Rattle.canonical_abi.specs.Values.{Value}
@@ -8,9 +8,8 @@ use Rattle.canonical_abi.specs.Flat.{Denotes, DenotesFault}
 use Rattle.canonical_abi.specs.Guest.{Memory}
 use Rattle.canonical_abi.specs.declared.flat.Flat.{Flat}
 use Rattle.canonical_abi.specs.declared.trap.TrapKind.{TrapKind}
-use Rattle.tables.specs.Closed.{closed_type, function_type}
+use Rattle.tables.specs.Closed.{closed_type}
 use Rattle.tables.specs.Standard.{IsTypeOf}
-use Rattle.tables.specs.declared.tables.FunctionId.{FunctionId}
 use Rattle.tables.specs.declared.tables.Resolve.{Resolve}
 use Rattle.tables.specs.declared.tables.ValType.{ValType}
 use Rattle.memory.specs.Space.{SpaceAllocates}
@@ -19,7 +18,6 @@ use Rattle.lift_lower.specs.Val.{value_of}
 use Rattle.lift_lower.specs.declared.val.Val.{Val}
 use Rattle.lift_lower.specs.Scalars.{AreScalar, fields_in, StandFor, FailAs}
 use Rattle.lift_lower.proofs.Alone.{alone-size}
-use Rattle.witcall.specs.Replying.{ArgumentsFail, Replies, WantsMemory}
 
 -- what an option lends as a slice
 pub lent : {A : Type 0} (o : Option A) (xs : List A) → MatchOption o (xs ≡ []) (λ t. xs ≡ t ∷ []) → xs ≡ option_to_list o
@@ -37,11 +35,6 @@ pub arguments-faulty : (rows : List ClosedType) (params : List ValType) (ts : Fi
 arguments-faulty rows params ts m flats k scalar are fail = subst (λ us. DenotesFault max_flat_params us m flats k) are (fail rows max_flat_params m scalar.few)
 
 -- ---- what it answers
-
-pub not-read : (r : Resolve) (f : FunctionId) (vs : List Value) (m : Memory) (given : List Flat) → ArgumentsFail r f m.bytes given
-    → Replies (function_type r f) vs m given None m ⊎ WantsMemory r f m None m
-not-read r f vs m given (inl fault) = inl (inl (fault.0, fault.1, refl))
-not-read r f vs m given (inr more) = inr (more, refl, refl)
 
 pub no-room : (q : Resolve) (types : List ValType) (ts : Fields) (vs ws : List Val) (k : TrapKind) (old new : Memory) → fields_of_types q types ≡ ts → vs ≡ ws
     → AnswerFails SpaceAllocates (fields_of_types q types) (map value_of vs) old k new → (kind : TrapKind) × AnswerFails SpaceAllocates ts (map value_of ws) old kind new
