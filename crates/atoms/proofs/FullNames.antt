@@ -13,11 +13,11 @@ use Rattle.atoms.proofs.LabelWords.{is_label_byte, label_bytes}
 is_true : (b : Bool) → IsTrue b → b ≡ true
 is_true b h = h
 
-first : (a b : Bool) → (a && b) ≡ true → a ≡ true
+pub first : (a b : Bool) → (a && b) ≡ true → a ≡ true
 first true b h = refl
 first false b h = absurd cc
 
-second : (a b : Bool) → (a && b) ≡ true → b ≡ true
+pub second : (a b : Bool) → (a && b) ≡ true → b ≡ true
 second true b h = h
 second false b h = absurd cc
 
@@ -44,7 +44,7 @@ pub has_mark : (mark : ℕ) (xs ys : List ℕ) → Lacks mark (xs ++ mark ∷ ys
 has_mark mark [] ys h = h 0 (omega arith) refl
 has_mark mark (x ∷ xs) ys h = has_mark mark xs ys (λ i below e. h (suc i) (omega arith) e)
 
-behind : (mark x : ℕ) (xs : List ℕ) → Lacks mark (x ∷ xs) → Lacks mark xs
+pub behind : (mark x : ℕ) (xs : List ℕ) → Lacks mark (x ∷ xs) → Lacks mark xs
 behind mark x xs h i below e = h (suc i) (omega arith) e
 
 -- what stands before the first mark and behind it is told by the text

@@ -11,9 +11,7 @@ use Rattle.canonical_abi.specs.Call.{Parties, World, either}
 use Rattle.canonical_abi.specs.Session.{Held, SessionStep, place, read, release, SessionAnswer, placed, was_read, released, missing, RunsSession}
 use Rattle.canonical_abi.specs.Keeping.{IsLive, LeavesAlone, ReleasesMiss, StaysLive, Throughout}
 use Rattle.canonical_abi.specs.Told.{AllocatesInOneWay}
-
-abbrev u8 : ClosedType
-u8 = prim_type (unsigned int8)
+use Rattle.canonical_abi.proofs.Examples.{u8}
 
 abbrev seven : Value
 seven = unsigned_value int8 7

@@ -5,24 +5,14 @@ use Rattle.std.specs.Str.{is_utf8}
 use Rattle.std.proofs.lemmas.Str.{is_utf8-from_IsUtf8, IsUtf8-from_is_utf8}
 use Rattle.std.proofs.lemmas.Bool.{eq-eqb, ne_eqb, eqb-true}
 use Rattle.std.proofs.lemmas.List.{append-nil}
+use Rattle.std.proofs.lemmas.Option.{same_Some}
 use Rattle.atoms.specs.Label.{is_label}
 use Rattle.atoms.specs.FullName.{NameParts, Lacks, IsName, IsFullName, is_package_label, is_version, version_suffix, name_text, package_text}
 use Rattle.atoms.specs.declared.error.AtomError.TheVariants as error
-use Rattle.atoms.proofs.FullNames.{label_lacks, package_lacks}
+use Rattle.atoms.proofs.FullNames.{label_lacks, package_lacks, behind, first, second}
 use Rattle.ctype_bin.specs.Names.{cut_at, behind_first, is_versioned, is_name, is_packaged, is_spaced, is_full_name, is_extern_name}
 
-first : (a b : Bool) → (a && b) ≡ true → a ≡ true
-first true b h = refl
-first false b h = absurd cc
-
-second : (a b : Bool) → (a && b) ≡ true → b ≡ true
-second true b h = h
-second false b h = absurd cc
-
 -- ---- cutting a text
-
-behind : (mark c : ℕ) (cs : List ℕ) → Lacks mark (c ∷ cs) → Lacks mark cs
-behind mark c cs h i below e = h (suc i) (omega arith) e
 
 other : (mark c : ℕ) (cs : List ℕ) → Lacks mark (c ∷ cs) → eqb c mark ≡ false
 other mark c cs h = ne_eqb c mark (λ same. h 0 (omega arith) same)
@@ -35,19 +25,16 @@ cut_none : (mark : ℕ) (text : List ℕ) → Lacks mark text → cut_at mark te
 cut_none mark [] h = refl
 cut_none mark (c ∷ text) h = rw (other mark c text h, cut_none mark text (behind mark c text h)) refl
 
-some_is : {A : Type 0} (x y : A) → Some x ≡ Some y → x ≡ y
-some_is x y e = cc
-
 cut_is : (mark : ℕ) (text : List ℕ) (x : List ℕ × List ℕ) → cut_at mark text ≡ Some x → text ≡ x.0 ++ mark ∷ x.1
 cut_is mark [] x e = absurd cc
 cut_is mark (c ∷ cs) x e = by (λ y is. cut_is mark cs y is) (eqb c mark) refl e
   where
     within : ((y : List ℕ × List ℕ) → cut_at mark cs ≡ Some y → cs ≡ y.0 ++ mark ∷ y.1) → (o : Option (List ℕ × List ℕ)) → cut_at mark cs ≡ o → behind_first c o ≡ Some x → c ∷ cs ≡ x.0 ++ mark ∷ x.1
     within again None is h = absurd cc
-    within again (Some y) is h = subst (λ (z : List ℕ × List ℕ). c ∷ cs ≡ z.0 ++ mark ∷ z.1) (some_is (c ∷ y.0, y.1) x h) (ap (λ (t : List ℕ). c ∷ t) (again y is))
+    within again (Some y) is h = subst (λ (z : List ℕ × List ℕ). c ∷ cs ≡ z.0 ++ mark ∷ z.1) (same_Some (c ∷ y.0, y.1) x h) (ap (λ (t : List ℕ). c ∷ t) (again y is))
 
     by : ((y : List ℕ × List ℕ) → cut_at mark cs ≡ Some y → cs ≡ y.0 ++ mark ∷ y.1) → (b : Bool) → eqb c mark ≡ b → cond b (Some ([], cs)) (behind_first c (cut_at mark cs)) ≡ Some x → c ∷ cs ≡ x.0 ++ mark ∷ x.1
-    by again true is h = subst (λ (z : List ℕ × List ℕ). c ∷ cs ≡ z.0 ++ mark ∷ z.1) (some_is ([], cs) x h) (ap (λ (d : ℕ). d ∷ cs) (eqb-true c mark is))
+    by again true is h = subst (λ (z : List ℕ × List ℕ). c ∷ cs ≡ z.0 ++ mark ∷ z.1) (same_Some ([], cs) x h) (ap (λ (d : ℕ). d ∷ cs) (eqb-true c mark is))
     by again false is h = within again (cut_at mark cs) refl h
 
 -- ---- a full name passes the test

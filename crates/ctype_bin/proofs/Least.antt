@@ -92,7 +92,7 @@ appended limit old new n low high lt h =
 
 -- ---- what is spelled is spelled so, and in no more bytes
 
-one_power : (room : ℕ) → 1 ≤ 128 ^ room
+pub one_power : (room : ℕ) → 1 ≤ 128 ^ room
 one_power zero = omega arith
 one_power (suc room) = let p : 128 ^ suc room ≡ 128 ^ room * 128 = pow-suc 128 room in let ih = one_power room in omega (arith, p, ih)
 

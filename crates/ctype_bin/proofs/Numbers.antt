@@ -5,7 +5,7 @@ use Rattle.std.proofs.lemmas.List.{drop_at, take-append-drop}
 use Rattle.atoms.specs.declared.error.AtomError.{AtomError}
 use Rattle.atoms.specs.declared.error.AtomError.TheVariants as atoms
 use Rattle.atoms.specs.Leb128.{Spells, groups_at}
-use Rattle.atoms.proofs.Laws.{is_found, is_truncated, groups_again, only_errors}
+use Rattle.atoms.proofs.Laws.{is_found, is_truncated, groups_again, only_errors, failed}
 use Rattle.atoms.proofs.Groups.{spells-groups}
 use Rattle.ctype_bin.specs.declared.error.Fault.{Fault}
 use Rattle.ctype_bin.specs.declared.error.Fault.TheVariants.{Overlong}
@@ -36,11 +36,8 @@ number_err fault bytes (Err atoms.NoMemory) f h e = absurd (elim h [ inl k ↦ c
 both_ways : (x : ℕ × ℕ) (d : AtomError) → Ok x ≡ Err d → ⊥
 both_ways x d h = cc
 
-abbrev refused : AtomError → Result (ℕ × ℕ) AtomError
-refused e = Err e
-
 overlong_early : (r : Result (ℕ × ℕ) AtomError) → r ≡ Err atoms.Truncated → r ≡ Err atoms.Overlong → ⊥
-overlong_early r e h = let k : refused atoms.Truncated ≡ refused atoms.Overlong = sym e ∙ h in cc
+overlong_early r e h = let k : failed atoms.Truncated ≡ failed atoms.Overlong = sym e ∙ h in cc
 
 module _ (limit : ℕ) (low : 16 ≤ limit) (high : limit ≤ 128) (fault : List ℕ → Fault) where
   abbrev p : Bytes ℕ

@@ -18,7 +18,7 @@ use Rattle.ctype_bin.specs.Parts.{IsOfParts}
 use Rattle.ctype_bin.specs.Shortest.{groups}
 use Rattle.ctype_bin.proofs.Exact.{exact-several}
 use Rattle.ctype_bin.proofs.Numbers.{exact-u32, exact-s33}
-use Rattle.ctype_bin.proofs.Least.{more_groups, least_of}
+use Rattle.ctype_bin.proofs.Least.{more_groups, least_of, one_power}
 
 -- a fault that values have, where W is known
 abbrev pub OfValue : Type 0 → Stuck → Type 0
@@ -99,10 +99,6 @@ pub reread-several : {W : Type 0} (text : List ℕ) → Rereads W (several (leng
 reread-several text = reread-spelt (several (length text)) (exact-several (length text)) text text (refl, refl)
 
 -- ---- numbers
-
-one_power : (room : ℕ) → 1 ≤ 128 ^ room
-one_power zero = omega arith
-one_power (suc room) = let p : 128 ^ suc room ≡ 128 ^ room * 128 = pow-suc 128 room in let ih = one_power room in omega (arith, p, ih)
 
 too_large : (limit room n : ℕ) (rest : List ℕ) → limit ≤ 128 → 16 * 128 ^ room ≤ n → groups_at limit room (groups limit room n ++ rest) ≡ Err atoms.Overlong
 unfolding groups groups_at

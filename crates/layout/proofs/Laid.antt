@@ -56,7 +56,7 @@ module _ {A : Type 0} (rows : List Row) where
 
 -- ---- what names stand for
 
-abbrev none_such : Parts
+abbrev pub none_such : Parts
 none_such = parts.Same val.String
 
 is_end-later : (ps qs : List Parts) (v : ValType) → IsTrue (is_below (length ps) v) → IsTrue (is_end ps v) → IsTrue (is_end (ps ++ qs) v)

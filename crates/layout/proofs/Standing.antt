@@ -22,6 +22,7 @@ use Rattle.layout.specs.Queries.{Stands}
 use Rattle.layout.specs.declared.parts.Parts.{Parts}
 use Rattle.layout.specs.declared.parts.Parts.TheVariants as parts
 use Rattle.layout.proofs.Agreement.{Agree, types-agree, payload-agrees, payloads-agree, mapped, mapped-options, no-payloads, length-parts, parts-more, parts_from-append}
+use Rattle.layout.proofs.Laid.{none_such}
 
 -- ---- closed types by the whole table
 
@@ -114,9 +115,6 @@ definition-stands ts n ps (row.Function f) h ends =
     (mapped n (λ p. p.ty) f.params (split (list_all (λ p. is_below n p.ty) f.params) (option_below n f.result) h).0)
 
 -- ---- the whole table
-
-abbrev none_such : Parts
-none_such = parts.Same val.String
 
 parts-front : (e : ValType → Extent) (ps : List Parts) (ds : List Definition) (k : ℕ) → k < length ps → get_or (parts_from e ps ds) k none_such ≡ get_or ps k none_such
 parts-front e ps [] k h = refl

@@ -16,6 +16,7 @@ use Rattle.canonical_abi.specs.Flat.{Denotes, Lifts, FieldsLift, CaseLifts}
 use Rattle.canonical_abi.specs.Requests.{items_of, members_of, text_of, case_of, payload_of, request, each_request, requests, fields_requests, case_requests, params_requests}
 use Rattle.canonical_abi.specs.Trace.{Request}
 use Rattle.canonical_abi.specs.declared.flat.Flat.{Flat}
+use Rattle.canonical_abi.proofs.Asked.{items-of}
 use Rattle.lift_lower.specs.Loading.{AreBytes}
 use Rattle.lift_lower.specs.Passing.{AreAddressable}
 
@@ -34,10 +35,6 @@ IsSoundCase cs i n v = IsOfCase v cs i n × (case_of v ≡ i) × AreAddressable 
 addressable-both : (xs ys : List Request) → AreAddressable xs → AreAddressable ys → AreAddressable (xs ++ ys)
 addressable-both [] ys p q = q
 addressable-both (x ∷ xs) ys p q = (p.0, addressable-both xs ys p.1 q)
-
-items-of : (vs : List Value) → items_of (values_of vs) ≡ vs
-items-of [] = refl
-items-of (v ∷ vs) = ap (λ l. v ∷ l) (items-of vs)
 
 -- ---- numbers
 

@@ -10,7 +10,7 @@ use Rattle.canonical_abi.specs.Reading.{denoting, kind_of, number_of, same_kinds
 use Rattle.canonical_abi.specs.declared.flat.CoreKind.{CoreKind}
 use Rattle.canonical_abi.specs.declared.flat.CoreKind.TheVariants as kind
 use Rattle.canonical_abi.specs.declared.flat.Flat.{Flat}
-use Rattle.canonical_abi.proofs.Tells.{denoting-tells}
+use Rattle.canonical_abi.proofs.Tells.{denoting-tells, same_kinds-refl, same_kinds-true}
 use Rattle.canonical_abi.specs.declared.trap.Fault.{Fault}
 use Rattle.canonical_abi.specs.declared.trap.Step.TheVariants.{Take}
 use Rattle.canonical_abi.specs.declared.trap.TrapKind.TheVariants as trap
@@ -19,6 +19,7 @@ use Rattle.tables.specs.Closed.{closed_type}
 use Rattle.tables.specs.Tables.{is_below}
 use Rattle.tables.specs.declared.tables.Resolve.{Resolve}
 use Rattle.tables.specs.declared.tables.ValType.{ValType}
+use Rattle.tables.proofs.Standards.{fields-count}
 use Rattle.lift_lower.specs.Crossing.{fields_of_types, LiftFails}
 use Rattle.lift_lower.specs.NoValue.{FailsAs, fault_at}
 use Rattle.lift_lower.specs.declared.no_value.NoValue.{NoValue}
@@ -26,36 +27,21 @@ use Rattle.lift_lower.specs.declared.no_value.NoValue.TheVariants as no_value
 use Rattle.lift_lower.specs.Loading.{reading_members}
 use Rattle.lift_lower.specs.Members.{AreAllInside}
 use Rattle.lift_lower.proofs.TypesExtents.{has-row}
-use Rattle.lift_lower.proofs.TypesShapes.{count-fields}
 use Rattle.lift_lower.proofs.Steps.{fields_from, fields_end, fields-next, fields-last}
 
 -- ---- kinds
-
-same-refl : (ks : List CoreKind) → same_kinds ks ks ≡ true
-same-refl [] = refl
-same-refl (kind.I32 ∷ ks) = same-refl ks
-same-refl (kind.I64 ∷ ks) = same-refl ks
-
-same-true : (js ks : List CoreKind) → same_kinds js ks ≡ true → js ≡ ks
-same-true [] [] e = refl
-same-true [] (k ∷ ks) e = cc
-same-true (j ∷ js) [] e = cc
-same-true (kind.I32 ∷ js) (kind.I32 ∷ ks) e = ap (λ xs. kind.I32 ∷ xs) (same-true js ks e)
-same-true (kind.I32 ∷ js) (kind.I64 ∷ ks) e = cc
-same-true (kind.I64 ∷ js) (kind.I32 ∷ ks) e = cc
-same-true (kind.I64 ∷ js) (kind.I64 ∷ ks) e = ap (λ xs. kind.I64 ∷ xs) (same-true js ks e)
 
 same-false : (js ks : List CoreKind) → (js ≡ ks → ⊥) → same_kinds js ks ≡ false
 same-false js ks other = by (same_kinds js ks) refl
   where
     by : (b : Bool) → same_kinds js ks ≡ b → same_kinds js ks ≡ false
-    by true e = absurd (other (same-true js ks e))
+    by true e = absurd (other (same_kinds-true js ks e))
     by false e = e
 
 same-by : (js ks : List CoreKind) → js ≡ ks → same_kinds js ks ≡ true
 same-by js ks e =
     let P : List CoreKind → Type 0 = λ xs. same_kinds js xs ≡ true in
-    subst P e (same-refl js)
+    subst P e (same_kinds-refl js)
 
 module _ (limit : ℕ) (ts : Fields) (m : List ℕ) (flats : List Flat) where
   pub denotes-flat : fits_flat limit ts ≡ true → map kind_of flats ≡ field_kinds ts → denoting limit ts m flats ≡ lifting_fields ts m (map number_of flats)
@@ -73,7 +59,7 @@ module _ (limit : ℕ) (ts : Fields) (m : List ℕ) (flats : List Flat) where
 -- ---- types side by side
 
 pub count-types : (r : Resolve) (types : List ValType) → field_count (fields_of_types r types) ≡ length types
-count-types r types = count-fields _ ∙ length-map types _
+count-types r types = fields-count _ ∙ length-map types _
 
 all-inside : (n : ℕ) (types : List ValType) → list_all (is_below n) types ≡ true → (k : ℕ) (d : ValType) → k < length types → IsTrue (is_below n (slice_index_or types k d))
 all-inside n [] h k d below = absurd (omega arith)

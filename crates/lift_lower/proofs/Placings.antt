@@ -24,6 +24,7 @@ use Rattle.tables.specs.declared.tables.Function.{Function}
 use Rattle.tables.specs.declared.tables.FunctionId.{FunctionId}
 use Rattle.tables.specs.declared.tables.Resolve.{Resolve}
 use Rattle.tables.proofs.Rows.{stands, function-row, function-type}
+use Rattle.tables.proofs.Standards.{fields-count}
 use Rattle.lift_lower.specs.Crossing.{AreLowered, LowerFails}
 use Rattle.lift_lower.specs.NoValue.{AnswerStands}
 use Rattle.lift_lower.specs.Lowered.{PassesParamsBy}
@@ -32,7 +33,6 @@ use Rattle.lift_lower.specs.Scripts.{IsDone, HasEnded, GrantsBlock}
 use Rattle.lift_lower.specs.Val.{value_of}
 use Rattle.lift_lower.specs.declared.val.Val.{Val}
 use Rattle.lift_lower.proofs.Alone.{alone-align, alone-size, first-place}
-use Rattle.lift_lower.proofs.TypesShapes.{count-fields}
 
 -- ---- the arguments
 
@@ -45,7 +45,7 @@ pub count-params : (r : Resolve) (f : FunctionId) (s : Function) → IsFunction 
 count-params r f s h found =
     ap (λ t. field_count (record_fields t)) (closed-row r f h)
     ∙ ap (λ o. field_count (type_of_function (closed_types r) o).params) found
-    ∙ count-fields (closed_params (closed_types r) s.params)
+    ∙ fields-count (closed_params (closed_types r) s.params)
     ∙ length-map s.params (λ p. closed_val (closed_types r) p.ty)
 
 pub is-record : (t : ClosedType) (fs : Fields) → t ≡ record_type fs → t ≡ record_type (record_fields t)

@@ -4,6 +4,7 @@ use Rattle.canonical_abi.specs.Guest.{Memory, Allocation}
 use Rattle.std.specs.Prelude.{slice_range}
 use Rattle.canonical_abi.specs.Trace.{Grant, Event, node, grant, write, EventLeads, TraceLeads, LeavesOutWrites, AreWithin, RequestEnds}
 use Rattle.canonical_abi.specs.declared.trap.TrapKind.{TrapKind}
+use Rattle.canonical_abi.proofs.Fine.{leads-both}
 use Rattle.lift_lower.specs.Scripts.{IsDone, HasEnded, IsBegun, AsksBlock, GrantsBlock, PutsText, PutsTextAt}
 
 pub within-both : (limit : ℕ) (es fs : List Event) → AreWithin limit es → AreWithin limit fs → AreWithin limit (es ++ fs)
@@ -11,10 +12,6 @@ within-both limit [] fs p q = q
 within-both limit (node ∷ es) fs p q = within-both limit es fs p q
 within-both limit (grant g ∷ es) fs p q = (p.0, within-both limit es fs p.1 q)
 within-both limit (write a bs ∷ es) fs p q = within-both limit es fs p q
-
-pub leads-both : (allocates : Allocation) (es fs : List Event) (s m s' : Memory) → TraceLeads allocates s es m → TraceLeads allocates m fs s' → TraceLeads allocates s (es ++ fs) s'
-leads-both allocates [] fs s m s' r q = subst (λ x. TraceLeads allocates x fs s') r q
-leads-both allocates (e ∷ es) fs s m s' r q = (r.0, r.1, leads-both allocates es fs r.0 m s' r.2 q)
 
 left-front : (es done made : List Event) → LeavesOutWrites done made → LeavesOutWrites (es ++ done) (es ++ made)
 left-front [] done made l = l

@@ -6,7 +6,7 @@ use Rattle.std.specs.Int.{next_multiple_of}
 use Rattle.canonical_abi.specs.Guest.{IsAlignment}
 use Rattle.canonical_abi.specs.Types.{ClosedType, record_type, variant_type, Fields, no_field, field, Cases, no_case, plain_case, case_with, case_count, nth_field, nth_case, variant_cases, depth, fields_depth, cases_depth}
 use Rattle.canonical_abi.specs.Layout.{size, align, discriminant_size, greatest_align, end_from, field_extents, payload_extents, payload_place}
-use Rattle.canonical_abi.proofs.Sizes.{is-alignment, greatest-le}
+use Rattle.canonical_abi.proofs.Sizes.{is-alignment, greatest-le, max-alignment}
 use Rattle.layout.specs.Layout.{Table, layouts_of}
 use Rattle.tables.specs.Tables.{is_below}
 use Rattle.tables.specs.declared.tables.Resolve.{Resolve}
@@ -31,12 +31,6 @@ align-pos t = elim (is-alignment t) [
 ]
 
 -- ---- a variant's payload
-
-max-alignment : (x y : ℕ) → IsAlignment x → IsAlignment y → IsAlignment (max x y)
-max-alignment x y p q = elim (cases_lt x y) [
-  | inl h ↦ (let e : y ≡ max x y = omega arith in subst IsAlignment e q)
-  | inr h ↦ (let e : x ≡ max x y = omega arith in subst IsAlignment e p)
-]
 
 payloads-alignment : (k : ℕ) (cs : Cases) → IsAlignment k → IsAlignment (fold (λ n x. max n x.align) k (payload_extents cs))
 payloads-alignment k no_case h = h

@@ -12,17 +12,13 @@ use Rattle.tables.specs.declared.tables.Resolve.{Resolve}
 use Rattle.tables.specs.declared.tables.ValType.{ValType}
 use Rattle.tables.specs.declared.tables.ValType.TheVariants as val
 use Rattle.tables.proofs.Rows.{closed-at}
-use Rattle.tables.proofs.Standards.{type-standard}
+use Rattle.tables.proofs.Standards.{type-standard, fields-count}
 use Rattle.layout.specs.Layout.{Table, layouts_of}
 use Rattle.layout.specs.Queries as queries
 use Rattle.layout.specs.declared.queries.Shape.{Shape}
 use Rattle.layout.specs.declared.queries.Shape.TheVariants as shape
 use Rattle.lift_lower.specs.Types.{IsInside, HasShape, HasFewFlags}
 use Rattle.lift_lower.proofs.TypesExtents.{row-count}
-
-pub count-fields : (ts : List ClosedType) → field_count (fields_of ts) ≡ length ts
-count-fields [] = refl
-count-fields (t ∷ ts) = ap suc (count-fields ts)
 
 -- ---- types side by side
 

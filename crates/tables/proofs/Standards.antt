@@ -28,7 +28,7 @@ use Rattle.tables.proofs.Earlier.{definition-both}
 
 -- ---- counts
 
-fields-count : (ts : List ClosedType) → field_count (fields_of ts) ≡ length ts
+pub fields-count : (ts : List ClosedType) → field_count (fields_of ts) ≡ length ts
 fields-count [] = refl
 fields-count (t ∷ ts) = ap suc (fields-count ts)
 

@@ -6,6 +6,7 @@ use Rattle.std.specs.List.{AllByRecursion}
 use Rattle.std.specs.List.Sorted.{IsStrictlySortedBy}
 use Rattle.std.specs.Map.{keys_of}
 use Rattle.std.specs.Ordering.{match_ordering}
+use Rattle.std.proofs.lemmas.Option.{same_Some}
 use Rattle.canonical_abi.specs.Values.{Value}
 use Rattle.canonical_abi.specs.Labelled.{LabelledType}
 use Rattle.serde_json.specs.Data.{Data, Members, no_members, member, put}
@@ -45,9 +46,6 @@ put-first : (k : List ℕ) (d : Data) (ms : Members) → Above k ms → put k d 
 put-first k d no_members a = refl
 put-first k d (member l e ms) (here, a) = rw here refl
 
-some-same : {A : Type 0} (a b : A) → Some a ≡ Some b → a ≡ b
-some-same a b e = cc
-
 -- a sorted object without one of its members
 pub record Taken (l : List ℕ) (d : Data) (ms : Members) : Type 0 where
   pub rest : Members
@@ -66,7 +64,7 @@ taken l d (member k e ms) (a, s) found = by (taken l d ms s) (slice_cmp nat_cmp 
     by again Equal is f =
         let key : l ≡ k = same-key l k is in
         let at : Above l ms = subst (λ x. Above x ms) (sym key) a in
-        let held : d ≡ e = sym (some-same e d f) in
+        let held : d ≡ e = sym (same_Some e d f) in
         record {
           rest = ms;
           back = put-first l d ms at ∙ ap (λ x. member x d ms) key ∙ ap (λ x. member k x ms) held;

@@ -3,21 +3,16 @@ use Rattle.std.proofs.Common.{◌≡◌, ◌⊎◌, inl, inr, ℕ, suc, ◌≤�
 use Rattle.canonical_abi.specs.Types.{Prim, boolean, unsigned, signed, scalar_value}
 use Rattle.canonical_abi.specs.Labelled.{Label, LabelledType, labelled_prim, labelled_string, labelled_list, labelled_option, labelled_tuple, labelled_result, labelled_record, labelled_variant, labelled_enum, labelled_flags, LabelledTypes, no_member, member, Payload, no_payload, payload, LabelledFields, no_labelled_field, labelled_field, LabelledCases, no_labelled_case, labelled_case}
 use Rattle.canonical_abi.specs.Values.{Value, Values, no_value, value, values_of, list_value, record_value, plain_value, payload_value}
+use Rattle.canonical_abi.specs.Requests.{items_of}
+use Rattle.canonical_abi.proofs.Asked.{items-of}
 use Rattle.serde_json.specs.Data as json
 use Rattle.serde_json.specs.Data.{Data, Members, put}
 use Rattle.serde_json.specs.View.{items_of}
 use Rattle.value_json.specs.Json.{PrimJson, Json, EachJson, MembersJson, PayloadJson, CasesJson, FieldsJson, FlagsJson, single}
-
-abbrev list_of : Values → List Value
-list_of no_value = []
-list_of (value v vs) = v ∷ list_of vs
-
-list_of_values : (vs : List Value) → list_of (values_of vs) ≡ vs
-list_of_values [] = refl
-list_of_values (v ∷ vs) = ap (λ x. v ∷ x) (list_of_values vs)
+use Rattle.value_json.specs.Writing.{HasCase}
 
 same-values : (vs ws : List Value) → values_of vs ≡ values_of ws → vs ≡ ws
-same-values vs ws e = sym (list_of_values vs) ∙ ap list_of e ∙ list_of_values ws
+same-values vs ws e = sym (items-of vs) ∙ ap items_of e ∙ items-of ws
 
 lists-same : (vs ws : List Value) (v : Value) → v ≡ list_value (values_of vs) → v ≡ list_value (values_of ws) → vs ≡ ws
 lists-same vs ws v a b = let e : values_of vs ≡ values_of ws = cc in same-values vs ws e
@@ -57,20 +52,16 @@ each-one P vs (j ∷ js) (k ∷ ks) one (v, rest, is, p, more) (w, rest2, is2, q
 plain-payload : {A : Type 0} (v w : Value) (i n : ℕ) → v ≡ plain_value i → v ≡ payload_value n w → A
 plain-payload v w i n a b = absurd (cc)
 
--- which case a value is of
-abbrev IsCase : Value → ℕ → Type 0
-IsCase v i = (v ≡ plain_value i) ⊎ ((w : Value) × (v ≡ payload_value i w))
-
-case-of : (p : Payload) (l : Label) (i : ℕ) (v : Value) (j : Data) → PayloadJson p l i v j → IsCase v i
+case-of : (p : Payload) (l : Label) (i : ℕ) (v : Value) (j : Data) → PayloadJson p l i v j → HasCase v i
 case-of no_payload l i v j (a, is_j) = inl a
 case-of (payload t) l i v j (w, d, s, a, is_j) = inr (w, a)
 
-later : (cs : LabelledCases) (i : ℕ) (v : Value) (j : Data) → CasesJson cs i v j → (n : ℕ) × (i ≤ n) × IsCase v n
+later : (cs : LabelledCases) (i : ℕ) (v : Value) (j : Data) → CasesJson cs i v j → (n : ℕ) × (i ≤ n) × HasCase v n
 later no_labelled_case i v j a = absurd a
 later (labelled_case l p cs) i v j (inl a) = (i, omega arith, case-of p l i v j a)
 later (labelled_case l p cs) i v j (inr a) = let (n, up, c) = later cs (suc i) v j a in (n, omega (arith, up), c)
 
-apart-cases : (v : Value) (i n : ℕ) → (i ≡ n → ⊥) → IsCase v i → IsCase v n → ⊥
+apart-cases : (v : Value) (i n : ℕ) → (i ≡ n → ⊥) → HasCase v i → HasCase v n → ⊥
 apart-cases v i n other (inl a) (inl b) = let e : i ≡ n = cc in other e
 apart-cases v i n other (inl a) (inr (w, b)) = plain-payload v w i n a b
 apart-cases v i n other (inr (w, a)) (inl b) = plain-payload v w n i b a

@@ -28,6 +28,7 @@ use Rattle.wit_text.specs.Lookahead.{lookahead, Looks, Phrase}
 use Rattle.wit_text.specs.Grammar as g
 use Rattle.wit_text.proofs.KindLemmas.{same_true}
 use Rattle.wit_text.proofs.FaultLemmas.{ByNext, exact-token, exact-fault, owed, owed-end, next-first, next-wanted, next-feature, feature_place}
+use Rattle.atoms.proofs.FullNames.{first}
 
 abbrev look : {X : Type 0} → ℕ → Phrase X → Type 0
 look end p = Exact (lookahead end) Anything p
@@ -39,10 +40,6 @@ weak end stops p ep = record { sound = ep.sound; complete = λ text rest x s mor
 -- what a token of one kind is not
 apart : (a b : TokenKind) (t : Lexeme) → (is a t ≡ true) → is b t ≡ is b (record { token = record { kind = a; span = t.token.span }; text = t.text })
 apart a b t h = rw (same_true t.token.kind a h) refl
-
-both_left : (a b : Bool) → (a && b) ≡ true → a ≡ true
-both_left true b e = refl
-both_left false b e = e
 
 either : (a b : Bool) → (a || b) ≡ true → (C : Type 0) → (a ≡ true → C) → (b ≡ true → C) → C
 either true b e C l r = l refl
@@ -79,7 +76,7 @@ exact-peeked end k = exact-optional (lookahead end) (is k) give (λ t. exact-giv
 -- a name is an identifier
 name_kind : (t : Lexeme) → g.is_name t ≡ true → is kind.Identifier t ≡ true
 unfolding g.is_name
-name_kind t h = both_left (is kind.Identifier t) _ h
+name_kind t h = first (is kind.Identifier t) _ h
 
 not_name : (p : Punctuation) (t : Lexeme) → g.is_name t ≡ true → is (kind.Punctuation p) t ≡ false
 not_name p t h = apart kind.Identifier (kind.Punctuation p) t (name_kind t h)

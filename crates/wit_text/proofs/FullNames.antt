@@ -4,6 +4,7 @@ use Rattle.std.specs.List.{list_all}
 use Rattle.std.specs.Str.{is_utf8}
 use Rattle.atoms.specs.Label.{is_label}
 use Rattle.atoms.specs.FullName.{is_package_label, is_version, is_version_or_none}
+use Rattle.atoms.proofs.FullNames.{first, second}
 use Rattle.wit_tokens.specs.declared.token.TokenKind.TheVariants as kind
 use Rattle.wit_tokens.specs.Tokens.{Lexeme, lexemes}
 use Rattle.productions.specs.Production.{give, ◌>>=◌, when, all, at_end, by_option}
@@ -14,14 +15,6 @@ use Rattle.wit_syntax.specs.FullNames.{has_label, has_full_names}
 use Rattle.wit_text.specs.Faults.{is as is-kind}
 use Rattle.wit_text.specs.Grammar as g
 use Rattle.wit_text.specs.Laws.{HasFullNames}
-
-first : (a b : Bool) → (a && b) ≡ true → a ≡ true
-first true b h = refl
-first false b h = absurd cc
-
-second : (a b : Bool) → (a && b) ≡ true → b ≡ true
-second true b h = h
-second false b h = absurd cc
 
 both : (a b : Bool) → a ≡ true → b ≡ true → (a && b) ≡ true
 both true b h q = q

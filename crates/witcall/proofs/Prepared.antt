@@ -12,9 +12,10 @@ use Rattle.canonical_abi.specs.declared.trap.Fault.{Fault}
 use Rattle.canonical_abi.specs.declared.trap.Fault.TheVariants as ended
 use Rattle.canonical_abi.specs.declared.trap.TrapKind.{TrapKind}
 use Rattle.canonical_abi.proofs.Stopped.{leaves-none}
+use Rattle.canonical_abi.proofs.Fine.{leads-both}
 use Rattle.lift_lower.specs.Crossing.{AreLowered, LowerFails}
 use Rattle.lift_lower.specs.Placing.{IsAreaIn, IsAreaAsked, AreaFails}
-use Rattle.lift_lower.proofs.Scripting.{within-both, leads-both}
+use Rattle.lift_lower.proofs.Scripting.{within-both}
 use Rattle.witcall.specs.Session.{IsReady, IsNotReady}
 
 -- a trace that breaks off breaks off whatever follows

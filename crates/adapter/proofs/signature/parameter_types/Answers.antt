@@ -1,4 +1,5 @@
 use Rattle.std.proofs.Common.{◌≡◌, ◌≤◌, List, Some, map, sym, ap, ◌∙◌, subst}
+use Rattle.std.proofs.lemmas.Option.{same_Some}
 use Rattle.canonical_abi.specs.Types.{record_type}
 use Rattle.canonical_abi.specs.Layout.{size}
 use Rattle.tables.specs.Closed.{function_type}
@@ -8,9 +9,6 @@ use Rattle.lift_lower.specs.Members.{AreTypesOf}
 use Rattle.lift_lower.proofs.Scripting.{if-ok-as}
 use Rattle.adapter.proofs.Signatures.{params-are, params-known, params-small}
 use Rattle.adapter.proofs.signature.parameter_types.Goals as goal
-
-some-same : {A : Type 0} (a b : A) → Some a ≡ Some b → a ≡ b
-some-same a b e = cc
 
 pub returns-clause-types : goal.returns-clause-types
 returns-clause-types c =
@@ -25,7 +23,7 @@ returns-clause-named c =
     let s = c.signature.result.now in
     if-ok-as c.types_of.result _ _
     (λ types is f found.
-    let own = some-same s f (sym (rw c.resolve.ensures at c.signature.ensures) ∙ found) in
+    let own = same_Some s f (sym (rw c.resolve.ensures at c.signature.ensures) ∙ found) in
     is ∙ ap (map (λ p. p.ty)) c.as_slice.ensures ∙ ap (λ g. map (λ p. p.ty) g.params) own) c.types_of.ensures
 
 pub returns-clause-known : goal.returns-clause-known

@@ -1,6 +1,6 @@
 use Rattle.std.proofs.Common.{◌≡◌, ℕ, ◌+◌, ◌<◌, List, [], ◌∷◌, ◌++◌, map, length, get_or, refl, sym, ap, ◌∙◌, subst, inl, inr, ◌⊎◌, arith, rules, slice_get, Some, None, Err, option_map}
 use Rattle.canonical_abi.specs.Labelled.{labelled_enum, labelled_flags}
-use Rattle.std.proofs.lemmas.Option.{slice_get-map, slice_get_read}
+use Rattle.std.proofs.lemmas.Option.{slice_get-map, slice_get_read, same_Some}
 use Rattle.serde_json.specs.declared.value.Value.{Value as JsonValue}
 use Rattle.std.proofs.lemmas.List.{length-map, map-append}
 use Rattle.canonical_abi.specs.Values.{payload_value}
@@ -25,9 +25,6 @@ either-none f g (inr b) = g b
 
 none-some : {A : Type 0} (a : A) → None ≡ Some a → ⊥
 none-some a e = absurd (cc)
-
-some-same : {A : Type 0} (a b : A) → Some a ≡ Some b → a ≡ b
-some-same a b e = cc
 
 pub read_case-returns-in_ok-new-in-Ok-clause-ok : goal.read_case-returns-in_ok-new-in-Ok-clause-ok
 read_case-returns-in_ok-new-in-Ok-clause-ok t c =
@@ -118,7 +115,7 @@ read_members-returns-in-Err-clause-other t c = λ e vs each.
     let in_types : c.loop-i.i < length c.args.types.now = omega (arith, c.if-items-types.false, in_items) in
     let here = item-at c.args.items.now c.loop-i.i x in_items c.index-items-i.is in
     refuted-at (MemberStands rows js) c.args.types.now vs c.loop-i.i _ in_types
-    (λ v. λ (d, at, stands). c.in-Err.ensures.other (search (rules, e)) v (subst (λ y. Json (labelled_val rows _) v y) (some-same d (view x) (sym at ∙ here)) stands))
+    (λ v. λ (d, at, stands). c.in-Err.ensures.other (search (rules, e)) v (subst (λ y. Json (labelled_val rows _) v y) (same_Some d (view x) (sym at ∙ here)) stands))
     (of-members rows c.args.types.now js vs each).1
 
 pub read_members-loop-i-preserved : goal.read_members-loop-i-preserved
@@ -164,7 +161,7 @@ read_fields-returns-in-Err-clause-other t c = λ e vs. λ (ms, each, is_obj).
     let x = view c.in-Some-get.member.now in
     let here : Some x ≡ get_member f.name ms = c.in-Some-get.ensures ∙ ap (get _) is_obj ∙ ap (λ q. get_member q ms) c.as_str.ensures.is in
     refuted (FieldStands rows ms) c.args.fields.now vs c.loop-i.i f c.loop-i-test.true c.index-fields-i.is
-    (λ v. λ (d, at, stands). c.in-Err.ensures.other (search (rules, e)) v (subst (λ y. Json (labelled_val rows f.ty) v y) (some-same d x (sym at ∙ sym here)) stands))
+    (λ v. λ (d, at, stands). c.in-Err.ensures.other (search (rules, e)) v (subst (λ y. Json (labelled_val rows f.ty) v y) (same_Some d x (sym at ∙ sym here)) stands))
     (of-fields rows c.args.fields.now ms vs each).1
 
 pub read_fields-loop-i-preserved : goal.read_fields-loop-i-preserved
