@@ -13,7 +13,7 @@ use Rattle.canonical_abi.specs.declared.trap.TrapKind.{TrapKind}
 use Rattle.canonical_abi.specs.declared.trap.TrapKind.TheVariants as trap
 use Rattle.adapter.specs.Crossing.{guests, memories, HasEntered, EntryFails, HasReturned, ReturnFails}
 
-abbrev world : Memory → Memory → List ℕ → World
+abbrev pub world : Memory → Memory → List ℕ → World
 world caller callee body = record { caller = caller; callee = callee; body = body }
 
 module _ (parties : Parties) (f : FunctionType) (flats : List Flat) (caller callee : Memory) (body : List ℕ) where

@@ -5,6 +5,7 @@ use Rattle.std.specs.Str.{IsUtf8, IsAscii}
 use Rattle.std.proofs.lemmas.Bool.Decides.{nat_tests}
 use Rattle.std.proofs.lemmas.Str.{IsUtf8-from_ascii}
 use Rattle.std.proofs.lemmas.Str.Ascii.{IsAscii-nil, IsAscii-cons}
+use Rattle.std.proofs.lemmas.Bool.{and_parts}
 use Rattle.atoms.specs.Label.{is_lower, is_upper, is_digit, is_hyphen, is_word, are_words, is_label, IsLabel}
 use Rattle.atoms.specs.declared.label.Place.{Place}
 use Rattle.atoms.specs.declared.label.Place.TheVariants as place
@@ -150,15 +151,11 @@ low place.Start (c ∷ cs) h = step c cs (is_lower c) (is_upper c) (label_from p
 low place.Lower (c ∷ cs) h = step c cs (lower_or_digit c) (is_hyphen c) (label_from place.Lower cs) (label_from place.Start cs) (low_lower_digit c) (low_hyphen c) (low place.Lower cs) (low place.Start cs) h
 low place.Upper (c ∷ cs) h = step c cs (upper_or_digit c) (is_hyphen c) (label_from place.Upper cs) (label_from place.Start cs) (low_upper_digit c) (low_hyphen c) (low place.Upper cs) (low place.Start cs) h
 
-second : (a b : Bool) → (a && b) ≡ true → b ≡ true
-second true b h = h
-second false b h = absurd cc
-
 pub label_is_utf8 : (text : List ℕ) → IsLabel text → IsUtf8 text
 unfolding is_label
 label_is_utf8 text h =
     let e : is_label text ≡ true = grind (arith, nat_tests) in
-    IsUtf8-from_ascii text (low place.Start text (second (nat_le (length text) 255) (label_from place.Start text) (sym (is_label_by text) ∙ e)))
+    IsUtf8-from_ascii text (low place.Start text (and_parts (nat_le (length text) 255) (label_from place.Start text) (sym (is_label_by text) ∙ e)).1)
 
 -- ---- which bytes a label has
 
@@ -201,4 +198,4 @@ bytes_of place.Upper (c ∷ cs) h =
     made_of c cs (upper_or_digit c) (is_hyphen c) (label_from place.Upper cs) (label_from place.Start cs) (byte_upper_digit c) (byte_hyphen c) (bytes_of place.Upper cs) (bytes_of place.Start cs) h
 
 pub label_bytes : (text : List ℕ) → is_label text ≡ true → list_all is_label_byte text ≡ true
-label_bytes text h = bytes_of place.Start text (second (nat_le (length text) 255) (label_from place.Start text) (sym (is_label_by text) ∙ h))
+label_bytes text h = bytes_of place.Start text (and_parts (nat_le (length text) 255) (label_from place.Start text) (sym (is_label_by text) ∙ h)).1

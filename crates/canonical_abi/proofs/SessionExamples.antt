@@ -11,7 +11,7 @@ use Rattle.canonical_abi.specs.Call.{Parties, World, either}
 use Rattle.canonical_abi.specs.Session.{Held, SessionStep, place, read, release, SessionAnswer, placed, was_read, released, missing, RunsSession}
 use Rattle.canonical_abi.specs.Keeping.{IsLive, LeavesAlone, ReleasesMiss, StaysLive, Throughout}
 use Rattle.canonical_abi.specs.Told.{AllocatesInOneWay}
-use Rattle.canonical_abi.proofs.Examples.{u8}
+use Rattle.canonical_abi.proofs.Examples.{u8, bool_block}
 
 abbrev seven : Value
 seven = unsigned_value int8 7
@@ -40,9 +40,6 @@ world caller = record { caller = caller; callee = bytes 0 false; body = [] }
 abbrev held : Held
 held = record { ty = u8; at = 0 }
 
-abbrev block : Grant
-block = record { align = 1; size = 1; at = 0; contents = 0 ∷ [] }
-
 abbrev steps : List SessionStep
 steps = place u8 seven ∷ read 0 ∷ read 1 ∷ release 0 1 ∷ []
 
@@ -64,7 +61,7 @@ placed-and-read = (
     Ok held,
     refl,
     (
-      block,
+      bool_block,
       node ∷ write 0 (7 ∷ []) ∷ [],
       (refl, refl),
       ((7, omega arith, refl), refl),

@@ -10,6 +10,7 @@ use Rattle.ctype_bin.specs.declared.raw.RawDescription.{RawDescription}
 use Rattle.ctype_bin.specs.declared.raw.RawDescription.TheVariants as described
 use Rattle.package_form.specs.Scoped.{Entry as Named}
 use Rattle.package_form.specs.Ids.{type_id, function_id}
+use Rattle.package_form.specs.Postfix.{inner_row}
 use Rattle.tables.specs.declared.tables.TypeId.{TypeId}
 use Rattle.tables.specs.declared.tables.FunctionId.{FunctionId}
 use Rattle.tables.specs.declared.tables.ValType.{ValType}
@@ -59,13 +60,9 @@ nothing_read rows = record { rows = rows; indices = []; awaited = Nothing; names
 abbrev pub awaiting : InstanceRead → Awaited → InstanceRead
 awaiting s a = record { rows = s.rows; indices = s.indices; awaited = a; names = s.names; uses = s.uses; types = s.types; functions = s.functions }
 
--- a type without a name
-abbrev pub unnamed_row : TypeDefKind → Definition
-unnamed_row k = row.Type (record { name = None; kind = k })
-
 abbrev pub with_unnamed : InstanceRead → TypeDefKind → InstanceRead
 with_unnamed s k = record {
-  rows = s.rows ++ unnamed_row k ∷ [];
+  rows = s.rows ++ inner_row k ∷ [];
   indices = s.indices ++ Some (type_id (length s.rows)) ∷ [];
   awaited = Nothing;
   names = s.names;

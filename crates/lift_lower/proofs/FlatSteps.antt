@@ -1,6 +1,7 @@
 -- How a lifting goes on by one field or one case.
 use Rattle.std.proofs.Common.{◌≡◌, ℕ, zero, suc, ◌+◌, ◌-◌, ◌≤◌, List, [], ◌∷◌, ◌++◌, length, map, take, drop, zero-add, length-drop, Some, None, Result, Ok, Err, refl, sym, ap, ◌∙◌, append-nil, length-append, arith}
 use Rattle.std.proofs.lemmas.List.{take_all, drop-map}
+use Rattle.std.proofs.lemmas.Option.{same_Some}
 use Rattle.canonical_abi.specs.Types.{ClosedType, Fields, Cases, no_case, plain_case, case_with, nth_field, nth_case, field_count}
 use Rattle.canonical_abi.specs.Values.{Value, plain_value, payload_value}
 use Rattle.canonical_abi.specs.Layout.{flat_kinds, field_kinds, payload_kinds}
@@ -9,7 +10,7 @@ use Rattle.canonical_abi.specs.declared.flat.Flat.{Flat}
 use Rattle.canonical_abi.specs.declared.trap.TrapKind.{TrapKind}
 use Rattle.canonical_abi.specs.declared.trap.TrapKind.TheVariants as trap
 use Rattle.layout.proofs.Joins.{length-join}
-use Rattle.lift_lower.proofs.Steps.{with_front, front-push, fields_from, fields-next, fields-last, some-inj}
+use Rattle.lift_lower.proofs.Steps.{with_front, front-push, fields_from, fields-next, fields-last}
 
 drop-nil : {A : Type 0} (n : ℕ) → ◌≡◌ {A = List A} (drop n []) []
 drop-nil zero = refl
@@ -77,7 +78,7 @@ module _ (m ns : List ℕ) (i : ℕ) where
   lifts-payload no_case n t e = cc
   lifts-payload (plain_case cs) zero t e = cc
   lifts-payload (plain_case cs) (suc n) t e = lifts-payload cs n t e
-  lifts-payload (case_with u cs) zero t e = ap (λ u. lifting u m ns >>= λ v. Ok (payload_value i v)) (some-inj (some-inj e))
+  lifts-payload (case_with u cs) zero t e = ap (λ u. lifting u m ns >>= λ v. Ok (payload_value i v)) (same_Some _ _ (same_Some _ _ e))
   lifts-payload (case_with u cs) (suc n) t e = lifts-payload cs n t e
 
 -- a payload's kinds are no more than the join of all

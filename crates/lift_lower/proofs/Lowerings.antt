@@ -3,6 +3,7 @@ use Rattle.std.proofs.Common.{◌≡◌, ℕ, zero, suc, ◌+◌, ◌-◌, ◌*�
 use Rattle.std.proofs.lemmas.List.{length-map, length-append, take_all}
 use Rattle.std.specs.List.{AllByRecursion}
 use Rattle.std.specs.Str.{is_utf8}
+use Rattle.std.proofs.lemmas.Option.{same_Some}
 use Rattle.canonical_abi.specs.Guest.{Memory, Allocation}
 use Rattle.canonical_abi.specs.Types.{Prim, ClosedType, prim_type, string_type, list_type, record_type, variant_type, flags_type, Fields, Cases, no_case, plain_case, case_with, nth_field, nth_case, field_count}
 use Rattle.canonical_abi.specs.Values.{Value, HasPrimType, HasType, HaveTypes, values_of, string_value, list_value, record_value, plain_value, payload_value, flags_value}
@@ -21,7 +22,7 @@ use Rattle.lift_lower.proofs.Scripted.{each-script, stores-script, fields-script
 use Rattle.lift_lower.proofs.Scripting.{begun, begun-then, begun-done, begun-ended, begun-last, ended-last, ended-as, done-as, node-done, node-ended, node-alone}
 use Rattle.canonical_abi.specs.declared.flat.CoreKind.{CoreKind}
 use Rattle.lift_lower.proofs.FlatSteps.{kinds-next}
-use Rattle.lift_lower.proofs.Steps.{fields_from, fields-next, fields-last, some-inj}
+use Rattle.lift_lower.proofs.Steps.{fields_from, fields-next, fields-last}
 use Rattle.lift_lower.proofs.Typings.{drop-next, have-rest}
 
 pub lowers-length : (t : ClosedType) (v : Value) (es : List Event) (flats : List Flat) → Lowers t v es flats → length flats ≡ length (flat_kinds t)
@@ -42,7 +43,7 @@ payload-lowered no_case i n t w es flats e s = cc
 payload-lowered (plain_case cs) i zero t w es flats e s = cc
 payload-lowered (plain_case cs) i (suc n) t w es flats e s = payload-lowered cs i n t w es flats e s
 payload-lowered (case_with u cs) i zero t w es flats e s =
-    let same : u ≡ t = some-inj (some-inj e) in
+    let same : u ≡ t = same_Some _ _ (same_Some _ _ e) in
     (w, refl, subst (λ x. Lowers x w es flats) (sym same) s)
 payload-lowered (case_with u cs) i (suc n) t w es flats e s = payload-lowered cs i n t w es flats e s
 

@@ -1,6 +1,7 @@
 -- How a reading goes on by one member, one field or one case.
 use Rattle.std.proofs.Common.{◌≡◌, ◌≢◌, ℕ, zero, suc, ◌+◌, ◌-◌, ◌*◌, ◌<◌, ◌≤◌, List, [], ◌∷◌, ◌++◌, Some, None, Result, Ok, Err, refl, sym, ap, ◌∙◌, subst, append_assoc, append-nil, add-one, arith}
 use Rattle.std.specs.Int.{next_multiple_of}
+use Rattle.std.proofs.lemmas.Option.{same_Some}
 use Rattle.canonical_abi.specs.Types.{ClosedType, Fields, no_field, field, Cases, no_case, plain_case, case_with, nth_field, nth_case, field_count, AllPlain}
 use Rattle.canonical_abi.specs.Layout.{size, align, end_from, field_extents}
 use Rattle.canonical_abi.proofs.Sizes.{end-le}
@@ -34,9 +35,6 @@ module _ (f : ℕ → Result Value TrapKind) (step a n i : ℕ) (front : List Va
   pub each-done : with_front front (each_at f step (a + n * step) (n - n)) ≡ whole → whole ≡ Ok front
   each-done w = let e : n - n ≡ 0 = omega arith in sym w ∙ rw e (ap Ok (append-nil front))
 
-pub some-inj : {A : Type 0} {x y : A} → Some x ≡ Some y → x ≡ y
-some-inj e = cc
-
 -- ---- fields
 
 -- the fields from place i on
@@ -51,7 +49,7 @@ fields_end from fs = end_from from (field_extents fs)
 
 pub fields-next : (fs : Fields) (i : ℕ) (t : ClosedType) → nth_field fs i ≡ Some t → fields_from i fs ≡ field t (fields_from (i + 1) fs)
 fields-next no_field i t e = absurd (let n : None ≡ Some t = e in cc)
-fields-next (field u fs) zero t e = ap (λ x. field x fs) (some-inj e)
+fields-next (field u fs) zero t e = ap (λ x. field x fs) (same_Some _ _ e)
 fields-next (field u fs) (suc i) t e = rw (fields-next fs i t e, add-one, add-one) refl
 
 pub fields-last : (fs : Fields) (n : ℕ) → field_count fs ≡ n → fields_from n fs ≡ no_field
@@ -107,7 +105,7 @@ module _ (m : List ℕ) (a i : ℕ) where
   case-payload no_case n t e = cc
   case-payload (plain_case cs) zero t e = cc
   case-payload (plain_case cs) (suc n) t e = case-payload cs n t e
-  case-payload (case_with u cs) zero t e = ap (λ u. reading u m a >>= λ v. Ok (payload_value i v)) (some-inj (some-inj e))
+  case-payload (case_with u cs) zero t e = ap (λ u. reading u m a >>= λ v. Ok (payload_value i v)) (same_Some _ _ (same_Some _ _ e))
   case-payload (case_with u cs) (suc n) t e = case-payload cs n t e
 
 -- a plain case has no payload

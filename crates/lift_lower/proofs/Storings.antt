@@ -4,6 +4,7 @@ use Rattle.std.specs.Int.{next_multiple_of, to_le_bytes}
 use Rattle.std.specs.List.{AllByRecursion}
 use Rattle.std.proofs.lemmas.Nat.{mul-le}
 use Rattle.std.specs.Str.{is_utf8}
+use Rattle.std.proofs.lemmas.Option.{same_Some}
 use Rattle.canonical_abi.specs.Guest.{Memory, Allocation}
 use Rattle.canonical_abi.specs.Types.{Prim, ClosedType, prim_type, string_type, list_type, record_type, variant_type, flags_type, Fields, Cases, no_case, plain_case, case_with, case_count, nth_field, nth_case, field_count}
 use Rattle.canonical_abi.specs.Values.{Value, HasPrimType, HasType, HaveTypes, values_of, string_value, list_value, record_value, plain_value, payload_value, flags_value}
@@ -15,7 +16,7 @@ use Rattle.canonical_abi.specs.declared.trap.TrapKind.{TrapKind}
 use Rattle.lift_lower.specs.Scripts.{IsDone, HasEnded, IsBegun, AsksBlock, GrantsBlock, PutsText, PutsTextAt}
 use Rattle.lift_lower.proofs.Scripted.{each-script, stores-script, fields-script}
 use Rattle.lift_lower.proofs.Scripting.{begun, begun-then, begun-done, begun-ended, begun-event, begun-last, ended-last, wrote, visited}
-use Rattle.lift_lower.proofs.Steps.{fields_from, fields-next, fields-last, some-inj}
+use Rattle.lift_lower.proofs.Steps.{fields_from, fields-next, fields-last}
 use Rattle.lift_lower.proofs.Typings.{drop-next, have-rest}
 
 -- ---- cases by their number
@@ -32,7 +33,7 @@ payload-stored no_case a i n t w es e s = cc
 payload-stored (plain_case cs) a i zero t w es e s = cc
 payload-stored (plain_case cs) a i (suc n) t w es e s = payload-stored cs a i n t w es e s
 payload-stored (case_with u cs) a i zero t w es e s =
-    let same : u ≡ t = some-inj (some-inj e) in
+    let same : u ≡ t = same_Some _ _ (same_Some _ _ e) in
     (w, refl, subst (λ x. Stores x a w es) (sym same) s)
 payload-stored (case_with u cs) a i (suc n) t w es e s = payload-stored cs a i n t w es e s
 

@@ -6,13 +6,14 @@ use Rattle.canonical_abi.specs.Types.{Prim, boolean, unsigned, signed, scalar_va
 use Rattle.canonical_abi.specs.Values.{Value, Values, values_of, bool_value, unsigned_value, signed_value, char_value, string_value, list_value, record_value, plain_value, payload_value, flags_value, HasPrimType, HasType, HaveTypes, IsOfCase}
 use Rattle.std.specs.Prelude.{IsUtf8}
 use Rattle.std.proofs.lemmas.Str.{is_utf8-from_IsUtf8}
+use Rattle.std.proofs.lemmas.Option.{same_Some}
 use Rattle.canonical_abi.specs.Types.{record_fields, variant_cases}
 use Rattle.lift_lower.specs.Val.{variant_value, value_of}
 use Rattle.lift_lower.specs.declared.val.Val.{Val}
 use Rattle.lift_lower.specs.Types.{HasShapeIn}
 use Rattle.layout.specs.declared.queries.Shape.{Shape}
 use Rattle.layout.specs.declared.queries.Shape.TheVariants as shape
-use Rattle.lift_lower.proofs.Steps.{fields_from, fields-next, fields-last, some-inj}
+use Rattle.lift_lower.proofs.Steps.{fields_from, fields-next, fields-last}
 use Rattle.tables.specs.declared.tables.ValType.{ValType}
 
 -- ---- forms: what a value and a type have in common
@@ -169,7 +170,7 @@ payload-of i no_case n t v e h = cc
 payload-of i (plain_case cs) zero t v e h = cc
 payload-of i (plain_case cs) (suc n) t v e h = payload-of i cs n t v e h
 payload-of i (case_with u cs) zero t v e h =
-    let same : u ≡ t = some-inj (some-inj e) in
+    let same : u ≡ t = same_Some _ _ (same_Some _ _ e) in
     let P : ClosedType → Type 0 = λ x. HasType v x in
     (v, subst P (sym same) h, refl)
 payload-of i (case_with u cs) (suc n) t v e h = payload-of i cs n t v e h
@@ -351,7 +352,7 @@ module _ (t : ClosedType) (i : ℕ) (variant : variant_type (variant_cases t) �
   pub is-payload : (u : ClosedType) (w : Value) → nth_case (variant_cases t) i ≡ Some (Some u) → HasType (payload_value i w) t → HasType w u
   is-payload u w e h =
       let p = payload-of-it w h in
-      let same : p.0 ≡ u = some-inj (some-inj (sym p.1 ∙ e)) in
+      let same : p.0 ≡ u = same_Some _ _ (same_Some _ _ (sym p.1 ∙ e)) in
       let P : ClosedType → Type 0 = λ x. HasType w x in
       subst P same p.2
 
@@ -369,14 +370,14 @@ module _ (t : ClosedType) (i : ℕ) (variant : variant_type (variant_cases t) �
 
 pub field-standard : (fs : Fields) (i : ℕ) (t : ClosedType) → nth_field fs i ≡ Some t → AreStandardFields fs → IsStandard t
 field-standard no_field i t e h = absurd (let n : None ≡ Some t = e in cc)
-field-standard (field u fs) zero t e h = subst IsStandard (some-inj e) h.0
+field-standard (field u fs) zero t e h = subst IsStandard (same_Some _ _ e) h.0
 field-standard (field u fs) (suc i) t e h = field-standard fs i t e h.1
 
 cases-standard : (cs : Cases) (i : ℕ) (t : ClosedType) → nth_case cs i ≡ Some (Some t) → AreStandardCases cs → IsStandard t
 cases-standard no_case i t e h = absurd (let n : None ≡ Some (Some t) = e in cc)
 cases-standard (plain_case cs) zero t e h = cc
 cases-standard (plain_case cs) (suc i) t e h = cases-standard cs i t e h
-cases-standard (case_with u cs) zero t e h = subst IsStandard (some-inj (some-inj e)) h.0
+cases-standard (case_with u cs) zero t e h = subst IsStandard (same_Some _ _ (same_Some _ _ e)) h.0
 cases-standard (case_with u cs) (suc i) t e h = cases-standard cs i t e h.1
 
 pub case-standard : (cs : Cases) (i : ℕ) (t : ClosedType) → nth_case cs i ≡ Some (Some t) → IsStandard (variant_type cs) → IsStandard t

@@ -3,6 +3,7 @@ use Rattle.std.proofs.Common.{◌≡◌, ℕ, ◌<◌, Bool, true, nat_lt, List,
 use Rattle.std.specs.List.{list_all}
 use Rattle.std.proofs.lemmas.List.Folds.{list_all-append}
 use Rattle.std.proofs.lemmas.Bool.Decides.{nat_tests}
+use Rattle.std.proofs.lemmas.Bool.{ltb-true}
 use Rattle.tables.specs.Tables.{is_below, option_all, kind_all, definition_all, definition_below}
 use Rattle.tables.specs.declared.tables.TypeId.{TypeId}
 use Rattle.tables.specs.declared.tables.ValType.{ValType}
@@ -64,14 +65,11 @@ module _ (p : ValType → Bool) (q : TypeId → Bool) (e : (t : TypeId) → p (v
 pub row-before : (n : ℕ) (d : Definition) → definition_below n d ≡ true → list_all (stands_before n) (row_references d) ≡ true
 row-before n d h = row-all (is_below n) (stands_before n) (λ t q. q) d h
 
-is-before : (t n : ℕ) → nat_lt t n ≡ true → t < n
-is-before t n h = grind (arith, nat_tests)
-
 front-all : (pre rest : List Definition) (ts : List TypeId) → list_all (stands_before (length pre)) ts ≡ true → flat_map (unnamed_at (pre ++ rest)) ts ≡ flat_map (unnamed_at pre) ts
 front-all pre rest [] h = refl
 front-all pre rest (t ∷ ts) h =
     let s = split (stands_before (length pre) t) (list_all (stands_before (length pre)) ts) h in
-    ap (λ (o : Option Definition). one_if (is_unnamed_row o) t.0 ++ flat_map (unnamed_at (pre ++ rest)) ts) (get-front pre rest t.0 (is-before t.0 (length pre) s.0))
+    ap (λ (o : Option Definition). one_if (is_unnamed_row o) t.0 ++ flat_map (unnamed_at (pre ++ rest)) ts) (get-front pre rest t.0 (ltb-true t.0 (length pre) s.0))
     ∙ ap (λ ns. unnamed_at pre t ++ ns) (front-all pre rest ts s.1)
 
 pub front-inner : (pre rest : List Definition) (d : Definition) → definition_below (length pre) d ≡ true → inner_rows (pre ++ rest) d ≡ inner_rows pre d

@@ -1,8 +1,13 @@
 -- Lists of lists, and properties of all elements.
 use Rattle.std.proofs.Common.{◌≡◌, ℕ, zero, suc, ◌+◌, ◌<◌, List, [], ◌∷◌, ◌++◌, map, flat_map, take, length, get_or, refl, ap, sym, ◌∙◌, subst, arith, All, Contains, ◌⊎◌, inl, inr, append_assoc, Bool, true, slice_get, Some}
 use Rattle.std.specs.List.{list_all}
-use Rattle.tables.proofs.Rows.{split}
+use Rattle.tables.proofs.Rows.{split, both}
 use Rattle.std.proofs.lemmas.List.{map-append}
+
+-- a test that passes where another does passes all of a list that the other passes
+pub list-grows : {A : Type 0} (p q : A → Bool) → ((x : A) → p x ≡ true → q x ≡ true) → (xs : List A) → list_all p xs ≡ true → list_all q xs ≡ true
+list-grows p q h [] passed = refl
+list-grows p q h (x ∷ xs) passed = let s = split (p x) (list_all p xs) passed in both _ _ (h x s.0) (list-grows p q h xs s.1)
 
 module _ {A : Type 0} (P : A → Type 0) where
   pub all-head : (x : A) (xs : List A) → All P (x ∷ xs) → P x

@@ -14,7 +14,7 @@ use Rattle.package_form.specs.Postfix.{unnamed, unnamed_if, unnamed_field, unnam
 use Rattle.package_form.specs.References.{references, references_if, field_references, case_references, parameter_references, kind_references}
 use Rattle.package_form.specs.Unused.{unnamed_at, inner_rows, is_alias, can_use}
 
-abbrev is_function : Definition → Bool
+abbrev pub is_function : Definition → Bool
 is_function (row.Type d) = false
 is_function (row.Function f) = true
 

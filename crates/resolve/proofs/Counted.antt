@@ -17,7 +17,8 @@ use Rattle.tables.specs.declared.tables.Definition.TheVariants as row
 use Rattle.package_form.specs.Postfix.{is_unnamed, is_unnamed_row, one_if, unnamed, unnamed_if, unnamed_parameter, parts, parts_of, aliased, aliased_by, Leaves}
 use Rattle.package_form.specs.Entries.{entries_under, entries_of}
 use Rattle.package_form.specs.Ids.{is_use}
-use Rattle.resolve.proofs.Weighed.{nodes, nodes_in, nodes_of, nodes_if, is_alias, total, total-append, params-count, if-count, whole-count, val-count, name-tree, IsTyped, Weights, sizes, Agree, by-name}
+use Rattle.package_form.specs.Unused.{is_alias}
+use Rattle.resolve.proofs.Weighed.{nodes, nodes_in, nodes_of, nodes_if, total, total-append, params-count, if-count, whole-count, val-count, name-tree, IsTyped, Weights, sizes, Agree, by-name}
 
 -- a type without a name takes one entry
 abbrev pub one : Tree → ℕ

@@ -3,6 +3,7 @@ use Rattle.std.proofs.Common.{◌≡◌, ℕ, zero, suc, ◌+◌, ◌<◌, ◌�
 use Rattle.std.specs.List.{list_all}
 use Rattle.std.proofs.lemmas.List.{length-append, length-take, map-append}
 use Rattle.std.proofs.lemmas.Bool.{eq-eqb, ne_eqb}
+use Rattle.std.proofs.lemmas.Option.{same_Some}
 use Rattle.tables.specs.declared.tables.TypeName.{TypeName}
 use Rattle.tables.specs.declared.tables.TypeDefKind.{TypeDefKind}
 use Rattle.tables.specs.declared.tables.TypeDefKind.TheVariants as kind
@@ -58,9 +59,6 @@ interfaces-more rows ns k n l is =
 
 -- ---- a row more
 
-pub some-inj : {A : Type 0} {x y : A} → Some x ≡ Some y → x ≡ y
-some-inj e = cc
-
 -- the interface with the id of this row, where the row stands in it
 abbrev added : ℕ → Definition → ℕ → Interface → Interface
 added k d i x = record {
@@ -97,14 +95,14 @@ nothing-added x = rw (append-nil x.uses, append-nil x.types, append-nil x.functi
 
 named-there : (n : Option TypeName) (i : ℕ) → named_in n ≡ Some i → is_in i n ≡ true
 named-there None i e = absurd (cc)
-named-there (Some n) i e = eq-eqb n.interface.0 i (some-inj e)
+named-there (Some n) i e = eq-eqb n.interface.0 i (same_Some _ _ e)
 
 named-elsewhere : (n : Option TypeName) (i : ℕ) → (named_in n ≡ Some i → ⊥) → is_in i n ≡ false
 named-elsewhere None i h = refl
 named-elsewhere (Some n) i h = ne_eqb n.interface.0 i (λ e. h (ap (λ (m : ℕ). Some m) e))
 
 owned-there : (o : Owner) (i : ℕ) → owned_in o ≡ Some i → is_owned_by i o ≡ true
-owned-there (owner.Interface j) i e = eq-eqb j.0 i (some-inj e)
+owned-there (owner.Interface j) i e = eq-eqb j.0 i (same_Some _ _ e)
 owned-there (owner.World w) i e = absurd (cc)
 
 owned-elsewhere : (o : Owner) (i : ℕ) → (owned_in o ≡ Some i → ⊥) → is_owned_by i o ≡ false
@@ -143,12 +141,12 @@ module _ (rows : List Definition) (k : ℕ) (d : Definition) (l : k < length row
       let here : interface_of d ≡ Some i = h ∙ ap (λ (j : ℕ). Some j) same in
       rw (
         one-more i n ∙ added-there k d i (interface_in (take k rows) i n) here,
-        rows-elsewhere (i + 1) ns (λ j p r g. let z : i ≡ j = some-inj (sym here ∙ g) in absurd (omega (arith, p, z))),
+        rows-elsewhere (i + 1) ns (λ j p r g. let z : i ≡ j = same_Some _ _ (sym here ∙ g) in absurd (omega (arith, p, z))),
       ) refl
   rows-there i (suc m) (n ∷ ns) e q h =
       let same : i + suc m ≡ i + 1 + m = omega arith in
       rw (
-        one-more i n ∙ added-elsewhere k d i (interface_in (take k rows) i n) (λ g. let z : i + suc m ≡ i = some-inj (sym h ∙ g) in absurd (omega (arith, z))),
+        one-more i n ∙ added-elsewhere k d i (interface_in (take k rows) i n) (λ g. let z : i + suc m ≡ i = same_Some _ _ (sym h ∙ g) in absurd (omega (arith, z))),
         rows-there (i + 1) m ns e (omega (arith, q)) (h ∙ ap (λ (j : ℕ). Some j) same),
       ) refl
 

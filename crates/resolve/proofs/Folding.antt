@@ -4,6 +4,7 @@ use Rattle.std.specs.Prelude.{nat_le}
 use Rattle.std.specs.List.{list_all}
 use Rattle.std.proofs.lemmas.Bool.Decides.{nat_tests}
 use Rattle.std.proofs.lemmas.List.Folds.{list_all-append}
+use Rattle.std.proofs.lemmas.Bool.{le-leb}
 use Rattle.tables.specs.Package.{Tree, NamedDefinition, references, definitions_from}
 use Rattle.tables.specs.declared.tables.Definition.{Definition}
 use Rattle.package_form.specs.Ids.{interface_in, interfaces_from}
@@ -20,9 +21,6 @@ use Rattle.resolve.proofs.Parting.{IsElsewhere, IsUseRow, IsTypeRow, IsFunctionR
 use Rattle.resolve.proofs.Blocks.{Block, IsBlock, AreBlocks, block_definitions, blocks_definitions, block_names, IsLater, blocks-later, later-elsewhere, references-append, nothing-left}
 use Rattle.resolve.proofs.RowNames.{key_name, names-defined, parts-named}
 use Rattle.resolve.proofs.Forming.{IsTable, part, at-key, Places, end-is, rows-are, ids-stand}
-
-less : (m n : ℕ) → m ≤ n → nat_le m n ≡ true
-less m n l = grind (arith, nat_tests)
 
 module _ (ns : List (List ℕ)) (rows : List Definition) (table : IsTable rows) where
   -- the rows of an interface, in front of those of later ones
@@ -126,8 +124,8 @@ module _ (ns : List (List ℕ)) (rows : List Definition) (table : IsTable rows) 
       omega (arith, length-append pre s.uses, length-append (pre ++ s.uses) s.types, length-append ((pre ++ s.uses) ++ s.types) s.functions) in
       let ends : end_of (length pre) i ≡ length pre4 = end-is rows j pre s.uses s.types s.functions s.rest s.places b.name ∙ sym long in
       let total : length rows ≡ length pre4 + length s.rest = ap length s.parts ∙ length-append pre4 s.rest in (
-        both (nat_le (length pre) (end_of (length pre) i)) _ (less _ _ (omega (arith, ends, long)))
-            (both (nat_le (end_of (length pre) i) (length rows)) _ (less _ _ (omega (arith, ends, total)))
+        both (nat_le (length pre) (end_of (length pre) i)) _ (le-leb _ _ (omega (arith, ends, long)))
+            (both (nat_le (end_of (length pre) i) (length rows)) _ (le-leb _ _ (omega (arith, ends, total)))
             (subst (λ (k : ℕ). is_parted (length rows) k is ≡ true) (sym ends) again.0)),
         both (has_ids rows (length pre) i && list_all (is_local rows j) (rows_of rows (length pre) i)) _
             (both (has_ids rows (length pre) i) _ (ids-stand rows j pre s.uses s.types s.functions s.rest s.places b.name)

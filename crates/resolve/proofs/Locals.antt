@@ -4,6 +4,7 @@ use Rattle.std.specs.Prelude.{slice_index_or}
 use Rattle.std.specs.Option.{option_map}
 use Rattle.std.specs.List.{list_all}
 use Rattle.std.proofs.lemmas.Bool.Decides.{nat_tests}
+use Rattle.std.proofs.lemmas.Bool.{ltb-true, lt-ltb}
 use Rattle.tables.specs.Tables.{type_of, is_there, is_type_id, is_type, definition_all, definition_below}
 use Rattle.tables.specs.Package.{Tree, TextTree, Reference, Key, key_of, owner_name, read_val, read_params, read_kind, meaning_of, reference_by, references}
 use Rattle.tables.specs.declared.tables.TypeId.{TypeId}
@@ -29,12 +30,6 @@ use Rattle.resolve.proofs.Homes.{IsPlace, MeansAny, use-kind, type-kind, no-func
 
 pub is-that : (m j : ℕ) → m ≡ j → (m == j) ≡ true
 is-that m j e = grind (arith, nat_tests)
-
-pub is-less : (m j : ℕ) → m < j → nat_lt m j ≡ true
-is-less m j l = grind (arith, nat_tests)
-
-pub before-is : (m j : ℕ) → nat_lt m j ≡ true → m < j
-before-is m j l = grind (arith, nat_tests)
 
 module _ (ns : List (List ℕ)) (rows : List Definition) (j : ℕ) (i : List ℕ) (place : IsPlace ns j i) (some : i ≢ []) where
   -- ---- a row with a name
@@ -93,7 +88,7 @@ module _ (ns : List (List ℕ)) (rows : List Definition) (j : ℕ) (i : List ℕ
     named-earlier None before k target m inside e at l = absurd (inner-reads before k target inside e)
     named-earlier (Some n) before k target m inside e at l =
         let is : slice_index_or ns n.interface.0 [] ≡ target.interface = cc in
-        is-less n.interface.0 j (subst (λ (x : ℕ). x < j) (sym (at n.interface.0 is)) l)
+        lt-ltb n.interface.0 j (subst (λ (x : ℕ). x < j) (sym (at n.interface.0 is)) l)
 
     earlier : (t : TypeId) (target : Key) (m : ℕ) → t.0 < length pre → is_type_id rows t ≡ true → tree_of trees t ≡ Reference target → IsPlace ns m target.interface → m < j
         → is_earlier rows j t ≡ true
@@ -120,7 +115,7 @@ module _ (ns : List (List ℕ)) (rows : List Definition) (j : ℕ) (i : List ℕ
             let e = use-kind trees k (Reference x.target) x.meaning in
             let less = subst (λ (l : TypeDefKind). definition_below (length pre) (row.Type (record { name = Some n; kind = l })) ≡ true) e.1 below in
             let is = subst (λ (l : TypeDefKind). definition_all (is_type rows) (row.Type (record { name = Some n; kind = l })) ≡ true) e.1 typed in
-            subst (λ (l : TypeDefKind). uses_earlier rows j l ≡ true) (sym e.1) (earlier e.0 x.target x.place (before-is e.0.0 (length pre) less) is e.2 x.there x.earlier)
+            subst (λ (l : TypeDefKind). uses_earlier rows j l ≡ true) (sym e.1) (earlier e.0 x.target x.place (ltb-true e.0.0 (length pre) less) is e.2 x.there x.earlier)
         by (inr (inl x)) = not-use rows j k (type-kind trees k x.tree x.meaning).0
         by (inr (inr x)) = absurd (no-function trees k x.params x.result x.meaning)
 
@@ -138,7 +133,7 @@ module _ (ns : List (List ℕ)) (rows : List Definition) (j : ℕ) (i : List ℕ
     all-own (x ∷ xs) b t h =
         let before = split (stands_before (length pre) x) (list_all (stands_before (length pre)) xs) b in
         let typed = split (is_type_id rows x) (list_all (is_type_id rows) xs) t in
-        both (is_own rows j x) (list_all (is_own rows j) xs) (own x (before-is x.0 (length pre) before.0) typed.0 h.0) (all-own xs before.1 typed.1 h.1)
+        both (is_own rows j x) (list_all (is_own rows j) xs) (own x (ltb-true x.0 (length pre) before.0) typed.0 h.0) (all-own xs before.1 typed.1 h.1)
 
     pub local : (d : Definition) → definition_below (length pre) d ≡ true → definition_all (is_type rows) d ≡ true → is_inner_row d ≡ true
         → Means ns (MeansAny ns j i) trees d → RowRefers ns rows i trees d → is_local rows j d ≡ true

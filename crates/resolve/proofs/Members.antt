@@ -17,7 +17,7 @@ use Rattle.tables.specs.declared.tables.Definition.TheVariants as row
 use Rattle.package_form.specs.Postfix.{is_inner}
 use Rattle.package_form.specs.Scope.{AreDistinct}
 use Rattle.resolve.specs.Declarations.{TypeItem, FunctionItem, member_name, case_name as name_of_case, definition_scopes}
-use Rattle.resolve.specs.Resolved.{primitive_tree, fields_of, choice, choices_of, enumerated, resolved, resolved_if, member_meaning, case_meaning, definition_meaning, type_meaning, function_meaning}
+use Rattle.resolve.specs.Resolved.{primitive_tree, fields_of, choice, choices_of, resolved, resolved_if, member_meaning, case_meaning, definition_meaning, type_meaning, function_meaning}
 use Rattle.package_form.proofs.Lists.{all-head, all-tail, all-cons, all-none}
 use Rattle.package_form.specs.Naming.{field_name, case_name, parameter_name, kind_members, row_members}
 use Rattle.tables.proofs.Rows.{split}
@@ -99,7 +99,7 @@ module _ (i : List ℕ) where
   cases-names [] = refl
   cases-names (c ∷ cs) = choice-name c.name (resolved_if i c.payload) _ ∙ ap (λ (ns : List (List ℕ)). c.name ∷ ns) (cases-names cs)
 
-  labels-names : (ns : List (List ℕ)) → choice_names (enumerated ns) ≡ ns
+  labels-names : (ns : List (List ℕ)) → choice_names (read_enum ns) ≡ ns
   labels-names [] = refl
   labels-names (n ∷ ns) = ap (λ (ms : List (List ℕ)). n ∷ ms) (labels-names ns)
 

@@ -2,6 +2,7 @@
 use Rattle.std.proofs.Common.{◌≡◌, ℕ, zero, suc, ◌+◌, ◌<◌, ◌≤◌, Bool, true, false, ◌&&◌, nat_le, List, [], ◌∷◌, ◌++◌, map, take, length, get_or, refl, ap, sym, ◌∙◌, arith}
 use Rattle.std.specs.List.{list_all}
 use Rattle.std.proofs.lemmas.Bool.Decides.{nat_tests}
+use Rattle.std.proofs.lemmas.Bool.{le-leb, leb-true, lt-leb, leb-false}
 use Rattle.wit_syntax.specs.Syntax.{depth, depth_all, tys_of}
 use Rattle.wit_syntax.specs.View.{ty_view}
 use Rattle.wit_syntax.specs.declared.ast.TypeExpression.{TypeExpression}
@@ -18,27 +19,15 @@ depth-suc [] k x n l e h q = absurd (omega arith)
 depth-suc (y ∷ xs) zero x n l e h q = let same = ap (λ z. depth (ty_view z)) e in omega (arith, same)
 depth-suc (y ∷ xs) (suc k) x n l e h q = let rest = depth-suc xs k x n (omega arith) e (omega (arith, h)) q in omega (arith, rest, h)
 
-le-true : (a b : ℕ) → nat_le a b ≡ true → a ≤ b
-le-true a b h = grind (arith, nat_tests)
-
-le-false : (a b : ℕ) → nat_le a b ≡ false → b < a
-le-false a b h = grind (arith, nat_tests)
-
-true-le : (a b : ℕ) → a ≤ b → nat_le a b ≡ true
-true-le a b h = grind (arith, nat_tests)
-
-false-le : (a b : ℕ) → b < a → nat_le a b ≡ false
-false-le a b h = grind (arith, nat_tests)
-
 pub deeper-at : (xs : List TypeExpression) (k : ℕ) (x : TypeExpression) (n : ℕ) → k < length xs → x ≡ get_or xs k x → nat_le (depth (ty_view x)) n ≡ false
     → nat_le (depth_all (tys_of (map ty_view xs))) n ≡ false
-deeper-at xs k x n l e h = false-le (depth_all (tys_of (map ty_view xs))) n (omega (arith, le-false (depth (ty_view x)) n h, depth-among xs k x l e))
+deeper-at xs k x n l e h = lt-leb (depth_all (tys_of (map ty_view xs))) n (omega (arith, leb-false (depth (ty_view x)) n h, depth-among xs k x l e))
 
 pub within-more : (xs : List TypeExpression) (k : ℕ) (x : TypeExpression) (n : ℕ) → k < length xs → x ≡ get_or xs k x
     → nat_le (depth_all (tys_of (map ty_view (take k xs)))) n ≡ true → nat_le (depth (ty_view x)) n ≡ true → nat_le (depth_all (tys_of (map ty_view (take (k + 1) xs)))) n ≡ true
 within-more xs k x n l e h q =
     let same : k + 1 ≡ suc k = omega arith in
-    rw same (true-le (depth_all (tys_of (map ty_view (take (suc k) xs)))) n (depth-suc xs k x n l e (le-true _ n h) (le-true _ n q)))
+    rw same (le-leb (depth_all (tys_of (map ty_view (take (suc k) xs)))) n (depth-suc xs k x n l e (leb-true _ n h) (leb-true _ n q)))
 
 pub all_false-at : {A B : Type 0} (p : B → Bool) (g : A → B) (xs : List A) (k : ℕ) (x : A) → k < length xs → x ≡ get_or xs k x → p (g x) ≡ false → list_all p (map g xs) ≡ false
 all_false-at p g [] k x l e h = absurd (omega arith)

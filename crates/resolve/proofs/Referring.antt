@@ -5,7 +5,7 @@ use Rattle.std.specs.Option.{option_map}
 use Rattle.wit_syntax.specs.Syntax.{Ty, Prim, Named, ListOf, OptionOf, TupleOf, ResultOf, Tys, none, more, MaybeTy, Absent, Present, Definition as Body, Alias, Record, Variant, Enumeration, FlagSet, Member, CaseOf}
 use Rattle.wit_syntax.specs.declared.ast.Primitive.{Primitive as Keyword}
 use Rattle.wit_syntax.specs.declared.ast.Primitive.TheVariants as keyword
-use Rattle.tables.specs.Package.{Tree, PrimTree, TextTree, Reference, ListTree, RecordTree, VariantTree, FlagsTree, Fields, no_fields, field, Choices, no_choices, empty, holding, read_val, read_choice, read_tuple, read_fields, read_params, read_cases, read_kind}
+use Rattle.tables.specs.Package.{Tree, PrimTree, TextTree, Reference, ListTree, RecordTree, VariantTree, FlagsTree, Fields, no_fields, field, Choices, no_choices, empty, holding, read_val, read_choice, read_tuple, read_fields, read_params, read_cases, read_kind, read_enum}
 use Rattle.tables.specs.declared.tables.TypeId.{TypeId}
 use Rattle.tables.specs.declared.tables.ValType.{ValType}
 use Rattle.tables.specs.declared.tables.ValType.TheVariants as val
@@ -14,7 +14,7 @@ use Rattle.tables.specs.declared.tables.TypeDefKind.TheVariants as kind
 use Rattle.tables.specs.declared.tables.Field.{Field}
 use Rattle.tables.specs.declared.tables.Case.{Case}
 use Rattle.tables.specs.declared.tables.Parameter.{Parameter}
-use Rattle.resolve.specs.Resolved.{primitive_tree, fields_of, unlabelled, choice, choices_of, enumerated, resolved, resolved_all, resolved_maybe, resolved_if, member_meaning, case_meaning, definition_meaning}
+use Rattle.resolve.specs.Resolved.{primitive_tree, fields_of, unlabelled, choice, choices_of, resolved, resolved_all, resolved_maybe, resolved_if, member_meaning, case_meaning, definition_meaning}
 use Rattle.package_form.specs.References.{references, references_if, field_references, case_references, parameter_references, kind_references}
 
 abbrev pub Every : {A : Type 0} → (A → Type 0) → List A → Type 0
@@ -114,7 +114,7 @@ module _ (i : List ℕ) where
   cases-refer [] = tt
   cases-refer (c ∷ cs) = choice-refers c.name (resolved_if i c.payload) _ (if-refers c.payload) (cases-refer cs)
 
-  labels-refer : (ns : List (List ℕ)) → ChoicesRefer i (enumerated ns)
+  labels-refer : (ns : List (List ℕ)) → ChoicesRefer i (read_enum ns)
   labels-refer [] = tt
   labels-refer (n ∷ ns) = labels-refer ns
 

@@ -15,7 +15,8 @@ use Rattle.tables.specs.declared.tables.Definition.{Definition}
 use Rattle.tables.specs.declared.tables.Definition.TheVariants as row
 use Rattle.package_form.specs.Postfix.{is_unnamed, unnamed, unnamed_if, unnamed_parameter, parts, parts_of, aliased, aliased_by, is_inner, Leaves}
 use Rattle.package_form.specs.Ids.{is_use}
-use Rattle.resolve.proofs.Weighed.{nodes, nodes_in, nodes_if, is_alias, total, sum-append, total-append, params-count, if-count, whole-count, val-count, IsTyped, Weights, sizes, Agree, by-name}
+use Rattle.package_form.specs.Unused.{is_alias}
+use Rattle.resolve.proofs.Weighed.{nodes, nodes_in, nodes_if, total, sum-append, total-append, params-count, if-count, whole-count, val-count, IsTyped, Weights, sizes, Agree, by-name}
 
 -- ---- types that no text has
 

@@ -15,7 +15,7 @@ use Rattle.tables.specs.declared.tables.Definition.{Definition}
 use Rattle.tables.specs.declared.tables.Definition.TheVariants as row
 use Rattle.tables.proofs.Rows.{split, both}
 use Rattle.tables.proofs.Standards.{type-below}
-use Rattle.package_form.proofs.Lists.{get-front}
+use Rattle.package_form.proofs.Lists.{get-front, list-grows}
 
 -- a type stays one
 pub type-later : (ds es : List Definition) (v : ValType) → is_type ds v ≡ true → is_type (ds ++ es) v ≡ true
@@ -25,10 +25,6 @@ type-later ds es (val.Id t) h =
     ap (λ (o : Option Definition). is_there (type_of o)) (get-front ds es t.0 (ltb-true t.0 (length ds) (type-below ds (val.Id t) h))) ∙ h
 
 -- ---- what all types that are named have, they have where it follows from it
-
-list-grows : {A : Type 0} (f g : A → Bool) → ((x : A) → f x ≡ true → g x ≡ true) → (xs : List A) → list_all f xs ≡ true → list_all g xs ≡ true
-list-grows f g h [] p = refl
-list-grows f g h (x ∷ xs) p = let ps = split (f x) (list_all f xs) p in both _ _ (h x ps.0) (list-grows f g h xs ps.1)
 
 module _ (p q : ValType → Bool) (h : (v : ValType) → p v ≡ true → q v ≡ true) where
   option-grows : (v : Option ValType) → option_all p v ≡ true → option_all q v ≡ true

@@ -23,6 +23,8 @@ use Rattle.tables.specs.declared.tables.Definition.{Definition}
 use Rattle.tables.specs.declared.tables.Definition.TheVariants as row
 use Rattle.package_form.specs.Postfix.{is_unnamed, is_unnamed_row, one_if, unnamed, unnamed_if, unnamed_field, unnamed_case, unnamed_parameter, parts, parts_of, aliased_by, is_inner, inner_row, Leaves, begin, inner, whole}
 use Rattle.package_form.specs.Ids.{is_use}
+use Rattle.package_form.specs.Unused.{is_alias}
+use Rattle.resolve.proofs.Blocks.{references-append, references-length}
 
 -- ---- by names
 
@@ -51,10 +53,6 @@ nodes_if w None = 0
 nodes_if w (Some t) = nodes w t
 
 -- ---- by rows
-
-abbrev pub is_alias : TypeDefKind → Bool
-is_alias (kind.Alias v) = true
-is_alias _ = false
 
 abbrev pub total : (Tree → ℕ) → List Tree → List ℕ → ℕ
 total w trees ps = sum (map (λ p. nodes w (get_or trees p TextTree)) ps)
@@ -135,14 +133,6 @@ module _ (w : Tree → ℕ) (rows : List Definition) (trees final : List Tree) (
   whole-count (kind.Flags ns) h u a = omega arith
 
 -- ---- the trees of a table
-
-pub references-append : (ns : List (List ℕ)) (trees : List Tree) (ds es : List Definition) → references ns trees (ds ++ es) ≡ references ns (references ns trees ds) es
-references-append ns trees [] es = refl
-references-append ns trees (d ∷ ds) es = references-append ns (trees ++ reference ns trees d ∷ []) ds es
-
-pub references-length : (ns : List (List ℕ)) (trees : List Tree) (ds : List Definition) → length (references ns trees ds) ≡ length trees + length ds
-references-length ns trees [] = omega arith
-references-length ns trees (d ∷ ds) = references-length ns (trees ++ reference ns trees d ∷ []) ds ∙ omega (arith, length-append trees (reference ns trees d ∷ []))
 
 pub trees-kept : (ns : List (List ℕ)) (trees : List Tree) (ds : List Definition) (n : ℕ) → n < length trees → get_or (references ns trees ds) n TextTree ≡ get_or trees n TextTree
 trees-kept ns trees [] n l = refl

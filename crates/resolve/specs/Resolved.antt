@@ -7,7 +7,7 @@ use Rattle.canonical_abi.specs.Labelled.{none_label, some_label, ok_label, error
 use Rattle.tables.specs.declared.tables.Primitive.TheVariants as primitive
 use Rattle.tables.specs.declared.tables.ValType.{ValType}
 use Rattle.tables.specs.declared.tables.ValType.TheVariants as val
-use Rattle.tables.specs.Package.{Tree, PrimTree, TextTree, Reference, ListTree, RecordTree, VariantTree, FlagsTree, Fields, no_fields, field, Choices, no_choices, empty, holding, Plain, AsTuple, AsEnum, AsOption, AsResult, NamedDefinition, IsUse, IsType, IsFunction}
+use Rattle.tables.specs.Package.{Tree, PrimTree, TextTree, Reference, ListTree, RecordTree, VariantTree, FlagsTree, Fields, no_fields, field, Choices, no_choices, empty, holding, Plain, AsTuple, AsEnum, AsOption, AsResult, NamedDefinition, IsUse, IsType, IsFunction, read_enum}
 use Rattle.resolve.specs.Declarations.{UsedItem, TypeItem, FunctionItem, InterfaceTree}
 
 abbrev pub primitive_tree : Keyword → Tree
@@ -61,10 +61,6 @@ abbrev pub choices_of : List Choice → Choices
 choices_of [] = no_choices
 choices_of (c ∷ cs) = choice c.name c.payload (choices_of cs)
 
-abbrev pub enumerated : List (List ℕ) → Choices
-enumerated [] = no_choices
-enumerated (n ∷ ns) = empty n (enumerated ns)
-
 abbrev pub option_tree : Tree → Tree
 option_tree t = VariantTree AsOption (empty none_label (holding some_label t no_choices))
 
@@ -106,7 +102,7 @@ abbrev pub definition_meaning : List ℕ → Definition → Tree
 definition_meaning i (Alias t) = resolved i t
 definition_meaning i (Record ms) = RecordTree Plain (fields_of (map (member_meaning i) ms))
 definition_meaning i (Variant cs) = VariantTree Plain (choices_of (map (case_meaning i) cs))
-definition_meaning i (Enumeration ns) = VariantTree AsEnum (enumerated ns)
+definition_meaning i (Enumeration ns) = VariantTree AsEnum (read_enum ns)
 definition_meaning i (FlagSet ns) = FlagsTree ns
 
 -- the definitions of the interface of this name

@@ -3,7 +3,7 @@ use Rattle.std.proofs.Common.{◌≡◌, ◌⊎◌, inl, inr, ℕ, suc, ◌≤�
 use Rattle.canonical_abi.specs.Types.{Prim, boolean, unsigned, signed, scalar_value}
 use Rattle.canonical_abi.specs.Labelled.{Label, LabelledType, labelled_prim, labelled_string, labelled_list, labelled_option, labelled_tuple, labelled_result, labelled_record, labelled_variant, labelled_enum, labelled_flags, LabelledTypes, no_member, member, Payload, no_payload, payload, LabelledFields, no_labelled_field, labelled_field, LabelledCases, no_labelled_case, labelled_case}
 use Rattle.canonical_abi.specs.Values.{Value, Values, no_value, value, values_of, list_value, record_value, plain_value, payload_value}
-use Rattle.canonical_abi.specs.Requests.{items_of}
+use Rattle.canonical_abi.specs.Requests.{items_of as values_in}
 use Rattle.canonical_abi.proofs.Asked.{items-of}
 use Rattle.serde_json.specs.Data as json
 use Rattle.serde_json.specs.Data.{Data, Members, put}
@@ -12,7 +12,7 @@ use Rattle.value_json.specs.Json.{PrimJson, Json, EachJson, MembersJson, Payload
 use Rattle.value_json.specs.Writing.{HasCase}
 
 same-values : (vs ws : List Value) → values_of vs ≡ values_of ws → vs ≡ ws
-same-values vs ws e = sym (items-of vs) ∙ ap items_of e ∙ items-of ws
+same-values vs ws e = sym (items-of vs) ∙ ap values_in e ∙ items-of ws
 
 lists-same : (vs ws : List Value) (v : Value) → v ≡ list_value (values_of vs) → v ≡ list_value (values_of ws) → vs ≡ ws
 lists-same vs ws v a b = let e : values_of vs ≡ values_of ws = cc in same-values vs ws e

@@ -29,9 +29,9 @@ pub all-split : {X : Type 0} (P : X → Type 0) (xs ys : List X) → All P (xs +
 all-split P [] ys h = (tt, h)
 all-split P (x ∷ xs) ys h = let s = all-split P xs ys h.1 in ((h.0, s.0), s.1)
 
-abbrev pub is_use_row : Definition → Bool
-is_use_row (row.Type d) = is_use d.kind
-is_use_row (row.Function f) = false
+abbrev pub is_use_def : Definition → Bool
+is_use_def (row.Type d) = is_use d.kind
+is_use_def (row.Function f) = false
 
 -- a type without a name is one that can stand so
 abbrev pub StandsSo : Option TypeName → TypeDefKind → Type 0
@@ -130,7 +130,7 @@ module _ (count : ℕ) (at : Place) where
   export-range None types i rest lt r = at-count (types + 0) types rest (omega arith) r
   export-range (Some n) types i rest lt r = (lt, r)
 
-  pub row-range : (d : Definition) (rest : List Decl) → All (IsKnown at.indices at.types) (row_references d) → (is_use_row d ≡ true → at.used < count) → Ranged (place_after at d).types rest → Ranged at.types (row_declarations at d ++ rest)
+  pub row-range : (d : Definition) (rest : List Decl) → All (IsKnown at.indices at.types) (row_references d) → (is_use_def d ≡ true → at.used < count) → Ranged (place_after at d).types rest → Ranged at.types (row_declarations at d ++ rest)
   unfolding DeclsInRange
   row-range (row.Type d) rest h used r =
       let all : at.types + (defined_types d.kind + exported_types d.name) ≡ at.types + defined_types d.kind + exported_types d.name = omega arith in

@@ -22,7 +22,7 @@ use Rattle.package_form.specs.Unused.{inner_rows, can_use, closes, is_next, unus
 use Rattle.package_form.proofs.Fronts.{row-before}
 use Rattle.tables.proofs.Rows.{split}
 use Rattle.package_form.proofs.Postfix.{ends, is-none}
-use Rattle.wit_component.proofs.AcceptedRows.{is_use_row, CanStand, IsKnown, row-range}
+use Rattle.wit_component.proofs.AcceptedRows.{is_use_def, CanStand, IsKnown, row-range}
 use Rattle.wit_component.proofs.AcceptedStates.{State, closed-stands, row-known, state-next}
 
 -- ---- a row that is a used name
@@ -60,7 +60,7 @@ kind-alias rows k (kind.Enum ns) is h = absurd (cc)
 kind-alias rows k (kind.Flags ns) is h = absurd (cc)
 
 -- a used name has one alias in the component type
-use-alias : (rows : List Definition) (k : ℕ) (d : Definition) → is_use_row d ≡ true → is_local rows k d ≡ true → length (row_alias rows d) ≡ 1
+use-alias : (rows : List Definition) (k : ℕ) (d : Definition) → is_use_def d ≡ true → is_local rows k d ≡ true → length (row_alias rows d) ≡ 1
 use-alias rows k (row.Type d) is local =
     let owned = (split (is_owned rows k (row.Type d)) (list_all (is_own rows k) (row_references (row.Type d))) local).0 in
     kind-alias rows k d.kind is (split (is_own_name k d.name) (uses_earlier rows k d.kind) owned).1
@@ -79,7 +79,7 @@ kind-plain rows (kind.Enum ns) is = absurd (cc)
 kind-plain rows (kind.Flags ns) is = absurd (cc)
 
 -- it is made of no row
-use-plain : (rows : List Definition) (d : Definition) → is_use_row d ≡ true → inner_rows rows d ≡ []
+use-plain : (rows : List Definition) (d : Definition) → is_use_def d ≡ true → inner_rows rows d ≡ []
 use-plain rows (row.Type d) is = (kind-plain rows d.kind is).0
 use-plain rows (row.Function f) is = absurd (cc)
 
@@ -88,7 +88,7 @@ no-name None h = refl
 no-name (Some n) h = absurd (cc)
 
 -- and it has a name
-use-named : (d : Definition) → is_use_row d ≡ true → CanStand d → is_unnamed d ≡ true → ⊥
+use-named : (d : Definition) → is_use_def d ≡ true → CanStand d → is_unnamed d ≡ true → ⊥
 use-named (row.Type d) is stands none = let a = stands (no-name d.name none) in let b = (kind-plain [] d.kind is).1 in absurd (cc)
 use-named (row.Function f) is stands none = absurd (cc)
 
@@ -102,7 +102,7 @@ module _ (rows : List Definition) (k count : ℕ) where
   abbrev pub is_use_place : ℕ → Bool
   is_use_place n = is_use_type (type_of (slice_get rows n))
 
-  use-here : (d : Definition) → is_use_type (type_of (Some d)) ≡ is_use_row d
+  use-here : (d : Definition) → is_use_type (type_of (Some d)) ≡ is_use_def d
   use-here (row.Type d) = refl
   use-here (row.Function f) = refl
 
@@ -135,7 +135,7 @@ module _ (rows : List Definition) (k count : ℕ) where
   -- what is known of the row, and the walk behind it
   pub record Step (n : ℕ) (at : Place) (unused : List ℕ) (d : Definition) (ds es : List Definition) : Type 0 where
     pub known : All (IsKnown at.indices at.types) (row_references d)
-    pub alias : is_use_row d ≡ true → at.used < count
+    pub alias : is_use_def d ≡ true → at.used < count
     pub uses : List ℕ
     pub others : List ℕ
     pub last : ℕ
@@ -175,7 +175,7 @@ module _ (rows : List Definition) (k count : ℕ) where
     known : All (IsKnown at.indices at.types) (row_references d)
     known = row-known rows k n at unused w.state d here.0 local.0 stands (row-before n d earlier.0) cut.0
 
-    use-at : is_use_place n ≡ is_use_row d
+    use-at : is_use_place n ≡ is_use_def d
     use-at = ap (λ (o : Option Definition). is_use_type (type_of o)) here.0 ∙ use-here d
 
     onward : (us os : List ℕ) (last' : ℕ) → us ++ os ≡ later → list_all is_use_place us ≡ true → list_all (λ p. not (is_use_place p)) os ≡ true → Phase (place_after at d) after us ds
@@ -211,14 +211,14 @@ module _ (rows : List Definition) (k count : ℕ) where
       count-on e = omega (arith, e)
 
       -- where nothing was unused, all rows so far were uses
-      use-phase : (a : ℕ) (us : List ℕ) → Phase at unused (a ∷ us) (d ∷ ds) → is_use_row d ≡ true → at.used + length (aliases_of rows (d ∷ ds)) ≡ count
+      use-phase : (a : ℕ) (us : List ℕ) → Phase at unused (a ∷ us) (d ∷ ds) → is_use_def d ≡ true → at.used + length (aliases_of rows (d ∷ ds)) ≡ count
       use-phase a us (inl e) uses_it = absurd (cc)
       use-phase a us (inr (inl h)) uses_it = h.1
       use-phase a us (inr (inr lt)) uses_it =
           let none : length inner ≡ 0 = ap (λ (ns : List ℕ). length ns) (use-plain rows d uses_it) in
           absurd (omega (arith, none, lt, none-left))
 
-      alias-count : is_use_row d ≡ true → length (aliases_of rows (d ∷ ds)) ≡ 1 + length (aliases_of rows ds)
+      alias-count : is_use_def d ≡ true → length (aliases_of rows (d ∷ ds)) ≡ 1 + length (aliases_of rows ds)
       alias-count uses_it = let one = use-alias rows k d uses_it local.0 in omega (arith, one, length-append (row_alias rows d) (aliases_of rows ds))
 
       named-step : (us os : List ℕ) → us ++ os ≡ n ∷ later → list_all is_use_place us ≡ true → list_all (λ p. not (is_use_place p)) os ≡ true → Phase at unused us (d ∷ ds)
@@ -237,7 +237,7 @@ module _ (rows : List Definition) (k count : ℕ) where
           let at_n : a ≡ n = cc in
           let rest : us ++ os ≡ later = cc in
           let s = split (is_use_place a) (list_all is_use_place us) u in
-          let uses_it : is_use_row d ≡ true = sym use-at ∙ ap is_use_place (sym at_n) ∙ s.0 in
+          let uses_it : is_use_def d ≡ true = sym use-at ∙ ap is_use_place (sym at_n) ∙ s.0 in
           let all : at.used + length (aliases_of rows (d ∷ ds)) ≡ count = use-phase a us phase uses_it in
           let more : length (aliases_of rows (d ∷ ds)) ≡ 1 + length (aliases_of rows ds) = alias-count uses_it in
           record {

@@ -2,6 +2,7 @@
 use Rattle.std.proofs.Common.{◌≡◌, ℕ, suc, ◌+◌, Bool, true, false, cond, not, ◌&&◌, List, [], ◌∷◌, ◌++◌, length, map, is_some, refl, ap, sym, ◌∙◌, append_assoc, append-nil, length-append}
 use Rattle.std.proofs.lemmas.List.{map-append}
 use Rattle.package_form.specs.Ids.{is_use, places_where, type_id, function_id}
+use Rattle.package_form.proofs.Postfixed.{is_function}
 use Rattle.tables.specs.declared.tables.TypeId.{TypeId}
 use Rattle.tables.specs.declared.tables.ValType.TheVariants as val
 use Rattle.tables.specs.declared.tables.TypeDefKind.{TypeDefKind}
@@ -20,10 +21,6 @@ is_use_row (row.Function f) = false
 abbrev pub is_type_row : Definition → Bool
 is_type_row (row.Type d) = is_some d.name && not (is_use d.kind)
 is_type_row (row.Function f) = false
-
-abbrev pub is_function_row : Definition → Bool
-is_function_row (row.Type d) = false
-is_function_row (row.Function f) = true
 
 places-more : (p : Definition → Bool) (n : ℕ) (d : Definition) (ds : List Definition) → places_where p n (d ∷ ds) ≡ places_where p n (d ∷ []) ++ places_where p (n + 1) ds
 places-more p n d ds = by (p d)
@@ -71,7 +68,7 @@ module _ (k : ℕ) where
   named-functions x _ s = sym (append-nil s.functions)
 
   row-functions : (e : Definition) → IsRowOf k e → (s : InstanceRead)
-      → (row_after k e s).functions ≡ s.functions ++ map function_id (places_where is_function_row (length s.rows) (e ∷ []))
+      → (row_after k e s).functions ≡ s.functions ++ map function_id (places_where is_function (length s.rows) (e ∷ []))
   row-functions _ (nameless what is) s = sym (append-nil s.functions)
   row-functions _ (type_of_it x what) s = named-functions x what s
   row-functions _ (function_of_it x ps result) s = refl
@@ -104,8 +101,8 @@ module _ (k : ℕ) where
   rows-types es own s = rows-ids (λ s. s.types) type_id is_type_row row-types es own s
 
   pub rows-functions : (es : List Definition) → AreRowsOf k es → (s : InstanceRead)
-      → (rows_after k es s).functions ≡ s.functions ++ map function_id (places_where is_function_row (length s.rows) es)
-  rows-functions es own s = rows-ids (λ s. s.functions) function_id is_function_row row-functions es own s
+      → (rows_after k es s).functions ≡ s.functions ++ map function_id (places_where is_function (length s.rows) es)
+  rows-functions es own s = rows-ids (λ s. s.functions) function_id is_function row-functions es own s
 
 -- ---- rows that are alike
 

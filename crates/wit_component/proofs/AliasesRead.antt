@@ -13,9 +13,9 @@ use Rattle.tables.specs.declared.tables.Definition.TheVariants as row
 use Rattle.component_reader.specs.Instance.{if_found}
 use Rattle.component_reader.specs.Component.{ComponentRead, with_type, exported_type, declarations_read}
 use Rattle.wit_component.specs.Component.{used_by, name_at, instance_export, row_alias, aliases_of}
-use Rattle.wit_component.proofs.Ids.{is_use_def}
 use Rattle.tables.proofs.Rows.{split}
 use Rattle.wit_component.proofs.UsesFound.{UsesFound, found_none, found_one, all_some}
+use Rattle.wit_component.proofs.AcceptedRows.{is_use_def}
 
 abbrev pub with_types : ComponentRead → List TypeId → ComponentRead
 with_types s us = record { rows = s.rows; interfaces = s.interfaces; exports = s.exports; indices = s.indices ++ all_some us; awaited = s.awaited }

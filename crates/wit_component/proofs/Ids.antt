@@ -10,8 +10,10 @@ use Rattle.tables.specs.declared.tables.Definition.{Definition}
 use Rattle.tables.specs.declared.tables.Definition.TheVariants as row
 use Rattle.tables.specs.declared.tables.Interface.{Interface}
 use Rattle.package_form.specs.Form.{is_named, is_use_type, is_use_at, ids_of}
-use Rattle.wit_component.proofs.AfterRows.{is_use_row, is_type_row, is_function_row}
+use Rattle.package_form.proofs.Postfixed.{is_function}
+use Rattle.wit_component.proofs.AfterRows.{is_use_row, is_type_row}
 use Rattle.wit_component.proofs.Located.{StandAt}
+use Rattle.wit_component.proofs.AcceptedRows.{is_use_def}
 use Rattle.tables.proofs.Rows.{split, both}
 
 -- ---- the rows with names that pass a test
@@ -55,10 +57,6 @@ both-all p q (x ∷ xs) h e =
 
 -- ---- the three kinds
 
-abbrev pub is_use_def : Definition → Bool
-is_use_def (row.Type d) = is_use d.kind
-is_use_def (row.Function f) = false
-
 abbrev is_type_def : Definition → Bool
 is_type_def (row.Type d) = not (is_use d.kind)
 is_type_def (row.Function f) = false
@@ -79,7 +77,7 @@ type-named (row.Type d) = by (is_some d.name)
     by false = refl
 type-named (row.Function f) = refl
 
-function-named : (d : Definition) → is_function_row d ≡ (is_named d && is_function_row d)
+function-named : (d : Definition) → is_function d ≡ (is_named d && is_function d)
 function-named (row.Type d) = by (is_named (row.Type d))
   where
     by : (b : Bool) → false ≡ (b && false)
@@ -87,13 +85,13 @@ function-named (row.Type d) = by (is_named (row.Type d))
     by false = refl
 function-named (row.Function f) = refl
 
-pub of-use : (o : Option Definition) → is_use_type (type_of o) ≡ true → (passes is_use_def o ≡ true) × (passes is_type_def o ≡ false) × (passes is_function_row o ≡ false)
+pub of-use : (o : Option Definition) → is_use_type (type_of o) ≡ true → (passes is_use_def o ≡ true) × (passes is_type_def o ≡ false) × (passes is_function o ≡ false)
 of-use None h = absurd (cc)
 of-use (Some (row.Type d)) h = (h, ap not h, refl)
 of-use (Some (row.Function f)) h = absurd (cc)
 
 pub of-type : (o : Option Definition) → IsTrue (not (is_use_type (type_of o)) && is_there (type_of o))
-    → (passes is_use_def o ≡ false) × (passes is_type_def o ≡ true) × (passes is_function_row o ≡ false)
+    → (passes is_use_def o ≡ false) × (passes is_type_def o ≡ true) × (passes is_function o ≡ false)
 of-type None h = absurd (cc)
 of-type (Some (row.Type d)) h = by (is_use d.kind) h
   where
@@ -102,7 +100,7 @@ of-type (Some (row.Type d)) h = by (is_use d.kind) h
     by false h = (refl, refl, refl)
 of-type (Some (row.Function f)) h = absurd (cc)
 
-pub of-function : (o : Option Definition) → is_there (function_of o) ≡ true → (passes is_use_def o ≡ false) × (passes is_type_def o ≡ false) × (passes is_function_row o ≡ true)
+pub of-function : (o : Option Definition) → is_there (function_of o) ≡ true → (passes is_use_def o ≡ false) × (passes is_type_def o ≡ false) × (passes is_function o ≡ true)
 of-function None h = absurd (cc)
 of-function (Some (row.Type d)) h = absurd (cc)
 of-function (Some (row.Function f)) h = (refl, refl, refl)
@@ -120,7 +118,7 @@ functions-again (f ∷ fs) = ap (λ gs. f ∷ gs) (functions-again fs)
 pub record HasOwnIds (start : ℕ) (i : Interface) (ds : List Definition) : Type 0 where
   pub uses : map type_id (places_where is_use_row start ds) ≡ i.uses
   pub types : map type_id (places_where is_type_row start ds) ≡ i.types
-  pub functions : map function_id (places_where is_function_row start ds) ≡ i.functions
+  pub functions : map function_id (places_where is_function start ds) ≡ i.functions
 
 module _ (table : List Definition) (start : ℕ) (i : Interface) (ds : List Definition) (stand : StandAt table start ds)
     (ids : ids_of i ≡ places_where is_named start ds) (uses : list_all (is_use_at table) i.uses ≡ true)
@@ -156,7 +154,7 @@ module _ (table : List Definition) (start : ℕ) (i : Interface) (ds : List Defi
         (filter-all (λ t. t.0) _ (λ t. not (is_use_at table t) && is_type_id table t) (λ t h. (of-type (slice_get table t.0) h).1) i.types typed)
         (filter-none (λ f. f.0) _ (is_function_id table) (λ f h. (of-function (slice_get table f.0) h).1) i.functions placed-functions)
         ∙ append-nil (map (λ t. t.0) i.types)) ∙ types-again i.types;
-    functions = ap (map function_id) (parted is_function_row is_function_row function-named [] [] (map (λ f. f.0) i.functions)
+    functions = ap (map function_id) (parted is_function is_function function-named [] [] (map (λ f. f.0) i.functions)
         (filter-none (λ t. t.0) _ (is_use_at table) (λ t h. (of-use (slice_get table t.0) h).2) i.uses uses)
         (filter-none (λ t. t.0) _ (λ t. not (is_use_at table t) && is_type_id table t) (λ t h. (of-type (slice_get table t.0) h).2) i.types typed)
         (filter-all (λ f. f.0) _ (is_function_id table) (λ f h. (of-function (slice_get table f.0) h).2) i.functions placed-functions)) ∙ functions-again i.functions;

@@ -14,13 +14,15 @@ use Rattle.package_form.specs.Ends.{end_of, rows_of}
 use Rattle.package_form.specs.Form.{is_named, is_use_at, is_local, ids_of, has_ids}
 use Rattle.wit_component.specs.ToComponent.{is_labelled}
 use Rattle.package_form.specs.Unused.{are_used}
-use Rattle.wit_component.proofs.Ids.{passes, is_use_def, of-use, of-type, of-function, both-all, HasOwnIds, own-ids}
+use Rattle.wit_component.proofs.Ids.{passes, of-use, of-type, of-function, both-all, HasOwnIds, own-ids}
 use Rattle.wit_component.proofs.InterfaceEnds.{behind, end-behind, used-rest}
 use Rattle.wit_component.proofs.Located.{StandAt, rows-end, rows-split, rows-stand}
 use Rattle.package_form.proofs.OnePackage.{is_first}
+use Rattle.package_form.proofs.Lists.{list-grows}
 use Rattle.tables.proofs.Rows.{split, both}
 use Rattle.wit_component.proofs.RowFacts.{HasFacts}
 use Rattle.wit_component.proofs.UsesFirst.{UsesFirst, uses-first}
+use Rattle.wit_component.proofs.AcceptedRows.{is_use_def}
 
 -- interface k of the table, whose rows begin at start
 pub record IsInterfaceAt (table : List Definition) (start k : ℕ) (i : Interface) : Type 0 where
@@ -42,10 +44,6 @@ earlier-parts n (d ∷ ds) es h =
     let more = earlier-parts (n + 1) ds es s.1 in
     let e : n + 1 + length ds ≡ n + suc (length ds) = omega arith in
     (both _ _ s.0 more.0, subst (λ m. are_earlier m es ≡ true) e more.1)
-
-all-follow : {A : Type 0} (p q : A → Bool) → ((x : A) → p x ≡ true → q x ≡ true) → (xs : List A) → list_all p xs ≡ true → list_all q xs ≡ true
-all-follow p q f [] h = refl
-all-follow p q f (x ∷ xs) h = let s = split (p x) (list_all p xs) h in both _ _ (f x s.0) (all-follow p q f xs s.1)
 
 module _ (table : List Definition) (start k : ℕ) (i : Interface) (at : IsInterfaceAt table start k i) where
   pub stand : StandAt table start (rows_of table start i)
@@ -100,11 +98,11 @@ module _ (table : List Definition) (start k : ℕ) (i : Interface) (at : IsInter
       uses-first table start k start [] (rows_of table start i) (drop (end_of start i) table) stand facts (map (λ t. t.0) i.uses) (map (λ t. t.0) i.types ++ map (λ f. f.0) i.functions)
       (sym ids-are)
       (list_all-map (λ m. passes is_use_def (slice_get table m)) (λ (t : TypeId). t.0) i.uses
-      ∙ all-follow (is_use_at table) (λ t. passes is_use_def (slice_get table t.0)) (λ t h. (of-use (slice_get table t.0) h).0) i.uses uses-are)
+      ∙ list-grows (is_use_at table) (λ t. passes is_use_def (slice_get table t.0)) (λ t h. (of-use (slice_get table t.0) h).0) i.uses uses-are)
       (list_all-append (λ m. not (passes is_use_def (slice_get table m))) (map (λ t. t.0) i.types) (map (λ f. f.0) i.functions)
       ∙ both _ _
       (list_all-map (λ m. not (passes is_use_def (slice_get table m))) (λ (t : TypeId). t.0) i.types
-      ∙ all-follow (λ t. not (is_use_at table t) && is_type_id table t) (λ t. not (passes is_use_def (slice_get table t.0)))
+      ∙ list-grows (λ t. not (is_use_at table t) && is_type_id table t) (λ t. not (passes is_use_def (slice_get table t.0)))
       (λ t h. no-test _ (of-type (slice_get table t.0) h).0) i.types (both-all (λ t. not (is_use_at table t)) (is_type_id table) i.types types-are placed-types))
       (list_all-map (λ m. not (passes is_use_def (slice_get table m))) (λ (f : FunctionId). f.0) i.functions
-      ∙ all-follow (is_function_id table) (λ f. not (passes is_use_def (slice_get table f.0))) (λ f h. no-test _ (of-function (slice_get table f.0) h).0) i.functions placed-functions))
+      ∙ list-grows (is_function_id table) (λ f. not (passes is_use_def (slice_get table f.0))) (λ f h. no-test _ (of-function (slice_get table f.0) h).0) i.functions placed-functions))

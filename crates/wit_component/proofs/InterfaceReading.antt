@@ -18,8 +18,9 @@ use Rattle.component_reader.specs.Instance.{if_found, InstanceRead, nothing_read
 use Rattle.component_reader.specs.Component.{ComponentRead, with_instance, interface_in, interface_named, with_interface, instance_exported, declarations_read}
 use Rattle.wit_component.specs.Component.{name_at, aliases_of, Front, first_place, interface_declarations, front_after}
 use Rattle.package_form.specs.Ends.{end_of, rows_of}
+use Rattle.package_form.proofs.Postfixed.{is_function}
 use Rattle.wit_component.specs.Rows.{declarations_of, places_after}
-use Rattle.wit_component.proofs.AfterRows.{is_use_row, is_type_row, is_function_row, rows-rows, rows-uses, rows-types, rows-functions, alike-places, alike-length}
+use Rattle.wit_component.proofs.AfterRows.{is_use_row, is_type_row, rows-rows, rows-uses, rows-types, rows-functions, alike-places, alike-length}
 use Rattle.wit_component.proofs.Alike.{AreAlike, none, one_more}
 use Rattle.wit_component.proofs.AliasesRead.{with_types, aliases-length, aliases-read}
 use Rattle.wit_component.proofs.InterfaceFacts.{IsInterfaceAt, stand, facts, first, ids-own}
@@ -75,7 +76,7 @@ module _ (table : List Definition) (at : Front) (k start : ℕ) (i : Interface) 
       (rows-types k es own (nothing_read rows)
       ∙ ap (λ n. map type_id (places_where is_type_row n es)) len ∙ ap (map type_id) (sym (alike-places table is_type_row (λ x t u. refl) start (rows_of table start i) es alike)) ∙ ids.types)
       (rows-functions k es own (nothing_read rows)
-      ∙ ap (λ n. map function_id (places_where is_function_row n es)) len ∙ ap (map function_id) (sym (alike-places table is_function_row (λ x t u. refl) start (rows_of table start i) es alike)) ∙ ids.functions)
+      ∙ ap (λ n. map function_id (places_where is_function n es)) len ∙ ap (map function_id) (sym (alike-places table is_function (λ x t u. refl) start (rows_of table start i) es alike)) ∙ ids.functions)
 
   module _ (done : List Interface) (s : ComponentRead) (has : HasReadTo table at k start done s) where
     own : (t : TypeId) (y : TypeName) → start ≤ t.0 → t.0 < end_of start i → name_at table (Some t) ≡ Some y → y.interface.0 ≡ k

@@ -3,6 +3,7 @@ use Rattle.std.proofs.Common.{◌≡◌, ◌≤◌, ◌<◌, ◌⊎◌, inl, inr
 use Rattle.std.proofs.lemmas.List.{get_or_append_left, get_or_push}
 use Rattle.std.proofs.lemmas.Bool.Decides.{nat_tests}
 use Rattle.std.proofs.lemmas.Slice.Eq.{bytes_eq-Decides}
+use Rattle.std.proofs.lemmas.Bool.{ltb-true, lt-ltb, leb-true}
 use Rattle.package_form.specs.Postfix.{inner_row}
 use Rattle.package_form.specs.Scoped.{Entry as Named}
 use Rattle.package_form.specs.Ids.{type_id}
@@ -37,15 +38,6 @@ below-or-last i n h = by (nat_lt i n) refl
     by true e = inl (grind (arith, nat_tests))
     by false e = inr (grind (arith, nat_tests))
 
-pub le-test : (a b : ℕ) → nat_le a b ≡ true → a ≤ b
-le-test a b h = grind (arith, nat_tests)
-
-pub lt-test : (a b : ℕ) → nat_lt a b ≡ true → a < b
-lt-test a b h = grind (arith, nat_tests)
-
-pub test-lt : (a b : ℕ) → a < b → nat_lt a b ≡ true
-test-lt a b h = grind (arith, nat_tests)
-
 module _ (table : List Definition) (start k : ℕ) where
   pub later : (n m : ℕ) (s : InstanceRead) (y : TypeName) → n ≤ m → NamesType table start k n s y → NamesType table start k m s y
   later n m s y h q = record { id = q.id; found = q.found; named = q.named; lower = q.lower; upper = omega (arith, q.upper); here = q.here }
@@ -72,7 +64,7 @@ module _ (table : List Definition) (start k : ℕ) where
         old t up low type =
             ap (row_at s2.indices) (get_or_append_left at.indices ((at.types + row_offset d) ∷ []) 0 t.0 up)
             ∙ ap (λ (xs : List (Option TypeId)). row_at xs (slice_index at.indices t.0)) is
-            ∙ row-at-more s.indices more (slice_index at.indices t.0) t (has.known t (both _ _ low (both _ _ (test-lt t.0 (length at.indices) up) type)))
+            ∙ row-at-more s.indices more (slice_index at.indices t.0) t (has.known t (both _ _ low (both _ _ (lt-ltb t.0 (length at.indices) up) type)))
 
         new : (t : TypeId) → t.0 ≡ length at.indices → is_type_id table t ≡ true → row_at s2.indices (slice_index (at.indices ++ (at.types + row_offset d) ∷ []) t.0) ≡ Some t
         new t e type =
@@ -87,7 +79,7 @@ module _ (table : List Definition) (start k : ℕ) where
         known t h =
             let a = split (nat_le start t.0) _ h in
             let b = split (nat_lt t.0 (length (at.indices ++ (at.types + row_offset d) ∷ []))) _ a.1 in
-            by (below-or-last t.0 (length at.indices) (omega (arith, lt-test t.0 _ b.0, len (at.types + row_offset d)))) a.0 b.1
+            by (below-or-last t.0 (length at.indices) (omega (arith, ltb-true t.0 _ b.0, len (at.types + row_offset d)))) a.0 b.1
           where
             by : (t.0 < length at.indices) ⊎ (t.0 ≡ length at.indices) → nat_le start t.0 ≡ true → is_type_id table t ≡ true
                 → row_at s2.indices (slice_index (at.indices ++ (at.types + row_offset d) ∷ []) t.0) ≡ Some t

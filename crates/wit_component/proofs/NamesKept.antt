@@ -5,11 +5,8 @@ use Rattle.package_form.specs.Scoped.{Entry as Named}
 use Rattle.tables.specs.declared.tables.TypeId.{TypeId}
 use Rattle.component_reader.specs.Instance.{named, type_named}
 
-same-name : (n : List ℕ) → bytes_eq n n ≡ true
-same-name n = (bytes_eq-Decides n n).1 refl
-
 pub named-found : (es : List Named) (n : List ℕ) (t : TypeId) → type_named (named es n t) n ≡ Some t
-named-found [] n t = ap (λ (b : Bool). cond b (Some t) None) (same-name n)
+named-found [] n t = ap (λ (b : Bool). cond b (Some t) None) ((bytes_eq-Decides n n).1 refl)
 named-found (e ∷ es) n t = by (bytes_eq n e.name) refl (named-found es n t)
   where
     by : (b : Bool) → bytes_eq n e.name ≡ b → type_named (named es n t) n ≡ Some t

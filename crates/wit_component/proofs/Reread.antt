@@ -1,6 +1,7 @@
 -- What is written of a package is read as that package, but that a used name may stand for another row of the same name.
 use Rattle.std.proofs.Common.{◌≡◌, ◌≢◌, IsTrue, true, cond, ◌&&◌, nat_le, ℕ, ◌+◌, List, [], ◌∷◌, ◌++◌, take, drop, length, Option, None, Some, refl, ap, sym, subst, ◌∙◌, arith, append_assoc, append-nil, take_all, eqb-true}
 use Rattle.std.specs.List.{list_all}
+use Rattle.std.proofs.lemmas.Bool.{leb-true}
 use Rattle.atoms.specs.Label.{is_label}
 use Rattle.ctype_bin.specs.Raw.{Decl, Instance, Entry, Export}
 use Rattle.ctype_bin.specs.View.{decls_of}
@@ -23,7 +24,6 @@ use Rattle.wit_component.proofs.Alike.{AreAlike, none}
 use Rattle.wit_component.proofs.FullNamesRead.{full-name-cut, full-no-label}
 use Rattle.wit_component.proofs.InterfaceFacts.{IsInterfaceAt, next-earlier, next-used}
 use Rattle.wit_component.proofs.InterfaceReading.{HasReadTo, interface-reread}
-use Rattle.wit_component.proofs.Keeping.{le-test}
 use Rattle.package_form.proofs.OnePackage.{single, is_first, all-first}
 use Rattle.package_form.proofs.Postfix.{postfix-used}
 use Rattle.tables.proofs.Rows.{split}
@@ -46,8 +46,8 @@ module _ (table : List Definition) (k start : ℕ) (i : Interface) (is : List In
       let high = split (nat_le (end_of start i) (length table)) _ parted.1 in
       let labels = split (is_label i.name) _ (split (is_label i.name && list_all is_labelled (rows_of table start i)) _ are.labels).0 in
       record {
-        low = le-test start (end_of start i) parted.0;
-        high = le-test (end_of start i) (length table) high.0;
+        low = leb-true start (end_of start i) parted.0;
+        high = leb-true (end_of start i) (length table) high.0;
         first = (split (is_first i) _ are.first).0;
         ids = form.0;
         local = form.1;

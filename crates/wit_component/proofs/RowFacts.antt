@@ -4,6 +4,7 @@ use Rattle.std.specs.List.{list_all, ends_with}
 use Rattle.std.proofs.lemmas.List.Folds.{list_all-append}
 use Rattle.std.proofs.lemmas.Slice.Eq.{bytes_eq-Decides}
 use Rattle.std.proofs.lemmas.Bool.Decides.{nat_tests}
+use Rattle.std.proofs.lemmas.Bool.{ltb-true}
 use Rattle.atoms.specs.Label.{is_label}
 use Rattle.package_form.specs.Postfix.{is_unnamed, is_unnamed_row, one_if}
 use Rattle.package_form.specs.Ids.{is_use, is_owned_by}
@@ -27,11 +28,10 @@ use Rattle.package_form.specs.References.{kind_references, row_references}
 use Rattle.wit_component.specs.ToComponent.{is_label_if, is_labelled}
 use Rattle.package_form.specs.Unused.{unnamed_at, inner_rows, can_use, closes, is_next, unused_after, are_used}
 use Rattle.package_form.proofs.Fronts.{stands_before, row-before}
-use Rattle.wit_component.proofs.Ids.{is_use_def}
-use Rattle.wit_component.proofs.Keeping.{lt-test}
 use Rattle.wit_component.proofs.Located.{StandAt}
 use Rattle.tables.proofs.Rows.{split, both}
 use Rattle.wit_component.proofs.Readable.{is_inside, IsReadable, inner, defines, renames, function, AreReadable, no_rows, row_first}
+use Rattle.wit_component.proofs.AcceptedRows.{is_use_def}
 
 all-take : {A : Type 0} (p : A → Bool) (n : ℕ) (xs : List A) → list_all p xs ≡ true → list_all p (take n xs) ≡ true
 all-take p zero xs h = refl
@@ -95,7 +95,7 @@ module _ (table : List Definition) (start k : ℕ) where
             test h = by (nat_lt t.0 start) refl
               where
                 by : (b : Bool) → nat_lt t.0 start ≡ b → nat_le start t.0 ≡ true
-                by true e = absurd (h (lt-test t.0 start e))
+                by true e = absurd (h (ltb-true t.0 start e))
                 by false e = grind (arith, nat_tests)
 
         by : (o : Option Definition) → is_own_type k (type_of o) ≡ true → list_all (nat_le start) (one_if (is_unnamed_row o) t.0) ≡ true

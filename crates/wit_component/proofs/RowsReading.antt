@@ -1,5 +1,6 @@
 -- The declarations of an interface's rows, read again.
 use Rattle.std.proofs.Common.{◌≡◌, ℕ, ◌+◌, List, [], ◌∷◌, ◌++◌, length, slice_get, true, nat_le, nat_lt, Option, None, Some, refl, ap, sym, subst, ◌∙◌, arith, length-append}
+use Rattle.std.proofs.lemmas.Bool.{ltb-true, leb-true}
 use Rattle.ctype_bin.specs.Raw.{Decl}
 use Rattle.ctype_bin.specs.View.{decls_of}
 use Rattle.tables.specs.declared.tables.TypeId.{TypeId}
@@ -7,7 +8,6 @@ use Rattle.tables.specs.declared.tables.Definition.{Definition}
 use Rattle.component_reader.specs.Instance.{if_found, InstanceRead, settled, nothing_read, decl_read, decls_read, instance_read}
 use Rattle.wit_component.specs.Rows.{Place, row_declarations, row_offset, place_after, declarations_of, places_after}
 use Rattle.wit_component.proofs.Alike.{AreAlike, none, one_more}
-use Rattle.wit_component.proofs.Keeping.{le-test, lt-test}
 use Rattle.tables.proofs.Rows.{split}
 use Rattle.wit_component.proofs.Readable.{IsReadable, AreReadable, no_rows, row_first, row_after, rows_after, AreRowsOf, IsSettled, rests, is_inside, HasRead}
 use Rattle.wit_component.proofs.RowReading.{settled-is, row-read}
@@ -87,4 +87,4 @@ module _ (table : List Definition) (around : List (Option TypeId)) (start k : �
           outside t h =
               let a = split (nat_le start t.0) _ h in
               let b = split (nat_lt t.0 (length indices)) _ a.1 in
-              omega (arith, count, le-test start t.0 a.0, lt-test t.0 (length indices) b.0)
+              omega (arith, count, leb-true start t.0 a.0, ltb-true t.0 (length indices) b.0)

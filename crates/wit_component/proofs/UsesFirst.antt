@@ -13,10 +13,11 @@ use Rattle.tables.specs.declared.tables.Definition.TheVariants as row
 use Rattle.component_reader.specs.Instance.{named_row}
 use Rattle.package_form.specs.Form.{is_named, is_own_name, is_owned, is_local}
 use Rattle.package_form.specs.Unused.{inner_rows, can_use, closes, is_next, unused_after}
-use Rattle.wit_component.proofs.Ids.{passes, is_use_def}
+use Rattle.wit_component.proofs.Ids.{passes}
 use Rattle.wit_component.proofs.Located.{StandAt}
 use Rattle.tables.proofs.Rows.{split, both}
 use Rattle.wit_component.proofs.RowFacts.{HasFacts, facts-more}
+use Rattle.wit_component.proofs.AcceptedRows.{is_use_def}
 
 -- used names of interface k, and then no more
 pub data UsesFirst (k : ℕ) : List Definition → Type 0 where

@@ -2,6 +2,7 @@
 use Rattle.std.proofs.Common.{◌≡◌, ◌≤◌, ◌<◌, ◌⊎◌, inl, inr, ℕ, ◌+◌, Bool, true, false, not, nat_lt, List, [], ◌∷◌, ◌++◌, map, length, slice_get, Option, None, Some, refl, ap, sym, subst, ◌∙◌, arith, append_assoc, length-append, eqb-true}
 use Rattle.std.specs.List.{list_all}
 use Rattle.std.proofs.lemmas.Bool.Decides.{nat_tests}
+use Rattle.std.proofs.lemmas.Bool.{ltb-true}
 use Rattle.package_form.specs.Scoped.{Entry as Named}
 use Rattle.tables.specs.Tables.{definition_below, type_of}
 use Rattle.tables.specs.declared.tables.TypeId.{TypeId}
@@ -17,13 +18,13 @@ use Rattle.package_form.specs.Form.{is_own_name, is_earlier_type, is_earlier, is
 use Rattle.component_reader.specs.Types.{row_at}
 use Rattle.wit_component.specs.ToComponent.{is_labelled}
 use Rattle.package_form.specs.Unused.{inner_rows, unused_after}
-use Rattle.wit_component.proofs.Ids.{is_use_def}
-use Rattle.wit_component.proofs.Keeping.{lt-test, row-at-behind}
+use Rattle.wit_component.proofs.Keeping.{row-at-behind}
 use Rattle.wit_component.proofs.Located.{StandAt}
 use Rattle.tables.proofs.Rows.{split}
 use Rattle.wit_component.proofs.Readable.{AreReadable, row_first, used}
 use Rattle.wit_component.proofs.RowFacts.{HasFacts, NameEarlier, facts-more, rows-readable}
 use Rattle.wit_component.proofs.UsesFirst.{UsesFirst, no_use, one_use}
+use Rattle.wit_component.proofs.AcceptedRows.{is_use_def}
 
 -- an exported type of this name, before place start
 pub record IsExported (table : List Definition) (exports : List (List Named)) (start : ℕ) (y : TypeName) : Type 0 where
@@ -82,7 +83,7 @@ module _ (table : List Definition) (start k : ℕ) where
         where
           named : (o : Option TypeName) → is_earlier_type k (Some (record { name = o; kind = d.kind })) ≡ true → (y : TypeName) × (o ≡ Some y) × (y.interface.0 < k)
           named None h = absurd (cc)
-          named (Some y) h = (y, refl, lt-test y.interface.0 k h)
+          named (Some y) h = (y, refl, ltb-true y.interface.0 k h)
 
   module _ (exports : List (List Named)) (names : NamesFound table exports start) (end : ℕ)
       (own : (t : TypeId) (y : TypeName) → start ≤ t.0 → t.0 < end → name_at table (Some t) ≡ Some y → y.interface.0 ≡ k) where
@@ -91,14 +92,14 @@ module _ (table : List Definition) (start k : ℕ) where
     use-found n unused x t ds rest inside f =
         let owned = split (is_owned table k (named_row k x (kind.Use t))) _ (split (is_local table k (named_row k x (kind.Use t))) _ f.local).0 in
         let y = earlier-named t (split (is_own_name k (Some (record { interface = record { 0 = k }; name = x }))) _ owned.0).1 in
-        let up : t.0 < n = lt-test t.0 n (split (definition_below n (named_row k x (kind.Use t))) _ f.earlier).0 in
+        let up : t.0 < n = ltb-true t.0 n (split (definition_below n (named_row k x (kind.Use t))) _ f.earlier).0 in
         (y.0, y.1, names t y.0 (low t.0 up (λ l. own t y.0 l (omega (arith, up, inside)) y.1) y.2) y.1)
       where
         low : (i : ℕ) → i < n → {j : ℕ} → (start ≤ i → j ≡ k) → j < k → i < start
         low i up h l = by (nat_lt i start) refl
           where
             by : (b : Bool) → nat_lt i start ≡ b → i < start
-            by true e = lt-test i start e
+            by true e = ltb-true i start e
             by false e = let behind : start ≤ i = grind (arith, nat_tests) in absurd (omega (arith, h behind, l))
 
     pub uses-found : (n : ℕ) (unused : List ℕ) (ds rest : List Definition) → n + length ds ≡ end → UsesFirst k ds → HasFacts table start k n unused ds rest

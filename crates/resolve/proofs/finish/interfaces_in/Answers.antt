@@ -1,8 +1,9 @@
 use Rattle.std.proofs.Common.{◌≡◌, ◌∙◌, ◌+◌, ℕ, List, Some, length, take, set, get_or, ap, sym, arith}
+use Rattle.std.proofs.lemmas.Option.{same_Some}
 use Rattle.package_form.specs.Ids.{interfaces_from}
 use Rattle.resolve.specs.Finished.{interface_of, with_row}
 use Rattle.tables.specs.declared.tables.Interface.{Interface}
-use Rattle.resolve.proofs.Finishing.{rows-there, rows-elsewhere, interfaces-length, some-inj}
+use Rattle.resolve.proofs.Finishing.{rows-there, rows-elsewhere, interfaces-length}
 use Rattle.resolve.proofs.finish.interfaces_in.Goals as goal
 use Rattle.resolve.proofs.finish.interfaces_in.Goals.{in-Some+then-index-len+in_ok-push_id, in-Some+else-index-len, in_default}
 
@@ -28,7 +29,7 @@ loop-place-preserved c =
           let i = w.in-Some.index in
           let here : interface_of d ≡ Some i = sym c.interface_of.ensures ∙ w.in-Some.is in
           let same = rows-elsewhere rows k d (omega arith) c.index-rows-place.is 0 c.args.names.now
-          (λ j p q g. let z : i ≡ j = some-inj (sym here ∙ g) in absurd (omega (arith, q, z, count, w.len.ensures, w.if-index-len.false))) in
+          (λ j p q g. let z : i ≡ j = same_Some _ _ (sym here ∙ g) in absurd (omega (arith, q, z, count, w.len.ensures, w.if-index-len.false))) in
           ap (λ v. v.items) w.interfaces-is ∙ so_far ∙ sym same
       | in_default w ↦
           let same = rows-elsewhere rows k d (omega arith) c.index-rows-place.is 0 c.args.names.now (λ j p q g. w.in_default.not-Some j (c.interface_of.ensures ∙ g)) in
