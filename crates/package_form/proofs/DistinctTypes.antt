@@ -1,7 +1,7 @@
 -- Where names differ, no interface has two types of one name.
-use Rattle.std.proofs.Common.{◌≡◌, ℕ, suc, ◌+◌, ◌<◌, ◌≤◌, Bool, true, false, ◌||◌, nat_lt, List, [], ◌∷◌, ◌++◌, length, slice_get, Option, None, Some, refl, ap, sym, subst, ◌∙◌, arith, append_assoc, All}
+use Rattle.std.proofs.Common.{◌≡◌, ℕ, suc, ◌+◌, ◌<◌, ◌≤◌, Bool, true, false, ◌||◌, nat_lt, List, [], ◌∷◌, ◌++◌, map, length, get_or, slice_get, Option, None, Some, refl, ap, sym, subst, ◌∙◌, arith, append_assoc, All}
 use Rattle.std.proofs.lemmas.Bool.Decides.{nat_tests}
-use Rattle.std.proofs.lemmas.List.{length-map, append-nil}
+use Rattle.std.proofs.lemmas.List.{length-map, append-nil, get_or-map, get_or_default}
 use Rattle.std.proofs.lemmas.Option.{slice_get_past}
 use Rattle.std.proofs.lemmas.Slice.Eq.{bytes_eq-Decides}
 use Rattle.std.specs.Str.{bytes_eq}
@@ -18,6 +18,8 @@ use Rattle.package_form.specs.Ends.{end_of, is_parted}
 use Rattle.package_form.specs.Form.{are_interfaces, IsInPackageForm}
 use Rattle.package_form.specs.Naming.{interface_name, interfaces_scopes}
 use Rattle.package_form.specs.Laws.{NamesTypesApart}
+use Rattle.tables.specs.Names.{full_name}
+use Rattle.package_form.proofs.OnePackage.{single, one-full-name, first-place, own-full-name}
 use Rattle.package_form.proofs.Lists.{all-head, all-tail, get-front}
 use Rattle.package_form.proofs.OneRow.{named, IsNamedAt, same-place, parted-on, forms-on, locals-in, is-own, unique}
 
@@ -90,18 +92,33 @@ module _ (rows : List Definition) where
 
 -- ---- a package
 
-module _ (r : Resolve) (form : IsInPackageForm r) (distinct : All AreDistinct (interfaces_scopes r.definitions 0 r.interfaces)) (names : AreDistinct (interface_names r)) where
+module _ (r : Resolve) (form : IsInPackageForm r) (distinct : All AreDistinct (interfaces_scopes r.definitions 0 r.interfaces)) (names : AreDistinct (map interface_name r.interfaces)) where
   abbrev ns : List (List ℕ)
   ns = interface_names r
 
-  in-names : (a : ℕ) (y : TypeName) → IsNamedAt r.definitions a y → y.interface.0 < length ns
-  in-names a y h =
-      omega (arith, in-range r.definitions 0 0 r.interfaces form.parted form.interfaces a y (omega arith) h, length-map r.interfaces interface_name)
+  in-names : (a : ℕ) (y : TypeName) → IsNamedAt r.definitions a y → y.interface.0 < length r.interfaces
+  in-names a y h = omega (arith, in-range r.definitions 0 0 r.interfaces form.parted form.interfaces a y (omega arith) h)
+
+  -- full names differ where names do
+  same-interface : (m n : ℕ) → m < length r.interfaces → n < length r.interfaces → get_or ns m [] ≡ get_or ns n [] → m ≡ n
+  same-interface m n l k e =
+      let one = single r.packages form.alone in
+      let i : Interface = get_or r.interfaces m nowhere in
+      let j : Interface = get_or r.interfaces n nowhere in
+      let first = own-full-name r one.0 one.1 i (first-place r one.0 one.1 i (m, l, get_or_default r.interfaces m i nowhere l)) in
+      let second = own-full-name r one.0 one.1 j (first-place r one.0 one.1 j (n, k, get_or_default r.interfaces n j nowhere k)) in
+      let whole = sym first ∙ sym (get_or-map (full_name r) r.interfaces m nowhere [] l) ∙ e ∙ get_or-map (full_name r) r.interfaces n nowhere [] k ∙ second in
+      let labels = get_or-map interface_name r.interfaces m nowhere [] l ∙ one-full-name one.0 i.name j.name whole ∙ sym (get_or-map interface_name r.interfaces n nowhere [] k) in
+      let counted = length-map r.interfaces interface_name in
+      same-place (map interface_name r.interfaces) m n names (omega (arith, l, counted)) (omega (arith, k, counted)) labels
+    where
+      nowhere : Interface
+      nowhere = record { «package» = record { 0 = 0 }; name = []; uses = []; types = []; functions = [] }
 
   one-key : (a b : ℕ) (m n : TypeName) → IsNamedAt r.definitions a m → IsNamedAt r.definitions b n → is_same_key (key_of ns m) (key_of ns n) ≡ true → a ≡ b
   one-key a b m n x y h =
       let s = same-key (key_of ns m) (key_of ns n) h in
-      let at = same-place ns m.interface.0 n.interface.0 names (in-names a m x) (in-names b n y) s.0 in
+      let at = same-interface m.interface.0 n.interface.0 (in-names a m x) (in-names b n y) s.0 in
       let same : m ≡ n = rw (at, s.1) refl in
       unique r.definitions 0 0 r.interfaces form.parted form.interfaces distinct a b n (omega arith) (omega arith) (subst (IsNamedAt r.definitions a) same x) y
 

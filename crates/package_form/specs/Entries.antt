@@ -1,6 +1,6 @@
 -- Type entries: all that takes a type index in a package's binary.
 use Rattle.std.specs.Prelude.{ℕ, ◌+◌, List, map, sum, length, Option, None, Some}
-use Rattle.tables.specs.Package.{interface_names as names_in}
+use Rattle.tables.specs.declared.tables.Interface.{Interface}
 use Rattle.tables.specs.declared.tables.ValType.TheVariants as val
 use Rattle.tables.specs.declared.tables.TypeDefKind.{TypeDefKind}
 use Rattle.tables.specs.declared.tables.TypeDefKind.TheVariants as kind
@@ -9,13 +9,16 @@ use Rattle.tables.specs.declared.tables.Definition.{Definition}
 use Rattle.tables.specs.declared.tables.Definition.TheVariants as row
 use Rattle.tables.specs.declared.tables.Resolve.{Resolve}
 
--- the names of interfaces and the definitions of a package without worlds
+-- the labels of interfaces and the definitions of a package without worlds
 pub record Table : Type 0 where
   pub interfaces : List (List ℕ)
   pub rows : List Definition
 
+abbrev pub labels_of : List Interface → List (List ℕ)
+labels_of is = map (λ i. i.name) is
+
 abbrev pub table_of : Resolve → Table
-table_of r = record { interfaces = names_in r; rows = r.definitions }
+table_of r = record { interfaces = labels_of r.interfaces; rows = r.definitions }
 
 -- a used name has an alias in the component type, an outer alias and an export; a new name of a named type its export alone
 abbrev pub entries_under : Option TypeName → TypeDefKind → ℕ

@@ -12,6 +12,9 @@ pub mod Finding
 pub mod Using
 pub mod Packaging
 pub mod Finishing
+pub mod FullNames
+pub mod Placed
+pub mod Renaming
 pub mod Trees
 pub mod Referring
 pub mod Segments
@@ -31,7 +34,6 @@ pub mod TreeNames
 pub mod TableScopes
 pub mod PackageScopes
 pub mod Counted
-pub mod Placed
 pub mod Weighed
 pub mod StandardRows
 pub mod Only

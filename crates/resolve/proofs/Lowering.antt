@@ -6,7 +6,6 @@ use Rattle.std.proofs.lemmas.List.{map-append}
 use Rattle.wit_syntax.specs.Syntax.{Ty, Prim, Named, ListOf, OptionOf, TupleOf, ResultOf, tys_of}
 use Rattle.wit_syntax.specs.View.{ty_view, boxed_view}
 use Rattle.wit_syntax.specs.declared.ast.TypeExpression.{TypeExpression, Named as Name, List as Listed, Option as Optional, Tuple, Result as Either, the_lemmas}
-use Rattle.wit_syntax.specs.declared.ast.Primitive.TheVariants as keyword
 use Rattle.tables.specs.Tables.{is_type, option_all}
 use Rattle.tables.specs.Package.{Tree, Reference, ListTree, IsType, read_val, read_tuple, read_fields, read_params, read_cases, read_choice, read_kind, Fields, field, Choices, RecordTree, VariantTree, Plain, AsTuple}
 use Rattle.package_form.specs.Postfix.{unnamed, unnamed_if, unnamed_field, unnamed_case, unnamed_parameter}

@@ -8,6 +8,9 @@ use Rattle.std.specs.List.{list_all}
 use Rattle.tables.specs.Tables.{definition_all, is_below, definition_below, is_type, is_there, type_of, are_earlier, name_types, are_standard}
 use Rattle.tables.specs.declared.tables.ValType.{ValType}
 use Rattle.tables.specs.declared.tables.ValType.TheVariants as val
+use Rattle.tables.specs.PackageNames.{own_name}
+use Rattle.tables.specs.Names.{full_name}
+use Rattle.tables.specs.declared.tables.Interface.{Interface}
 use Rattle.tables.specs.Package.{Package, package_of, definitions_from, interface_names as names_in}
 use Rattle.tables.specs.declared.tables.Definition.{Definition}
 use Rattle.tables.specs.declared.tables.Resolve.{Resolve}
@@ -16,8 +19,8 @@ use Rattle.tables.specs.declared.error.ResolveError.TheVariants as error
 use Rattle.package_form.specs.Scope.{AreDistinct}
 use Rattle.resolve.specs.Order.{IsPlacement}
 use Rattle.package_form.specs.Postfix.{IsPostfix}
-use Rattle.resolve.specs.Declarations.{UsedItem, InterfaceTree, interfaces, interface_at, interface_names, interface_name, type_names, named_definition, named_function, scopes}
-use Rattle.resolve.specs.Resolves.{HasPackage, IsTooLarge, Resolves, package_in, interface_uses, type_uses, PassesLimit, HasDuplicate, HasDistinctNames, IsKnownUse, IsUnknownUse, IsUnknownIn, HasUnknown, HasKnownNames, HasCycle, IsPackageOf, HasNoFaults, Refuses, AnswersOnly}
+use Rattle.resolve.specs.Declarations.{UsedItem, InterfaceTree, interfaces, package_named, full_interface, full_interfaces, interface_at, interface_names, interface_name, type_names, named_definition, named_function, scopes}
+use Rattle.resolve.specs.Resolves.{HasPackage, IsTooLarge, Resolves, full_names, package_in, interface_uses, type_uses, PassesLimit, HasDuplicate, HasDistinctNames, IsKnownUse, IsUnknownUse, IsUnknownIn, HasUnknown, HasKnownNames, HasCycle, IsPackageOf, HasNoFaults, Refuses, AnswersOnly}
 use Rattle.package_form.specs.Entries.{Table, table_of, entries_of, type_entries}
 use Rattle.resolve.proofs.Trees.{distinct-interfaces}
 use Rattle.package_form.proofs.OneRow.{same-place}
@@ -29,6 +32,7 @@ use Rattle.std.proofs.lemmas.List.{get_or-map, length-map, get_or_default}
 use Rattle.std.proofs.lemmas.List.Folds.{list_all-append}
 use Rattle.std.proofs.Math.Seq.{get_or-append_seam}
 use Rattle.resolve.proofs.Placed.{no-cycle, one-package}
+use Rattle.resolve.proofs.FullNames.{interface-full, uses-full}
 use Rattle.resolve.proofs.Counted.{entries, entries-by-name}
 use Rattle.resolve.proofs.Weighed.{IsTyped, sizes}
 use Rattle.resolve.proofs.StandardRows.{standard-by-name}
@@ -73,11 +77,14 @@ no-unknown f n h (i, c, x) = by x
 
 -- ---- cycles
 
-no-cycle-in : (f : File) (p : Package) → Resolves (interfaces f) p → HasCycle f → ⊥
-no-cycle-in f p r (inl c) = no-cycle (interface_uses (interfaces f)) r.order r.placed c.0 c.1
+no-cycle-in : (f : File) (p : Package) → Resolves (full_interfaces f) p → HasCycle f → ⊥
+no-cycle-in f p r (inl c) =
+    no-cycle (interface_uses (interfaces f)) r.order (subst (λ (us : List (List ℕ)). IsPlacement us r.order) (uses-full (package_named f) (interfaces f)) r.placed) c.0 c.1
 no-cycle-in f p r (inr (i, b, c)) =
     let here : interface_at (interfaces f) b.0 ≡ i = get_or_default (interfaces f) b.0 _ i b.1 ∙ b.2 in
-    no-cycle (type_uses i) (r.types b.0) (subst (λ j. IsPlacement (type_uses j) (r.types b.0)) here (r.types_placed b.0 b.1)) c.0 c.1
+    let full = interface-full (package_named f) (interfaces f) b.0 b.1 ∙ ap (full_interface (package_named f)) here in
+    let placed = r.types_placed b.0 (omega (arith, b.1, length-map (interfaces f) (full_interface (package_named f)))) in
+    no-cycle (type_uses i) (r.types b.0) (subst (λ (j : InterfaceTree). IsPlacement (type_uses j) (r.types b.0)) full placed) c.0 c.1
 
 -- ---- limits
 
@@ -111,32 +118,32 @@ earlier-typed rows earlier typed front d rest e = definition-grows (λ v. is_bel
         let g : slice_get rows t.0 ≡ slice_get front t.0 = ap (λ xs. slice_get xs t.0) e ∙ get-front front (d ∷ rest) t.0 l in
         subst (λ o. is_there (type_of o) ≡ true) g (and_parts (is_below (length front) (val.Id t)) (is_type rows (val.Id t)) h).1
 
--- two tables of one package, whose rows name earlier types and stand in postfix order: both pass a limit or none does
-same-limits : (t u : Table) → package_in t ≡ package_in u → IsTyped t.rows → IsPostfix t.rows → IsTyped u.rows → IsPostfix u.rows
+-- Two tables of one package, whose rows name earlier types and stand in postfix order: both pass a limit or none does. `ns` and `ms` are
+-- the full names of their interfaces.
+same-limits : (t u : Table) (ns ms : List (List ℕ)) → length ns ≡ length t.interfaces → length ms ≡ length u.interfaces → ns ≡ ms
+    → definitions_from ns [] [] t.rows ≡ definitions_from ms [] [] u.rows → IsTyped t.rows → IsPostfix t.rows → IsTyped u.rows → IsPostfix u.rows
     → type_entries t ≤ 65535 → are_standard t.rows ≡ true → PassesLimit u → ⊥
-same-limits t u e a p b q within standard passes = by passes
+same-limits t u ns ms long_t long_u names meant a p b q within standard passes = by passes
   where
-    names : t.interfaces ≡ u.interfaces
-    names = ap (λ x. x.interfaces) e
-
-    meant : definitions_from t.interfaces [] [] t.rows ≡ definitions_from u.interfaces [] [] u.rows
-    meant = ap (λ x. x.definitions) e
-
     by : PassesLimit u → ⊥
     by (inl l) =
-        let x = entries-by-name t.interfaces [] t.rows (λ f d r z. a f d r z) p in
-        let y = entries-by-name u.interfaces [] u.rows (λ f d r z. b f d r z) q in
+        let x = entries-by-name ns [] t.rows (λ f d r z. a f d r z) p in
+        let y = entries-by-name ms [] u.rows (λ f d r z. b f d r z) q in
         let sums : sum (map entries_of t.rows) ≡ sum (map entries_of u.rows) = x ∙ (ap (sizes entries) meant ∙ sym y) in
         let counts = ap length names in
-        omega (arith, within, l, sums, counts)
-    by (inr h) = false≢true (sym h ∙ standard-by-name t.interfaces u.interfaces [] [] t.rows u.rows a p b q meant standard)
+        omega (arith, within, l, sums, counts, long_t, long_u)
+    by (inr h) = false≢true (sym h ∙ standard-by-name ns ms [] [] t.rows u.rows a p b q meant standard)
 
-package-same : (f : File) (r : Resolve) → IsPackageOf f r → package_in (table_of r) ≡ package_of r
+-- the package of a table without worlds
+package-same : (f : File) (r : Resolve) → IsPackageOf f r → record { interfaces = names_in r; definitions = definitions_from (names_in r) [] [] r.definitions } ≡ package_of r
 package-same f r h = ap (λ (ws : List (List ℕ)). record { interfaces = names_in r; definitions = definitions_from (names_in r) ws [] r.definitions }) (sym (ap (map (λ w. w.name)) h.worlds))
 
 not-too-large : (f : File) (r : Resolve) → IsPackageOf f r → IsTooLarge f → ⊥
 not-too-large f r h x =
-    same-limits (table_of r) x.table (package-same f r h ∙ one-package (interfaces f) (package_of r) (package_in x.table) h.resolves x.resolves)
+    let n = package_named f in
+    let same = package-same f r h ∙ one-package (full_interfaces f) (package_of r) (package_in n x.table) h.resolves x.resolves in
+    same-limits (table_of r) x.table (names_in r) (full_names n x.table) (length-map r.interfaces (full_name r) ∙ sym (length-map r.interfaces (λ (i : Interface). i.name))) (length-map x.table.interfaces (own_name n))
+    (ap (λ (p : Package). p.interfaces) same) (ap (λ (p : Package). p.definitions) same)
     (earlier-typed r.definitions r.earlier r.typed) h.postfix (earlier-typed x.table.rows x.earlier x.typed) x.postfix h.within r.standard x.passes
 
 -- ---- no refusal but for memory
@@ -154,7 +161,7 @@ only-memory f r error.NoMemory h x = refl
 
 -- .. and packages of one tree are one
 same-package : (f : File) (r s : Resolve) → IsPackageOf f r → IsPackageOf f s → package_of r ≡ package_of s
-same-package f r s a b = one-package (interfaces f) (package_of r) (package_of s) a.resolves b.resolves
+same-package f r s a b = one-package (full_interfaces f) (package_of r) (package_of s) a.resolves b.resolves
 
 pub answers-only : (f : File) (answer : Result Resolve ResolveError) → IfOk answer (IsPackageOf f) → IfErr answer (Refuses f) → AnswersOnly f answer
 answers-only f (Ok p) ok err = λ r h. same-package f p r ok h.resolved

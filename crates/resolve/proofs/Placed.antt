@@ -1,5 +1,5 @@
 -- Where all are placed, none use each other in a cycle, and the order is the only one.
-use Rattle.std.proofs.Common.{◌≡◌, ◌≤◌, ◌<◌, inl, inr, ℕ, zero, suc, List, [], ◌∷◌, ◌++◌, length, take, get_or, refl, sym, ap, subst, ◌∙◌, arith, flat_map}
+use Rattle.std.proofs.Common.{◌≡◌, ◌≤◌, ◌<◌, inl, inr, ℕ, zero, suc, List, [], ◌∷◌, ◌++◌, length, take, get_or, refl, sym, ap, subst, ◌∙◌, arith, map, flat_map}
 use Rattle.std.specs.Prelude.{Bool, true, false, not, ◌||◌, ◌==◌}
 use Rattle.std.specs.List.{list_any, list_all}
 use Rattle.std.proofs.lemmas.Bool.{and_parts, or_cases, false≢true, eqb-true, cases_order}
@@ -81,7 +81,11 @@ one-placement uses xs ys p q = elim (cases_order (length xs) (length ys)) [
   ]
 ]
 
-same-flat : {A : Type 0} (f g : ℕ → List A) (xs : List ℕ) → ((k : ℕ) → k < length xs → f (get_or xs k 0) ≡ g (get_or xs k 0)) → flat_map f xs ≡ flat_map g xs
+pub same-map : {A : Type 0} (f g : ℕ → A) (xs : List ℕ) → ((k : ℕ) → k < length xs → f (get_or xs k 0) ≡ g (get_or xs k 0)) → map f xs ≡ map g xs
+same-map f g [] h = refl
+same-map f g (x ∷ xs) h = let a = h 0 (omega arith) in let b = same-map f g xs (λ k l. h (suc k) (omega (arith, l))) in cc
+
+pub same-flat : {A : Type 0} (f g : ℕ → List A) (xs : List ℕ) → ((k : ℕ) → k < length xs → f (get_or xs k 0) ≡ g (get_or xs k 0)) → flat_map f xs ≡ flat_map g xs
 same-flat f g [] h = refl
 same-flat f g (x ∷ xs) h = let a = h 0 (omega arith) in let b = same-flat f g xs (λ k l. h (suc k) (omega (arith, l))) in cc
 

@@ -54,10 +54,10 @@ module _ (ns : List (List ℕ)) (Q : NamedDefinition → Type 0) where
   rows-mean trees (row.Type d ∷ ds) h = let x = type-means trees d.name d.kind ds h in (x.0, rows-mean (trees ++ reference ns trees (row.Type d) ∷ []) ds x.1)
   rows-mean trees (row.Function f ∷ ds) h = (all-head Q _ _ h, rows-mean (trees ++ reference ns trees (row.Function f) ∷ []) ds (all-tail Q _ _ h))
 
-heads : {A : Type 0} {x y : A} {xs ys : List A} → x ∷ xs ≡ y ∷ ys → x ≡ y
+pub heads : {A : Type 0} {x y : A} {xs ys : List A} → x ∷ xs ≡ y ∷ ys → x ≡ y
 heads e = cc
 
-tails : {A : Type 0} {x y : A} {xs ys : List A} → x ∷ xs ≡ y ∷ ys → xs ≡ ys
+pub tails : {A : Type 0} {x y : A} {xs ys : List A} → x ∷ xs ≡ y ∷ ys → xs ≡ ys
 tails e = cc
 
 -- rows that define these, and then others

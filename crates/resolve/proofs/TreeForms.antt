@@ -1,52 +1,71 @@
 -- What a syntax tree resolves to is in package form.
-use Rattle.std.proofs.Common.{◌≡◌, ◌≢◌, ℕ, zero, suc, ◌+◌, ◌<◌, ◌≤◌, Bool, true, false, not, ◌||◌, ◌==◌, nat_lt, IsTrue, List, [], ◌∷◌, ◌++◌, map, flat_map, filter_map, take, length, get_or, Option, None, Some, refl, ap, sym, subst, ◌∙◌, arith, All, Contains, inl, inr}
+use Rattle.std.proofs.Common.{◌≡◌, ◌≢◌, ℕ, zero, suc, ◌+◌, ◌<◌, ◌≤◌, Bool, true, false, not, ◌||◌, ◌&&◌, ◌==◌, nat_le, nat_lt, IsTrue, List, [], ◌∷◌, ◌++◌, map, flat_map, filter_map, take, length, get_or, refl, ap, sym, subst, ◌∙◌, arith, All, Contains, inl, inr}
 use Rattle.std.specs.Prelude.{slice_index_or}
 use Rattle.std.specs.List.{list_all}
 use Rattle.std.proofs.lemmas.Bool.Decides.{nat_tests}
 use Rattle.std.proofs.lemmas.List.{length-map, length-take, get_or-take, get_or_default, get_or-map, get_or_past}
-use Rattle.atoms.specs.Label.{is_label}
-use Rattle.atoms.specs.FullName.{is_package_label, is_version_or_none}
+use Rattle.atoms.specs.FullName.{is_package_label, is_version_or_none, package_text}
+use Rattle.tables.specs.PackageNames.{PackageParts, name_parts, own_name}
+use Rattle.tables.specs.Names.{full_name}
 use Rattle.wit_syntax.specs.Syntax.{FileEntry, AnInterface, AWorld, File}
-use Rattle.wit_syntax.specs.FullNames.{has_label, has_full_names}
+use Rattle.wit_syntax.specs.FullNames.{has_full_names}
 use Rattle.tables.specs.Package.{NamedDefinition, definitions_from, interface_names as names_in}
+use Rattle.tables.specs.declared.tables.Definition.{Definition}
 use Rattle.tables.specs.declared.tables.World.{World}
 use Rattle.tables.specs.declared.tables.Interface.{Interface}
 use Rattle.tables.specs.declared.tables.Resolve.{Resolve}
 use Rattle.resolve.specs.Order.{IsPlacement, is_among}
 use Rattle.package_form.specs.Scope.{AreDistinct}
-use Rattle.resolve.specs.Declarations.{UsedItem, FunctionItem, InterfaceTree, interfaces, interface_of, interface_at, no_interface, interface_name, interface_names, use_interface}
+use Rattle.resolve.specs.Declarations.{UsedItem, FunctionItem, InterfaceTree, interfaces, package_named, full_interface, full_interfaces, interface_of, interface_at, no_interface, interface_name, interface_names, use_interface}
 use Rattle.resolve.specs.Resolved.{use_meaning, type_meaning, function_meaning, in_order, interface_meaning, no_type, definition_meaning, fields_of, member_meaning, resolved_if}
-use Rattle.resolve.specs.Resolves.{place_of, uses_of_interface, interface_uses, names_in_order, IsKnownUse, HasKnownNames, HasNoFaults, package_named, IsPackageOf}
-use Rattle.package_form.specs.Ids.{interfaces_from}
+use Rattle.resolve.specs.Resolves.{place_of, uses_of_interface, interface_uses, names_in_order, IsKnownUse, HasKnownNames, HasNoFaults, IsPackageOf}
+use Rattle.package_form.specs.Entries.{labels_of}
+use Rattle.package_form.specs.Ids.{interface_in, interfaces_from}
 use Rattle.package_form.proofs.Lists.{all-at, all-contained, contains-map, contains-unmap, contains-here, compared}
 use Rattle.resolve.proofs.Placing.{all-from, place-found, all-places, among-at}
 use Rattle.package_form.proofs.OneRow.{same-place}
 use Rattle.resolve.proofs.Packaging.{interface-name, name-in-order}
 use Rattle.resolve.proofs.Trees.{distinct-interfaces}
-use Rattle.package_form.specs.Form.{IsInPackageForm, is_package_name, are_interfaces, has_full_names as has_names}
+use Rattle.resolve.proofs.FullNames.{interface-full, distinct-full, known-full}
+use Rattle.package_form.specs.Form.{IsInPackageForm, is_package_name, is_local, has_ids, are_interfaces, has_full_names as has_names}
 use Rattle.tables.proofs.Rows.{split, both}
 use Rattle.package_form.proofs.Postfix.{postfix-used}
 use Rattle.resolve.proofs.Referring.{if-refers, members-refer, body-refers}
 use Rattle.resolve.proofs.Locals.{is-that}
-use Rattle.package_form.specs.Ends.{is_parted}
+use Rattle.package_form.specs.Ends.{end_of, rows_of, is_parted}
 use Rattle.package_form.specs.Unused.{are_used}
 use Rattle.resolve.proofs.Homes.{IsPlace, MeansUse, MeansType, MeansFunction}
 use Rattle.resolve.proofs.Blocks.{Block, IsBlock, AreBlocks, blocks_definitions, block_names, used-inner}
 use Rattle.resolve.proofs.Forming.{IsTable}
 use Rattle.resolve.proofs.Folding.{formed}
 
--- ---- labels
+-- ---- names
 
-label-some : (n : List ℕ) → is_label n ≡ true → n ≢ []
-unfolding is_label
-label-some [] h e = absurd (cc)
-label-some (c ∷ n) h e = absurd (cc)
+own-some : (p : PackageParts) (n : List ℕ) → own_name p n ≢ []
+own-some p n = by p.namespace
+  where
+    by : (ns : List ℕ) → (ns ++ 58 ∷ package_text (name_parts p n)) ≢ []
+    by [] e = absurd (cc)
+    by (c ∷ ns) e = absurd (cc)
 
-label-at : (es : List FileEntry) (k : ℕ) → list_all has_label es ≡ true → k < length (filter_map interface_of es) → is_label (interface_at (filter_map interface_of es) k).name ≡ true
-label-at [] k h l = absurd (omega arith)
-label-at (AWorld at n ws ∷ es) k h l = label-at es k h l
-label-at (AnInterface n items ∷ es) zero h l = (split (is_label n) (list_all has_label es) h).0
-label-at (AnInterface n items ∷ es) (suc k) h l = label-at es k (split (is_label n) (list_all has_label es) h).1 (omega (arith, l))
+-- rows are parted, and stand in their interfaces, whatever the names of these
+parted-so : (count : ℕ) (rows : List Definition) (start j : ℕ) (ns ms : List (List ℕ)) → length ns ≡ length ms
+    → is_parted count start (interfaces_from rows j ns) ≡ is_parted count start (interfaces_from rows j ms)
+parted-so count rows start j [] [] e = refl
+parted-so count rows start j [] (m ∷ ms) e = absurd (omega (arith, e))
+parted-so count rows start j (n ∷ ns) [] e = absurd (omega (arith, e))
+parted-so count rows start j (n ∷ ns) (m ∷ ms) e =
+    ap (λ (b : Bool). nat_le start (end_of start (interface_in rows j m)) && (nat_le (end_of start (interface_in rows j m)) count && b))
+    (parted-so count rows (end_of start (interface_in rows j m)) (j + 1) ns ms (omega (arith, e)))
+
+standing-so : (rows : List Definition) (k start j : ℕ) (ns ms : List (List ℕ)) → length ns ≡ length ms
+    → are_interfaces rows k start (interfaces_from rows j ns) ≡ are_interfaces rows k start (interfaces_from rows j ms)
+standing-so rows k start j [] [] e = refl
+standing-so rows k start j [] (m ∷ ms) e = absurd (omega (arith, e))
+standing-so rows k start j (n ∷ ns) [] e = absurd (omega (arith, e))
+standing-so rows k start j (n ∷ ns) (m ∷ ms) e =
+    ap (λ (b : Bool). (has_ids rows start (interface_in rows j m) && list_all (is_local rows k) (rows_of rows start (interface_in rows j m))) && b)
+    (standing-so rows (k + 1) (end_of start (interface_in rows j m)) (j + 1) ns ms (omega (arith, e)))
 
 -- ---- an order
 
@@ -107,7 +126,7 @@ pub each-map : {A : Type 0} (P : NamedDefinition → Type 0) (f : A → NamedDef
 each-map P f xs h = all-from P (map f xs) (λ y c. let u = contains-unmap f xs y c in subst P u.2 (h u.0 u.1))
 
 module _ (is : List InterfaceTree) (types : ℕ → List ℕ) (order : List ℕ) (placed : IsPlacement (interface_uses is) order)
-    (distinct : AreDistinct (interface_names is)) (labels : (k : ℕ) → k < length is → is_label (interface_at is k).name ≡ true)
+    (distinct : AreDistinct (interface_names is)) (some : (k : ℕ) → k < length is → (interface_at is k).name ≢ [])
     (known : All (HasKnownNames is) is) where
   abbrev ns : List (List ℕ)
   ns = names_in_order is order
@@ -119,7 +138,7 @@ module _ (is : List InterfaceTree) (types : ℕ → List ℕ) (order : List ℕ)
   in-range j l = omega (arith, (placed.next j l).in_range, length-map is (uses_of_interface (interface_names is)))
 
   label-here : (j : ℕ) → j < length order → (interface_at is (get_or order j 0)).name ≢ []
-  label-here j l = label-some _ (labels (get_or order j 0) (in-range j l))
+  label-here j l = some (get_or order j 0) (in-range j l)
 
   same-index : (a b : ℕ) → a < length is → b < length is → (interface_at is a).name ≡ (interface_at is b).name → a ≡ b
   same-index a b l m e =
@@ -219,7 +238,7 @@ no-worlds ws e = ap (map (λ (w : World). w.name)) e
 
 module _ (f : File) (r : Resolve) (h : HasNoFaults f) (full : IsTrue (has_full_names f)) (p : IsPackageOf f r) where
   abbrev pub trees : List InterfaceTree
-  trees = interfaces f
+  trees = full_interfaces f
 
   abbrev pub order : List ℕ
   order = p.resolves.order
@@ -233,26 +252,32 @@ module _ (f : File) (r : Resolve) (h : HasNoFaults f) (full : IsTrue (has_full_n
   alone : (at : _) (n : List ℕ) (ws : _) → Contains f.entries (AWorld at n ws) → ⊥
   alone at n ws c = h.interfaces.alone (at, n, ws, c)
 
-  names-split : IsTrue (is_package_label f.namespace) × (IsTrue (is_package_label f.name) × (IsTrue (is_version_or_none f.version) × IsTrue (list_all has_label f.entries)))
+  names-split : IsTrue (is_package_label f.namespace) × (IsTrue (is_package_label f.name) × IsTrue (is_version_or_none f.version))
   names-split =
       let a = split (is_package_label f.namespace) _ full in
       let b = split (is_package_label f.name) _ a.1 in
-      (a.0, (b.0, split (is_version_or_none f.version) _ b.1))
+      (a.0, (b.0, (split (is_version_or_none f.version) _ b.1).0))
 
   have-names : IsTrue (has_names r)
   have-names =
       let s = names-split in
       ap (list_all is_package_name) p.packages
       ∙ both (is_package_name (package_named f)) true
-      (both (is_package_label f.namespace) _ s.0 (both (is_package_label f.name) (is_version_or_none f.version) s.1.0 s.1.1.0)) refl
+      (both (is_package_label f.namespace) _ s.0 (both (is_package_label f.name) (is_version_or_none f.version) s.1.0 s.1.1)) refl
 
   pub named : names_in r ≡ names_in_order trees order
   named = p.resolves.names
 
+  some-name : (k : ℕ) → k < length trees → (interface_at trees k).name ≢ []
+  some-name k l =
+      let m : k < length (interfaces f) = omega (arith, l, length-map (interfaces f) (full_interface (package_named f))) in
+      subst (λ (i : InterfaceTree). i.name ≢ []) (sym (interface-full (package_named f) (interfaces f) k m)) (own-some (package_named f) (interface_at (interfaces f) k).name)
+
   pub are-all : AreBlocks (names_in r) 0 blocks
   are-all =
       subst (λ (ns : List (List ℕ)). AreBlocks ns 0 blocks) (sym named)
-      (all-blocks trees types order p.resolves.placed (distinct-interfaces f h) (λ k l. label-at f.entries k names-split.1.1.1 l) h.known)
+      (all-blocks trees types order p.resolves.placed (distinct-full (package_named f) (interfaces f) (distinct-interfaces f h)) some-name
+      (known-full (package_named f) (interfaces f) h.known))
 
   pub defined : definitions_from (names_in r) [] [] r.definitions ≡ blocks_definitions blocks
   defined =
@@ -268,16 +293,17 @@ module _ (f : File) (r : Resolve) (h : HasNoFaults f) (full : IsTrue (has_full_n
   abbrev made : List Interface
   made = interfaces_from r.definitions 0 (block_names blocks)
 
-  pub interfaces-are : r.interfaces ≡ made
-  interfaces-are = p.ids ∙ ap (interfaces_from r.definitions 0) (named ∙ sym (names-are trees types order))
+  pub count : length (labels_of r.interfaces) ≡ length (block_names blocks)
+  count =
+      length-map r.interfaces (λ (i : Interface). i.name) ∙ sym (length-map r.interfaces (full_name r)) ∙ ap length (named ∙ sym (names-are trees types order))
 
   in-place : (is_parted (length r.definitions) 0 made ≡ true) × (are_interfaces r.definitions 0 0 made ≡ true)
   in-place = formed (names_in r) r.definitions table 0 blocks [] r.definitions refl (λ k l. tt) defined used are-all
 
   some-interfaces : r.interfaces ≢ []
   some-interfaces e =
-      let none : length (names_in r) ≡ 0 = ap (λ (is : List Interface). length (map (λ (i : Interface). i.name) is)) e in
-      let many : 0 < length trees = some-interface f.entries h.interfaces.some alone in
+      let none : length (names_in r) ≡ 0 = ap (λ (is : List Interface). length (map (full_name r) is)) e in
+      let many : 0 < length trees = omega (arith, some-interface f.entries h.interfaces.some alone, length-map (interfaces f) (full_interface (package_named f))) in
       let uses : 0 < length (interface_uses trees) = omega (arith, many, length-map trees (uses_of_interface (interface_names trees))) in
       let placed = some-order (interface_uses trees) order p.resolves.placed uses in
       absurd (omega (arith, none, placed, ap length named, length-map order (λ (k : ℕ). (interface_at trees k).name)))
@@ -288,8 +314,8 @@ module _ (f : File) (r : Resolve) (h : HasNoFaults f) (full : IsTrue (has_full_n
     worlds = p.worlds;
     alone = ap length p.packages;
     names = have-names;
-    parted = ap (is_parted (length r.definitions) 0) interfaces-are ∙ in-place.0;
-    interfaces = ap (are_interfaces r.definitions 0 0) interfaces-are ∙ in-place.1;
+    parted = ap (is_parted (length r.definitions) 0) p.ids ∙ parted-so (length r.definitions) r.definitions 0 0 (labels_of r.interfaces) (block_names blocks) count ∙ in-place.0;
+    interfaces = ap (are_interfaces r.definitions 0 0) p.ids ∙ standing-so r.definitions 0 0 0 (labels_of r.interfaces) (block_names blocks) count ∙ in-place.1;
     postfix = p.postfix;
     entries = p.within;
   }

@@ -1,6 +1,11 @@
 -- The interfaces of a file, and its package.
-use Rattle.std.proofs.Common.{◌≡◌, ◌⊎◌, inl, inr, ℕ, ◌+◌, ◌<◌, ◌≤◌, List, [], ◌∷◌, Result, Ok, Err, IfOk, IfErr, Option, None, Some, map, length, get_or, refl, ap, sym, ◌∙◌, subst, arith, Contains, Bor}
+use Rattle.std.proofs.Common.{◌≡◌, ◌≢◌, ◌⊎◌, inl, inr, ℕ, ◌+◌, ◌<◌, ◌≤◌, List, [], ◌∷◌, Result, Ok, Err, IfOk, IfErr, Option, None, Some, map, flat_map, length, get_or, slice_get, refl, ap, sym, ◌∙◌, subst, arith, All, Contains, Bor}
 use Rattle.std.specs.List.{filter_map}
+use Rattle.std.proofs.lemmas.List.{length-map, get_or_default}
+use Rattle.std.proofs.lemmas.Simd.{map-map}
+use Rattle.atoms.specs.Label.{IsLabel, is_label}
+use Rattle.tables.specs.PackageNames.{PackageParts, own_name}
+use Rattle.tables.specs.Names.{full_name_in}
 use Rattle.std.specs.Option.{option_map}
 use Rattle.std.specs.String.{string_bytes}
 use Rattle.std.specs.declared.string.String.{String}
@@ -12,13 +17,14 @@ use Rattle.wit_syntax.specs.declared.ast.Interface.{Interface as Syntax}
 use Rattle.wit_syntax.specs.declared.ast.PackageId.{PackageId}
 use Rattle.resolve.specs.Order.{IsPlacement}
 use Rattle.package_form.specs.Scope.{AreDistinct}
-use Rattle.tables.specs.Package.{package_of, interface_names as names_in, world_names}
-use Rattle.resolve.specs.Declarations.{InterfaceTree, interface_of, interfaces, interface_at, interface_name, interface_names, file_name}
-use Rattle.package_form.specs.Entries.{Table, table_of, type_entries}
-use Rattle.resolve.specs.Resolves.{Resolves, package_in, interface_uses, type_uses, PassesLimit, IsOfInterfaces, HasNoFaults, HasDistinctNames, HasCycle, IsPackageOf, Refuses}
+use Rattle.tables.specs.Package.{package_of, interface_names as names_in, world_names, definitions_from}
+use Rattle.resolve.specs.Resolved.{interface_meaning}
+use Rattle.resolve.specs.Declarations.{UsedItem, InterfaceTree, interface_of, interfaces, package_named, full_use, full_interface, full_interfaces, no_interface, interface_at, interface_name, interface_names, file_name}
+use Rattle.package_form.specs.Entries.{Table, table_of, labels_of, type_entries}
+use Rattle.resolve.specs.Resolves.{Resolves, full_names, package_in, names_in_order, uses_of_interface, IsKnownUse, HasKnownNames, interface_uses, type_uses, PassesLimit, IsOfInterfaces, HasNoFaults, HasDistinctNames, HasCycle, IsPackageOf, Refuses}
 use Rattle.package_form.specs.Ids.{interfaces_from, interfaces_in}
 use Rattle.resolve.specs.Building.{DefinesPackage, table_definitions}
-use Rattle.resolve.specs.Finished.{IsFinished}
+use Rattle.resolve.specs.Finished.{IsFinished, header}
 use Rattle.resolve.specs.Knowing.{RefusesUnknown}
 use Rattle.resolve.specs.Shape.{HasInterfaces}
 use Rattle.package_form.specs.Postfix.{IsPostfix}
@@ -29,7 +35,11 @@ use Rattle.tables.specs.declared.tables.Interface.{Interface}
 use Rattle.tables.specs.declared.tables.World.{World}
 use Rattle.tables.specs.declared.tables.Definition.{Definition}
 use Rattle.tables.specs.declared.tables.Resolve.{Resolve}
-use Rattle.package_form.proofs.Lists.{contains-unmap, contains-here, contains-later, all-head}
+use Rattle.package_form.proofs.Lists.{all-contained, contains-map, contains-unmap, contains-here, contains-later, all-head}
+use Rattle.resolve.proofs.Packaging.{interface-name}
+use Rattle.resolve.proofs.Placed.{same-map, same-flat}
+use Rattle.resolve.proofs.FullNames.{uses-full, interface-full}
+use Rattle.resolve.proofs.Renaming.{renamed_definition, used_under, interface_under, definitions-same, meaning-renamed, flat-renamed}
 
 no-world : (i : Bor Syntax) (at : Span) (n : List ℕ) (ws : List WorldEntry) → interface_entry i ≡ AWorld at n ws → ⊥
 no-world i at n ws e = absurd (cc)
@@ -70,26 +80,104 @@ refuses-cycle f e h (inr q) = subst (Refuses f) (sym q.0) (h, q.1)
 
 -- ---- the package
 
-module _ (is : List InterfaceTree) (order : List ℕ) (orders : List (List ℕ)) (t : Table) (placed : IsPlacement (interface_uses is) order)
-    (types : (k : ℕ) → k < length is → IsPlacement (type_uses (interface_at is k)) (get_or orders k [])) (d : DefinesPackage is order orders t) where
-  pub table-resolves : Resolves is (package_in t)
+some-name : (n : List ℕ) → IsLabel n → n ≢ []
+unfolding is_label
+some-name [] h e = absurd (cc)
+some-name (c ∷ n) h e = absurd (cc)
+
+-- the full name of what has a name
+full_if : PackageParts → List ℕ → List ℕ
+full_if p [] = []
+full_if p (c ∷ n) = own_name p (c ∷ n)
+
+full-is : (p : PackageParts) (n : List ℕ) → n ≢ [] → full_if p n ≡ own_name p n
+unfolding full_if
+full-is p [] h = absurd (h refl)
+full-is p (c ∷ n) h = refl
+
+none-full : (p : PackageParts) → full_if p [] ≡ []
+unfolding full_if
+none-full p = refl
+
+fulls-are : (p : PackageParts) (ns : List (List ℕ)) → ((n : List ℕ) → Contains ns n → n ≢ []) → map (full_if p) ns ≡ map (own_name p) ns
+fulls-are p [] h = refl
+fulls-are p (n ∷ ns) h = let a = full-is p n (h n (contains-here n ns)) in let b = fulls-are p ns (λ m c. h m (contains-later n m ns c)) in cc
+
+under-is : (p : PackageParts) (i : InterfaceTree) → i.name ≢ [] → ((u : UsedItem) → Contains i.uses u → u.interface ≢ []) → interface_under (full_if p) (none-full p) i ≡ full_interface p i
+under-is p i some h = let a = full-is p i.name some in let b = by i.uses h in rw (a, b) refl
+  where
+    by : (us : List UsedItem) → ((u : UsedItem) → Contains us u → u.interface ≢ []) → map (used_under (full_if p) (none-full p)) us ≡ map (full_use p) us
+    by [] h = refl
+    by (u ∷ us) h =
+        let a = full-is p u.interface (h u (contains-here u us)) in
+        let b = by us (λ v c. h v (contains-later u v us c)) in
+        ap (λ (n : List ℕ). record { interface = n; name = u.name; local = u.local } ∷ map (used_under (full_if p) (none-full p)) us) a
+        ∙ ap (λ (vs : List UsedItem). full_use p u ∷ vs) b
+
+-- The table that interfaces define is that of their package, whose names are full names.
+module _ (p : PackageParts) (is : List InterfaceTree) (order : List ℕ) (orders : List (List ℕ)) (t : Table) (placed : IsPlacement (interface_uses is) order)
+    (types : (k : ℕ) → k < length is → IsPlacement (type_uses (interface_at is k)) (get_or orders k [])) (d : DefinesPackage is order orders t)
+    (labels : All IsLabel (interface_names is)) (known : All (HasKnownNames is) is) where
+  below : (k : ℕ) → k < length order → get_or order k 0 < length is
+  below k l = omega (arith, (placed.next k l).in_range, length-map is (uses_of_interface (interface_names is)))
+
+  some-here : (k : ℕ) → k < length is → (interface_at is k).name ≢ []
+  some-here k l = some-name (interface_at is k).name (subst IsLabel (sym (interface-name is k)) (labels k [] (omega (arith, l, length-map is interface_name))))
+
+  some-used : (k : ℕ) → k < length is → (u : UsedItem) → Contains (interface_at is k).uses u → u.interface ≢ []
+  some-used k l u c =
+      let here : HasKnownNames is (interface_at is k) = known k no_interface l in
+      let x = all-contained (IsKnownUse is) (interface_at is k).uses u here.uses c in
+      some-name u.interface (subst IsLabel x.2 (all-contained IsLabel (interface_names is) x.0.name labels (contains-map interface_name is x.0 x.1)))
+
+  some-ordered : (n : List ℕ) → Contains t.interfaces n → n ≢ []
+  some-ordered n c =
+      let k = contains-unmap (λ (k : ℕ). (interface_at is k).name) order n (subst (λ (ns : List (List ℕ)). Contains ns n) d.interfaces c) in
+      let l : k.0 < length is = subst (λ (j : ℕ). j < length is) k.1.2 (subst (λ (j : ℕ). j < length is) (get_or_default order k.1.0 0 k.0 k.1.1) (below k.1.0 k.1.1)) in
+      subst (λ (m : List ℕ). m ≢ []) k.2 (some-here k.0 l)
+
+  names-ordered : map (own_name p) t.interfaces ≡ names_in_order (map (full_interface p) is) order
+  names-ordered =
+      ap (map (own_name p)) d.interfaces ∙ map-map (own_name p) (λ (k : ℕ). (interface_at is k).name) order
+      ∙ same-map (λ (k : ℕ). own_name p (interface_at is k).name) (λ (k : ℕ). (interface_at (map (full_interface p) is) k).name) order
+      (λ k l. ap interface_name (sym (interface-full p is (get_or order k 0) (below k l))))
+
+  meaning-here : (k : ℕ) → k < length is
+      → map (renamed_definition (full_if p) (none-full p)) (interface_meaning (interface_at is k) (get_or orders k [])) ≡ interface_meaning (interface_at (map (full_interface p) is) k) (get_or orders k [])
+  meaning-here k l =
+      sym (meaning-renamed (full_if p) (none-full p) (interface_at is k) (get_or orders k []))
+      ∙ ap (λ (i : InterfaceTree). interface_meaning i (get_or orders k [])) (under-is p (interface_at is k) (some-here k l) (some-used k l) ∙ sym (interface-full p is k l))
+
+  definitions-ordered : definitions_from (full_names p t) [] [] t.rows ≡ flat_map (λ k. interface_meaning (interface_at (map (full_interface p) is) k) (get_or orders k [])) order
   unfolding table_definitions
+  definitions-ordered =
+      ap (λ (ns : List (List ℕ)). definitions_from ns [] [] t.rows) (sym (fulls-are p t.interfaces some-ordered))
+      ∙ definitions-same (full_if p) (none-full p) t.interfaces [] t.rows
+      ∙ ap (map (renamed_definition (full_if p) (none-full p))) d.definitions
+      ∙ flat-renamed (full_if p) (none-full p) (λ k. interface_meaning (interface_at is k) (get_or orders k [])) order
+      ∙ same-flat (λ k. map (renamed_definition (full_if p) (none-full p)) (interface_meaning (interface_at is k) (get_or orders k [])))
+      (λ k. interface_meaning (interface_at (map (full_interface p) is) k) (get_or orders k [])) order (λ k l. meaning-here (get_or order k 0) (below k l))
+
+  pub table-resolves : Resolves (map (full_interface p) is) (package_in p t)
   table-resolves = record {
     order = order;
-    placed = placed;
+    placed = subst (λ (us : List (List ℕ)). IsPlacement us order) (sym (uses-full p is)) placed;
     types = λ k. get_or orders k [];
-    types_placed = types;
-    names = d.interfaces;
-    definitions = d.definitions;
+    types_placed = λ k l.
+        let m : k < length is = omega (arith, l, length-map is (full_interface p)) in
+        subst (λ (i : InterfaceTree). IsPlacement (type_uses i) (get_or orders k [])) (sym (interface-full p is k m)) (types k m);
+    names = names-ordered;
+    definitions = definitions-ordered;
   }
 
-  pub refuses-limit : (f : File) (e : ResolveError) → is ≡ interfaces f → HasNoFaults f → (e ≡ error.NoMemory) ⊎ ((e ≡ error.Limit) × PassesLimit t) → Refuses f e
-  refuses-limit f e same h (inl q) = subst (Refuses f) (sym q) tt
-  refuses-limit f e same h (inr q) = subst (Refuses f) (sym q.0) (inr (
+  pub refuses-limit : (f : File) (e : ResolveError) → p ≡ package_named f → is ≡ interfaces f → HasNoFaults f → (e ≡ error.NoMemory) ⊎ ((e ≡ error.Limit) × PassesLimit t) → Refuses f e
+  refuses-limit f e named same h (inl q) = subst (Refuses f) (sym q) tt
+  refuses-limit f e named same h (inr q) = subst (Refuses f) (sym q.0) (inr (
     h,
     record {
       table = t;
-      resolves = subst (λ (ts : List InterfaceTree). Resolves ts (package_in t)) same table-resolves;
+      resolves = subst (λ (ts : List InterfaceTree). Resolves (map (full_interface (package_named f)) ts) (package_in (package_named f) t)) same
+          (subst (λ (q : PackageParts). Resolves (map (full_interface q) is) (package_in q t)) named table-resolves);
       postfix = d.postfix;
       earlier = d.earlier;
       typed = d.typed;
@@ -105,23 +193,36 @@ version-is : (v : Option (String Global)) → version_view v ≡ option_map stri
 version-is None = refl
 version-is (Some v) = refl
 
+pub header-is : (id : PackageId) (g : File) → g.namespace ≡ id.namespace → g.name ≡ id.name → g.version ≡ version_view id.version → header id ≡ package_named g
+header-is id g ens en ev = rw (ens, en, ev ∙ version-is id.version) refl
+
+pub full-kept : (p : PackageParts) (rows : List Definition) (i : ℕ) (ns : List (List ℕ)) → map (λ (x : Interface). full_name_in (slice_get (p ∷ []) x.«package».0) x.name) (interfaces_from rows i ns) ≡ map (own_name p) ns
+full-kept p rows i [] = refl
+full-kept p rows i (n ∷ ns) = ap (λ (ms : List (List ℕ)). own_name p n ∷ ms) (full-kept p rows (i + 1) ns)
+
 module _ (id : PackageId) (t : Table) (r : Resolve) (f : IsFinished id t r) where
-  names-same : names_in r ≡ t.interfaces
-  names-same = ap (λ (xs : List Interface). map (λ (x : Interface). x.name) xs) f.interfaces ∙ names-kept t.rows 0 t.interfaces
+  labels-same : labels_of r.interfaces ≡ t.interfaces
+  labels-same = ap labels_of f.interfaces ∙ names-kept t.rows 0 t.interfaces
 
   table-same : table_of r ≡ t
-  table-same = rw (names-same, f.definitions) refl
+  table-same = rw (labels-same, f.definitions) refl
 
-  package-same : package_of r ≡ package_in t
+  names-same : names_in r ≡ full_names (header id) t
+  names-same =
+      ap (λ (ps : List PackageParts). map (λ (x : Interface). full_name_in (slice_get ps x.«package».0) x.name) r.interfaces) f.packages
+      ∙ ap (map (λ (x : Interface). full_name_in (slice_get (header id ∷ []) x.«package».0) x.name)) f.interfaces
+      ∙ full-kept (header id) t.rows 0 t.interfaces
+
+  package-same : package_of r ≡ package_in (header id) t
   package-same =
       let worlds : world_names r ≡ [] = ap (λ (ws : List World). map (λ (w : World). w.name) ws) f.worlds in
       rw (names-same, worlds, f.definitions) refl
 
-  pub is-package : (g : File) → g.namespace ≡ id.namespace → g.name ≡ id.name → g.version ≡ version_view id.version → Resolves (interfaces g) (package_in t) → IsPostfix t.rows → IsPackageOf g r
-  is-package g ens en ev resolves postfix = record {
-    packages = f.packages ∙ rw (ens, en, ev ∙ version-is id.version) refl;
+  pub is-package : (g : File) → header id ≡ package_named g → Resolves (full_interfaces g) (package_in (package_named g) t) → IsPostfix t.rows → IsPackageOf g r
+  is-package g named resolves postfix = record {
+    packages = f.packages ∙ ap (λ (p : PackageParts). p ∷ []) named;
     worlds = f.worlds;
-    resolves = subst (Resolves (interfaces g)) (sym package-same) resolves;
+    resolves = subst (Resolves (full_interfaces g)) (ap (λ (p : PackageParts). package_in p t) (sym named) ∙ sym package-same) resolves;
     postfix = subst IsPostfix (sym f.definitions) postfix;
     ids = f.interfaces ∙ ap interfaces_in (sym table-same);
     within = subst (λ (x : Table). type_entries x ≤ 65535) (sym table-same) f.within;

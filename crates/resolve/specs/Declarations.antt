@@ -1,6 +1,7 @@
 -- What the interfaces of a syntax tree declare: used names, types and functions, each in source order; and what they name.
 use Rattle.std.specs.Prelude.{ℕ, List, [], ◌∷◌, ◌++◌, map, flat_map, filter_map, Option, None, Some, slice_index_or}
 use Rattle.wit_syntax.specs.Syntax.{Ty, Prim, Named, ListOf, OptionOf, TupleOf, ResultOf, Tys, none, more, MaybeTy, Absent, Present, Definition, Alias, Record, Variant, Enumeration, FlagSet, Function, Member, CaseOf, PathTo, Local, UsedAs, Entry, Uses, Defines, Declares, FileEntry, AnInterface, AWorld, File}
+use Rattle.tables.specs.PackageNames.{PackageParts, own_name}
 
 -- `use interface.{name as local}`
 pub record UsedItem : Type 0 where
@@ -62,6 +63,24 @@ interface_of (AWorld at n es) = None
 -- the interfaces of a file
 abbrev pub interfaces : File → List InterfaceTree
 interfaces f = filter_map interface_of f.entries
+
+-- ---- WIT.md, "Package Names": full names
+
+-- the name of a tree's package
+abbrev pub package_named : File → PackageParts
+package_named f = record { namespace = f.namespace; name = f.name; version = f.version }
+
+-- a used name, under the full name of its interface
+abbrev pub full_use : PackageParts → UsedItem → UsedItem
+full_use p u = record { interface = own_name p u.interface; name = u.name; local = u.local }
+
+-- an interface under its full name
+abbrev pub full_interface : PackageParts → InterfaceTree → InterfaceTree
+full_interface p i = record { name = own_name p i.name; uses = map (full_use p) i.uses; types = i.types; functions = i.functions }
+
+-- the interfaces of a file under their full names
+abbrev pub full_interfaces : File → List InterfaceTree
+full_interfaces f = map (full_interface (package_named f)) (interfaces f)
 
 abbrev pub no_interface : InterfaceTree
 no_interface = record { name = []; uses = []; types = []; functions = [] }

@@ -5,7 +5,7 @@ use Rattle.std.specs.Option.{option_map}
 use Rattle.std.specs.Str.{bytes_eq}
 use Rattle.wit_tokens.specs.declared.token.Span.{Span}
 use Rattle.wit_syntax.specs.Syntax.{Ty, depth, Member, CaseOf, Definition as Body, Alias, Record, Variant, Enumeration, FlagSet, Function as Signature, Entry, Uses, Defines, Declares, WorldEntry, FileEntry, AnInterface, AWorld, File}
-use Rattle.tables.specs.PackageNames.{PackageParts}
+use Rattle.tables.specs.PackageNames.{PackageParts, own_name}
 use Rattle.package_form.specs.Scope.{AreDistinct, IsDuplicate}
 use Rattle.resolve.specs.Order.{IsPlacement, IsCycle}
 use Rattle.tables.specs.Tables.{are_earlier, name_types, are_standard}
@@ -13,7 +13,7 @@ use Rattle.tables.specs.Package.{Package, definitions_from, package_of}
 use Rattle.package_form.specs.Entries.{Table, table_of, type_entries}
 use Rattle.package_form.specs.Ids.{interfaces_in}
 use Rattle.package_form.specs.Postfix.{IsPostfix}
-use Rattle.resolve.specs.Declarations.{UsedItem, TypeItem, FunctionItem, InterfaceTree, interfaces, interface_at, interface_names, use_interface, type_names, own_types, named_definition, named_function, scopes}
+use Rattle.resolve.specs.Declarations.{UsedItem, TypeItem, FunctionItem, InterfaceTree, interfaces, full_interfaces, package_named, interface_at, interface_names, use_interface, type_names, own_types, named_definition, named_function, scopes}
 use Rattle.resolve.specs.Resolved.{interface_meaning}
 use Rattle.tables.specs.declared.error.ResolveError.{ResolveError}
 use Rattle.tables.specs.declared.error.ResolveError.TheVariants as error
@@ -59,8 +59,13 @@ pub record Resolves (is : List InterfaceTree) (p : Package) : Type 0 where
   pub names : p.interfaces ≡ names_in_order is order
   pub definitions : p.definitions ≡ flat_map (λ k. interface_meaning (interface_at is k) (types k)) order
 
-abbrev pub package_in : Table → Package
-package_in t = record { interfaces = t.interfaces; definitions = definitions_from t.interfaces [] [] t.rows }
+-- the full names of a table's interfaces
+abbrev pub full_names : PackageParts → Table → List (List ℕ)
+full_names p t = map (own_name p) t.interfaces
+
+-- the package of this name that a table stands for
+abbrev pub package_in : PackageParts → Table → Package
+package_in p t = record { interfaces = full_names p t; definitions = definitions_from (full_names p t) [] [] t.rows }
 
 -- ---- limits
 
@@ -156,15 +161,11 @@ file_fits f = list_all interface_fits f.entries
 
 -- ---- what is answered
 
--- the name of a tree's package
-abbrev pub package_named : File → PackageParts
-package_named f = record { namespace = f.namespace; name = f.name; version = f.version }
-
 -- The package of a tree. The rows without names and the ids of the interfaces are told as well, so that there is one answer alone.
 pub record IsPackageOf (f : File) (r : Resolve) : Type 0 where
   pub packages : r.packages ≡ package_named f ∷ []
   pub worlds : r.worlds ≡ []
-  pub resolves : Resolves (interfaces f) (package_of r)
+  pub resolves : Resolves (full_interfaces f) (package_of r)
   pub postfix : IsPostfix r.definitions
   pub ids : r.interfaces ≡ interfaces_in (table_of r)
   pub within : type_entries (table_of r) ≤ 65535
@@ -182,7 +183,7 @@ pub record HasNoFaults (f : File) : Type 0 where
 -- a table that the tree resolves to passes a limit
 pub record IsTooLarge (f : File) : Type 0 where
   pub table : Table
-  pub resolves : Resolves (interfaces f) (package_in table)
+  pub resolves : Resolves (full_interfaces f) (package_in (package_named f) table)
   pub postfix : IsPostfix table.rows
   pub earlier : IsTrue (are_earlier 0 table.rows)
   pub typed : IsTrue (name_types table.rows)

@@ -1,5 +1,6 @@
 //! The declarations of an interface of a syntax tree.
-ghost use Rattle.std.specs.Prelude.{◌≡◌, ◌++◌, map, OnOk, IfOk};
+ghost use Rattle.std.specs.Prelude.{◌≡◌, ◌++◌, map, All, OnOk, IfOk};
+ghost use Rattle.atoms.specs.Label.{IsLabel};
 ghost use Rattle.wit_syntax.specs.View.{entry_view, path_view, used_view};
 ghost use Rattle.resolve.specs.Declarations.{interface_tree, interface_name, interface_names, used_item, local_name, use_local, type_name};
 ghost use Rattle.resolve.specs.Lent.{declared_type, used_item_of, lent};
@@ -66,7 +67,8 @@ fn push_names<'a>(names: &mut Vec<&'a Label>, all: &[Declarations<'a>]) -> Resul
 
 /// The names of the interfaces.
 pub fn interface_names<'a>(alloc: Global, all: &[Declarations<'a>]) -> Result<Names<'a>, AllocError>
-    ensures { IfOk result (λ ns. ns ≡ interface_names (map declared_tree all.now)) }
+    ensures names { IfOk result (λ ns. ns ≡ interface_names (map declared_tree all.now)) }
+    ensures labels { IfOk result (λ ns. All IsLabel ns) }
 {
     let mut names = Vec::new(alloc);
     push_names(&mut names, all)?;

@@ -1,5 +1,6 @@
 //! Names that are found by their bytes.
-ghost use Rattle.std.specs.Prelude.{◌≡◌, IfOk};
+ghost use Rattle.std.specs.Prelude.{◌≡◌, All, IfOk};
+ghost use Rattle.atoms.specs.Label.{IsLabel};
 ghost use Rattle.resolve.specs.Lent.{lent};
 ghost use Rattle.resolve.specs.Resolves.{place_of};
 
@@ -29,7 +30,8 @@ impl<'a> Model for Names<'a> {
 
 impl<'a> Names<'a> {
     pub fn of(alloc: Global, names: Vec<&'a Label>) -> Result<Names<'a>, AllocError>
-        ensures { IfOk result (λ n. n ≡ lent names.entry.items) }
+        ensures names { IfOk result (λ n. n ≡ lent names.entry.items) }
+        ensures labels { IfOk result (λ n. All IsLabel n) }
     {
         let mut places = IndexMap::new(alloc);
         for (place, name) in names.iter().enumerate() {

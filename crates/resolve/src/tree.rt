@@ -1,12 +1,13 @@
 //! The package of a syntax tree.
 ghost use Rattle.std.specs.Prelude.{◌≡◌, map, All, IsTrue, IfOk, IfErr};
 ghost use Rattle.std.specs.List.{list_all};
+ghost use Rattle.atoms.specs.Label.{IsLabel};
 ghost use Rattle.wit_syntax.specs.View.{file_view};
 ghost use Rattle.wit_syntax.specs.FullNames.{has_full_names};
 ghost use Rattle.package_form.specs.Form.{IsInPackageForm};
 ghost use Rattle.package_form.specs.Naming.{package_scopes};
 ghost use Rattle.package_form.specs.Scope.{AreDistinct};
-ghost use Rattle.resolve.specs.Declarations.{interfaces};
+ghost use Rattle.resolve.specs.Declarations.{interfaces, interface_names};
 ghost use Rattle.resolve.specs.Resolves.{interface_fits, IsPackageOf, Refuses, HasNoFaults, AnswersOnly};
 ghost use Rattle.resolve.specs.Sources.{declared_tree, interface_entry, interface_syntax};
 ghost use Rattle.resolve.specs.Shape.{HasInterfaces, RefusesShape};
@@ -68,6 +69,7 @@ fn all_declarations<'a>(
 fn declarations(alloc: Global, ast: &Ast) -> Result<Vec<Declarations>, ResolveError>
     ensures faults { IfOk result (λ _. HasNoFaults (file_view ast.now)) }
     ensures ok { IfOk result (λ ds. map declared_tree ds.items ≡ interfaces (file_view ast.now)) }
+    ensures labels { IfOk result (λ _. All IsLabel (interface_names (interfaces (file_view ast.now)))) }
     ensures err { IfErr result (Refuses (file_view ast.now)) }
 {
     let interfaces = interfaces(alloc, ast)?;

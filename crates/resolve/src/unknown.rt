@@ -1,5 +1,6 @@
 //! 41: each name stands for something. Names are exact in case.
 ghost use Rattle.std.specs.Prelude.{◌≡◌, All, Contains, IfOk, IfErr, OnOk, IfSome, IfNone, MatchOption, map};
+ghost use Rattle.atoms.specs.Label.{IsLabel};
 ghost use Rattle.wit_syntax.specs.View.{entry_view, path_view, used_view};
 ghost use Rattle.resolve.specs.Declarations.{used_item, interface_names};
 ghost use Rattle.resolve.specs.Resolves.{IsKnownUse, IsUnknownUse, HasKnownNames};
@@ -129,6 +130,7 @@ pub fn known_names(
 ) -> Result<(), ResolveError>
     requires { map declared_tree all.now ≡ map interface_syntax interfaces.now }
     ensures ok { OnOk result (All (HasKnownNames (map declared_tree all.now)) (map declared_tree all.now)) }
+    ensures labels { OnOk result (All IsLabel (interface_names (map declared_tree all.now))) }
     ensures err { IfErr result (RefusesUnknown (map declared_tree all.now)) }
 {
     let names = interface_names(alloc, all)?;

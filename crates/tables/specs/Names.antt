@@ -1,8 +1,7 @@
 -- WIT.md, "Package Names": full names, and which function a full name and a name stand for.
 use Rattle.std.specs.Prelude.{◌≡◌, ℕ, List, slice_get, Option, None, Some, Contains}
 use Rattle.std.specs.Option.{option_map}
-use Rattle.atoms.specs.FullName.{full_name_text}
-use Rattle.tables.specs.PackageNames.{PackageParts, name_parts}
+use Rattle.tables.specs.PackageNames.{PackageParts, own_name}
 use Rattle.tables.specs.Closed.{function_at}
 use Rattle.tables.specs.declared.tables.FunctionId.{FunctionId}
 use Rattle.tables.specs.declared.tables.Interface.{Interface}
@@ -11,7 +10,7 @@ use Rattle.tables.specs.declared.tables.Resolve.{Resolve}
 -- the full name of a name in the package, if there is one: each interface of a table is of a package
 abbrev pub full_name_in : Option PackageParts → List ℕ → List ℕ
 full_name_in None name = name
-full_name_in (Some p) name = full_name_text (name_parts p name)
+full_name_in (Some p) name = own_name p name
 
 abbrev pub full_name : Resolve → Interface → List ℕ
 full_name r i = full_name_in (slice_get r.packages i.«package».0) i.name

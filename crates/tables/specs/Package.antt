@@ -7,6 +7,7 @@ use Rattle.canonical_abi.specs.Types.{ClosedType, prim_type, string_type, list_t
 use Rattle.canonical_abi.specs.Types as closed
 use Rattle.canonical_abi.specs.Labelled.{none_label, some_label, ok_label, error_label}
 use Rattle.tables.specs.Closed.{prim_of, closed_type}
+use Rattle.tables.specs.Names.{full_name}
 use Rattle.tables.specs.declared.tables.Primitive.{Primitive}
 use Rattle.tables.specs.declared.tables.ValType.{ValType}
 use Rattle.tables.specs.declared.tables.ValType.TheVariants as val
@@ -31,7 +32,7 @@ pub data Form : Type 0 where
   AsOption : Form
   AsResult : Form
 
--- a name of an interface
+-- a name of the interface of this full name
 pub record Key : Type 0 where
   pub interface : List ℕ
   pub name : List ℕ
@@ -198,8 +199,9 @@ definitions_from interfaces worlds trees [] = []
 definitions_from interfaces worlds trees (d ∷ ds) =
     definition_of interfaces worlds trees d ++ definitions_from interfaces worlds (trees ++ reference interfaces trees d ∷ []) ds
 
+-- interfaces go by their full names
 abbrev pub interface_names : Resolve → List (List ℕ)
-interface_names r = map (λ i. i.name) r.interfaces
+interface_names r = map (full_name r) r.interfaces
 
 abbrev pub world_names : Resolve → List (List ℕ)
 world_names r = map (λ w. w.name) r.worlds

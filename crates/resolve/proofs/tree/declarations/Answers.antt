@@ -1,10 +1,11 @@
 use Rattle.std.proofs.Common.{◌≡◌, ◌∙◌, List, All, map, ap, sym, subst}
 use Rattle.std.specs.List.{filter_map}
 use Rattle.std.proofs.lemmas.Result.{err_from_is_err_and}
+use Rattle.atoms.specs.Label.{IsLabel}
 use Rattle.wit_syntax.specs.Syntax.{FileEntry}
 use Rattle.wit_syntax.specs.View.{file_view}
 use Rattle.package_form.specs.Scope.{AreDistinct}
-use Rattle.resolve.specs.Declarations.{InterfaceTree, interface_of, interfaces, scopes_in}
+use Rattle.resolve.specs.Declarations.{InterfaceTree, interface_of, interfaces, interface_names, scopes_in}
 use Rattle.resolve.specs.Resolves.{HasKnownNames}
 use Rattle.resolve.specs.Sources.{declared_tree, interface_entry, interface_syntax}
 use Rattle.resolve.proofs.Trees.{file-interfaces, refuses-unknown}
@@ -37,3 +38,9 @@ returns-clause-faults c =
       distinct = subst (λ (es : List FileEntry). All AreDistinct (scopes_in es)) (ap (map interface_entry) c.deref-2.ensures.value ∙ shape.entries) c.in_ok-distinct_names.ensures.ok;
       known = subst (λ (is : List InterfaceTree). All (HasKnownNames is) is) same c.in_ok-known_names.ensures.ok;
     }
+
+pub returns-clause-labels : goal.returns-clause-labels
+returns-clause-labels c =
+    let trees : map declared_tree c.in_ok-all.all.items ≡ interfaces (file_view c.args.ast.now) =
+    c.in_ok-all.ensures ∙ ap (map interface_syntax) c.deref-3.ensures.value ∙ sym (file-interfaces c.in_ok-interfaces.interfaces.items) ∙ ap (filter_map interface_of) c.in_ok-interfaces.ensures.ok.entries in
+    subst (λ (is : List InterfaceTree). All IsLabel (interface_names is)) (ap (map declared_tree) c.deref-4.ensures.value ∙ trees) c.in_ok-known_names.ensures.labels

@@ -1,14 +1,15 @@
 use Rattle.std.proofs.Common.{◌<◌, ◌∙◌, List, ℕ, [], inl, inr, All, Contains, map, length, get_or, ap, sym, subst, refl, arith}
 use Rattle.std.proofs.lemmas.List.{length-map}
 use Rattle.std.proofs.lemmas.Result.{err_from_is_err_and}
+use Rattle.atoms.specs.Label.{IsLabel}
 use Rattle.wit_syntax.specs.View.{file_view}
 use Rattle.resolve.specs.Order.{IsPlacement}
 use Rattle.package_form.specs.Scope.{AreDistinct}
-use Rattle.resolve.specs.Declarations.{InterfaceTree, interface_names, interface_at}
+use Rattle.resolve.specs.Declarations.{InterfaceTree, package_named, full_interface, interface_names, interface_at}
 use Rattle.resolve.specs.Resolves.{Resolves, HasKnownNames, interface_uses, type_uses, package_in}
 use Rattle.resolve.specs.Building.{DefinesPackage}
 use Rattle.resolve.specs.Sources.{declared_tree}
-use Rattle.resolve.proofs.Trees.{distinct-interfaces, refuses-cycle, table-resolves, refuses-limit, is-package, ok-map, err-map}
+use Rattle.resolve.proofs.Trees.{distinct-interfaces, refuses-cycle, table-resolves, refuses-limit, is-package, header-is, ok-map, err-map}
 use Rattle.resolve.proofs.tree.resolved_package.Goals as goal
 
 pub returns-in_err-orders-clause-err : goal.returns-in_err-orders-clause-err
@@ -46,9 +47,13 @@ returns-clause-ok c =
     subst (λ (os : List (List ℕ)). IsPlacement (type_uses (interface_at is k)) (get_or os k [])) (sym c.deref-4.ensures.value)
     (subst (λ (ts : List InterfaceTree). IsPlacement (type_uses (interface_at ts k)) (get_or c.in_ok-orders.orders.items k [])) second
     (c.in_ok-orders.ensures.ok k (omega (arith, l, ap length c.deref-2.ensures.value, length-map c.in_ok-all.all.items declared_tree)))) in
-    let resolves = table-resolves is c.in_ok-order.order c.deref-4.result.now t placed types made in
-    ok-map c.finish.result _ _ (λ r h. is-package c.args.ast.now.«package» t r h f refl refl refl
-    (subst (λ (ts : List InterfaceTree). Resolves ts (package_in t)) c.in_ok-all.ensures.ok resolves) made.postfix) c.finish.ensures.ok
+    let n = package_named f in
+    let same = c.in_ok-all.ensures.ok in
+    let labels = subst (λ (ts : List InterfaceTree). All IsLabel (interface_names ts)) (sym same) c.in_ok-all.ensures.labels in
+    let known = subst (λ (ts : List InterfaceTree). All (HasKnownNames ts) ts) (sym same) c.in_ok-all.ensures.faults.known in
+    let resolves = table-resolves n is c.in_ok-order.order c.deref-4.result.now t placed types made labels known in
+    ok-map c.finish.result _ _ (λ r h. is-package c.args.ast.now.«package» t r h f (header-is c.args.ast.now.«package» f refl refl refl)
+    (subst (λ (ts : List InterfaceTree). Resolves (map (full_interface n) ts) (package_in n t)) same resolves) made.postfix) c.finish.ensures.ok
 
 pub returns-clause-err : goal.returns-clause-err
 returns-clause-err c =
@@ -65,4 +70,8 @@ returns-clause-err c =
     subst (λ (os : List (List ℕ)). IsPlacement (type_uses (interface_at is k)) (get_or os k [])) (sym c.deref-4.ensures.value)
     (subst (λ (ts : List InterfaceTree). IsPlacement (type_uses (interface_at ts k)) (get_or c.in_ok-orders.orders.items k [])) second
     (c.in_ok-orders.ensures.ok k (omega (arith, l, ap length c.deref-2.ensures.value, length-map c.in_ok-all.all.items declared_tree)))) in
-    err-map c.finish.result _ _ (λ e h. refuses-limit is c.in_ok-order.order c.deref-4.result.now t placed types made f e c.in_ok-all.ensures.ok c.in_ok-all.ensures.faults h) c.finish.ensures.err
+    let n = package_named f in
+    let same = c.in_ok-all.ensures.ok in
+    let labels = subst (λ (ts : List InterfaceTree). All IsLabel (interface_names ts)) (sym same) c.in_ok-all.ensures.labels in
+    let known = subst (λ (ts : List InterfaceTree). All (HasKnownNames ts) ts) (sym same) c.in_ok-all.ensures.faults.known in
+    err-map c.finish.result _ _ (λ e h. refuses-limit n is c.in_ok-order.order c.deref-4.result.now t placed types made labels known f e refl same c.in_ok-all.ensures.faults h) c.finish.ensures.err
