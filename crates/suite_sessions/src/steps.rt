@@ -193,6 +193,39 @@ fn a_list_of_steps(rt: HostRuntime) -> Result<(), Fail> {
     Ok(())
 }
 
+/// Takes these steps twice.
+fn answers_twice(
+    rt: &impl Abort,
+    alloc: Global,
+    package: &Package,
+    steps: &[Step],
+) -> Result<Vec<Answer>, Fail> {
+    let mut session = session(alloc, package, 64)?;
+    let mut answers = Vec::new(alloc);
+    assert!(rt; package.takes_steps(steps));
+    session.run(alloc, steps, &mut answers)?;
+    session.run(alloc, steps, &mut answers)?;
+    Ok(answers)
+}
+
+/// Answers that are there already are kept, and are of no step of a later list.
+#[test]
+fn behind_other_answers(rt: HostRuntime) -> Result<(), Fail> {
+    let alloc = rt.alloc();
+    let package = package(alloc)?;
+    let steps = vec![in alloc;
+        Step::Read(1),
+        Step::Place(ValType::String, text(alloc, "hello")?),
+    ]?;
+    let answers = answers_twice(&rt, alloc, &package, steps.as_slice())?;
+    assert_eq!(rt; answers.len(), 4);
+    assert!(rt; matches!(answers.get(0), Some(Answer::Missing)));
+    assert!(rt; is_placed_at(answers.get(1), 0));
+    assert!(rt; matches!(answers.get(2), Some(Answer::Missing)));
+    assert!(rt; is_placed_at(answers.get(3), 16));
+    Ok(())
+}
+
 /// A record of a text and of a list of two texts.
 fn record(alloc: Global) -> Result<Val, Fail> {
     let tags = vec![in alloc; text(alloc, "a")?, text(alloc, "bc")?]?;

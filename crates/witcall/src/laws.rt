@@ -8,7 +8,7 @@ ghost use Rattle.tables.specs.declared.tables.ValType.{ValType};
 ghost use Rattle.package_form.specs.Laws.{HasOneOfEachName};
 ghost use Rattle.value_json.specs.Apart.{HasApartLabels};
 ghost use Rattle.value_json.specs.Json.{HasDistinctLabels};
-ghost use Rattle.witcall.specs.Laws.{StepsKeepHeld, StepsReadPlaced};
+ghost use Rattle.witcall.specs.Laws.{StepsKeepHeld, StepsReadPlaced, StepsTellCallee};
 
 use crate::package::Package;
 use crate::session::Session;
@@ -59,4 +59,16 @@ pub fn keeps_held<C: Guest, E: Guest, B: Body<E>>(_session: &Session<'_, C, E, B
         C.releases
         either
         E.releases }
+{}
+
+/// After lists of steps whose calls all answer Ok, the callee and its body are told by their beginning, the functions and
+/// the arguments in turn: nothing else of a caller is in them, of whatever kind its memory is.
+pub fn tells_callee<C: Guest, D: Guest, E: Guest, B: Body<E>>(_session: &Session<'_, C, E, B>)
+    ensures { StepsTellCallee
+        (record { caller_allocates = C.allocates; callee_allocates = E.allocates; runs = B.runs _session.now.body; posts = B.posts _session.now.body })
+        D.allocates
+        C.releases
+        D.releases
+        E.releases
+        _session.now.package.now.resolve }
 {}
