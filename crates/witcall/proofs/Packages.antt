@@ -5,7 +5,6 @@ use Rattle.canonical_abi.specs.Types.{string_type}
 use Rattle.tables.specs.Closed.{closed_types}
 use Rattle.tables.specs.Same.{IsSamePackage}
 use Rattle.tables.specs.declared.tables.Definition.{Definition}
-use Rattle.tables.specs.declared.tables.Definition.TheVariants as row
 use Rattle.tables.specs.declared.tables.Resolve.{Resolve}
 use Rattle.package_form.specs.Postfix.{IsPostfix}
 use Rattle.package_form.specs.Entries.{type_entries, table_of}

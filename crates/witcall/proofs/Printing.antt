@@ -12,8 +12,7 @@ use Rattle.tables.specs.Closed.{function_at, function_type}
 use Rattle.tables.specs.Names.{IsNamed}
 use Rattle.tables.specs.declared.tables.FunctionId.{FunctionId}
 use Rattle.tables.specs.declared.tables.Resolve.{Resolve}
-use Rattle.witcall.specs.declared.refused.Refused.TheVariants as refused
-use Rattle.witcall.specs.Calling.{Asks, CallAnswers, CallRefuses, Refuses, fresh, program_parties}
+use Rattle.witcall.specs.Calling.{Asks, CallAnswers, CallRefuses, fresh, program_parties}
 use Rattle.witcall.specs.Json.{IsArrayTextOf}
 use Rattle.witcall.specs.Signature.{signature_of}
 use Rattle.witcall.specs.Status.{refusal_of}

@@ -1,8 +1,10 @@
 pub mod Calling
 pub mod Json
+pub mod Laws
 pub mod Opening
 pub mod Replying
 pub mod Running
 pub mod Session
 pub mod Signature
 pub mod Status
+pub mod Steps

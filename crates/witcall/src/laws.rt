@@ -1,13 +1,19 @@
-//! Laws of packages that were opened.
+//! Laws of packages that were opened, and of their sessions.
 
+ghost use Rattle.canonical_abi.specs.Call.{either};
+ghost use Rattle.canonical_abi.specs.Keeping.{CalleeKeepsHeld};
 ghost use Rattle.tables.specs.Package.{IsClosedByNames};
 ghost use Rattle.tables.specs.Labelled.{labelled_type};
 ghost use Rattle.tables.specs.declared.tables.ValType.{ValType};
 ghost use Rattle.package_form.specs.Laws.{HasOneOfEachName};
 ghost use Rattle.value_json.specs.Apart.{HasApartLabels};
 ghost use Rattle.value_json.specs.Json.{HasDistinctLabels};
+ghost use Rattle.witcall.specs.Laws.{StepsKeepHeld, StepsReadPlaced, StepsTellCallee};
 
 use crate::package::Package;
+use crate::session::Session;
+use adapter::Body;
+use canonical_abi::Guest;
 use package_form::laws::{closes_by_names, names_one_function};
 use value_json::labels_are_apart;
 
@@ -32,3 +38,37 @@ pub fn has_labels_apart(package: &Package)
 {
     labels_are_apart(package.resolve());
 }
+
+/// Over every list of steps of a session, traps among them, a value that a component holds at some moment is held with
+/// the same footprint: in the caller while its footprint is live, so that what was placed is read, or the host has no
+/// memory, until a release ends life in it; in the callee where no run of the body or of its post-return changed a byte of
+/// the footprint or ended its life.
+pub fn keeps_held<C: Guest, E: Guest, B: Body<E>>(_session: &Session<'_, C, E, B>)
+    ensures caller { StepsKeepHeld
+        (record { caller_allocates = C.allocates; callee_allocates = E.allocates; runs = B.runs _session.now.body; posts = B.posts _session.now.body })
+        C.releases
+        E.releases
+        _session.now.package.now.resolve }
+    ensures read { StepsReadPlaced
+        (record { caller_allocates = C.allocates; callee_allocates = E.allocates; runs = B.runs _session.now.body; posts = B.posts _session.now.body })
+        C.releases
+        E.releases
+        _session.now.package.now.resolve }
+    ensures callee { CalleeKeepsHeld
+        (record { caller_allocates = C.allocates; callee_allocates = E.allocates; runs = B.runs _session.now.body; posts = B.posts _session.now.body })
+        C.releases
+        either
+        E.releases }
+{}
+
+/// After lists of steps whose calls all answer Ok, the callee and its body are told by their beginning, the functions and
+/// the arguments in turn: nothing else of a caller is in them, of whatever kind its memory is.
+pub fn tells_callee<C: Guest, D: Guest, E: Guest, B: Body<E>>(_session: &Session<'_, C, E, B>)
+    ensures { StepsTellCallee
+        (record { caller_allocates = C.allocates; callee_allocates = E.allocates; runs = B.runs _session.now.body; posts = B.posts _session.now.body })
+        D.allocates
+        C.releases
+        D.releases
+        E.releases
+        _session.now.package.now.resolve }
+{}

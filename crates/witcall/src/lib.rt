@@ -20,6 +20,7 @@ mod reply;
 mod running;
 mod session;
 mod signature;
+mod steps;
 mod text;
 mod typing;
 
@@ -31,3 +32,4 @@ pub use refused::{Refused, report};
 pub use reply::Reply;
 pub use running::run;
 pub use session::Session;
+pub use steps::{Answer, Held, Step};

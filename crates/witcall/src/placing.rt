@@ -1,16 +1,21 @@
-//! What stands in the caller before a call: its arguments, and the return area.
+//! What is put into the caller: the arguments of a call and its return area, and values that stay.
 
 ghost use Rattle.std.specs.Prelude.{map, IfOk, IfErr};
+ghost use Rattle.canonical_abi.specs.Session.{PlacesValue};
 ghost use Rattle.canonical_abi.specs.Types.{result_fields};
-ghost use Rattle.canonical_abi.specs.Values.{HaveTypes};
-ghost use Rattle.tables.specs.Closed.{IsFunction, function_type};
+ghost use Rattle.canonical_abi.specs.Values.{HasType, HaveTypes};
+ghost use Rattle.tables.specs.Closed.{IsFunction, closed_type, function_type};
+ghost use Rattle.tables.specs.Standard.{IsTypeOf};
 ghost use Rattle.lift_lower.specs.Placing.{IsAreaIn};
 ghost use Rattle.lift_lower.specs.Val.{value_of};
 ghost use Rattle.witcall.specs.Session.{IsReady, IsNotReady};
+ghost use Rattle.witcall.specs.Steps.{placed_answer};
 
-use canonical_abi::{Fault, Flat, Guest};
-use lift_lower::{Flats, Types, Val, ask_area, lower_arguments};
-use resolve::FunctionId;
+use crate::package::Package;
+use crate::steps::Held;
+use canonical_abi::{Fault, Flat, Guest, Step, Trap, TrapKind};
+use lift_lower::{Flats, Types, Val, ask_area, lower_arguments, store};
+use resolve::{FunctionId, ValType};
 
 /// The core values that a call is given. The last is the address of the return area, where there is one.
 #[derive(Drop)]
@@ -43,4 +48,31 @@ pub(crate) fn place_call<C: Guest>(
     };
     flats.push(Flat::I32(at));
     Ok(Placed { flats, area })
+}
+
+/// Stores a value in a block of its own, which is asked for first. A trap is in step `place`: the first request that
+/// fails. Takes no memory of the host.
+pub(crate) fn place_value<C: Guest>(
+    package: &Package,
+    ty: ValType,
+    value: &Val,
+    caller: &mut C,
+) -> Result<Held, Fault>
+    requires known { IsTypeOf «package».now.resolve ty }
+    requires typed { HasType (value_of value.now) (closed_type «package».now.resolve ty) }
+    ensures placed { PlacesValue C.allocates (closed_type «package».now.resolve ty) (value_of value.now) (C.memory caller.old)
+        (placed_answer «package».now.resolve result) (C.memory caller.new) }
+    ensures known { IfOk result (λ held. IsTypeOf «package».now.resolve held.ty) }
+{
+    let layouts = package.layouts();
+    let Ok(at) = caller.alloc(layouts.align(ty), layouts.size(ty)) else {
+        return Err(Fault::Trap(Trap {
+            kind: TrapKind::Full,
+            step: Step::Place,
+        }));
+    };
+    match store(package.resolve(), layouts, ty, value, caller, at) {
+        Ok(()) => Ok(Held { ty, at }),
+        Err(fault) => Err(fault),
+    }
 }

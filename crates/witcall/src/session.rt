@@ -1,14 +1,16 @@
 //! Typed calls between two components.
 
-ghost use Rattle.std.specs.Prelude.{◌≡◌, ◌≢◌, ◌≤◌, ℕ, List, Err, length, map, IfOk, IfErr, option_to_list};
+ghost use Rattle.std.specs.Prelude.{◌≡◌, ◌≢◌, ◌≤◌, ℕ, List, Err, length, map, is_ok, IfOk, IfErr, OnErr, OnOk, option_to_list};
+ghost use Rattle.std.specs.List.{All};
 ghost use Rattle.std.specs.Option.{option_map};
-ghost use Rattle.canonical_abi.specs.Values.{HaveTypes};
-ghost use Rattle.canonical_abi.specs.Types.{result_fields};
-ghost use Rattle.tables.specs.Closed.{IsFunction, IsScalarFunction, function_type};
+ghost use Rattle.canonical_abi.specs.Values.{HasType, HaveTypes};
+ghost use Rattle.canonical_abi.specs.Types.{IsPlain, result_fields};
+ghost use Rattle.tables.specs.Closed.{IsFunction, IsScalarFunction, closed_type, function_type};
+ghost use Rattle.tables.specs.Standard.{IsTypeOf};
 ghost use Rattle.canonical_abi.specs.Layout.{max_flat_results};
 ghost use Rattle.canonical_abi.specs.Flat.{Denotes};
 ghost use Rattle.canonical_abi.specs.Call.{either, AllowsSameRuns, AllowsSamePosts};
-ghost use Rattle.canonical_abi.specs.Session.{TypedCall, as_list};
+ghost use Rattle.canonical_abi.specs.Session.{PlacesValue, ReadsValue, TakesStep, TypedCall, as_list};
 ghost use Rattle.canonical_abi.specs.Headline.{IsPromised};
 ghost use Rattle.lift_lower.specs.Val.{value_of};
 ghost use Rattle.lift_lower.specs.Crossing.{fields_of_types};
@@ -16,14 +18,16 @@ ghost use Rattle.lift_lower.specs.Scalars.{AreScalar};
 ghost use Rattle.lift_lower.specs.Scalar.{value_in};
 ghost use Rattle.tables.specs.declared.tables.Resolve.{Resolve};
 ghost use Rattle.witcall.specs.Session.{typed_answer};
+ghost use Rattle.witcall.specs.Steps.{IsKnownAnswer, IsStep, Runs, answer_of, held_of, placed_answer, read_answer, step_of};
 
 use crate::package::Package;
-use crate::placing::place_call;
+use crate::placing::{place_call, place_value};
+use crate::steps::{Answer, Held, Step, held_by};
 use adapter::{Body, Link};
-use canonical_abi::{Fault, Guest};
-use lift_lower::{Val, take_result};
-use resolve::FunctionId;
-use std::alloc::Global;
+use canonical_abi::{Fault, Guest, NotTaken};
+use lift_lower::{Val, load, take_result};
+use resolve::{FunctionId, ValType};
+use std::alloc::{AllocError, Global};
 
 /// Two components' memories and the callee's body: typed calls of one package's functions.
 #[derive(Drop)]
@@ -123,5 +127,116 @@ impl<'a, C: Guest, E: Guest, B: Body<E>> Session<'a, C, E, B> {
             placed.area,
             &self.caller,
         )
+    }
+
+    /// Stores a value in a block of the caller, which is asked for first, and tells where. The block stays live until it is
+    /// given back. A trap is in step `place`: the first request that fails. Takes no memory of the host.
+    pub fn place(&mut self, ty: ValType, value: &Val) -> Result<Held, Fault>
+        requires known { IsTypeOf self.old.package.now.resolve ty }
+        requires typed { HasType (value_of value.now) (closed_type self.old.package.now.resolve ty) }
+        ensures placed { PlacesValue C.allocates (closed_type self.old.package.now.resolve ty) (value_of value.now)
+            (C.memory self.old.caller) (placed_answer self.old.package.now.resolve result) (C.memory self.new.caller) }
+        ensures known { IfOk result (λ held. IsTypeOf self.old.package.now.resolve held.ty) }
+        ensures callee { self.new.callee ≡ self.old.callee }
+        ensures body { self.new.body ≡ self.old.body }
+        ensures package { self.new.package.now ≡ self.old.package.now }
+    {
+        place_value(self.package, ty, value, &mut self.caller)
+    }
+
+    /// The value that stands in the caller where one was placed, or the first fault there, in step `take`. `NoMemory`
+    /// where the host has none for the value, and never where its type is plain.
+    pub fn read(&self, alloc: Global, held: &Held) -> Result<Val, Fault>
+        requires { IsTypeOf self.now.package.now.resolve held.now.ty }
+        ensures read { ReadsValue (C.memory self.now.caller) (held_of self.now.package.now.resolve held.now) (read_answer result) }
+        ensures plain { IsPlain (closed_type self.now.package.now.resolve held.now.ty) → result ≢ Err Fault.NoMemory }
+        ensures typed { IfOk result (λ v. HasType (value_of v) (closed_type self.now.package.now.resolve held.now.ty)) }
+    {
+        let package = self.package;
+        load(
+            alloc,
+            package.resolve(),
+            package.layouts(),
+            held.ty,
+            &self.caller,
+            held.at,
+        )
+    }
+
+    /// Gives a block of the caller back. Takes no memory of the host.
+    pub fn release(&mut self, at: u32, size: u32) -> Result<(), NotTaken>
+        ensures released { C.releases (C.memory self.old.caller) at size (is_ok result) (C.memory self.new.caller) }
+        ensures callee { self.new.callee ≡ self.old.callee }
+        ensures body { self.new.body ≡ self.old.body }
+        ensures package { self.new.package.now ≡ self.old.package.now }
+    {
+        self.caller.free(at, size)
+    }
+
+    /// Takes these steps in turn, whatever each answers, and appends their answers, a fault too. Room for all answers is
+    /// made first: where the host has none, nothing is done. A step that reads tells by its number, counted from 0, which
+    /// of these steps placed the value.
+    pub fn run(
+        &mut self,
+        alloc: Global,
+        steps: &[Step],
+        answers: &mut Vec<Answer>,
+    ) -> Result<(), AllocError>
+        requires { All (IsStep self.old.package.now.resolve) steps.now }
+        ensures run { OnOk result (Runs
+            (record { caller_allocates = C.allocates; callee_allocates = E.allocates; runs = B.runs self.old.body; posts = B.posts self.old.body })
+            C.releases
+            self.old.package.now.resolve
+            steps.now
+            answers.old.items
+            (record { caller = C.memory self.old.caller; callee = E.memory self.old.callee; body = B.state self.old.body })
+            answers.new.items
+            (record { caller = C.memory self.new.caller; callee = E.memory self.new.callee; body = B.state self.new.body })) }
+        ensures same_runs { AllowsSameRuns (B.runs self.old.body) (B.runs self.new.body) }
+        ensures same_posts { AllowsSamePosts (B.posts self.old.body) (B.posts self.new.body) }
+        ensures package { self.new.package.now ≡ self.old.package.now }
+        ensures caller { OnErr result (self.new.caller ≡ self.old.caller) }
+        ensures callee { OnErr result (self.new.callee ≡ self.old.callee) }
+        ensures body { OnErr result (self.new.body ≡ self.old.body) }
+        ensures answers { OnErr result (answers.new.items ≡ answers.old.items) }
+    {
+        answers.reserve(steps.len())?;
+        let start = answers.len();
+        for step in steps {
+            let answer = self.take_step(alloc, step, &answers.as_slice()[start..]);
+            answers.push_reserved(answer);
+        }
+        Ok(())
+    }
+
+    /// Takes one step, after these answers of those before it.
+    fn take_step(&mut self, alloc: Global, step: &Step, before: &[Answer]) -> Answer
+        requires step { IsStep self.old.package.now.resolve step.now }
+        requires before { All (IsKnownAnswer self.old.package.now.resolve) before.now }
+        ensures taken { let r = self.old.package.now.resolve in TakesStep
+            (record { caller_allocates = C.allocates; callee_allocates = E.allocates; runs = B.runs self.old.body; posts = B.posts self.old.body })
+            C.releases
+            either
+            (map (answer_of r) before.now)
+            (record { caller = C.memory self.old.caller; callee = E.memory self.old.callee; body = B.state self.old.body })
+            (step_of r step.now)
+            (answer_of r result)
+            (record { caller = C.memory self.new.caller; callee = E.memory self.new.callee; body = B.state self.new.body }) }
+        ensures known { IsKnownAnswer self.old.package.now.resolve result }
+        ensures same_runs { AllowsSameRuns (B.runs self.old.body) (B.runs self.new.body) }
+        ensures same_posts { AllowsSamePosts (B.posts self.old.body) (B.posts self.new.body) }
+        ensures package { self.new.package.now ≡ self.old.package.now }
+    {
+        match step {
+            Step::Call(func, arguments) => {
+                Answer::Called(self.call(alloc, *func, arguments.as_slice()))
+            }
+            Step::Place(ty, value) => Answer::Placed(self.place(*ty, value)),
+            Step::Read(number) => match held_by(self.package.resolve(), before, *number) {
+                Some(held) => Answer::Read(self.read(alloc, &held)),
+                None => Answer::Missing,
+            },
+            Step::Release(at, size) => Answer::Released(self.release(*at, *size)),
+        }
     }
 }

@@ -1,0 +1,57 @@
+-- What the steps of a session keep, whatever they are.
+use Rattle.std.specs.Prelude.{◌≡◌, ℕ, List, map, Some, Ok}
+use Rattle.std.specs.List.{All}
+use Rattle.canonical_abi.specs.Types.{ClosedType}
+use Rattle.canonical_abi.specs.Values.{Value}
+use Rattle.canonical_abi.specs.Call.{Parties, World, either}
+use Rattle.canonical_abi.specs.Footprint.{Reads}
+use Rattle.canonical_abi.specs.Guest.{Allocation, Release}
+use Rattle.canonical_abi.specs.Headline.{AreHonest, AreLimited}
+use Rattle.canonical_abi.specs.Keeping.{IsKept, ReadAnswers, ReleasesMiss, StaysLive}
+use Rattle.canonical_abi.specs.Told.{AllocatesInOneWay, AreAnswered, IgnoresBytes, RunsInOneWay, SameCallee, calls_of, otherwise}
+use Rattle.canonical_abi.specs.Session.{Held, PlacesValue, ReadsStep, RunsSession, SessionAnswer}
+use Rattle.tables.specs.Closed.{closed_type}
+use Rattle.tables.specs.Standard.{IsTypeOf}
+use Rattle.tables.specs.declared.tables.Resolve.{Resolve}
+use Rattle.tables.specs.declared.tables.ValType.{ValType}
+use Rattle.witcall.specs.Steps.{IsStep, step_of}
+use Rattle.witcall.specs.declared.steps.Step.{Step}
+
+module _ (parties : Parties) (caller_releases callee_releases : Release) (r : Resolve) where
+  -- a run of these steps of the package's, after some answers
+  abbrev pub Ran : List SessionAnswer → World → List Step → List SessionAnswer → World → Type 0
+  Ran before old steps answers new = RunsSession parties caller_releases either before old (map (step_of r) steps) answers new
+
+  -- over every list of steps, traps among them: a value that the caller holds at some moment, its footprint live then and after each
+  -- step since, is held with the same footprint
+  abbrev pub StepsKeepHeld : Type 0
+  StepsKeepHeld =
+      (t : ClosedType) (a : ℕ) (v : Value) (before : List SessionAnswer) (old : World) (steps : List Step) (answers : List SessionAnswer) (new : World)
+      (ran : Ran before old steps answers new)
+      → AreHonest parties caller_releases callee_releases → AreLimited parties old → All (IsStep r) steps
+      → StaysLive parties caller_releases either t a v before old (map (step_of r) steps) answers new ran → IsKept t a v old.caller new.caller
+
+  -- so what was placed is read, or the host has no memory, until a release ends life in what it stands in
+  abbrev pub StepsReadPlaced : Type 0
+  StepsReadPlaced =
+      (ty : ValType) (v : Value) (held : Held) (before : List SessionAnswer) (old placed : World) (steps : List Step) (answers : List SessionAnswer) (new : World)
+      (answer : SessionAnswer)
+      → AreHonest parties caller_releases callee_releases → AreLimited parties old → IsTypeOf r ty → All (IsStep r) steps
+      → PlacesValue parties.caller_allocates (closed_type r ty) v old.caller (Ok held) placed.caller → Ran before placed steps answers new
+      → ReleasesMiss (Reads (closed_type r ty) placed.caller.bytes held.at) (map (step_of r) steps) → ReadsStep new.caller (Some held) answer → ReadAnswers v answer
+
+module _ (parties : Parties) (other : Allocation) (caller_releases other_releases callee_releases : Release) (r : Resolve) where
+  -- the same callee and body, called from another caller
+  abbrev pub second : Parties
+  second = otherwise parties other caller_releases other_releases callee_releases either
+
+  -- what two lists of steps whose calls all answer Ok leave of the callee and the body is told by their beginning, the functions and the
+  -- arguments in turn: nothing else of a caller is in them
+  abbrev pub StepsTellCallee : Type 0
+  StepsTellCallee =
+      (before earlier : List SessionAnswer) (old past : World) (steps moves : List Step) (answers replies : List SessionAnswer) (new last : World)
+      → AreHonest parties caller_releases callee_releases → AreHonest second other_releases callee_releases → AreLimited parties old → AreLimited second past
+      → AllocatesInOneWay parties.callee_allocates → IgnoresBytes parties.callee_allocates → RunsInOneWay parties.runs parties.posts → All (IsStep r) steps → All (IsStep r) moves
+      → Ran parties caller_releases callee_releases r before old steps answers new → Ran second other_releases callee_releases r earlier past moves replies last
+      → AreAnswered (map (step_of r) steps) answers → AreAnswered (map (step_of r) moves) replies → calls_of (map (step_of r) steps) ≡ calls_of (map (step_of r) moves)
+      → SameCallee old past → SameCallee new last

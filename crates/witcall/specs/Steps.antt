@@ -1,0 +1,62 @@
+-- Lists of steps of a session, with the values and the closed types that they stand for. CanonicalABI.md has no such section.
+use Rattle.std.specs.Prelude.{◌≡◌, List, [], ◌++◌, Result, Ok, Err, map, is_ok}
+use Rattle.std.specs.List.{All}
+use Rattle.canonical_abi.specs.Session.{Held as HeldValue, SessionStep, call, place, read, release, SessionAnswer, called, placed, was_read, released, missing, RunsSession}
+use Rattle.canonical_abi.specs.Call.{Parties, World, either}
+use Rattle.canonical_abi.specs.Guest.{Release}
+use Rattle.canonical_abi.specs.Values.{Value, HasType, HaveTypes}
+use Rattle.canonical_abi.specs.declared.trap.Fault.{Fault}
+use Rattle.lift_lower.specs.declared.val.Val.{Val}
+use Rattle.lift_lower.specs.Val.{value_of}
+use Rattle.tables.specs.Closed.{closed_type, function_type, IsFunction}
+use Rattle.tables.specs.Standard.{IsTypeOf}
+use Rattle.tables.specs.declared.tables.Resolve.{Resolve}
+use Rattle.witcall.specs.Session.{typed_answer}
+use Rattle.witcall.specs.declared.steps.Answer.{Answer}
+use Rattle.witcall.specs.declared.steps.Answer.TheVariants as answer
+use Rattle.witcall.specs.declared.steps.Held.{Held}
+use Rattle.witcall.specs.declared.steps.Step.{Step}
+use Rattle.witcall.specs.declared.steps.Step.TheVariants as step
+
+-- where a value was placed, by its closed type
+abbrev pub held_of : Resolve → Held → HeldValue
+held_of r held = record { ty = closed_type r held.ty; at = held.at }
+
+abbrev pub placed_answer : Resolve → Result Held Fault → Result HeldValue Fault
+placed_answer r (Ok held) = Ok (held_of r held)
+placed_answer r (Err fault) = Err fault
+
+abbrev pub read_answer : Result Val Fault → Result Value Fault
+read_answer (Ok v) = Ok (value_of v)
+read_answer (Err fault) = Err fault
+
+abbrev pub step_of : Resolve → Step → SessionStep
+step_of r (step.Call f arguments) = call (function_type r f) (map value_of arguments.items)
+step_of r (step.Place ty v) = place (closed_type r ty) (value_of v)
+step_of r (step.Read k) = read k
+step_of r (step.Release at size) = release at size
+
+abbrev pub answer_of : Resolve → Answer → SessionAnswer
+answer_of r (answer.Called result) = called (typed_answer result)
+answer_of r (answer.Placed result) = placed (placed_answer r result)
+answer_of r (answer.Read result) = was_read (read_answer result)
+answer_of r (answer.Released result) = released (is_ok result)
+answer_of r answer.Missing = missing
+
+-- the step can be taken: a call is of a function, with arguments of its types, and what is placed is of its type
+abbrev pub IsStep : Resolve → Step → Type 0
+IsStep r (step.Call f arguments) = IsFunction r f × HaveTypes (map value_of arguments.items) (function_type r f).params
+IsStep r (step.Place ty v) = IsTypeOf r ty × HasType (value_of v) (closed_type r ty)
+IsStep r _ = Unit {0}
+
+-- what was placed is of a type of the package
+abbrev pub IsKnownAnswer : Resolve → Answer → Type 0
+IsKnownAnswer r (answer.Placed (Ok held)) = IsTypeOf r held.ty
+IsKnownAnswer r _ = Unit {0}
+
+-- the steps were taken in turn, and their answers stand behind those that were there
+pub record Runs (parties : Parties) (caller_releases : Release) (r : Resolve) (steps : List Step) (before : List Answer) (old : World) (after : List Answer) (new : World) : Type 0 where
+  pub made : List Answer
+  pub appended : after ≡ before ++ made
+  pub known : All (IsKnownAnswer r) made
+  pub run : RunsSession parties caller_releases either [] old (map (step_of r) steps) (map (answer_of r) made) new

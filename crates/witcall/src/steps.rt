@@ -1,0 +1,83 @@
+//! The steps of a session, and their answers.
+
+ghost use Rattle.std.specs.Prelude.{◌≡◌, ◌↔◌, IfSome, IsTrue, map, slice_get, option_map};
+ghost use Rattle.std.specs.List.{All};
+ghost use Rattle.canonical_abi.specs.Session.{placed_by};
+ghost use Rattle.tables.specs.Standard.{IsTypeOf};
+ghost use Rattle.witcall.specs.Steps.{IsKnownAnswer, IsStep, answer_of, held_of};
+
+use crate::package::Package;
+use canonical_abi::{Fault, NotTaken};
+use lift_lower::Val;
+use resolve::{FunctionId, Resolve, ValType};
+
+/// A value that stands in the caller: its type and its address.
+#[derive(Clone, Copy, Debug, PartialEq, Eq)]
+pub struct Held {
+    pub ty: ValType,
+    pub at: u32,
+}
+
+/// A step of a session.
+#[derive(Drop)]
+pub enum Step {
+    /// A function is called with these arguments.
+    Call(FunctionId, Vec<Val>),
+    /// A value of this type is placed.
+    Place(ValType, Val),
+    /// What a step of the same list placed is read: its number, counted from 0.
+    Read(usize),
+    /// A block is given back: its address and its size in bytes.
+    Release(u32, u32),
+}
+
+/// What a step answered.
+#[derive(Drop)]
+pub enum Answer {
+    Called(Result<Option<Val>, Fault>),
+    Placed(Result<Held, Fault>),
+    Read(Result<Val, Fault>),
+    Released(Result<(), NotTaken>),
+    /// The step that was to be read placed nothing.
+    Missing,
+}
+
+/// What the step of a number placed, by the answers so far.
+pub(crate) fn held_by(resolve: &Resolve, answers: &[Answer], number: usize) -> Option<Held>
+    requires { All (IsKnownAnswer resolve.now) answers.now }
+    ensures placed { option_map (held_of resolve.now) result
+        ≡ placed_by (slice_get (map (answer_of resolve.now) answers.now) number) }
+    ensures known { IfSome result (λ held. IsTypeOf resolve.now held.ty) }
+{
+    match answers.get(number) {
+        Some(Answer::Placed(Ok(held))) => Some(*held),
+        _ => None,
+    }
+}
+
+impl Package {
+    /// Whether a session can take these steps, each of them: what `Session::run` asks for.
+    pub fn takes_steps(&self, steps: &[Step]) -> bool
+        ensures { IsTrue result ↔ All (IsStep self.now.resolve) steps.now }
+    {
+        for step in steps {
+            if !self.takes_step(step) {
+                return false;
+            }
+        }
+        true
+    }
+
+    /// Whether a call is of a function, with arguments of its types, and what is to be placed is of its type.
+    fn takes_step(&self, step: &Step) -> bool
+        ensures { IsTrue result ↔ IsStep self.now.resolve step.now }
+    {
+        match step {
+            Step::Call(func, arguments) => {
+                self.is_function(*func) && self.takes(*func, arguments.as_slice())
+            }
+            Step::Place(ty, value) => self.is_type(*ty) && self.is_of(*ty, value),
+            Step::Read(_) | Step::Release(_, _) => true,
+        }
+    }
+}
