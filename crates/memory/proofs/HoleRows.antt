@@ -180,10 +180,10 @@ front_taken v w m from to row some held order below none s e =
     let empty : get_or (set row v 0) w 0 ≡ 0 = get_or-set_other row v w 0 0 apart ∙ none w order (omega arith) in
     let long = length-set row v 0 in
     let place : rank w (set row v 0) ≡ rank v row =
-      (let one = rank-cleared v w row held order in
-      let two = rank_same (suc v) w row (omega arith) (λ k a b. none k (omega arith) (omega arith)) in
-      let three = rank_past v row held in
-      omega arith) in
+    (let one = rank-cleared v w row held order in
+    let two = rank_same (suc v) w row (omega arith) (λ k a b. none k (omega arith) (omega arith)) in
+    let three = rank_past v row held in
+    omega arith) in
     filled w 0 m from to (set row v 0) some (omega arith) empty (omega arith) (omega arith)
     ∙ ap (λ i. insert (holes_of 0 (set row v 0)) i (record { start = from; end = to })) place
     ∙ ap (λ holes. insert holes (rank v row) (record { start = from; end = to })) (cleared v 0 row held)

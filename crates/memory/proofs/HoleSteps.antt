@@ -46,7 +46,7 @@ taken_front row limit n v size at apart room some more few s a =
     let most = ends_inside row limit v apart held in
     let i = rank v row in
     let moved = front_taken v (v + n) (get_or row v 0 - n) (start_of (holes_of 0 row) i + size) (end_of (holes_of 0 row) i) row (omega arith) held (omega arith) (omega arith)
-        (λ k past to. none_inside row limit v k apart held past (omega arith)) (omega (arith, b.starts)) (omega (arith, b.ends)) in
+    (λ k past to. none_inside row limit v k apart held past (omega arith)) (omega (arith, b.starts)) (omega (arith, b.ends)) in
     rw moved (front_part (holes_of 0 row) limit size at i apart b.below (λ k less. (let short = are_short v 0 n row k few less in omega arith)) (omega (arith, b.starts)) (omega arith) (omega (arith, b.starts, b.ends)))
 
 -- there is none
@@ -78,8 +78,8 @@ module _ (row : List ℕ) (limit start end from to : ℕ) (apart : AreApart 0 (h
       alone free =
           let same : rank (suc end) row ≡ rank start row = rank_same start (suc end) row (omega arith) (λ k a b. elim (cases_lt k end) [ inl less ↦ none k a less | inr past ↦ (let is : k ≡ end = omega arith in rw is free) ]) in
           let new : holes_of 0 (opened row start end) ≡ insert (holes_of 0 row) (rank start row) (record { start = from; end = to }) =
-            ap (λ r. holes_of 0 (set r start (end - start + get_or row end 0))) (same_row row end free)
-            ∙ filled start 0 (end - start + get_or row end 0) from to row (omega arith) (omega arith) (none start (omega arith) some) (omega arith) (omega arith) in
+          ap (λ r. holes_of 0 (set r start (end - start + get_or row end 0))) (same_row row end free)
+          ∙ filled start 0 (end - start + get_or row end 0) from to row (omega arith) (omega arith) (none start (omega arith) some) (omega arith) (omega arith) in
           rw new (given_alone (rank start row) (holes_of 0 row) limit from to apart (omega arith) most (omega arith) (omega arith) (rank_within start 0 row) before
           (λ less. (let far = rw same at (starts_from (suc end) 0 row (rw same less)) in omega arith)))
 
@@ -101,8 +101,8 @@ module _ (row : List ℕ) (limit start end from to : ℕ) (apart : AreApart 0 (h
           let b = begins p 0 row held in
           let same : rank (suc end) row ≡ suc (rank p row) = rank_same (suc p) (suc end) row (omega arith) (λ k a c. elim (cases_lt k end) [ inl less ↦ none k (omega arith) less | inr past ↦ (let is : k ≡ end = omega arith in rw is free) ]) ∙ rank_past p row held in
           let new : holes_of 0 (opened row p end) ≡ set (holes_of 0 row) (rank p row) (record { start = start_of (holes_of 0 row) (rank p row); end = to }) =
-            ap (λ r. holes_of 0 (set r p (end - p + get_or row end 0))) (same_row row end free)
-            ∙ changed p 0 (end - p + get_or row end 0) (start_of (holes_of 0 row) (rank p row)) to row (omega arith) held b.starts (omega arith) in
+          ap (λ r. holes_of 0 (set r p (end - p + get_or row end 0))) (same_row row end free)
+          ∙ changed p 0 (end - p + get_or row end 0) (start_of (holes_of 0 row) (rank p row)) to row (omega arith) held b.starts (omega arith) in
           rw new (given_left (rank p row) (holes_of 0 row) limit from to apart (omega arith) most (omega arith) b.below (omega (arith, b.ends))
           (λ less. (let far = rw same at (starts_from (suc end) 0 row (rw same less)) in omega arith)))
 
