@@ -46,21 +46,21 @@ def copy_tree(source, target):
         shutil.copytree(source, target)
 
 
-def fill(folder):
-    """Writes the copy: the crates, and the benchmark's own."""
+def fill(folder, libraries=LIBRARIES, crate="bench", source="library.rt.in", kind=" staticlib"):
+    """Writes the copy: the crates, and one of the benchmark's own, of this kind, over these libraries."""
     lines = lines_of_crates()
-    names = crates_below(lines, LIBRARIES)
+    names = crates_below(lines, libraries)
     for name in names:
         target = folder / "crates" / name
         for part in ["src", "specs", "proofs"]:
             copy_tree(TOP / "crates" / name / part, target / part)
         if not (target / "out").exists():
             copy_tree(TOP / "crates" / name / "out", target / "out")
-    own = folder / "crates/bench/src"
+    own = folder / "crates" / crate / "src"
     own.mkdir(parents=True, exist_ok=True)
-    shutil.copy(TOP / "bench/library.rt.in", own / "lib.rt")
+    shutil.copy(TOP / "bench" / source, own / ("lib.rt" if kind else "main.rt"))
     shutil.copy(TOP / "HANDLES", folder)
-    listed = [lines[name] for name in names] + [f"bench staticlib: {' '.join(LIBRARIES)}"]
+    listed = [lines[name] for name in names] + [f"{crate}{kind}: {' '.join(libraries)}"]
     (folder / "crates.txt").write_text("\n".join(listed) + "\n")
 
 
@@ -120,4 +120,5 @@ def main():
         run_in(pathlib.Path(folder))
 
 
-main()
+if __name__ == "__main__":
+    main()

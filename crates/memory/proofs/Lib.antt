@@ -4,5 +4,7 @@ mod FirstFitAlike
 mod FirstFitSteps
 mod HoleGifts
 mod HoleLists
+mod HoleRows
+mod HoleSteps
 mod OneWay
 mod SpaceAlike

@@ -1,8 +1,8 @@
 -- The holes of a first-fit allocator, as it keeps them.
 use Rattle.std.specs.Prelude.{List}
-use Rattle.memory.specs.declared.holes.Hole.{Hole}
 use Rattle.memory.specs.declared.holes.Holes as declared
+use Rattle.memory.specs.Holes.{Hole, holes_of}
 
 -- from the first to the last
 abbrev pub listed : declared.Holes → List Hole
-listed holes = holes.list.items
+listed holes = holes_of 0 holes.row

@@ -2,7 +2,8 @@
 //!
 //! A memory is a `Guest`: it tells its bytes, its live addresses and the steps that its allocator may
 //! make. `Bump`, `FirstFit`, which takes blocks back, and `Space` are `Honest` as well: they never grant
-//! what is live. `Scripted` answers from a list and is not. Stands on `canonical_abi`, whose `Guest` is the promise that the layers above use.
+//! what is live. `Scripted` answers from a list and is not. Stands on `canonical_abi`, whose `Guest` is the
+//! promise that the layers above use, and on `max_tree`, in which `FirstFit` finds its holes.
 #![tactic(auto)]
 
 mod bump;

@@ -3,3 +3,5 @@
 
 #[cfg(test)]
 mod first_fit;
+#[cfg(test)]
+mod max_tree;

@@ -1,4 +1,5 @@
 use Rattle.std.proofs.Common.{◌≡◌, ◌+◌, ◌*◌, ◌/◌, length, arith}
+use Rattle.memory.specs.HolesView.{listed}
 use Rattle.memory.proofs.FirstFitSteps.{releases, keeps}
 use Rattle.memory.proofs.first_fit.FirstFitGuest.free.Goals as goal
 
@@ -7,11 +8,11 @@ returns-then-not-give-clause-step c =
     let s = c.args.self.now in
     let whole : s.holes.limit ≡ length s.bytes.items / 8 * 8 = omega (arith, s.bytes.ok.0, s.usable) in
     let back = rw c.if-not-give.true at c.give.ensures.back in
-    rw c.give.ensures.limit (keeps s.bytes.items s.holes.limit s.holes.list.items whole s.holes.apart c.args.at c.args.size (c.from.result + c.whole_units.result) c.give.new.self.list.items (omega arith) back)
+    rw c.give.ensures.limit (keeps s.bytes.items s.holes.limit (listed s.holes) whole s.holes.apart c.args.at c.args.size (c.from.result + c.whole_units.result) (listed c.give.new.self) (omega arith) back)
 
 pub returns-clause-step : goal.returns-clause-step
 returns-clause-step c =
     let s = c.args.self.now in
     let whole : s.holes.limit ≡ length s.bytes.items / 8 * 8 = omega (arith, s.bytes.ok.0, s.usable) in
     let back = rw c.if-not-give.false at c.give.ensures.back in
-    rw c.give.ensures.limit (releases s.bytes.items s.holes.limit s.holes.list.items whole s.holes.apart c.args.at c.args.size (c.from.result + c.whole_units.result) c.give.new.self.list.items (omega arith) (omega arith) (omega arith) back)
+    rw c.give.ensures.limit (releases s.bytes.items s.holes.limit (listed s.holes) whole s.holes.apart c.args.at c.args.size (c.from.result + c.whole_units.result) (listed c.give.new.self) (omega arith) (omega arith) (omega arith) back)
