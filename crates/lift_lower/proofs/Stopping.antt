@@ -40,7 +40,7 @@ module _ (m : List ℕ) (bytes : AreBytes m) (short : length m < 2 ^ 32) where
       (own g rest.0, inr (stands, g, rest.0, (refl, refl), refl, rest.1))
 
   mutual
-    stores-until : (t : ClosedType) (a at : ℕ) (k : TrapKind) → Faulty t m a k → (es : List Event) × StoresUntil t m a at k es
+    pub stores-until : (t : ClosedType) (a at : ℕ) (k : TrapKind) → Faulty t m a k → (es : List Event) × StoresUntil t m a at k es
     stores-until (prim_type p) a at k h = (node ∷ [], (h, refl))
     stores-until string_type a at k h = (node ∷ [], (h, refl))
     stores-until (list_type t) a at k h =

@@ -56,7 +56,7 @@ impl<'a> Types<'a> {
     }
 
     /// The shape of a type of the package.
-    pub(crate) fn shape_of(&self, ty: ValType) -> Shape
+    pub fn shape_of(&self, ty: ValType) -> Shape
         requires { IsInside self.now ty }
         ensures shape { HasShape self.now (closed_type self.now ty) result }
         ensures few { HasFewFlags result }
@@ -65,7 +65,7 @@ impl<'a> Types<'a> {
     }
 
     /// The type of a record's field.
-    fn field_type(&self, ty: ValType, index: usize) -> Option<ValType>
+    pub fn field_type(&self, ty: ValType, index: usize) -> Option<ValType>
         requires { IsInside self.now ty }
         ensures found { option_map (closed_type self.now) result
             ≡ nth_field (record_fields (closed_type self.now ty)) index }
@@ -88,7 +88,7 @@ impl<'a> Types<'a> {
     }
 
     /// A variant's case, with the type of its payload if it has one.
-    pub(crate) fn case_payload(&self, ty: ValType, index: usize) -> Option<Option<ValType>>
+    pub fn case_payload(&self, ty: ValType, index: usize) -> Option<Option<ValType>>
         requires { IsInside self.now ty }
         ensures found { option_map (option_map (closed_type self.now)) result
             ≡ nth_case (variant_cases (closed_type self.now ty)) index }
@@ -98,7 +98,7 @@ impl<'a> Types<'a> {
     }
 
     /// The size of a type, in bytes.
-    pub(crate) fn size_of(&self, ty: ValType) -> usize
+    pub fn size_of(&self, ty: ValType) -> usize
         requires { IsInside self.now ty }
         ensures value { result ≡ size (closed_type self.now ty) }
         ensures small { result < 2 ^ 32 }
@@ -107,7 +107,7 @@ impl<'a> Types<'a> {
     }
 
     /// The alignment of a type, in bytes.
-    pub(crate) fn align_of(&self, ty: ValType) -> usize
+    pub fn align_of(&self, ty: ValType) -> usize
         requires { IsInside self.now ty }
         ensures value { result ≡ align (closed_type self.now ty) }
         ensures small { result < 2 ^ 32 }

@@ -1,0 +1,5 @@
+pub mod Parts
+pub mod ByShape
+pub mod Nodes
+pub mod Relations
+pub mod Bounds
