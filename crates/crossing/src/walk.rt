@@ -1,7 +1,8 @@
 //! The walk down a type: records, variants and lists.
 ghost use Rattle.std.specs.Prelude.{◌≡◌, ◌+◌, ◌*◌, ◌^◌, ◌<◌, ◌≤◌, length};
-ghost use Rattle.canonical_abi.specs.Types.{list_type, record_type, record_fields, variant_type, variant_cases, case_count, field_count};
+ghost use Rattle.canonical_abi.specs.Types.{list_type, variant_type, variant_cases, case_count, field_count};
 ghost use Rattle.canonical_abi.specs.Layout.{size, end_from, field_extents};
+ghost use Rattle.lift_lower.specs.Members.{AreInside, members_fields};
 ghost use Rattle.lift_lower.specs.Types.{IsInside};
 ghost use Rattle.tables.specs.Closed.{closed_type};
 ghost use Rattle.crossing.specs.Outcome.{Walks, FieldsWalk, EachWalks, Behind, Ends};
@@ -12,7 +13,8 @@ use canonical_abi::{Guest, TrapKind};
 use layout::Shape;
 use lift_lower::Types;
 use lift_lower::nodes::{
-    ask_block, discriminant_bytes, number_of_size, test_block, u32_at, write_header, write_number,
+    Members, ask_block, discriminant_bytes, number_of_size, test_block, u32_at, write_header,
+    write_number,
 };
 use tables::ValType;
 
@@ -40,7 +42,18 @@ pub fn cross_at<G: Guest>(
         Shape::Primitive(primitive) => cross_primitive(primitive, source, from, guest, to),
         Shape::String => cross_text(source, from, guest, to),
         Shape::List(element) => { cross_list(table, element, source, from, guest, to, nodes) }
-        Shape::Record(count) => { cross_fields(table, ty, count, source, from, guest, to, nodes) }
+        Shape::Record(count) => {
+            cross_fields(
+                table,
+                &Members::Of(ty),
+                count,
+                source,
+                from,
+                guest,
+                to,
+                nodes,
+            )
+        }
         Shape::Variant(count) => { cross_variant(table, ty, count, source, from, guest, to, nodes) }
         Shape::Flags(labels) => cross_flags(labels, source, from, guest, to),
     }
@@ -84,7 +97,7 @@ fn cross_list<G: Guest>(
 
 /// Crosses so many elements one after another.
 #[cycle(cross)]
-fn cross_elements<G: Guest>(
+pub(crate) fn cross_elements<G: Guest>(
     table: &Types,
     element: ValType,
     source: &[u8],
@@ -121,9 +134,9 @@ fn cross_elements<G: Guest>(
 
 /// Crosses the members of a record, each at the next multiple of its alignment.
 #[cycle(cross)]
-fn cross_fields<G: Guest>(
+pub(crate) fn cross_fields<G: Guest>(
     table: &Types,
-    ty: ValType,
+    members: &Members,
     count: usize,
     source: &[u8],
     from: usize,
@@ -131,19 +144,19 @@ fn cross_fields<G: Guest>(
     to: usize,
     nodes: &mut u64,
 ) -> Result<(), Stopped>
-    requires inside { IsInside table.now ty }
+    requires inside { AreInside table.now members.now }
     requires short { length source.now < 2 ^ 32 }
-    requires counted { field_count (record_fields (closed_type table.now ty)) ≡ count }
-    requires fits { from + end_from 0 (field_extents (record_fields (closed_type table.now ty))) ≤ length source.now }
-    requires room { to + end_from 0 (field_extents (record_fields (closed_type table.now ty))) ≤ length (G.memory guest.old).bytes }
-    requires small { to + end_from 0 (field_extents (record_fields (closed_type table.now ty))) < 2 ^ 32 }
-    ensures { Ends G.allocates (FieldsWalk (record_fields (closed_type table.now ty)) source.now from to 0)
+    requires counted { field_count (members_fields table.now members.now) ≡ count }
+    requires fits { from + end_from 0 (field_extents (members_fields table.now members.now)) ≤ length source.now }
+    requires room { to + end_from 0 (field_extents (members_fields table.now members.now)) ≤ length (G.memory guest.old).bytes }
+    requires small { to + end_from 0 (field_extents (members_fields table.now members.now)) < 2 ^ 32 }
+    ensures { Ends G.allocates (FieldsWalk (members_fields table.now members.now) source.now from to 0)
         (G.memory guest.old) nodes.old result (G.memory guest.new) nodes.new }
 {
     canonical_abi::laws::reads_exactly();
     let mut end: usize = 0;
     for index in 0..count {
-        let Some(member) = table.field_type(ty, index) else {
+        let Some(member) = table.member_type(members, index) else {
             unreachable!()
         };
         let place = end.next_multiple_of(table.align_of(member));

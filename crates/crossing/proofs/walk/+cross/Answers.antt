@@ -9,6 +9,7 @@ use Rattle.canonical_abi.specs.Trace.{write, EventLeads}
 use Rattle.canonical_abi.proofs.Sizes.{is-alignment}
 use Rattle.tables.specs.Closed.{closed_type}
 use Rattle.lift_lower.specs.Loading.{AreBytes}
+use Rattle.lift_lower.specs.Members.{members_fields}
 use Rattle.lift_lower.proofs.TypesExtents.{member-depth, case-depth, payload-place, payload-fits}
 use Rattle.lift_lower.proofs.Steps.{fields-inside, fields-end, nth_field-some}
 use Rattle.crossing.specs.Outcome.{Walks, EachWalks, Ends}
@@ -100,31 +101,31 @@ cross_fields-loop-index-init g t c = (begun g.G.Guest.allocates _ (g.G.Guest.mem
 
 pub cross_fields-unreachable-requires : goal.cross_fields-unreachable-requires
 cross_fields-unreachable-requires g t c =
-    nth_field-some (record_fields (closed_type c.args.table.now c.args.ty)) c.loop-index.index (omega (arith, c.requires.counted, c.loop-index-test.true)) (sym c.in_default.ensures.found)
+    nth_field-some (members_fields c.args.table.now c.args.members.now) c.loop-index.index (omega (arith, c.requires.counted, c.loop-index-test.true)) (sym c.in_default.ensures.found)
 
 pub cross_fields-next_multiple_of-place-requires-clause-fits : goal.cross_fields-next_multiple_of-place-requires-clause-fits
 cross_fields-next_multiple_of-place-requires-clause-fits g t c =
-    let fs = record_fields (closed_type c.args.table.now c.args.ty) in
+    let fs = members_fields c.args.table.now c.args.members.now in
     let h = fields-inside fs c.loop-index.index (closed_type c.args.table.now c.in-Some.member) c.loop-index.end _ (sym c.in-Some.ensures.found) c.loop-index.invariant.1 in
     rw c.align_of.ensures.value (omega (arith, h, c.requires.small))
 
 pub cross_fields-overflow_add-from : goal.cross_fields-overflow_add-from
 cross_fields-overflow_add-from g t c =
-    let fs = record_fields (closed_type c.args.table.now c.args.ty) in
+    let fs = members_fields c.args.table.now c.args.members.now in
     let h = fields-inside fs c.loop-index.index (closed_type c.args.table.now c.in-Some.member) c.loop-index.end _ (sym c.in-Some.ensures.found) c.loop-index.invariant.1 in
     let k = rw (← c.align_of.ensures.value, ← c.next_multiple_of-place.ensures.value) at h in
     omega (arith, k, c.requires.fits, c.requires.short)
 
 pub cross_fields-overflow_add-to : goal.cross_fields-overflow_add-to
 cross_fields-overflow_add-to g t c =
-    let fs = record_fields (closed_type c.args.table.now c.args.ty) in
+    let fs = members_fields c.args.table.now c.args.members.now in
     let h = fields-inside fs c.loop-index.index (closed_type c.args.table.now c.in-Some.member) c.loop-index.end _ (sym c.in-Some.ensures.found) c.loop-index.invariant.1 in
     let k = rw (← c.align_of.ensures.value, ← c.next_multiple_of-place.ensures.value) at h in
     omega (arith, k, c.requires.small)
 
 pub cross_fields-cross_at-requires : goal.cross_fields-cross_at-requires
 cross_fields-cross_at-requires g t c κs within =
-    let fs = record_fields (closed_type c.args.table.now c.args.ty) in
+    let fs = members_fields c.args.table.now c.args.members.now in
     let u = closed_type c.args.table.now c.in-Some.member in
     let found = sym c.in-Some.ensures.found in
     let h = fields-inside fs c.loop-index.index u c.loop-index.end _ found c.loop-index.invariant.1 in
@@ -133,7 +134,7 @@ cross_fields-cross_at-requires g t c κs within =
 
 pub cross_fields-returns-in_err-cross_at : goal.cross_fields-returns-in_err-cross_at
 cross_fields-returns-in_err-cross_at g t c =
-    let fs = record_fields (closed_type c.args.table.now c.args.ty) in
+    let fs = members_fields c.args.table.now c.args.members.now in
     let u = closed_type c.args.table.now c.in-Some.member in
     let bytes : AreBytes c.args.source.now = λ i. (c.type_inv.source i).fits in
     let place : c.next_multiple_of-place.result ≡ next_multiple_of c.loop-index.end (align u) = c.next_multiple_of-place.ensures.value ∙ ap (next_multiple_of c.loop-index.end) c.align_of.ensures.value in
@@ -144,14 +145,14 @@ cross_fields-returns-in_err-cross_at g t c =
 
 pub cross_fields-overflow_add-end : goal.cross_fields-overflow_add-end
 cross_fields-overflow_add-end g t c =
-    let fs = record_fields (closed_type c.args.table.now c.args.ty) in
+    let fs = members_fields c.args.table.now c.args.members.now in
     let h = fields-inside fs c.loop-index.index (closed_type c.args.table.now c.in-Some.member) c.loop-index.end _ (sym c.in-Some.ensures.found) c.loop-index.invariant.1 in
     let k = rw (← c.align_of.ensures.value, ← c.next_multiple_of-place.ensures.value) at h in
     omega (arith, k, c.size_of.ensures.value, c.requires.small)
 
 pub cross_fields-loop-index-preserved : goal.cross_fields-loop-index-preserved
 cross_fields-loop-index-preserved g t c =
-    let fs = record_fields (closed_type c.args.table.now c.args.ty) in
+    let fs = members_fields c.args.table.now c.args.members.now in
     let u = closed_type c.args.table.now c.in-Some.member in
     let found = sym c.in-Some.ensures.found in
     let i = c.loop-index.index in
@@ -165,7 +166,7 @@ cross_fields-loop-index-preserved g t c =
 
 pub cross_fields-returns : goal.cross_fields-returns
 cross_fields-returns g t c =
-    fields-done g.G.Guest.allocates (record_fields (closed_type c.args.table.now c.args.ty)) c.args.source.now c.args.from c.args.to c.loop-index.index c.loop-index.end (omega (arith, c.requires.counted, c.loop-index-test.false))
+    fields-done g.G.Guest.allocates (members_fields c.args.table.now c.args.members.now) c.args.source.now c.args.from c.args.to c.loop-index.index c.loop-index.end (omega (arith, c.requires.counted, c.loop-index-test.false))
     (g.G.Guest.memory c.args.guest.now) (g.G.Guest.memory c.loop-index.guest) c.args.nodes.now c.loop-index.nodes c.loop-index.invariant.0
 
 -- ---- a list

@@ -1,7 +1,8 @@
 use Rattle.std.proofs.Common.{◌≡◌, ◌+◌, ◌-◌, ◌*◌}
-use Rattle.canonical_abi.specs.Types.{depth, fields_depth, record_fields}
+use Rattle.canonical_abi.specs.Types.{depth, fields_depth}
 use Rattle.canonical_abi.specs.Layout.{size}
 use Rattle.tables.specs.Closed.{closed_type}
+use Rattle.lift_lower.specs.Members.{members_fields}
 use Rattle.lift_lower.proofs.Steps.{fields_from, fields_end}
 use Rattle.crossing.specs.Outcome.{EachWalks, FieldsWalk}
 use Rattle.crossing.proofs.Parts.{IsBegun}
@@ -17,7 +18,7 @@ abbrev pub decreases-cross_elements : goal.decreases-cross_elements
 decreases-cross_elements g l = 3 * depth (closed_type l.table.now l.element) + 2
 
 abbrev pub decreases-cross_fields : goal.decreases-cross_fields
-decreases-cross_fields g l = 3 * fields_depth (record_fields (closed_type l.table.now l.ty)) + 2
+decreases-cross_fields g l = 3 * fields_depth (members_fields l.table.now l.members.now) + 2
 
 abbrev pub decreases-cross_variant : goal.decreases-cross_variant
 decreases-cross_variant g l = 3 * depth (closed_type l.table.now l.ty)
@@ -30,7 +31,7 @@ invariant-cross_elements-loop-index g l =
 
 abbrev pub invariant-cross_fields-loop-index : goal.invariant-cross_fields-loop-index
 invariant-cross_fields-loop-index g l =
-    let fs = record_fields (closed_type l.table l.ty) in
+    let fs = members_fields l.table l.members in
     IsBegun g.G.Guest.allocates (FieldsWalk fs l.source l.from l.to 0) (FieldsWalk (fields_from l.index fs) l.source l.from l.to l.end)
     (g.G.Guest.memory l.initial.guest) l.initial.nodes (g.G.Guest.memory l.guest) l.nodes
     × (fields_end l.end (fields_from l.index fs) ≡ fields_end 0 fs)
