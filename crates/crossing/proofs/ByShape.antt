@@ -86,7 +86,7 @@ record-walks fs m a at None es (vs, held, stored) = (record_value (values_of vs)
 record-walks fs m a at (Some k) es stops = (es, refl, stops)
 
 -- a list is its own node, its block, its header and its elements
-each-length : (t : ClosedType) (m : List ℕ) (a n : ℕ) (vs : List Value) → EachHolds (Holds t m) (size t) a n vs → length vs ≡ n
+pub each-length : (t : ClosedType) (m : List ℕ) (a n : ℕ) (vs : List Value) → EachHolds (Holds t m) (size t) a n vs → length vs ≡ n
 each-length t m a zero vs h = ap length h
 each-length t m a (suc n) vs (v, rest, is, here, there) = ap length is ∙ ap suc (each-length t m (a + size t) n rest there)
 

@@ -5,9 +5,12 @@ use Rattle.canonical_abi.specs.Values.{Value}
 use Rattle.canonical_abi.specs.Layout.{size}
 use Rattle.canonical_abi.specs.Memory.{Holds, EachHolds, FieldsHold}
 use Rattle.canonical_abi.specs.Storing.{Stores, EachStores, FieldsStore}
-use Rattle.canonical_abi.specs.Script.{StoresUntil, EachStops, FieldsStoreUntil}
+use Rattle.canonical_abi.specs.Flat.{Lifts, FieldsLift}
+use Rattle.canonical_abi.specs.Lowering.{Lowers, FieldsLower}
+use Rattle.canonical_abi.specs.Script.{StoresUntil, EachStops, FieldsStoreUntil, LowersUntil, FieldsLowerUntil}
 use Rattle.canonical_abi.specs.Guest.{Memory, Allocation}
 use Rattle.canonical_abi.specs.Trace.{Grant, Event, node, grant, nodes_of, TraceLeads, RequestFails}
+use Rattle.canonical_abi.specs.declared.flat.Flat.{Flat}
 use Rattle.canonical_abi.specs.declared.trap.TrapKind.{TrapKind}
 use Rattle.crossing.specs.declared.stopped.Stopped.{Stopped}
 use Rattle.crossing.specs.declared.stopped.Stopped.TheVariants as stopped
@@ -73,3 +76,28 @@ HasStopped allocates S old n (stopped.Target k) new c = WasRefused allocates S o
 abbrev pub Ends : Allocation → (Option TrapKind → List Event → Type 0) → Memory → ℕ → Result (Unit {0}) Stopped → Memory → ℕ → Type 0
 Ends allocates S old n (Ok _) new c = IsDone allocates S old n new c
 Ends allocates S old n (Err s) new c = HasStopped allocates S old n s new c
+
+-- ---- flat values
+
+-- a script by which core values are handed on, with those that stand in the end
+abbrev pub FlatScript : Type 1
+FlatScript = List Flat → Option TrapKind → List Event → Type 0
+
+-- what the first of these flat values, as numbers, stand for over m is carried by core values behind those of `front`
+abbrev pub FlatWalks : ClosedType → List ℕ → List ℕ → List Flat → FlatScript
+FlatWalks t m ns front final None es = (v : Value) × (made : List Flat) × Lifts t m ns v × Lowers t v es made × (final ≡ front ++ made)
+FlatWalks t m ns front final (Some k) es = LowersUntil t m ns k es
+
+-- the fields of a record, one behind the other
+abbrev pub FieldsFlatWalk : Fields → List ℕ → List ℕ → List Flat → FlatScript
+FieldsFlatWalk ts m ns front final None es = (vs : List Value) × (made : List Flat) × FieldsLift ts m ns vs × FieldsLower ts vs es made × (final ≡ front ++ made)
+FieldsFlatWalk ts m ns front final (Some k) es = FieldsLowerUntil ts m ns k es
+
+-- such a script once its own node is visited
+abbrev pub FlatBehind : FlatScript → FlatScript
+FlatBehind S final = Behind (S final)
+
+-- how a way over flat values ended, with the core values that stand in the end
+abbrev pub FlatEnds : Allocation → FlatScript → Memory → ℕ → Result (Unit {0}) Stopped → Memory → ℕ → List Flat → Type 0
+FlatEnds allocates S old n (Ok _) new c final = IsDone allocates (S final) old n new c
+FlatEnds allocates S old n (Err s) new c final = (other : List Flat) × HasStopped allocates (S other) old n s new c

@@ -5,6 +5,7 @@
 //! (the parts of one node) and on any `Guest`, honest or not.
 #![tactic(auto)]
 
+mod flat;
 mod leaves;
 mod stopped;
 mod walk;
