@@ -39,7 +39,7 @@ addressable-both (x ∷ xs) ys p q = (p.0, addressable-both xs ys p.1 q)
 -- ---- numbers
 
 -- a number of so many bits, where the primitive has that many
-abbrev IsNumberOf : Prim → ℕ → Type 0
+abbrev pub IsNumberOf : Prim → ℕ → Type 0
 IsNumberOf boolean n = Unit {0}
 IsNumberOf (unsigned w) n = n < 2 ^ bits w
 IsNumberOf (signed w) n = n < 2 ^ bits w
@@ -51,17 +51,17 @@ fits-signed int16 n h = sfits_to_z {w = w16} {n = n} (record { fits = h })
 fits-signed int32 n h = sfits_to_z {w = w32} {n = n} (record { fits = h })
 fits-signed int64 n h = sfits_to_z {w = w64} {n = n} (record { fits = h })
 
-prim-typed : (p : Prim) (n : ℕ) (v : Value) → IsNumberOf p n → PrimIs p n v → HasPrimType v p
+pub prim-typed : (p : Prim) (n : ℕ) (v : Value) → IsNumberOf p n → PrimIs p n v → HasPrimType v p
 prim-typed boolean n v h is = (not (n == 0), is)
 prim-typed (unsigned w) n v h is = (n, h, is)
 prim-typed (signed w) n v h is = (cast_signed (width_of w) n, fits-signed w n h, is)
 prim-typed scalar_value n v h is = (n, is.0, is.1)
 
-low-small : (fs : List ℕ) (i n : ℕ) → low_bits fs i n < 2 ^ n
+pub low-small : (fs : List ℕ) (i n : ℕ) → low_bits fs i n < 2 ^ n
 unfolding low_bits
 low-small fs i n = mod-lt (get_or fs i 0) (pow_pos n)
 
-lifted-number : (p : Prim) (fs : List ℕ) → IsNumberOf p (low_bits fs 0 (flat_bits p))
+pub lifted-number : (p : Prim) (fs : List ℕ) → IsNumberOf p (low_bits fs 0 (flat_bits p))
 lifted-number boolean fs = tt
 lifted-number (unsigned w) fs = low-small fs 0 (bits w)
 lifted-number (signed w) fs = low-small fs 0 (bits w)

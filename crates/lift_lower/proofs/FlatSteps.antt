@@ -16,7 +16,7 @@ drop-nil : {A : Type 0} (n : ℕ) → ◌≡◌ {A = List A} (drop n []) []
 drop-nil zero = refl
 drop-nil (suc n) = refl
 
-drop-more : {A : Type 0} (a b : ℕ) (xs : List A) → drop b (drop a xs) ≡ drop (a + b) xs
+pub drop-more : {A : Type 0} (a b : ℕ) (xs : List A) → drop b (drop a xs) ≡ drop (a + b) xs
 drop-more zero b xs = ap (λ n. drop n xs) (sym (zero-add b))
 drop-more (suc a) b [] = drop-nil b ∙ sym (drop-nil (suc a + b))
 drop-more (suc a) b (x ∷ xs) =

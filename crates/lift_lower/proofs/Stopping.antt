@@ -40,7 +40,7 @@ module _ (m : List ℕ) (bytes : AreBytes m) (short : length m < 2 ^ 32) where
       (own g rest.0, inr (stands, g, rest.0, (refl, refl), refl, rest.1))
 
   mutual
-    stores-until : (t : ClosedType) (a at : ℕ) (k : TrapKind) → Faulty t m a k → (es : List Event) × StoresUntil t m a at k es
+    pub stores-until : (t : ClosedType) (a at : ℕ) (k : TrapKind) → Faulty t m a k → (es : List Event) × StoresUntil t m a at k es
     stores-until (prim_type p) a at k h = (node ∷ [], (h, refl))
     stores-until string_type a at k h = (node ∷ [], (h, refl))
     stores-until (list_type t) a at k h =
@@ -72,7 +72,7 @@ module _ (m : List ℕ) (bytes : AreBytes m) (short : length m < 2 ^ 32) where
     case-store-until (case_with t cs) a at (suc n) own k h = case-store-until cs a at n own k h
 
   mutual
-    lowers-until : (t : ClosedType) (fs : List ℕ) (k : TrapKind) → LiftFaulty t m fs k → (es : List Event) × LowersUntil t m fs k es
+    pub lowers-until : (t : ClosedType) (fs : List ℕ) (k : TrapKind) → LiftFaulty t m fs k → (es : List Event) × LowersUntil t m fs k es
     lowers-until (prim_type p) fs k h = (node ∷ [], (h, refl))
     lowers-until string_type fs k h = (node ∷ [], (h, refl))
     lowers-until (list_type t) fs k h =
@@ -82,7 +82,7 @@ module _ (m : List ℕ) (bytes : AreBytes m) (short : length m < 2 ^ 32) where
         let rest = case-lower-until cs (drop 1 fs) (low_bits fs 0 32) k h in (node ∷ rest.0, (rest.0, refl, rest.1))
     lowers-until (flags_type n) fs k h = absurd h
 
-    fields-lower-until : (ts : Fields) (fs : List ℕ) (k : TrapKind) → FieldsLiftFaulty ts m fs k → (es : List Event) × FieldsLowerUntil ts m fs k es
+    pub fields-lower-until : (ts : Fields) (fs : List ℕ) (k : TrapKind) → FieldsLiftFaulty ts m fs k → (es : List Event) × FieldsLowerUntil ts m fs k es
     fields-lower-until no_field fs k h = absurd h
     fields-lower-until (field t ts) fs k (inl here) = let es = lowers-until t fs k here in (es.0, inl es.1)
     fields-lower-until (field t ts) fs k (inr (v, held, there)) =

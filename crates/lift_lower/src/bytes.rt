@@ -8,7 +8,7 @@ ghost use Rattle.canonical_abi.specs.Reading.{number_at, byte_width};
 use canonical_abi::TrapKind;
 
 /// Tests the alignment of a block of a memory of `len` bytes, then its end.
-pub(crate) fn test_block(len: usize, at: usize, align: usize, size: usize) -> Result<(), TrapKind>
+pub fn test_block(len: usize, at: usize, align: usize, size: usize) -> Result<(), TrapKind>
     requires aligned { 0 < align }
     requires fits { at + size < 2 ^ 64 }
     ensures ok { OnOk result ((at % align ≡ 0) × (at + size ≤ len)) }
@@ -24,7 +24,7 @@ pub(crate) fn test_block(len: usize, at: usize, align: usize, size: usize) -> Re
 }
 
 #[tactic(auto, unfolding(canonical_abi::specs::Reading::number_at))]
-pub(crate) fn u8_at(memory: &[u8], at: usize) -> u8
+pub fn u8_at(memory: &[u8], at: usize) -> u8
     requires { at + 1 ≤ length memory.now }
     ensures { result ≡ number_at memory.now at w8 }
 {
@@ -32,7 +32,7 @@ pub(crate) fn u8_at(memory: &[u8], at: usize) -> u8
 }
 
 #[tactic(auto, unfolding(canonical_abi::specs::Reading::number_at))]
-pub(crate) fn u16_at(memory: &[u8], at: usize) -> u16
+pub fn u16_at(memory: &[u8], at: usize) -> u16
     requires { at + 2 ≤ length memory.now }
     ensures { result ≡ number_at memory.now at w16 }
 {
@@ -40,7 +40,7 @@ pub(crate) fn u16_at(memory: &[u8], at: usize) -> u16
 }
 
 #[tactic(auto, unfolding(canonical_abi::specs::Reading::number_at))]
-pub(crate) fn u32_at(memory: &[u8], at: usize) -> u32
+pub fn u32_at(memory: &[u8], at: usize) -> u32
     requires { at + 4 ≤ length memory.now }
     ensures { result ≡ number_at memory.now at w32 }
 {
@@ -48,7 +48,7 @@ pub(crate) fn u32_at(memory: &[u8], at: usize) -> u32
 }
 
 #[tactic(auto, unfolding(canonical_abi::specs::Reading::number_at))]
-pub(crate) fn u64_at(memory: &[u8], at: usize) -> u64
+pub fn u64_at(memory: &[u8], at: usize) -> u64
     requires { at + 8 ≤ length memory.now }
     ensures { result ≡ number_at memory.now at w64 }
 {
@@ -58,7 +58,7 @@ pub(crate) fn u64_at(memory: &[u8], at: usize) -> u64
 }
 
 /// The number of a discriminant or of flags, which has 1, 2 or 4 bytes.
-pub(crate) fn number_of_size(memory: &[u8], at: usize, size: usize) -> u32
+pub fn number_of_size(memory: &[u8], at: usize, size: usize) -> u32
     requires inside { at + size ≤ length memory.now }
     requires known { (size ≡ 1) ⊎ ((size ≡ 2) ⊎ (size ≡ 4)) }
     ensures { result ≡ number_at memory.now at (byte_width size) }
@@ -71,7 +71,7 @@ pub(crate) fn number_of_size(memory: &[u8], at: usize, size: usize) -> u32
 }
 
 /// The bytes of a discriminant of so many cases.
-pub(crate) fn discriminant_bytes(cases: usize) -> usize
+pub fn discriminant_bytes(cases: usize) -> usize
     ensures value { result ≡ discriminant_size cases }
     ensures known { (result ≡ 1) ⊎ ((result ≡ 2) ⊎ (result ≡ 4)) }
 {
@@ -85,7 +85,7 @@ pub(crate) fn discriminant_bytes(cases: usize) -> usize
 }
 
 /// The bytes of flags of so many labels.
-pub(crate) fn flags_bytes(labels: usize) -> usize
+pub fn flags_bytes(labels: usize) -> usize
     ensures value { result ≡ flags_size labels }
     ensures known { (result ≡ 1) ⊎ ((result ≡ 2) ⊎ (result ≡ 4)) }
 {
@@ -99,7 +99,7 @@ pub(crate) fn flags_bytes(labels: usize) -> usize
 }
 
 /// The low bits of a number: as many as there are labels.
-pub(crate) fn low_flags(bits: u32, labels: usize) -> u32
+pub fn low_flags(bits: u32, labels: usize) -> u32
     ensures { result ≡ bits % 2 ^ labels }
 {
     if labels < 32 {

@@ -14,7 +14,7 @@ use crate::scalar::Scalar;
 use canonical_abi::{Guest, TrapKind};
 
 /// Writes bytes at an address.
-pub(crate) fn write_bytes<G: Guest>(guest: &mut G, at: usize, bytes: &[u8])
+pub fn write_bytes<G: Guest>(guest: &mut G, at: usize, bytes: &[u8])
     requires inside { at + length bytes.now ≤ length (G.memory guest.old).bytes }
     requires small { at < 2 ^ 32 }
     ensures led { EventLeads G.allocates (G.memory guest.old) (write at bytes.now) (G.memory guest.new) }
@@ -24,7 +24,7 @@ pub(crate) fn write_bytes<G: Guest>(guest: &mut G, at: usize, bytes: &[u8])
 }
 
 /// Writes the address and the length that tell of a text or a list.
-pub(crate) fn write_header<G: Guest>(guest: &mut G, at: usize, start: usize, count: usize)
+pub fn write_header<G: Guest>(guest: &mut G, at: usize, start: usize, count: usize)
     requires inside { at + 8 ≤ length (G.memory guest.old).bytes }
     requires small { at < 2 ^ 32 }
     requires start { start < 2 ^ 32 }
@@ -39,7 +39,7 @@ pub(crate) fn write_header<G: Guest>(guest: &mut G, at: usize, start: usize, cou
 }
 
 /// Writes the number of a discriminant or of flags, which has 1, 2 or 4 bytes.
-pub(crate) fn write_number<G: Guest>(guest: &mut G, at: usize, size: usize, number: u32)
+pub fn write_number<G: Guest>(guest: &mut G, at: usize, size: usize, number: u32)
     requires known { (size ≡ 1) ⊎ ((size ≡ 2) ⊎ (size ≡ 4)) }
     requires inside { at + size ≤ length (G.memory guest.old).bytes }
     requires small { at < 2 ^ 32 }
@@ -51,7 +51,7 @@ pub(crate) fn write_number<G: Guest>(guest: &mut G, at: usize, size: usize, numb
 }
 
 /// Writes a value of a primitive type other than string.
-pub(crate) fn write_scalar<G: Guest>(guest: &mut G, at: usize, scalar: Scalar)
+pub fn write_scalar<G: Guest>(guest: &mut G, at: usize, scalar: Scalar)
     requires inside { at + byte_len (prim_width (prim_in scalar)) ≤ length (G.memory guest.old).bytes }
     requires small { at < 2 ^ 32 }
     ensures led { let w = prim_width (prim_in scalar) in
@@ -74,7 +74,7 @@ pub(crate) fn write_scalar<G: Guest>(guest: &mut G, at: usize, scalar: Scalar)
 
 /// Asks for a block and tests its address: `Bounds` where it is for more than the limit, before it is asked
 /// for, then `Full`, `Align` and `Bounds`.
-pub(crate) fn ask_block<G: Guest>(
+pub fn ask_block<G: Guest>(
     guest: &mut G,
     limit: u32,
     align: usize,

@@ -15,6 +15,7 @@ mod lower_flat;
 mod lowering;
 mod members;
 mod no_value;
+pub mod nodes;
 mod passing;
 mod placing;
 mod scalar;

@@ -143,7 +143,7 @@ fn lift_variant(
 
 /// The flags in the first flat value: as many low bits as there are labels.
 #[tactic(auto, unfolding(canonical_abi::specs::Reading::low_bits))]
-fn flags_in(flats: &[Flat], labels: usize) -> u32
+pub fn flags_in(flats: &[Flat], labels: usize) -> u32
     requires some { 0 < length flats.now }
     requires labels { labels ≤ 32 }
     ensures { result ≡ low_bits (map number_of flats.now) 0 labels }

@@ -76,7 +76,7 @@ fn lower_at<G: Guest>(
 }
 
 /// Puts down the address and the length that tell of a text or a list.
-fn push_header(flats: &mut Flats, start: usize, count: usize)
+pub fn push_header(flats: &mut Flats, start: usize, count: usize)
     requires room { length flats.old.items + 2 ≤ 16 }
     requires start { start < 2 ^ 32 }
     requires count { count < 2 ^ 32 }
@@ -198,7 +198,7 @@ fn lower_variant<G: Guest>(
 }
 
 /// Puts core values down where others of the joined kinds are wanted.
-fn push_joined(kinds: &[CoreKind], carried: &[Flat], flats: &mut Flats)
+pub fn push_joined(kinds: &[CoreKind], carried: &[Flat], flats: &mut Flats)
     requires { length flats.old.items + length kinds.now ≤ 16 }
     ensures { flats.new.items ≡ flats.old.items ++ joined_flats kinds.now carried.now }
 {

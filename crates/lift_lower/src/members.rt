@@ -3,9 +3,12 @@ ghost use Rattle.std.specs.Prelude.{◌≡◌, slice_get};
 
 use tables::ValType;
 
+/// Types side by side.
 #[derive(Clone, Copy, Debug)]
-pub(crate) enum Members<'a> {
+pub enum Members<'a> {
+    /// The fields of a record or of a tuple.
     Of(ValType),
+    /// These types.
     Listed(&'a [ValType]),
 }
 

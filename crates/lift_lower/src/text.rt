@@ -22,7 +22,7 @@ pub fn str_at<G: Guest>(guest: &G, at: u32, len: u32) -> Result<&str, Trap>
 }
 
 /// The text of so many bytes.
-pub(crate) fn text_in(memory: &[u8], at: usize, len: usize) -> Result<&str, TrapKind>
+pub fn text_in(memory: &[u8], at: usize, len: usize) -> Result<&str, TrapKind>
     requires { at + len < 2 ^ 64 }
     ensures text { IfOk result (λ text. TextHolds memory.now at len (string_value text.now)) }
     ensures fault { IfErr result (TextFaulty memory.now at len) }

@@ -56,7 +56,7 @@ impl<'a> Types<'a> {
     }
 
     /// The shape of a type of the package.
-    pub(crate) fn shape_of(&self, ty: ValType) -> Shape
+    pub fn shape_of(&self, ty: ValType) -> Shape
         requires { IsInside self.now ty }
         ensures shape { HasShape self.now (closed_type self.now ty) result }
         ensures few { HasFewFlags result }
@@ -75,7 +75,7 @@ impl<'a> Types<'a> {
     }
 
     /// The type of a member.
-    pub(crate) fn member_type(&self, members: &Members, index: usize) -> Option<ValType>
+    pub fn member_type(&self, members: &Members, index: usize) -> Option<ValType>
         requires { AreInside self.now members.now }
         ensures found { option_map (closed_type self.now) result
             ≡ nth_field (members_fields self.now members.now) index }
@@ -88,7 +88,7 @@ impl<'a> Types<'a> {
     }
 
     /// A variant's case, with the type of its payload if it has one.
-    pub(crate) fn case_payload(&self, ty: ValType, index: usize) -> Option<Option<ValType>>
+    pub fn case_payload(&self, ty: ValType, index: usize) -> Option<Option<ValType>>
         requires { IsInside self.now ty }
         ensures found { option_map (option_map (closed_type self.now)) result
             ≡ nth_case (variant_cases (closed_type self.now ty)) index }
@@ -98,7 +98,7 @@ impl<'a> Types<'a> {
     }
 
     /// The size of a type, in bytes.
-    pub(crate) fn size_of(&self, ty: ValType) -> usize
+    pub fn size_of(&self, ty: ValType) -> usize
         requires { IsInside self.now ty }
         ensures value { result ≡ size (closed_type self.now ty) }
         ensures small { result < 2 ^ 32 }
@@ -107,7 +107,7 @@ impl<'a> Types<'a> {
     }
 
     /// The alignment of a type, in bytes.
-    pub(crate) fn align_of(&self, ty: ValType) -> usize
+    pub fn align_of(&self, ty: ValType) -> usize
         requires { IsInside self.now ty }
         ensures value { result ≡ align (closed_type self.now ty) }
         ensures small { result < 2 ^ 32 }
@@ -117,7 +117,7 @@ impl<'a> Types<'a> {
     }
 
     /// How many flat values carry a type, where at most sixteen do.
-    pub(crate) fn kind_count(&self, ty: ValType) -> usize
+    pub fn kind_count(&self, ty: ValType) -> usize
         requires inside { IsInside self.now ty }
         requires flat { length (flat_kinds (closed_type self.now ty)) ≤ 16 }
         ensures { result ≡ length (flat_kinds (closed_type self.now ty)) }
@@ -129,7 +129,7 @@ impl<'a> Types<'a> {
     }
 
     /// The core values' kinds that carry a type, where they are at most sixteen.
-    pub(crate) fn kinds_of(&self, ty: ValType) -> ArrayVec<CoreKind, 17>
+    pub fn kinds_of(&self, ty: ValType) -> ArrayVec<CoreKind, 17>
         requires inside { IsInside self.now ty }
         requires flat { length (flat_kinds (closed_type self.now ty)) ≤ 16 }
         ensures { result.items ≡ flat_kinds (closed_type self.now ty) }
@@ -141,7 +141,7 @@ impl<'a> Types<'a> {
     }
 
     /// The flat kinds of types side by side, where at most `limit` carry them.
-    pub(crate) fn kinds_within(
+    pub fn kinds_within(
         &self,
         types: &[ValType],
         limit: usize,
@@ -159,7 +159,7 @@ impl<'a> Types<'a> {
     }
 
     /// The size and the alignment of types side by side, as a record.
-    pub(crate) fn record_extent(&self, types: &[ValType]) -> (usize, usize)
+    pub fn record_extent(&self, types: &[ValType]) -> (usize, usize)
         requires inside { AreAllInside self.now types.now }
         requires small { size (record_type (fields_of_types self.now types.now)) ≤ 16777216 }
         ensures size { result.0 ≡ size (record_type (fields_of_types self.now types.now)) }

@@ -1,0 +1,6 @@
+pub mod Parts
+pub mod ByShape
+pub mod Nodes
+pub mod Flats
+pub mod Relations
+pub mod Bounds

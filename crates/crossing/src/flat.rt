@@ -1,0 +1,225 @@
+//! The walk over flat values: core values of one component are carried on by core values for another.
+ghost use Rattle.std.specs.Prelude.{◌≡◌, ◌+◌, ◌^◌, ◌<◌, ◌≤◌, ◌∷◌, ℕ, List, [], length, map, None, Some, OnOk, IfOk, IfErr};
+ghost use Rattle.canonical_abi.specs.Types.{prim_type, string_type, list_type, variant_type, variant_cases, field_count};
+ghost use Rattle.canonical_abi.specs.Layout.{flat_kinds, field_kinds, payload_kinds};
+ghost use Rattle.canonical_abi.specs.Memory.{PrimIs, PrimFaulty};
+ghost use Rattle.canonical_abi.specs.Reading.{number_of, low_bits, flat_bits};
+ghost use Rattle.canonical_abi.specs.Trace.{node};
+ghost use Rattle.canonical_abi.specs.declared.trap.TrapKind.{TrapKind};
+ghost use Rattle.crossing.specs.Outcome.{FlatWalks, FieldsFlatWalk, FlatBehind, FlatEnds};
+ghost use Rattle.lift_lower.specs.Scalar.{prim_in, value_in};
+ghost use Rattle.lift_lower.specs.Members.{AreInside, members_fields};
+ghost use Rattle.lift_lower.specs.Types.{IsInside};
+ghost use Rattle.tables.specs.Closed.{closed_type, prim_of};
+
+use crate::stopped::Stopped;
+use crate::walk::cross_elements;
+use canonical_abi::{Flat, Guest, TrapKind};
+use layout::Shape;
+use lift_lower::nodes::{
+    Members, ask_block, flags_in, push_header, push_joined, test_block, text_in, write_bytes,
+};
+use lift_lower::{Flats, Scalar, Types, lift_scalar, low_word, lower_scalar};
+use tables::{Primitive, ValType};
+
+/// Carries on the value in the first of these flat values.
+#[cycle(flat)]
+fn cross_flat<G: Guest>(
+    table: &Types,
+    ty: ValType,
+    source: &[u8],
+    flats: &[Flat],
+    guest: &mut G,
+    out: &mut Flats,
+    nodes: &mut u64,
+) -> Result<(), Stopped>
+    requires inside { IsInside table.now ty }
+    requires short { length source.now < 2 ^ 32 }
+    requires carried { length (flat_kinds (closed_type table.now ty)) ≤ length flats.now }
+    requires few { length flats.now ≤ 16 }
+    requires room { length out.old.items + length (flat_kinds (closed_type table.now ty)) ≤ 16 }
+    ensures { FlatEnds G.allocates (FlatWalks (closed_type table.now ty) source.now (map number_of flats.now) out.old.items)
+        (G.memory guest.old) nodes.old result (G.memory guest.new) nodes.new out.new.items }
+{
+    *nodes = nodes.saturating_add(1);
+    match table.shape_of(ty) {
+        Shape::Primitive(primitive) => carry_primitive(primitive, flats, out),
+        Shape::String => carry_text(source, flats, guest, out),
+        Shape::List(element) => carry_list(table, element, source, flats, guest, out, nodes),
+        Shape::Record(count) => {
+            let members = Members::Of(ty);
+            carry_fields(table, &members, count, source, flats, guest, out, nodes)
+        }
+        Shape::Variant(_) => carry_variant(table, ty, source, flats, guest, out, nodes),
+        Shape::Flags(labels) => {
+            out.push(Flat::I32(flags_in(flats, labels)));
+            Ok(())
+        }
+    }
+}
+
+/// The primitive in the first of these flat values.
+#[tactic(auto, unfolding(canonical_abi::specs::Reading::low_bits))]
+fn scalar_in(primitive: Primitive, flats: &[Flat]) -> Result<Scalar, TrapKind>
+    requires { 0 < length flats.now }
+    ensures typed { IfOk result (λ s. prim_in s ≡ prim_of primitive) }
+    ensures value { IfOk result (λ s. PrimIs (prim_of primitive) (low_bits (map number_of flats.now) 0 (flat_bits (prim_of primitive))) (value_in s)) }
+    ensures fault { IfErr result (PrimFaulty (prim_of primitive) (low_bits (map number_of flats.now) 0 (flat_bits (prim_of primitive)))) }
+{
+    lift_scalar(primitive, flats[0])
+}
+
+/// Carries on a primitive other than string.
+fn carry_primitive(primitive: Primitive, flats: &[Flat], out: &mut Flats) -> Result<(), Stopped>
+    requires some { 0 < length flats.now }
+    requires room { length out.old.items < 16 }
+    ensures ok { OnOk result ((m : List ℕ) → FlatWalks (prim_type (prim_of primitive)) m (map number_of flats.now) out.old.items out.new.items None (node ∷ [])) }
+    ensures fault { IfErr result (λ s. (k : TrapKind) × (s ≡ Stopped.Source k)
+        × ((m : List ℕ) → FlatWalks (prim_type (prim_of primitive)) m (map number_of flats.now) out.old.items [] (Some k) (node ∷ []))) }
+{
+    match scalar_in(primitive, flats) {
+        Ok(scalar) => {
+            out.push(lower_scalar(scalar));
+            Ok(())
+        }
+        Err(kind) => Err(Stopped::Source(kind)),
+    }
+}
+
+/// Carries on a text: it is tested, and put into a block of its own.
+fn carry_text<G: Guest>(
+    source: &[u8],
+    flats: &[Flat],
+    guest: &mut G,
+    out: &mut Flats,
+) -> Result<(), Stopped>
+    requires some { 1 < length flats.now }
+    requires room { length out.old.items + 2 ≤ 16 }
+    ensures { (n : ℕ) → FlatEnds G.allocates (FlatBehind (FlatWalks string_type source.now (map number_of flats.now) out.old.items))
+        (G.memory guest.old) n result (G.memory guest.new) n out.new.items }
+{
+    let start = low_word(flats, 0) as usize;
+    let len = low_word(flats, 1) as usize;
+    let text = match text_in(source, start, len) {
+        Ok(text) => text,
+        Err(kind) => return Err(Stopped::Source(kind)),
+    };
+    let place = match ask_block(guest, u32::MAX, 1, text.len()) {
+        Ok(place) => place,
+        Err(kind) => return Err(Stopped::Target(kind)),
+    };
+    write_bytes(guest, place, text.as_bytes());
+    push_header(out, place, text.len());
+    Ok(())
+}
+
+/// Carries on a list: its block is tested, one of the same size is asked for, and its elements cross into that.
+fn carry_list<G: Guest>(
+    table: &Types,
+    element: ValType,
+    source: &[u8],
+    flats: &[Flat],
+    guest: &mut G,
+    out: &mut Flats,
+    nodes: &mut u64,
+) -> Result<(), Stopped>
+    requires inside { IsInside table.now element }
+    requires short { length source.now < 2 ^ 32 }
+    requires some { 1 < length flats.now }
+    requires room { length out.old.items + 2 ≤ 16 }
+    ensures { FlatEnds G.allocates (FlatBehind (FlatWalks (list_type (closed_type table.now element)) source.now (map number_of flats.now) out.old.items))
+        (G.memory guest.old) nodes.old result (G.memory guest.new) nodes.new out.new.items }
+{
+    canonical_abi::laws::reads_exactly();
+    let start = low_word(flats, 0) as usize;
+    let count = low_word(flats, 1) as usize;
+    let align = table.align_of(element);
+    let size = count * table.size_of(element);
+    if let Err(kind) = test_block(source.len(), start, align, size) {
+        return Err(Stopped::Source(kind));
+    }
+    let place = match ask_block(guest, u32::MAX, align, size) {
+        Ok(place) => place,
+        Err(kind) => return Err(Stopped::Target(kind)),
+    };
+    cross_elements(table, element, source, start, count, guest, place, nodes)?;
+    push_header(out, place, count);
+    Ok(())
+}
+
+/// Carries on the members of a record, each in the flat values behind those of the member before it.
+#[cycle(flat)]
+pub(crate) fn carry_fields<G: Guest>(
+    table: &Types,
+    members: &Members,
+    count: usize,
+    source: &[u8],
+    flats: &[Flat],
+    guest: &mut G,
+    out: &mut Flats,
+    nodes: &mut u64,
+) -> Result<(), Stopped>
+    requires inside { AreInside table.now members.now }
+    requires short { length source.now < 2 ^ 32 }
+    requires counted { field_count (members_fields table.now members.now) ≡ count }
+    requires carried { length (field_kinds (members_fields table.now members.now)) ≤ length flats.now }
+    requires few { length flats.now ≤ 16 }
+    requires room { length out.old.items + length (field_kinds (members_fields table.now members.now)) ≤ 16 }
+    ensures { FlatEnds G.allocates (FieldsFlatWalk (members_fields table.now members.now) source.now (map number_of flats.now) out.old.items)
+        (G.memory guest.old) nodes.old result (G.memory guest.new) nodes.new out.new.items }
+{
+    let mut used: usize = 0;
+    for index in 0..count {
+        let Some(member) = table.member_type(members, index) else {
+            unreachable!()
+        };
+        let rest = &flats[used..];
+        cross_flat(table, member, source, rest, guest, out, nodes)?;
+        used += table.kind_count(member);
+    }
+    Ok(())
+}
+
+/// Carries on the number of a case, and then its payload in the joined kinds of all payloads.
+#[cycle(flat)]
+fn carry_variant<G: Guest>(
+    table: &Types,
+    ty: ValType,
+    source: &[u8],
+    flats: &[Flat],
+    guest: &mut G,
+    out: &mut Flats,
+    nodes: &mut u64,
+) -> Result<(), Stopped>
+    requires inside { IsInside table.now ty }
+    requires variant { variant_type (variant_cases (closed_type table.now ty)) ≡ closed_type table.now ty }
+    requires short { length source.now < 2 ^ 32 }
+    requires carried { length (payload_kinds (variant_cases (closed_type table.now ty))) < length flats.now }
+    requires few { length flats.now ≤ 16 }
+    requires room { length out.old.items + length (flat_kinds (closed_type table.now ty)) ≤ 16 }
+    ensures { FlatEnds G.allocates (FlatBehind (FlatWalks (variant_type (variant_cases (closed_type table.now ty))) source.now (map number_of flats.now) out.old.items))
+        (G.memory guest.old) nodes.old result (G.memory guest.new) nodes.new out.new.items }
+{
+    let case = low_word(flats, 0);
+    let Some(known) = table.case_payload(ty, case as usize) else {
+        return Err(Stopped::Source(TrapKind::Case));
+    };
+    let kinds = table.kinds_of(ty);
+    out.push(Flat::I32(case));
+    let Some(member) = known else {
+        push_joined(&kinds.as_slice()[1..], &[], out);
+        return Ok(());
+    };
+    let mut carried = Flats::new();
+    cross_flat(
+        table,
+        member,
+        source,
+        &flats[1..],
+        guest,
+        &mut carried,
+        nodes,
+    )?;
+    push_joined(&kinds.as_slice()[1..], carried.as_slice(), out);
+    Ok(())
+}
