@@ -14,7 +14,7 @@ use tables::FunctionId;
 use witcall::{Package, open};
 
 /// A body that writes how often it ran at address 0 and its first argument's number at address 1.
-#[derive(Drop)]
+#[derive(Clone, Copy)]
 struct Telling {
     /// What it answers; none: it stops.
     answer: Option<Flat>,
@@ -102,41 +102,83 @@ fn carried(
     Ok(link.call(alloc, func, flats, caller, callee, &mut body))
 }
 
-/// What a call of `f` answers, and the callee's memory behind it. The same link then carries `g`.
+fn is_number(answer: &Result<Flats, Fault>, number: u32) -> bool {
+    match answer {
+        Ok(back) => back.as_slice() == [Flat::I32(number)].as_slice(),
+        Err(_) => false,
+    }
+}
+
+/// Whether the link carries a call with 7 to a body that answers 8.
+fn assert_carried(
+    rt: &impl Abort,
+    alloc: Global,
+    link: &mut Link<'_>,
+    func: FunctionId,
+    caller: &mut Bump,
+    callee: &mut Space,
+) -> Result<(), Fail>
+    requires { IsScalarFunction link.old.resolve func }
+{
+    let body = Telling::answering(Flat::I32(8));
+    let answer = carried(alloc, link, func, &[Flat::I32(7)], caller, callee, body)?;
+    assert!(rt; is_number(&answer, 8));
+    Ok(())
+}
+
+/// What a call answered, and the callee's memory behind it.
+#[derive(Drop)]
+struct Told {
+    answer: Result<Flats, Fault>,
+    memory: Vec<u8>,
+}
+
+impl Told {
+    fn is_trap(&self, trap: Trap) -> bool {
+        match &self.answer {
+            Ok(_) => false,
+            Err(fault) => *fault == Fault::Trap(trap),
+        }
+    }
+}
+
+/// What a call of `f` over the link answers. The same link then carries `g`.
+fn carried_twice(
+    rt: &impl Abort,
+    alloc: Global,
+    link: &mut Link<'_>,
+    f: FunctionId,
+    g: FunctionId,
+    body: Telling,
+    flats: &[Flat],
+) -> Result<Told, Fail>
+    requires f { IsScalarFunction link.old.resolve f }
+    requires g { IsScalarFunction link.old.resolve g }
+{
+    let mut caller = Bump::new(alloc, 16)?;
+    let mut callee = Space::Bump(Bump::new(alloc, 16)?);
+    let answer = carried(alloc, link, f, flats, &mut caller, &mut callee, body)?;
+    let memory = callee.bytes().to_vec(alloc)?;
+    assert_carried(rt, alloc, link, g, &mut caller, &mut callee)?;
+    Ok(Told { answer, memory })
+}
+
+/// What a call of `f` of this type answers.
 fn called(
     rt: &impl Abort,
     alloc: Global,
     f: &str,
     body: Telling,
     flats: &[Flat],
-) -> Result<(Result<Flats, Fault>, Vec<u8>), Fail> {
+) -> Result<Told, Fail> {
     let package = package(alloc, f)?;
     let f = function(rt, &package, "f")?;
     let g = function(rt, &package, "g")?;
-    let mut caller = Bump::new(alloc, 16)?;
-    let mut callee = Space::Bump(Bump::new(alloc, 16)?);
     let mut link = Link::new(package.resolve(), package.layouts());
-    let answer = carried(alloc, &mut link, f, flats, &mut caller, &mut callee, body)?;
-    let memory = callee.bytes().to_vec(alloc)?;
-    let plain = Telling::answering(Flat::I32(8));
-    let seven = [Flat::I32(7)];
-    let again = carried(
-        alloc,
-        &mut link,
-        g,
-        seven.as_slice(),
-        &mut caller,
-        &mut callee,
-        plain,
-    )?;
-    let Ok(back) = again else {
-        return Err(Fail::from("the link does not carry the next call"));
-    };
-    assert_eq!(rt; back.as_slice(), [Flat::I32(8)].as_slice());
-    Ok((answer, memory))
+    carried_twice(rt, alloc, &mut link, f, g, body, flats)
 }
 
-/// Whether a call of `f` is such a trap, and the callee's memory begins with these bytes then.
+/// Whether a call of `f` is such a trap, and the callee's memory is this then.
 fn assert_trap(
     rt: &impl Abort,
     alloc: Global,
@@ -144,58 +186,57 @@ fn assert_trap(
     body: Telling,
     flats: &[Flat],
     trap: Trap,
-    wanted: [u8; 2],
+    memory: [u8; 16],
 ) -> Result<(), Fail> {
-    let (answer, memory) = called(rt, alloc, f, body, flats)?;
-    assert_eq!(rt; answer.err(), Some(Fault::Trap(trap)), "{f}");
-    let [first, second, rest @ ..] = memory.as_slice() else {
-        return Err(Fail::from("no memory"));
-    };
-    assert_eq!(rt; [*first, *second], wanted, "{f}");
-    assert_eq!(rt; rest, [0; 14].as_slice(), "{f}");
+    let told = called(rt, alloc, f, body, flats)?;
+    assert!(rt; told.is_trap(trap), "{f}");
+    assert!(rt; told.memory.as_slice() == memory.as_slice(), "{f}");
     Ok(())
 }
 
 /// No run was made.
-const IDLE: [u8; 2] = [0, 0];
+const IDLE: [u8; 16] = [0; 16];
 
 /// One run on the number 7.
-const RAN_ON_SEVEN: [u8; 2] = [1, 7];
+const RAN_ON_SEVEN: [u8; 16] = [1, 7, 0, 0, 0, 0, 0, 0, 0, 0, 0, 0, 0, 0, 0, 0];
 
 const NUMBERS: &str = "func(x: u32) -> u32";
+
+/// One run on the number -1.
+const RAN_ON_MINUS_ONE: [u8; 16] = [1, 255, 255, 255, 255, 0, 0, 0, 0, 0, 0, 0, 0, 0, 0, 0];
 
 #[test]
 fn low_bits_and_signs(rt: HostRuntime) -> Result<(), Fail> {
     let body = Telling::answering(Flat::I32(511));
-    let f = "func(x: s8) -> u8";
-    let (answer, memory) = called(&rt, rt.alloc(), f, body, &[Flat::I32(255)])?;
-    let Ok(back) = answer else {
-        return Err(Fail::from("a trap"));
-    };
-    assert_eq!(rt; back.as_slice(), [Flat::I32(255)].as_slice());
-    let given = [1, 255, 255, 255, 255, 0, 0, 0, 0, 0, 0, 0, 0, 0, 0, 0];
-    assert_eq!(rt; memory.as_slice(), given.as_slice());
+    let told = called(
+        &rt,
+        rt.alloc(),
+        "func(x: s8) -> u8",
+        body,
+        &[Flat::I32(255)],
+    )?;
+    assert!(rt; is_number(&told.answer, 255));
+    assert!(rt; told.memory.as_slice() == RAN_ON_MINUS_ONE.as_slice());
     Ok(())
 }
 
 /// A surrogate, two flat values for one parameter, and one of another kind.
+static FAULTS: [(&str, &[Flat], TrapKind); 3] = [
+    ("func(x: char) -> u32", &[Flat::I32(0xD800)], TrapKind::Char),
+    (
+        NUMBERS,
+        &[Flat::I32(7), Flat::I32(7)],
+        TrapKind::CoreSignature,
+    ),
+    (NUMBERS, &[Flat::I64(7)], TrapKind::CoreSignature),
+];
+
 #[test]
 fn faults_of_arguments(rt: HostRuntime) -> Result<(), Fail> {
+    let body = Telling::answering(Flat::I32(0));
     let step = Step::LiftArgs;
-    for (f, flats, kind) in [
-        (
-            "func(x: char) -> u32",
-            [Flat::I32(0xD800)].as_slice(),
-            TrapKind::Char,
-        ),
-        (
-            NUMBERS,
-            [Flat::I32(7), Flat::I32(7)].as_slice(),
-            TrapKind::CoreSignature,
-        ),
-        (NUMBERS, [Flat::I64(7)].as_slice(), TrapKind::CoreSignature),
-    ] {
-        let body = Telling::answering(Flat::I32(0));
+    for row in FAULTS.as_slice() {
+        let (f, flats, kind) = *row;
         assert_trap(&rt, rt.alloc(), f, body, flats, Trap { kind, step }, IDLE)?;
     }
     Ok(())
@@ -243,14 +284,30 @@ fn post_return_stops(rt: HostRuntime) -> Result<(), Fail> {
     assert_late_trap(&rt, rt.alloc(), NUMBERS, body, TrapKind::Body, Step::Post)
 }
 
+/// Whether a request of an alignment and a size is answered so.
+fn assert_granted<G: Guest>(
+    rt: &impl Abort,
+    memory: &mut G,
+    align: u32,
+    size: u32,
+    at: Option<u32>,
+) {
+    assert!(rt; align == 1 || align == 4 || align == 8);
+    assert!(rt; memory.alloc(align, size).ok() == at, "{size}");
+}
+
 #[test]
 fn scripted_answers_in_turn(rt: HostRuntime) -> Result<(), Fail> {
     let answers = vec![in rt.alloc(); Ok(14), Err(Full), Ok(2)]?;
     let mut memory = Scripted::new(rt.alloc(), 32, answers)?;
-    assert_eq!(rt; memory.alloc(4, 8).ok(), Some(14));
-    assert_eq!(rt; memory.alloc(1, 1).ok(), None);
-    assert_eq!(rt; memory.alloc(8, 0).ok(), Some(2));
-    assert_eq!(rt; memory.alloc(1, 1).ok(), None);
+    for (align, size, at) in [
+        (4, 8, Some(14)),
+        (1, 1, None),
+        (8, 0, Some(2)),
+        (1, 1, None),
+    ] {
+        assert_granted(&rt, &mut memory, align, size, at);
+    }
     assert!(rt; memory.free(2, 0).is_err());
     Ok(())
 }
@@ -258,12 +315,16 @@ fn scripted_answers_in_turn(rt: HostRuntime) -> Result<(), Fail> {
 #[test]
 fn bump_goes_up(rt: HostRuntime) -> Result<(), Fail> {
     let mut memory = Bump::new(rt.alloc(), 16)?;
-    assert_eq!(rt; memory.alloc(1, 3).ok(), Some(0));
-    assert_eq!(rt; memory.alloc(4, 4).ok(), Some(4));
-    assert_eq!(rt; memory.alloc(8, 9).ok(), None);
-    assert_eq!(rt; memory.alloc(8, 8).ok(), Some(8));
-    assert_eq!(rt; memory.alloc(1, 0).ok(), Some(16));
-    assert_eq!(rt; memory.alloc(1, 1).ok(), None);
+    for (align, size, at) in [
+        (1, 3, Some(0)),
+        (4, 4, Some(4)),
+        (8, 9, None),
+        (8, 8, Some(8)),
+        (1, 0, Some(16)),
+        (1, 1, None),
+    ] {
+        assert_granted(&rt, &mut memory, align, size, at);
+    }
     assert!(rt; memory.free(8, 8).is_err());
     assert!(rt; Bump::new(rt.alloc(), 16_777_217).is_err());
     Ok(())

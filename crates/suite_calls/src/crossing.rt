@@ -10,6 +10,7 @@ use lift_lower::{Flats, Val};
 use memory::{Bump, Scripted, Space};
 use std::alloc::Global;
 use std::process::Abort;
+use std::slice;
 use std::test::Fail;
 use tables::FunctionId;
 use witcall::{Package, Session, open};
@@ -65,24 +66,64 @@ fn function(package: &Package) -> Result<FunctionId, Fail>
     }
 }
 
-/// What a call of `f` with this argument answers over this caller, and the caller's bytes then.
+/// What a call answered, and the caller's bytes behind it.
+#[derive(Drop)]
+struct Told {
+    answer: Result<Option<Val>, Fault>,
+    memory: Vec<u8>,
+}
+
+impl Told {
+    fn is_trap(&self, kind: TrapKind, step: Step) -> bool {
+        match &self.answer {
+            Ok(_) => false,
+            Err(fault) => *fault == Fault::Trap(Trap { kind, step }),
+        }
+    }
+
+    /// Whether the bytes "hi" are the list that was answered.
+    fn is_hi(&self) -> bool {
+        match &self.answer {
+            Ok(Some(Val::List(items))) => {
+                matches!(items.as_slice(), [Val::U8(0x68), Val::U8(0x69)])
+            }
+            _ => false,
+        }
+    }
+
+    fn is_none(&self) -> bool {
+        match &self.answer {
+            Ok(Some(value)) => matches!(value, Val::Variant(0, None)),
+            _ => false,
+        }
+    }
+
+    fn is_some_nine(&self) -> bool {
+        match &self.answer {
+            Ok(Some(Val::Variant(1, Some(payload)))) => matches!(&**payload, Val::U32(9)),
+            _ => false,
+        }
+    }
+}
+
+/// What a call of `f` of the package with this argument answers over this caller.
 fn called<C: Guest + Drop>(
     rt: &impl Abort,
     alloc: Global,
     package: &Package,
-    argument: Val,
+    argument: &Val,
     caller: C,
-) -> Result<(Result<Option<Val>, Fault>, Vec<u8>), Fail> {
+) -> Result<Told, Fail> {
     let f = function(package)?;
-    let arguments = vec![in alloc; argument]?;
-    assert!(rt; package.takes(f, arguments.as_slice()));
+    let arguments = slice::from_ref(argument);
+    assert!(rt; package.takes(f, arguments));
     assert!(rt; !package.takes(f, &[]));
     let callee = Space::Bump(Bump::new(alloc, 64)?);
     let body = BoxedBody::new(Box::new(alloc, Pairing)?);
     let mut session = Session::new(package, caller, callee, body);
-    let answer = session.call(alloc, f, arguments.as_slice());
+    let answer = session.call(alloc, f, arguments);
     let memory = session.caller().bytes().to_vec(alloc)?;
-    Ok((answer, memory))
+    Ok(Told { answer, memory })
 }
 
 fn text(alloc: Global, text: &str) -> Result<Val, Fail> {
@@ -98,80 +139,99 @@ fn space(alloc: Global, len: u32) -> Result<Space, Fail> {
     Ok(Space::Bump(Bump::new(alloc, len)?))
 }
 
-const LIST_OF_STRING: &str = "f: func(x: string) -> list<u8>;";
+fn scripted(alloc: Global, answers: Vec<Result<u32, Full>>) -> Result<Scripted, Fail> {
+    match Scripted::new(alloc, 16, answers) {
+        Ok(memory) => Ok(memory),
+        Err(_) => Err(Fail::from("no memory")),
+    }
+}
 
-const OPTION_OF_RECORD: &str = "record t { a: u32, b: u32 } f: func(x: t) -> option<u32>;";
+/// What a call with a list answers for a string over this caller.
+fn called_with_text<C: Guest + Drop>(
+    rt: &impl Abort,
+    alloc: Global,
+    caller: C,
+) -> Result<Told, Fail> {
+    let package = package(alloc, "f: func(x: string) -> list<u8>;")?;
+    called(rt, alloc, &package, &text(alloc, "hi")?, caller)
+}
 
 #[test]
 fn a_list_of_a_string(rt: HostRuntime) -> Result<(), Fail> {
-    let alloc = rt.alloc();
-    let package = package(alloc, LIST_OF_STRING)?;
-    let (answer, memory) = called(&rt, alloc, &package, text(alloc, "hi")?, space(alloc, 32)?)?;
-    let Ok(Some(Val::List(items))) = answer else {
-        return Err(Fail::from("no list"));
-    };
-    assert!(&rt; matches!(items.as_slice(), [Val::U8(0x68), Val::U8(0x69)]));
+    let told = called_with_text(&rt, rt.alloc(), space(rt.alloc(), 32)?)?;
+    assert!(rt; told.is_hi());
     // The text, the area at the next multiple of four, and the list's bytes.
-    assert!(&rt;
-        matches!(
-            memory.as_slice(),
-            [0x68, 0x69, 0, 0, 12, 0, 0, 0, 2, 0, 0, 0, 0x68, 0x69, ..]
-        )
-    );
+    let bytes = b"hi\0\0\x0c\0\0\0\x02\0\0\0hi";
+    assert!(rt; told.memory.get(..14) == Some(bytes.as_slice()));
+    Ok(())
+}
+
+/// What a call with an option answers for a record of this number and 9.
+fn called_with_pair<C: Guest + Drop>(
+    rt: &impl Abort,
+    alloc: Global,
+    first: u32,
+    caller: C,
+) -> Result<Told, Fail> {
+    let items = "record t { a: u32, b: u32 } f: func(x: t) -> option<u32>;";
+    let package = package(alloc, items)?;
+    called(rt, alloc, &package, &pair(alloc, first, 9)?, caller)
+}
+
+#[test]
+fn none_of_a_record(rt: HostRuntime) -> Result<(), Fail> {
+    let told = called_with_pair(&rt, rt.alloc(), 0, space(rt.alloc(), 8)?)?;
+    assert!(rt; told.is_none());
     Ok(())
 }
 
 #[test]
-fn an_option_of_a_record(rt: HostRuntime) -> Result<(), Fail> {
-    let alloc = rt.alloc();
-    let package = package(alloc, OPTION_OF_RECORD)?;
-    let (none, _memory) = called(&rt, alloc, &package, pair(alloc, 0, 9)?, space(alloc, 8)?)?;
-    assert!(&rt; matches!(none, Ok(Some(Val::Variant(0, None)))));
-    let (some, memory) = called(&rt, alloc, &package, pair(alloc, 1, 9)?, space(alloc, 8)?)?;
-    let Ok(Some(Val::Variant(1, Some(payload)))) = some else {
-        return Err(Fail::from("no value"));
-    };
-    assert!(&rt; matches!(*payload, Val::U32(9)));
-    assert_eq!(&rt; memory.as_slice(), [1, 0, 0, 0, 9, 0, 0, 0].as_slice());
-    let (bad, memory) = called(&rt, alloc, &package, pair(alloc, 2, 9)?, space(alloc, 8)?)?;
-    let (kind, step) = (TrapKind::Case, Step::LiftResult);
-    assert!(&rt; matches!(bad, Err(fault) if fault == Fault::Trap(Trap { kind, step })));
-    assert_eq!(&rt; memory.as_slice(), [0; 8].as_slice());
+fn some_of_a_record(rt: HostRuntime) -> Result<(), Fail> {
+    let told = called_with_pair(&rt, rt.alloc(), 1, space(rt.alloc(), 8)?)?;
+    assert!(rt; told.is_some_nine());
+    assert!(rt; told.memory.as_slice() == b"\x01\0\0\0\x09\0\0\0".as_slice());
+    Ok(())
+}
+
+#[test]
+fn no_option_of_a_record(rt: HostRuntime) -> Result<(), Fail> {
+    let told = called_with_pair(&rt, rt.alloc(), 2, space(rt.alloc(), 8)?)?;
+    assert!(rt; told.is_trap(TrapKind::Case, Step::LiftResult));
+    assert!(rt; told.memory.as_slice() == [0; 8].as_slice());
+    Ok(())
+}
+
+/// Whether such an answer of the caller's allocator is a trap of this kind, and nothing is written.
+fn assert_no_area(
+    rt: &impl Abort,
+    alloc: Global,
+    granted: Result<u32, Full>,
+    kind: TrapKind,
+) -> Result<(), Fail> {
+    let caller = scripted(alloc, vec![in alloc; granted]?)?;
+    let told = called_with_pair(rt, alloc, 1, caller)?;
+    assert!(rt; told.is_trap(kind, Step::Place));
+    assert!(rt; told.memory.as_slice() == [0; 16].as_slice());
     Ok(())
 }
 
 #[test]
 fn no_room_for_the_area(rt: HostRuntime) -> Result<(), Fail> {
-    let alloc = rt.alloc();
-    let package = package(alloc, OPTION_OF_RECORD)?;
-    let step = Step::Place;
     for (granted, kind) in [
         (Err(Full), TrapKind::Full),
         (Ok(2), TrapKind::Align),
         (Ok(12), TrapKind::Bounds),
     ] {
-        let Ok(caller) = Scripted::new(alloc, 16, vec![in alloc; granted]?) else {
-            return Err(Fail::from("no memory"));
-        };
-        let (answer, memory) = called(&rt, alloc, &package, pair(alloc, 1, 9)?, caller)?;
-        assert!(&rt; matches!(answer, Err(fault) if fault == Fault::Trap(Trap { kind, step })));
-        assert_eq!(&rt; memory.as_slice(), [0; 16].as_slice());
+        assert_no_area(&rt, rt.alloc(), granted, kind)?;
     }
     Ok(())
 }
 
 #[test]
 fn arguments_come_before_the_area(rt: HostRuntime) -> Result<(), Fail> {
-    let alloc = rt.alloc();
-    let package = package(alloc, LIST_OF_STRING)?;
-    let answers = vec![in alloc; Ok(9), Err(Full)]?;
-    let Ok(caller) = Scripted::new(alloc, 16, answers) else {
-        return Err(Fail::from("no memory"));
-    };
-    let (answer, memory) = called(&rt, alloc, &package, text(alloc, "hi")?, caller)?;
-    let (kind, step) = (TrapKind::Full, Step::Place);
-    assert!(&rt; matches!(answer, Err(fault) if fault == Fault::Trap(Trap { kind, step })));
-    let told = [0, 0, 0, 0, 0, 0, 0, 0, 0, 0x68, 0x69, 0, 0, 0, 0, 0];
-    assert_eq!(&rt; memory.as_slice(), told.as_slice());
+    let answers = vec![in rt.alloc(); Ok(9), Err(Full)]?;
+    let told = called_with_text(&rt, rt.alloc(), scripted(rt.alloc(), answers)?)?;
+    assert!(rt; told.is_trap(TrapKind::Full, Step::Place));
+    assert!(rt; told.memory.as_slice() == b"\0\0\0\0\0\0\0\0\0hi\0\0\0\0\0".as_slice());
     Ok(())
 }

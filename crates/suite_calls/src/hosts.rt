@@ -5,8 +5,10 @@ ghost use Rattle.std.specs.Prelude.{◌<◌, vec_len};
 use adapter::{Body, Link, Stopped};
 use canonical_abi::{Flat, Full, Guest, NotTaken};
 use lift_lower::Flats;
+use std::alloc::Global;
+use std::process::Abort;
 use std::test::Fail;
-use witcall::open;
+use witcall::{Package, open};
 
 /// A memory that grants no block.
 #[derive(Drop)]
@@ -70,34 +72,30 @@ impl<G: Guest> Body<G> for Constant {
     }
 }
 
-#[test]
-fn calls_of_a_host(rt: HostRuntime) -> Result<(), Fail> {
-    let alloc = rt.alloc();
-    let text = "package a:b; interface c { f: func(x: u32) -> u32; }";
-    let package = open(alloc, text.as_bytes())?;
+fn memory(alloc: Global) -> Fixed {
+    Fixed {
+        bytes: Vec::new(alloc),
+    }
+}
+
+/// What a call of `f` answers over two such memories.
+fn called(rt: &impl Abort, alloc: Global, package: &Package) -> Result<Flats, Fail> {
     let Some(f) = package.resolve().function("a:b/c", "f") else {
         return Err(Fail::from("no function"));
     };
-    assert!(&rt; package.resolve().is_scalar(f));
-    let mut caller = Fixed {
-        bytes: Vec::new(alloc),
-    };
-    let mut callee = Fixed {
-        bytes: Vec::new(alloc),
-    };
+    assert!(rt; package.resolve().is_scalar(f));
+    let (mut caller, mut callee) = (memory(alloc), memory(alloc));
     let mut body = Constant(Flat::I32(8));
     let mut link = Link::new(package.resolve(), package.layouts());
-    let answer = link.call(
-        alloc,
-        f,
-        &[Flat::I32(7)],
-        &mut caller,
-        &mut callee,
-        &mut body,
-    );
-    let Ok(back) = answer else {
-        return Err(Fail::from("a trap"));
-    };
-    assert_eq!(&rt; back.as_slice(), [Flat::I32(8)].as_slice());
+    let flats = [Flat::I32(7)];
+    Ok(link.call(alloc, f, &flats, &mut caller, &mut callee, &mut body)?)
+}
+
+#[test]
+fn calls_of_a_host(rt: HostRuntime) -> Result<(), Fail> {
+    let text = "package a:b; interface c { f: func(x: u32) -> u32; }";
+    let package = open(rt.alloc(), text.as_bytes())?;
+    let back = called(&rt, rt.alloc(), &package)?;
+    assert!(rt; back.as_slice() == [Flat::I32(8)].as_slice());
     Ok(())
 }

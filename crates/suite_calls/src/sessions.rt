@@ -6,11 +6,12 @@ use lift_lower::{Flats, Val};
 use memory::{Bump, Space};
 use std::alloc::Global;
 use std::process::Abort;
+use std::slice;
 use std::test::Fail;
-use witcall::{Session, open};
+use witcall::{Package, Session, open};
 
 /// A body that writes its first argument's number at address 0, and answers these flat values.
-#[derive(Drop)]
+#[derive(Clone, Copy)]
 struct Fixed {
     answer: Option<Flat>,
 }
@@ -43,60 +44,97 @@ impl Export for Fixed {
     }
 }
 
-/// What a session answers for a call of `f`, and the number that the body was given.
+/// What a call answered, and the callee's memory behind it.
+#[derive(Drop)]
+struct Told {
+    answer: Result<Option<Val>, Fault>,
+    memory: Vec<u8>,
+}
+
+impl Told {
+    fn is_trap(&self, kind: TrapKind, step: Step) -> bool {
+        match &self.answer {
+            Ok(_) => false,
+            Err(fault) => *fault == Fault::Trap(Trap { kind, step }),
+        }
+    }
+}
+
+/// What a session answers for a call of `f` of the package.
+fn answered(
+    rt: &impl Abort,
+    alloc: Global,
+    package: &Package,
+    argument: &Val,
+    body: Fixed,
+) -> Result<Told, Fail> {
+    let Some(f) = package.resolve().function("a:b/c", "f") else {
+        return Err(Fail::from("no function"));
+    };
+    let arguments = slice::from_ref(argument);
+    assert!(rt; package.takes(f, arguments));
+    assert!(rt; !package.takes(f, &[]));
+    let caller = Bump::new(alloc, 8)?;
+    let callee = Space::Bump(Bump::new(alloc, 8)?);
+    let body = BoxedBody::new(Box::new(alloc, body)?);
+    let mut session = Session::new(package, caller, callee, body);
+    let answer = session.call(alloc, f, arguments);
+    assert!(rt; session.caller().len() == 8);
+    let memory = session.callee().bytes().to_vec(alloc)?;
+    Ok(Told { answer, memory })
+}
+
+/// The same of a text's package.
 fn called(
     rt: &impl Abort,
     alloc: Global,
     text: &str,
-    argument: Val,
+    argument: &Val,
     answer: Option<Flat>,
-) -> Result<(Result<Option<Val>, Fault>, Vec<u8>), Fail> {
+) -> Result<Told, Fail> {
     let package = open(alloc, text.as_bytes())?;
-    let Some(f) = package.resolve().function("a:b/c", "f") else {
-        return Err(Fail::from("no function"));
-    };
-    assert!(rt; package.resolve().is_scalar(f));
-    let arguments = vec![in alloc; argument]?;
-    assert!(rt; package.takes(f, arguments.as_slice()));
-    assert!(rt; !package.takes(f, &[]));
-    let caller = Bump::new(alloc, 8)?;
-    let callee = Space::Bump(Bump::new(alloc, 8)?);
-    let body = BoxedBody::new(Box::new(alloc, Fixed { answer })?);
-    let mut session = Session::new(&package, caller, callee, body);
-    let answer = session.call(alloc, f, arguments.as_slice());
-    assert_eq!(rt; session.caller().len(), 8);
-    let memory = session.callee().bytes().to_vec(alloc)?;
-    Ok((answer, memory))
+    answered(rt, alloc, &package, argument, Fixed { answer })
 }
 
 #[test]
 fn low_bits_and_signs(rt: HostRuntime) -> Result<(), Fail> {
     let text = "package a:b; interface c { f: func(x: s8) -> u8; }";
-    let (answer, memory) = called(&rt, rt.alloc(), text, Val::S8(-1), Some(Flat::I32(511)))?;
-    assert!(rt; matches!(answer, Ok(Some(Val::U8(255)))));
-    let given = [255, 255, 255, 255, 0, 0, 0, 0];
-    assert_eq!(rt; memory.as_slice(), given.as_slice());
+    let told = called(&rt, rt.alloc(), text, &Val::S8(-1), Some(Flat::I32(511)))?;
+    assert!(rt; matches!(told.answer, Ok(Some(Val::U8(255)))));
+    assert!(rt; told.memory.as_slice() == b"\xff\xff\xff\xff\0\0\0\0".as_slice());
+    Ok(())
+}
+
+const TEXT: &str = "package a:b; interface c { f: func(x: u64) -> char; }";
+
+/// Whether a body that answers this is a trap of this kind, behind one run.
+fn assert_trap(
+    rt: &impl Abort,
+    alloc: Global,
+    answer: Option<Flat>,
+    kind: TrapKind,
+) -> Result<(), Fail> {
+    let told = called(rt, alloc, TEXT, &Val::U64(1 << 63), answer)?;
+    assert!(rt; told.is_trap(kind, Step::LiftResult));
+    assert!(rt; told.memory.as_slice() == b"\0\0\0\0\0\0\0\x80".as_slice());
     Ok(())
 }
 
 #[test]
 fn faults(rt: HostRuntime) -> Result<(), Fail> {
-    let text = "package a:b; interface c { f: func(x: u64) -> char; }";
     for (answer, kind) in [
         (None, TrapKind::CoreSignature),
         (Some(Flat::I64(0)), TrapKind::CoreSignature),
         (Some(Flat::I32(0xDFFF)), TrapKind::Char),
     ] {
-        let (answer, memory) = called(&rt, rt.alloc(), text, Val::U64(1 << 63), answer)?;
-        let Err(fault) = answer else {
-            return Err(Fail::from("no trap"));
-        };
-        let step = Step::LiftResult;
-        assert_eq!(rt; fault, Fault::Trap(Trap { kind, step }));
-        let given = [0, 0, 0, 0, 0, 0, 0, 128];
-        assert_eq!(rt; memory.as_slice(), given.as_slice());
+        assert_trap(&rt, rt.alloc(), answer, kind)?;
     }
-    let (answer, _memory) = called(&rt, rt.alloc(), text, Val::U64(0), Some(Flat::I32(0xE000)))?;
-    assert!(rt; matches!(answer, Ok(Some(Val::Char('\u{e000}')))));
+    Ok(())
+}
+
+#[test]
+fn a_char(rt: HostRuntime) -> Result<(), Fail> {
+    let told = called(&rt, rt.alloc(), TEXT, &Val::U64(0), Some(Flat::I32(0xE000)))?;
+    assert!(rt; matches!(told.answer, Ok(Some(Val::Char('\u{e000}')))));
     Ok(())
 }

@@ -4,8 +4,9 @@ ghost use Rattle.std.specs.Prelude.{◌<◌};
 
 use atoms::Label;
 use canonical_abi::CoreKind;
-use layout::{CoreSignature, Kinds, LayoutError, Layouts, Shape};
+use layout::{CoreSignature, Kinds, Layouts, Shape};
 use std::alloc::Global;
+use std::process::Abort;
 use std::test::*;
 use tables::{
     Case, Definition, Field, Function, FunctionId, InterfaceId, Owner, Parameter, Primitive,
@@ -123,79 +124,95 @@ fn room(layouts: &Layouts, ty: ValType) -> (u32, u32) {
     }
 }
 
-/// Size, alignment, flat kinds and the last place of a package's last type.
-fn described(alloc: Global, definitions: Vec<Definition>) -> Result<String, Fail> {
-    let Ok(last) = u32::try_from(definitions.len().saturating_sub(1)) else {
-        return Err(Fail::from(ResolveError::Limit));
-    };
-    let ty = ValType::Id(TypeId(last));
-    let layouts = Layouts::of(alloc, &package(alloc, definitions)?)?;
-    let (size, align) = room(&layouts, ty);
-    let flat = flat(alloc, &layouts, ty)?;
-    let place = place(&layouts, ty).unwrap_or(0);
+/// Size, alignment, flat kinds and the last place of a type.
+fn described(alloc: Global, layouts: &Layouts, ty: ValType) -> Result<String, Fail> {
+    let (size, align) = room(layouts, ty);
+    let flat = flat(alloc, layouts, ty)?;
+    let place = place(layouts, ty).unwrap_or(0);
     Ok(format!(in alloc; "{size} {align} {flat} {place}")?)
 }
 
+fn assert_text(rt: &impl Abort, found: &str, wanted: &str) {
+    assert!(rt; found == wanted, "{found}, not {wanted}");
+}
+
+/// Whether the package's type at this place is so described.
+fn assert_described(
+    rt: &impl Abort,
+    alloc: Global,
+    package: &Resolve,
+    place: u32,
+    wanted: &str,
+) -> Result<(), Fail> {
+    let layouts = Layouts::of(alloc, package)?;
+    let text = described(alloc, &layouts, ValType::Id(TypeId(place)))?;
+    assert_text(rt, text.as_str(), wanted);
+    Ok(())
+}
+
 /// The same of a package of one type.
-fn one(alloc: Global, kind: TypeDefKind) -> Result<String, Fail> {
-    let mut definitions = Vec::new(alloc);
-    definitions.push(unnamed(kind))?;
-    described(alloc, definitions)
+fn assert_one(
+    rt: &impl Abort,
+    alloc: Global,
+    kind: TypeDefKind,
+    wanted: &str,
+) -> Result<(), Fail> {
+    let package = package(alloc, vec![in alloc; unnamed(kind)]?)?;
+    assert_described(rt, alloc, &package, 0, wanted)
 }
 
 #[test]
 fn records(rt: HostRuntime) -> Result<(), Fail> {
-    let text = one(rt.alloc(), record(rt.alloc(), &[U8, U32, U16])?)?;
-    assert_eq!(rt; text.as_str(), "12 4 444 8");
-    let text = one(rt.alloc(), record(rt.alloc(), &[U8, U32])?)?;
-    assert_eq!(rt; text.as_str(), "8 4 44 4");
-    Ok(())
+    let alloc = rt.alloc();
+    assert_one(&rt, alloc, record(alloc, &[U8, U32, U16])?, "12 4 444 8")?;
+    assert_one(&rt, alloc, record(alloc, &[U8, U32])?, "8 4 44 4")
 }
 
 #[test]
 fn variants(rt: HostRuntime) -> Result<(), Fail> {
-    let text = one(
-        rt.alloc(),
-        variant(rt.alloc(), &[None, Some(U64), Some(ValType::String)])?,
-    )?;
-    assert_eq!(rt; text.as_str(), "16 8 484 8");
-    Ok(())
+    let kind = variant(rt.alloc(), &[None, Some(U64), Some(ValType::String)])?;
+    assert_one(&rt, rt.alloc(), kind, "16 8 484 8")
 }
 
 #[test]
 fn results(rt: HostRuntime) -> Result<(), Fail> {
-    let text = one(rt.alloc(), TypeDefKind::Result(Some(U8), Some(U64)))?;
-    assert_eq!(rt; text.as_str(), "16 8 48 8");
-    let text = one(rt.alloc(), TypeDefKind::Option(CHAR))?;
-    assert_eq!(rt; text.as_str(), "8 4 44 4");
-    Ok(())
+    let result = TypeDefKind::Result(Some(U8), Some(U64));
+    assert_one(&rt, rt.alloc(), result, "16 8 48 8")?;
+    assert_one(&rt, rt.alloc(), TypeDefKind::Option(CHAR), "8 4 44 4")
 }
 
 #[test]
 fn enums(rt: HostRuntime) -> Result<(), Fail> {
-    for (count, want) in [
+    for (count, wanted) in [
         (256, "1 1 4 1"),
         (257, "2 2 4 2"),
         (65536, "2 2 4 2"),
         (65537, "4 4 4 4"),
     ] {
-        let text = one(rt.alloc(), enumeration(rt.alloc(), count)?)?;
-        assert_eq!(rt; text.as_str(), want);
+        assert_one(&rt, rt.alloc(), enumeration(rt.alloc(), count)?, wanted)?;
     }
     Ok(())
 }
 
 #[test]
 fn unnamed_types(rt: HostRuntime) -> Result<(), Fail> {
-    let mut definitions = Vec::new(rt.alloc());
-    definitions.push(unnamed(TypeDefKind::Option(U16)))?;
-    definitions.push(unnamed(tuple(rt.alloc(), &[U8, FIRST])?))?;
-    assert_eq!(rt; described(rt.alloc(), definitions)?.as_str(), "6 2 444 2");
-    Ok(())
+    let alloc = rt.alloc();
+    let pair = unnamed(tuple(alloc, &[U8, FIRST])?);
+    let definitions = vec![in alloc; unnamed(TypeDefKind::Option(U16)), pair]?;
+    assert_described(&rt, alloc, &package(alloc, definitions)?, 1, "6 2 444 2")
 }
 
-/// A package of one function with so many parameters.
-fn function(alloc: Global, count: usize, answer: ValType) -> Result<Resolve, ResolveError> {
+/// A function of no parameters, with a label for a name.
+fn nullary(alloc: Global) -> Result<Function, ResolveError> {
+    Ok(Function {
+        owner: Owner::Interface(InterfaceId(0)),
+        name: label(alloc)?,
+        params: Sequence::new(Vec::new(alloc)),
+        result: None,
+    })
+}
+
+fn parameters(alloc: Global, count: usize) -> Result<Vec<Parameter>, ResolveError> {
     let mut params = Vec::new(alloc);
     for _ in 0..count {
         params.push(Parameter {
@@ -203,14 +220,15 @@ fn function(alloc: Global, count: usize, answer: ValType) -> Result<Resolve, Res
             ty: U32,
         })?;
     }
-    let mut definitions = Vec::new(alloc);
-    definitions.push(Definition::Function(Function {
-        owner: Owner::Interface(InterfaceId(0)),
-        name: label(alloc)?,
-        params: Sequence::new(params),
-        result: Some(answer),
-    }))?;
-    package(alloc, definitions)
+    Ok(params)
+}
+
+/// A package of one function with so many parameters.
+fn function(alloc: Global, count: usize, answer: ValType) -> Result<Resolve, ResolveError> {
+    let mut function = nullary(alloc)?;
+    function.params = Sequence::new(parameters(alloc, count)?);
+    function.result = Some(answer);
+    package(alloc, vec![in alloc; Definition::Function(function)]?)
 }
 
 fn signature(alloc: Global, signature: &CoreSignature) -> Result<String, ResolveError> {
@@ -223,38 +241,72 @@ fn signature(alloc: Global, signature: &CoreSignature) -> Result<String, Resolve
     Ok(text)
 }
 
-/// The core signatures of such a function, and the steps of its table.
-fn signatures(alloc: Global, count: usize, answer: ValType) -> Result<String, Fail> {
-    let layouts = Layouts::of(alloc, &function(alloc, count, answer)?)?;
+/// The core signatures of the first function.
+fn signatures(alloc: Global, layouts: &Layouts) -> Result<String, Fail> {
     let func = FunctionId(0);
     if !layouts.has_function(func) {
         return Err(Fail::from(ResolveError::NotThisShape));
     }
     let lifted = signature(alloc, &layouts.lifted(func))?;
     let lowered = signature(alloc, &layouts.lowered(func))?;
+    Ok(format!(in alloc; "{lifted} {lowered}")?)
+}
+
+/// Whether such a function has these core signatures, and then size, alignment and the steps of its table.
+fn assert_signatures(
+    rt: &impl Abort,
+    alloc: Global,
+    count: usize,
+    answer: ValType,
+    wanted: &str,
+) -> Result<(), Fail> {
+    let layouts = Layouts::of(alloc, &function(alloc, count, answer)?)?;
+    let signatures = signatures(alloc, &layouts)?;
     let (size, align) = room(&layouts, FIRST);
     let work = layouts.work();
-    Ok(format!(in alloc; "{lifted} {lowered} {size} {align} {work}")?)
+    let text = format!(in alloc; "{signatures} {size} {align} {work}")?;
+    assert_text(rt, text.as_str(), wanted);
+    Ok(())
 }
 
 #[test]
 fn functions(rt: HostRuntime) -> Result<(), Fail> {
-    let text = signatures(rt.alloc(), 1, U32)?;
-    assert_eq!(rt; text.as_str(), "4>4 4>4 4 4 3");
-    let text = signatures(rt.alloc(), 16, ValType::String)?;
-    assert_eq!(rt;
-        text.as_str(),
-        "4444444444444444>4 44444444444444444> 64 4 18"
-    );
-    let text = signatures(rt.alloc(), 17, ValType::String)?;
-    assert_eq!(rt; text.as_str(), "4>4 44> 68 4 19");
+    let alloc = rt.alloc();
+    let spilled = "4444444444444444>4 44444444444444444> 64 4 18";
+    assert_signatures(&rt, alloc, 1, U32, "4>4 4>4 4 4 3")?;
+    assert_signatures(&rt, alloc, 16, ValType::String, spilled)?;
+    assert_signatures(&rt, alloc, 17, ValType::String, "4>4 44> 68 4 19")
+}
+
+/// Size, alignment, flat kinds and steps of a package's type at this place, or why it isn't laid out.
+fn laid(alloc: Global, package: &Resolve, place: u32) -> Result<String, Fail> {
+    let layouts = match Layouts::of(alloc, package) {
+        Ok(layouts) => layouts,
+        Err(error) => return Ok(format!(in alloc; "{error}")?),
+    };
+    let ty = ValType::Id(TypeId(place));
+    let (size, align) = room(&layouts, ty);
+    let flat = flat(alloc, &layouts, ty)?;
+    let work = layouts.work();
+    Ok(format!(in alloc; "{size} {align} {flat} {work}")?)
+}
+
+/// Whether laying the package out answers this.
+fn assert_laid(
+    rt: &impl Abort,
+    alloc: Global,
+    package: Result<Resolve, ResolveError>,
+    place: u32,
+    wanted: &str,
+) -> Result<(), Fail> {
+    let text = laid(alloc, &package?, place)?;
+    assert_text(rt, text.as_str(), wanted);
     Ok(())
 }
 
 /// `t0 = u8`, and each of the next `count` a tuple of two of the one before.
 fn doubled(alloc: Global, count: u32) -> Result<Resolve, ResolveError> {
-    let mut definitions = Vec::new(alloc);
-    definitions.push(unnamed(TypeDefKind::Alias(U8)))?;
+    let mut definitions = vec![in alloc; unnamed(TypeDefKind::Alias(U8))]?;
     for place in 0..count {
         let before = ValType::Id(TypeId(place));
         definitions.push(unnamed(tuple(alloc, &[before, before])?))?;
@@ -264,11 +316,12 @@ fn doubled(alloc: Global, count: u32) -> Result<Resolve, ResolveError> {
 
 #[test]
 fn sizes(rt: HostRuntime) -> Result<(), Fail> {
-    let layouts = Layouts::of(rt.alloc(), &doubled(rt.alloc(), 24)?)?;
-    assert_eq!(rt; room(&layouts, ValType::Id(TypeId(24))), (16_777_216, 1));
-    for count in [25, 60] {
-        let refused = Layouts::of(rt.alloc(), &doubled(rt.alloc(), count)?);
-        assert!(rt; matches!(refused, Err(LayoutError::TooLarge)), "{count}");
+    for (count, wanted) in [
+        (24, "16777216 1  74"),
+        (25, "error 50 too large"),
+        (60, "error 50 too large"),
+    ] {
+        assert_laid(&rt, rt.alloc(), doubled(rt.alloc(), count), count, wanted)?;
     }
     Ok(())
 }
@@ -277,8 +330,7 @@ fn sizes(rt: HostRuntime) -> Result<(), Fail> {
 fn nested(alloc: Global, count: u32) -> Result<Resolve, ResolveError>
     requires { count < 1000 }
 {
-    let mut definitions = Vec::new(alloc);
-    definitions.push(unnamed(TypeDefKind::Alias(U8)))?;
+    let mut definitions = vec![in alloc; unnamed(TypeDefKind::Alias(U8))]?;
     for turn in 0..count {
         let before = ValType::Id(TypeId(turn * 3));
         let first = ValType::Id(TypeId(turn * 3 + 1));
@@ -292,28 +344,19 @@ fn nested(alloc: Global, count: u32) -> Result<Resolve, ResolveError>
 
 #[test]
 fn depths(rt: HostRuntime) -> Result<(), Fail> {
-    let layouts = Layouts::of(rt.alloc(), &nested(rt.alloc(), 31)?)?;
-    let last = ValType::Id(TypeId(93));
-    assert_eq!(rt; room(&layouts, last), (16, 4));
-    assert_eq!(rt; flat(rt.alloc(), &layouts, last)?.as_str(), "4444");
-    assert_eq!(rt; layouts.work(), 219);
-    let refused = Layouts::of(rt.alloc(), &nested(rt.alloc(), 32)?);
-    assert!(rt; matches!(refused, Err(LayoutError::TooDeep)));
+    for (count, wanted) in [(31, "16 4 4444 219"), (32, "error 51 too deep")] {
+        assert_laid(&rt, rt.alloc(), nested(rt.alloc(), count), count * 3, wanted)?;
+    }
     Ok(())
 }
 
 /// A list of a function's row is no type.
 #[test]
 fn functions_are_no_types(rt: HostRuntime) -> Result<(), Fail> {
-    let mut definitions = Vec::new(rt.alloc());
-    definitions.push(Definition::Function(Function {
-        owner: Owner::Interface(InterfaceId(0)),
-        name: label(rt.alloc())?,
-        params: Sequence::new(Vec::new(rt.alloc())),
-        result: None,
-    }))?;
-    definitions.push(unnamed(TypeDefKind::List(FIRST)))?;
-    let refused = package(rt.alloc(), definitions);
+    let alloc = rt.alloc();
+    let function = Definition::Function(nullary(alloc)?);
+    let definitions = vec![in alloc; function, unnamed(TypeDefKind::List(FIRST))]?;
+    let refused = package(alloc, definitions);
     assert!(rt; matches!(refused, Err(ResolveError::NotThisShape)));
     Ok(())
 }

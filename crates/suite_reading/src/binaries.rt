@@ -7,6 +7,7 @@ use ctype_bin::{
     RawValType, decode, decode_from, encode,
 };
 use std::alloc::{AllocError, Global};
+use std::process::Abort;
 use std::test::*;
 
 /// `package a:b; interface c { f: func(x: u32) -> u32; }`
@@ -100,49 +101,74 @@ fn changed(alloc: Global, place: usize, byte: u8) -> Result<Vec<u8>, AllocError>
     Ok(bytes)
 }
 
+pub fn assert_text(rt: &impl Abort, found: &str, wanted: &str) {
+    assert!(rt; found == wanted, "{found}, not {wanted}");
+}
+
+/// Whether decoding answers this.
+fn assert_answer(rt: &impl Abort, alloc: Global, bytes: &[u8], wanted: &str) -> Result<(), Fail> {
+    let found = answer(alloc, bytes)?;
+    assert_text(rt, found.as_str(), wanted);
+    Ok(())
+}
+
+/// Whether the first `n` bytes are told as cut there.
+fn assert_cut(rt: &impl Abort, alloc: Global, n: usize) -> Result<(), Fail> {
+    let wanted = format!(in alloc; "error 11 truncated at {n}")?;
+    assert_answer(rt, alloc, P1.get(..n).unwrap_or(&[]), wanted.as_str())
+}
+
 #[test]
 fn whole_and_cut(rt: HostRuntime) -> Result<(), Fail> {
-    let alloc = rt.alloc();
-    assert_eq!(rt; answer(alloc, &P1)?.as_str(), "component");
     for n in 0..55 {
-        let wanted = format!(in alloc; "error 11 truncated at {n}")?;
-        let found = answer(alloc, &P1[..n])?;
-        assert!(rt; found.as_str() == wanted.as_str(), "{n}: {found}");
+        assert_cut(&rt, rt.alloc(), n)?;
     }
-    Ok(())
+    assert_answer(&rt, rt.alloc(), &P1, "component")
+}
+
+/// A place of the bytes, a byte for it, and what decoding answers then.
+static CHANGES: [(usize, u8, &str); 23] = [
+    (4, 0x0e, "error 10 not a component at 4"),
+    (9, 0x1d, "error 18 size mismatch at 39"),
+    (9, 0x1f, "error 18 size mismatch at 41"),
+    (8, 0x0b, "error 12 bad section 11 at 8"),
+    (8, 0x05, "error 12 bad section 5 at 8"),
+    (12, 0x03, "error 18 size mismatch at 40"),
+    (11, 0x69, "error 14 unsupported resource at 11"),
+    (13, 0x05, "error 13 unknown opcode 05 at 13"),
+    (15, 0x03, "error 18 size mismatch at 40"),
+    (16, 0x03, "error 13 unknown opcode 03 at 16"),
+    (17, 0x72, "error 13 unknown opcode 00 at 22"),
+    (19, 0x05, "error 22 bad name at 19"),
+    (20, 0x2d, "error 22 bad name at 19"),
+    (21, 0x00, "error 15 bad index at 21"),
+    (21, 0x76, "error 14 unsupported float at 21"),
+    (21, 0x69, "error 13 unknown opcode 69 at 21"),
+    (22, 0x02, "error 13 unknown opcode 02 at 22"),
+    (29, 0x01, "error 15 bad index at 29"),
+    (34, 0x2f, "error 22 bad name at 32"),
+    (38, 0x06, "error 13 unknown opcode 06 at 38"),
+    (52, 0x04, "error 13 unknown opcode 04 at 52"),
+    (53, 0x01, "error 15 bad index at 53"),
+    (54, 0x01, "error 13 unknown opcode 01 at 54"),
+];
+
+fn assert_change(
+    rt: &impl Abort,
+    alloc: Global,
+    place: usize,
+    byte: u8,
+    wanted: &str,
+) -> Result<(), Fail> {
+    let bytes = changed(alloc, place, byte)?;
+    assert_answer(rt, alloc, bytes.as_slice(), wanted)
 }
 
 #[test]
 fn one_byte_changed(rt: HostRuntime) -> Result<(), Fail> {
-    let alloc = rt.alloc();
-    let rows = [
-        (4, 0x0e, "error 10 not a component at 4"),
-        (9, 0x1d, "error 18 size mismatch at 39"),
-        (9, 0x1f, "error 18 size mismatch at 41"),
-        (8, 0x0b, "error 12 bad section 11 at 8"),
-        (8, 0x05, "error 12 bad section 5 at 8"),
-        (12, 0x03, "error 18 size mismatch at 40"),
-        (11, 0x69, "error 14 unsupported resource at 11"),
-        (13, 0x05, "error 13 unknown opcode 05 at 13"),
-        (15, 0x03, "error 18 size mismatch at 40"),
-        (16, 0x03, "error 13 unknown opcode 03 at 16"),
-        (17, 0x72, "error 13 unknown opcode 00 at 22"),
-        (19, 0x05, "error 22 bad name at 19"),
-        (20, 0x2d, "error 22 bad name at 19"),
-        (21, 0x00, "error 15 bad index at 21"),
-        (21, 0x76, "error 14 unsupported float at 21"),
-        (21, 0x69, "error 13 unknown opcode 69 at 21"),
-        (22, 0x02, "error 13 unknown opcode 02 at 22"),
-        (29, 0x01, "error 15 bad index at 29"),
-        (34, 0x2f, "error 22 bad name at 32"),
-        (38, 0x06, "error 13 unknown opcode 06 at 38"),
-        (52, 0x04, "error 13 unknown opcode 04 at 52"),
-        (53, 0x01, "error 15 bad index at 53"),
-        (54, 0x01, "error 13 unknown opcode 01 at 54"),
-    ];
-    for (place, byte, wanted) in rows {
-        let found = answer(alloc, changed(alloc, place, byte)?.as_slice())?;
-        assert!(rt; found.as_str() == wanted, "{place}: {found}");
+    for row in CHANGES.as_slice() {
+        let (place, byte, wanted) = *row;
+        assert_change(&rt, rt.alloc(), place, byte, wanted)?;
     }
     Ok(())
 }
@@ -155,57 +181,50 @@ fn spliced(alloc: Global, from: usize, bytes: &[u8], to: usize) -> Result<Vec<u8
     Ok(all)
 }
 
+/// Bytes in the place of those from one place to another, and what decoding answers then.
+static SPLICES: [(usize, &[u8], usize, &str); 8] = [
+    (55, b"\x00\x02\x01x", 55, "component"),
+    (55, b"\x07", 55, "error 19 trailing at 55"),
+    (21, b"\xf9\x7f", 23, "error 13 unknown opcode f9 at 21"),
+    (9, b"\x9e\x00", 10, "component"),
+    (9, b"\x9e\x80\x80\x80\x80\x00", 10, "error 23 overlong at 9"),
+    (8, b"\x07\x03\x01r\x00", 55, "error 16 empty type at 12"),
+    (
+        8,
+        b"\x07\x08\x01r\xff\xff\xff\xff\x0f",
+        55,
+        "error 11 truncated at 17",
+    ),
+    (
+        8,
+        b"\x07\x0f\x01A\x01\x01A\x01\x01A\x01\x01A\x01\x01A\x00",
+        55,
+        "error 17 limit at 23",
+    ),
+];
+
 #[test]
 fn more_or_other_bytes(rt: HostRuntime) -> Result<(), Fail> {
-    let alloc = rt.alloc();
-    for (from, bytes, to, wanted) in [
-        (55, b"\x00\x02\x01x".as_slice(), 55, "component"),
-        (55, b"\x07".as_slice(), 55, "error 19 trailing at 55"),
-        (
-            21,
-            b"\xf9\x7f".as_slice(),
-            23,
-            "error 13 unknown opcode f9 at 21",
-        ),
-        (9, b"\x9e\x00".as_slice(), 10, "component"),
-        (
-            9,
-            b"\x9e\x80\x80\x80\x80\x00".as_slice(),
-            10,
-            "error 23 overlong at 9",
-        ),
-        (
-            8,
-            b"\x07\x03\x01r\x00".as_slice(),
-            55,
-            "error 16 empty type at 12",
-        ),
-        (
-            8,
-            b"\x07\x08\x01r\xff\xff\xff\xff\x0f".as_slice(),
-            55,
-            "error 11 truncated at 17",
-        ),
-        (
-            8,
-            b"\x07\x0f\x01A\x01\x01A\x01\x01A\x01\x01A\x01\x01A\x00".as_slice(),
-            55,
-            "error 17 limit at 23",
-        ),
-    ] {
-        let found = answer(alloc, spliced(alloc, from, bytes, to)?.as_slice())?;
-        assert!(rt; found.as_str() == wanted, "{wanted}: {found}");
+    for row in SPLICES.as_slice() {
+        let (from, bytes, to, wanted) = *row;
+        let spliced = spliced(rt.alloc(), from, bytes, to)?;
+        assert_answer(&rt, rt.alloc(), spliced.as_slice(), wanted)?;
     }
+    Ok(())
+}
+
+/// Whether a reader that fails at this place is told so.
+fn assert_failure(rt: &impl Abort, alloc: Global, place: usize) -> Result<(), Fail> {
+    let found = line(alloc, decode_from(alloc, &mut dripping(&P1, Some(place))))?;
+    let wanted = format!(in alloc; "error 20 read at {place}")?;
+    assert_text(rt, found.as_str(), wanted.as_str());
     Ok(())
 }
 
 #[test]
 fn readers_that_fail(rt: HostRuntime) -> Result<(), Fail> {
-    let alloc = rt.alloc();
-    for n in 0..56 {
-        let found = line(alloc, decode_from(alloc, &mut dripping(&P1, Some(n))))?;
-        let wanted = format!(in alloc; "error 20 read at {n}")?;
-        assert!(rt; found.as_str() == wanted.as_str(), "{n}: {found}");
+    for place in 0..56 {
+        assert_failure(&rt, rt.alloc(), place)?;
     }
     Ok(())
 }
@@ -215,7 +234,7 @@ fn a_reader_without_end(rt: HostRuntime) -> Result<(), Fail> {
     let mut reader = dripping(&P1, None);
     reader.endless = true;
     let found = line(rt.alloc(), decode_from(rt.alloc(), &mut reader))?;
-    assert_eq!(rt; found.as_str(), "error 17 limit at 1048576");
+    assert_text(&rt, found.as_str(), "error 17 limit at 1048576");
     Ok(())
 }
 
@@ -235,75 +254,89 @@ fn many(alloc: Global, head: &[u8], last: &[u8]) -> Result<Vec<u8>, AllocError> 
 fn index_64(rt: HostRuntime) -> Result<(), Fail> {
     let alloc = rt.alloc();
     let good = many(alloc, &[7, 0x89, 1, 1, 0x41, 0x42], &[1, 0x70, 0xc0, 0])?;
-    assert_eq!(rt; answer(alloc, good.as_slice())?.as_str(), "component");
+    assert_answer(&rt, alloc, good.as_slice(), "component")?;
     let bad = many(alloc, &[7, 0x88, 1, 1, 0x41, 0x42], &[1, 0x70, 0x40])?;
-    assert_eq!(rt;
-        answer(alloc, bad.as_slice())?.as_str(),
-        "error 13 unknown opcode 40 at 146"
-    );
-    Ok(())
+    assert_answer(
+        &rt,
+        alloc,
+        bad.as_slice(),
+        "error 13 unknown opcode 40 at 146",
+    )
 }
 
-/// What a component is written as.
-fn written(alloc: Global, component: &RawComponent) -> Result<Vec<u8>, BinError> {
-    let mut out = Vec::new(alloc);
+/// What a component is written as, behind these bytes.
+fn written(alloc: Global, component: &RawComponent, front: &[u8]) -> Result<Vec<u8>, Fail> {
+    let mut out = Vec::from_slice(alloc, front)?;
     encode(alloc, component, &mut out)?;
     Ok(out)
 }
 
+/// Whether a component has so many types and exports, and is written as these bytes behind `ab`.
+fn assert_written(
+    rt: &impl Abort,
+    alloc: Global,
+    component: &RawComponent,
+    counts: (usize, usize),
+    wanted: &[u8],
+) -> Result<(), Fail> {
+    let found = (component.types().len(), component.exports().len());
+    assert!(rt; found == counts);
+    let out = written(alloc, component, b"ab")?;
+    assert!(rt; out.as_slice().strip_prefix(b"ab") == Some(wanted));
+    Ok(())
+}
+
+/// The bytes with a size that is spelt longer, and a section of no meaning behind them.
+fn spelt_otherwise(alloc: Global) -> Result<Vec<u8>, AllocError> {
+    let mut spelt = spliced(alloc, 9, &[0x9e, 0], 10)?;
+    spelt.extend_from_slice(&[0, 2, 1, 0x78])?;
+    Ok(spelt)
+}
+
 #[test]
 fn written_again(rt: HostRuntime) -> Result<(), Fail> {
-    let alloc = rt.alloc();
-    let mut spelled = Vec::from_slice(alloc, &P1[..9])?;
-    spelled.extend_from_slice(&[0x9e, 0])?;
-    spelled.extend_from_slice(&P1[10..])?;
-    spelled.extend_from_slice(&[0, 2, 1, 0x78])?;
-    let component = decode(alloc, spelled.as_slice())?;
-    assert_eq!(rt; component.types().len(), 1);
-    assert_eq!(rt; component.exports().len(), 1);
-    let mut out = Vec::from_slice(alloc, &[1, 2])?;
-    encode(alloc, &component, &mut out)?;
-    assert!(rt; out.as_slice().strip_prefix(&[1, 2]) == Some(P1.as_slice()));
-    Ok(())
+    let component = decode(rt.alloc(), spelt_otherwise(rt.alloc())?.as_slice())?;
+    assert_written(&rt, rt.alloc(), &component, (1, 1), &P1)
 }
 
 /// Whether the bytes are refused with a fault within them, or at the end of a section that is too long for them, or
 /// accepted and written as what decodes to the same.
-fn stands(alloc: Global, bytes: &[u8]) -> Result<bool, BinError> {
+fn stands(alloc: Global, bytes: &[u8]) -> Result<bool, Fail> {
     match decode(alloc, bytes) {
         Ok(component) => {
-            let first = written(alloc, &component)?;
-            let second = written(alloc, &decode(alloc, first.as_slice())?)?;
+            let first = written(alloc, &component, &[])?;
+            let second = written(alloc, &decode(alloc, first.as_slice())?, &[])?;
             Ok(first.as_slice() == second.as_slice())
         }
         Err(BinError::At(fault, place)) => {
             Ok(place <= bytes.len() || fault == Fault::SizeMismatch)
         }
-        Err(error) => Err(error),
+        Err(error) => Err(Fail::from(error)),
     }
+}
+
+/// Whether the bytes with one changed stand, and are told alike at once and byte by byte.
+fn is_told_alike(alloc: Global, place: usize, byte: u8) -> Result<bool, Fail> {
+    let bytes = changed(alloc, place, byte)?;
+    let stands = stands(alloc, bytes.as_slice())?;
+    let told = answer(alloc, bytes.as_slice())?;
+    Ok(stands && !told.as_str().contains("by bytes"))
 }
 
 #[test]
 fn every_byte_changed(rt: HostRuntime) -> Result<(), Fail> {
-    let alloc = rt.alloc();
     for place in 0..55 {
         for byte in 0..=255 {
-            let bytes = changed(alloc, place, byte)?;
-            assert!(rt; stands(alloc, bytes.as_slice())?, "{place}, {byte}");
-            let told = answer(alloc, bytes.as_slice())?;
-            assert!(rt;
-                !told.as_str().contains("by bytes"),
-                "{place}, {byte}: {told}"
-            );
+            assert!(rt; is_told_alike(rt.alloc(), place, byte)?, "{place}, {byte}");
         }
     }
     Ok(())
 }
 
-/// The bytes "ab", and a component that exports the type of lists of u8 as `a` and as `b`.
-const WRITTEN: [u8; 30] = [
-    b'a', b'b', 0x00, 0x61, 0x73, 0x6d, 0x0d, 0x00, 0x01, 0x00, 0x07, 0x03, 0x01, 0x70, 0x7d, 0x0b,
-    0x0d, 0x02, 0x00, 0x01, b'a', 0x03, 0x00, 0x00, 0x00, 0x01, b'b', 0x03, 0x00, 0x00,
+/// A component that exports the type of lists of u8 as `a` and as `b`.
+const WRITTEN: [u8; 28] = [
+    0x00, 0x61, 0x73, 0x6d, 0x0d, 0x00, 0x01, 0x00, 0x07, 0x03, 0x01, 0x70, 0x7d, 0x0b, 0x0d, 0x02,
+    0x00, 0x01, b'a', 0x03, 0x00, 0x00, 0x00, 0x01, b'b', 0x03, 0x00, 0x00,
 ];
 
 fn exported(alloc: Global, name: &str) -> Result<RawExport, Fail> {
@@ -317,16 +350,9 @@ fn exported(alloc: Global, name: &str) -> Result<RawExport, Fail> {
 #[test]
 fn two_exports(rt: HostRuntime) -> Result<(), Fail> {
     let alloc = rt.alloc();
-    let mut types = Vec::new(alloc);
     let element = RawValType::Primitive(Primitive::U8);
-    types.push(RawType::Defined(RawDefinedType::List(element)))?;
-    let mut exports = Vec::new(alloc);
-    exports.push(exported(alloc, "a")?)?;
-    exports.push(exported(alloc, "b")?)?;
+    let types = vec![in alloc; RawType::Defined(RawDefinedType::List(element))]?;
+    let exports = vec![in alloc; exported(alloc, "a")?, exported(alloc, "b")?]?;
     let component = RawComponent::new(alloc, types, exports)?;
-    assert_eq!(rt; component.exports().len(), 2);
-    let mut out = Vec::from_slice(alloc, b"ab")?;
-    encode(alloc, &component, &mut out)?;
-    assert!(rt; out.as_slice() == WRITTEN.as_slice());
-    Ok(())
+    assert_written(&rt, alloc, &component, (1, 2), &WRITTEN)
 }

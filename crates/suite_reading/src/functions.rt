@@ -3,14 +3,21 @@
 use std::test::Fail;
 use wit_text::{lex, parse};
 
+const TEXT: &str = "package a:b; interface c { f: func(x: u32) -> u32; }";
+
+#[test]
+fn a_function_is_lexed(rt: HostRuntime) -> Result<(), Fail> {
+    let tokens = lex(rt.alloc(), TEXT)?;
+    assert!(rt; tokens.len() == 20);
+    Ok(())
+}
+
 #[test]
 fn a_function_is_read(rt: HostRuntime) -> Result<(), Fail> {
-    let text = "package a:b; interface c { f: func(x: u32) -> u32; }";
-    let tokens = lex(rt.alloc(), text)?;
-    assert_eq!(rt; tokens.len(), 20);
-    let ast = parse(rt.alloc(), text)?;
-    assert_eq!(rt; ast.package.namespace.as_str(), "a");
-    assert_eq!(rt; ast.package.name.as_str(), "b");
-    assert_eq!(rt; ast.items.len(), 1);
+    let ast = parse(rt.alloc(), TEXT)?;
+    let (namespace, name) = (&ast.package.namespace, &ast.package.name);
+    assert!(rt; namespace.as_str() == "a");
+    assert!(rt; name.as_str() == "b");
+    assert!(rt; ast.items.len() == 1);
     Ok(())
 }

@@ -64,8 +64,8 @@ fn thrice_interrupted(works: bool) -> Interrupted {
 fn reads(rt: HostRuntime) -> Result<(), Fail> {
     let mut reader = Watched::new(thrice_interrupted(true));
     let mut buffer = [0; 4];
-    assert_eq!(rt; reader.read(&mut buffer), Ok(1));
-    assert_eq!(rt; buffer, [7, 0, 0, 0]);
+    assert!(rt; reader.read(&mut buffer) == Ok(1));
+    assert!(rt; buffer == [7, 0, 0, 0]);
     assert!(rt; !Source::failed(&reader));
     Ok(())
 }
@@ -76,7 +76,7 @@ fn reads_up_to(rt: HostRuntime) -> Result<(), Fail> {
     let Ok(bytes) = read_up_to(rt.alloc(), &mut reader, 4) else {
         return Err(Fail::from("a failed read"));
     };
-    assert_eq!(rt; bytes.as_slice(), [7; 5].as_slice());
+    assert!(rt; bytes.as_slice() == [7; 5].as_slice());
     Ok(())
 }
 
@@ -92,16 +92,16 @@ fn reads_that_fail(rt: HostRuntime) -> Result<(), Fail> {
 #[test]
 fn writes(rt: HostRuntime) -> Result<(), Fail> {
     let mut writer = Watched::new(thrice_interrupted(true));
-    assert_eq!(rt; write_all(&mut writer, b"abcde"), Ok(()));
+    assert!(rt; write_all(&mut writer, b"abcde") == Ok(()));
     assert!(rt; !Sink::failed(&writer));
-    assert_eq!(rt; writer.into_inner().taken, 5);
+    assert!(rt; writer.into_inner().taken == 5);
     Ok(())
 }
 
 #[test]
 fn writes_that_fail(rt: HostRuntime) -> Result<(), Fail> {
     let mut writer = Watched::new(thrice_interrupted(false));
-    assert_eq!(rt; write_all(&mut writer, b"abcde"), Err(Failed));
+    assert!(rt; write_all(&mut writer, b"abcde") == Err(Failed));
     assert!(rt; Sink::failed(&writer));
     Ok(())
 }

@@ -1,6 +1,6 @@
 //! Components that are made of their parts: written as the bytes that decode to them, or refused with the first fault.
 
-use crate::binaries::P1;
+use crate::binaries::{P1, assert_text};
 use atoms::{FullName, Label};
 use ctype_bin::{
     BinError, ExternName, Primitive, RawAlias, RawComponent, RawDecl, RawDefinedType,
@@ -108,7 +108,7 @@ fn assert_line(
     wanted: &str,
 ) -> Result<(), Fail> {
     let found = line(alloc, ty, exported)?;
-    assert_eq!(rt; found.as_str(), wanted);
+    assert_text(rt, found.as_str(), wanted);
     Ok(())
 }
 

@@ -1,6 +1,7 @@
 //! Command lines and what they ask for.
 
 use std::alloc::Global;
+use std::process::Abort;
 use std::test::Fail;
 use words::asked::{Command, Job};
 use words::{WordsError, command};
@@ -33,11 +34,23 @@ static USAGE: [&str; 16] = [
     "witcall c.wit show",
 ];
 
+/// Whether the line asks for this.
+fn assert_asked(
+    rt: &impl Abort,
+    alloc: Global,
+    line: &str,
+    wanted: &Result<Command, WordsError>,
+) -> Result<(), Fail> {
+    let answer = asked(alloc, line)?;
+    assert!(rt; answer == *wanted, "{line}");
+    Ok(())
+}
+
 #[test]
 fn usage(rt: HostRuntime) -> Result<(), Fail> {
+    let wanted = Err(WordsError::Usage);
     for line in USAGE.as_slice() {
-        let answer = asked(rt.alloc(), *line)?;
-        assert!(rt; answer == Err(WordsError::Usage), "{line}");
+        assert_asked(&rt, rt.alloc(), *line, &wanted)?;
     }
     Ok(())
 }
@@ -53,25 +66,33 @@ static JOBS: [(&str, Job); 6] = [
 
 #[test]
 fn commands(rt: HostRuntime) -> Result<(), Fail> {
-    let alloc = rt.alloc();
     for row in JOBS.as_slice() {
         let (line, job) = *row;
-        let file = String::from_str(alloc, "c.wit")?;
-        let wanted = Command::Convert(job, file);
-        assert!(rt; asked(alloc, line)? == Ok(wanted), "{line}");
+        let wanted = Command::Convert(job, String::from_str(rt.alloc(), "c.wit")?);
+        assert_asked(&rt, rt.alloc(), line, &Ok(wanted))?;
     }
+    Ok(())
+}
+
+/// The call of `f` of `a:b/c`.
+fn call(alloc: Global) -> Result<Command, Fail> {
+    Ok(Command::Call {
+        file: String::from_str(alloc, "c.wit")?,
+        interface: String::from_str(alloc, "a:b/c")?,
+        function: String::from_str(alloc, "f")?,
+        arguments: String::from_str(alloc, "[7]")?,
+        reply: String::from_str(alloc, "[8]")?,
+    })
+}
+
+#[test]
+fn calls(rt: HostRuntime) -> Result<(), Fail> {
+    let wanted = Ok(call(rt.alloc())?);
     for line in [
         "witcall call c.wit a:b/c f [7] [8]",
         "witcall call -- c.wit a:b/c f [7] [8]",
     ] {
-        let wanted = Command::Call {
-            file: String::from_str(alloc, "c.wit")?,
-            interface: String::from_str(alloc, "a:b/c")?,
-            function: String::from_str(alloc, "f")?,
-            arguments: String::from_str(alloc, "[7]")?,
-            reply: String::from_str(alloc, "[8]")?,
-        };
-        assert!(rt; asked(alloc, line)? == Ok(wanted), "{line}");
+        assert_asked(&rt, rt.alloc(), line, &wanted)?;
     }
     Ok(())
 }

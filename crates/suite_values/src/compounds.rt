@@ -145,6 +145,13 @@ fn fault(kind: TrapKind, step: Step) -> Fault {
     Fault::Trap(Trap { kind, step })
 }
 
+fn is_lowered(answer: &Result<Flats, Fault>, wanted: &[Flat]) -> bool {
+    match answer {
+        Ok(flats) => flats.as_slice() == wanted,
+        Err(_) => false,
+    }
+}
+
 /// Whether a value of the type is lowered to these flat values, in a memory of 64 bytes.
 fn assert_flats(
     rt: &impl Abort,
@@ -155,10 +162,8 @@ fn assert_flats(
 ) -> Result<(), Fail> {
     let package = package(alloc, definition)?;
     let mut guest = filled(alloc, 64)?;
-    let Ok(flats) = lowered(rt, &package, value, &mut guest)? else {
-        return Err(Fail::from("a fault"));
-    };
-    assert_eq!(rt; flats.as_slice(), wanted);
+    let answer = lowered(rt, &package, value, &mut guest)?;
+    assert!(rt; is_lowered(&answer, wanted));
     Ok(())
 }
 
@@ -172,8 +177,9 @@ fn assert_bytes(
 ) -> Result<(), Fail> {
     let package = package(alloc, definition)?;
     let mut guest = filled(alloc, 12)?;
-    assert_eq!(rt; stored(rt, &package, value, &mut guest, 0)?, Ok(()));
-    assert_eq!(rt; guest.bytes().get(..wanted.len()), Some(wanted));
+    let answer = stored(rt, &package, value, &mut guest, 0)?;
+    assert!(rt; answer == Ok(()));
+    assert!(rt; guest.bytes().get(..wanted.len()) == Some(wanted));
     Ok(())
 }
 
@@ -260,28 +266,39 @@ fn joined_kinds_are_lowered(rt: HostRuntime) -> Result<(), Fail> {
     assert_flats(&rt, rt.alloc(), JOINED, value, flats.as_slice())
 }
 
+/// Whether the value is the first case with the payload -1.
+fn is_minus_one(value: &Option<Val>) -> bool {
+    match value {
+        Some(Val::Variant(0, Some(payload))) => matches!(&**payload, Val::S32(-1)),
+        _ => false,
+    }
+}
+
 #[test]
 fn joined_kinds_are_lifted(rt: HostRuntime) -> Result<(), Fail> {
     let flats = [Flat::I32(0), Flat::I64(4294967295)];
     let value = lifted_one(rt.alloc(), JOINED, flats.as_slice())?;
-    let Some(Val::Variant(0, Some(payload))) = value else {
-        return Err(Fail::from("another case"));
-    };
-    assert!(rt; matches!(*payload, Val::S32(-1)));
+    assert!(rt; is_minus_one(&value));
     Ok(())
 }
 
 const FLAGS: &str = "flags t { a, b, c }";
 
+/// A memory of so many bytes ee that begins with these where they have room.
+fn beginning(alloc: Global, len: u32, bytes: &[u8]) -> Result<Bump, Fail> {
+    let mut guest = filled(alloc, len)?;
+    if bytes.len() <= guest.len() as usize {
+        guest.write(0, bytes);
+    }
+    Ok(guest)
+}
+
 #[test]
 fn flags_are_loaded(rt: HostRuntime) -> Result<(), Fail> {
     let package = package(rt.alloc(), FLAGS)?;
-    let mut memory = filled(rt.alloc(), 8)?;
-    if memory.len() > 0 {
-        memory.write(0, &[0xff]);
-    }
+    let memory = beginning(rt.alloc(), 8, &[0xff])?;
     let answer = loaded(rt.alloc(), &package, &memory)?;
-    assert!(rt; matches!(answer, Ok(Val::Flags(7))));
+    assert!(rt; matches!(&answer, Ok(Val::Flags(7))));
     Ok(())
 }
 
@@ -299,15 +316,10 @@ fn assert_unlifted(
     len: u32,
     kind: TrapKind,
 ) -> Result<(), Fail> {
-    let mut guest = filled(alloc, len)?;
-    if guest.len() >= 2 {
-        guest.write(0, b"\xc0\x80");
-    }
+    let guest = beginning(alloc, len, b"\xc0\x80")?;
     let package = package(alloc, definition)?;
-    let Err(told) = lifted(alloc, &package, flats, &guest)? else {
-        return Err(Fail::from("no fault"));
-    };
-    assert_eq!(rt; told, fault(kind, Step::Take));
+    let answer = lifted(alloc, &package, flats, &guest)?;
+    assert!(rt; matches!(&answer, Err(told) if *told == fault(kind, Step::Take)));
     Ok(())
 }
 
@@ -343,10 +355,7 @@ fn faults_of_addresses(rt: HostRuntime) -> Result<(), Fail> {
 fn empty_list_at_the_end(rt: HostRuntime) -> Result<(), Fail> {
     let flats = [Flat::I32(8), Flat::I32(0)];
     let value = lifted_one(rt.alloc(), "type t = list<u32>;", flats.as_slice())?;
-    let Some(Val::List(items)) = value else {
-        return Err(Fail::from("no list"));
-    };
-    assert!(rt; items.is_empty());
+    assert!(rt; matches!(&value, Some(Val::List(items)) if items.is_empty()));
     Ok(())
 }
 
@@ -355,51 +364,70 @@ fn texts(alloc: Global, one: &str, other: &str) -> Result<Vec<Val>, Fail> {
     Ok(vec![in alloc; text(alloc, one)?, text(alloc, other)?]?)
 }
 
-/// What lowering two texts as a list answers, in a memory of so many bytes ee, and the bytes then.
-fn lowered_texts(
+/// What lowering answered, and the memory's bytes then.
+#[derive(Drop)]
+struct Told {
+    answer: Result<Flats, Fault>,
+    bytes: Vec<u8>,
+}
+
+impl Told {
+    fn is_fault(&self, kind: TrapKind) -> bool {
+        match &self.answer {
+            Ok(_) => false,
+            Err(told) => *told == fault(kind, Step::Place),
+        }
+    }
+}
+
+/// What lowering a value of the type into this memory answers.
+fn lowered_into<G: Guest + Drop>(
     rt: &impl Abort,
     alloc: Global,
-    len: u32,
-) -> Result<(Result<Flats, Fault>, Vec<u8>), Fail> {
-    let package = package(alloc, "type t = list<string>;")?;
-    let mut guest = filled(alloc, len)?;
-    let value = Val::List(texts(alloc, "a", "bc")?);
+    definition: &str,
+    value: Val,
+    mut guest: G,
+) -> Result<Told, Fail> {
+    let package = package(alloc, definition)?;
     let answer = lowered(rt, &package, value, &mut guest)?;
-    Ok((answer, guest.bytes().to_vec(alloc)?))
+    let bytes = guest.bytes().to_vec(alloc)?;
+    Ok(Told { answer, bytes })
+}
+
+/// What lowering two texts as a list answers, in a memory of so many bytes ee.
+fn lowered_texts(rt: &impl Abort, alloc: Global, len: u32) -> Result<Told, Fail> {
+    let guest = filled(alloc, len)?;
+    let value = Val::List(texts(alloc, "a", "bc")?);
+    lowered_into(rt, alloc, "type t = list<string>;", value, guest)
 }
 
 #[test]
 fn texts_are_lowered(rt: HostRuntime) -> Result<(), Fail> {
-    let (answer, bytes) = lowered_texts(&rt, rt.alloc(), 64)?;
-    let Ok(flats) = answer else {
-        return Err(Fail::from("a fault"));
-    };
-    assert_eq!(rt; flats.as_slice(), [Flat::I32(0), Flat::I32(2)].as_slice());
-    let told = b"\x10\0\0\0\x01\0\0\0\x11\0\0\0\x02\0\0\0abc";
-    assert_eq!(rt; bytes.get(..19), Some(told.as_slice()));
+    let told = lowered_texts(&rt, rt.alloc(), 64)?;
+    assert!(rt; is_lowered(&told.answer, &[Flat::I32(0), Flat::I32(2)]));
+    let wanted = b"\x10\0\0\0\x01\0\0\0\x11\0\0\0\x02\0\0\0abc";
+    assert!(rt; told.bytes.get(..19) == Some(wanted.as_slice()));
     Ok(())
 }
 
 #[test]
 fn texts_without_room(rt: HostRuntime) -> Result<(), Fail> {
-    let (answer, bytes) = lowered_texts(&rt, rt.alloc(), 18)?;
-    assert!(rt; matches!(answer, Err(told) if told == fault(TrapKind::Full, Step::Place)));
-    assert_eq!(rt; bytes.get(17), Some(&0xee));
+    let told = lowered_texts(&rt, rt.alloc(), 18)?;
+    assert!(rt; told.is_fault(TrapKind::Full));
+    assert!(rt; told.bytes.get(17) == Some(&0xee));
     Ok(())
 }
 
-/// What lowering answers over sixteen zeros whose allocator gives these addresses, and the bytes then.
+/// What lowering answers over sixteen zeros whose allocator gives these addresses.
 fn granted(
     rt: &impl Abort,
     alloc: Global,
     definition: &str,
     value: Val,
     answers: Vec<Result<u32, Full>>,
-) -> Result<(Result<Flats, Fault>, Vec<u8>), Fail> {
-    let package = package(alloc, definition)?;
-    let mut guest = scripted(alloc, answers)?;
-    let answer = lowered(rt, &package, value, &mut guest)?;
-    Ok((answer, guest.bytes().to_vec(alloc)?))
+) -> Result<Told, Fail> {
+    let guest = scripted(alloc, answers)?;
+    lowered_into(rt, alloc, definition, value, guest)
 }
 
 /// Whether the address is refused with this fault.
@@ -412,8 +440,8 @@ fn assert_ungranted(
     kind: TrapKind,
 ) -> Result<(), Fail> {
     let answers = vec![in alloc; Ok(at)]?;
-    let (answer, _bytes) = granted(rt, alloc, definition, value, answers)?;
-    assert!(rt; matches!(answer, Err(told) if told == fault(kind, Step::Place)));
+    let told = granted(rt, alloc, definition, value, answers)?;
+    assert!(rt; told.is_fault(kind));
     Ok(())
 }
 
@@ -433,12 +461,15 @@ fn address_of_a_text(rt: HostRuntime) -> Result<(), Fail> {
 const NUMBERS: &str = "type t = list<u32>;";
 
 #[test]
-fn addresses_of_lists(rt: HostRuntime) -> Result<(), Fail> {
-    let alloc = rt.alloc();
-    let one = Val::List(vec![in alloc; Val::U32(1)]?);
-    assert_ungranted(&rt, alloc, NUMBERS, one, 2, TrapKind::Align)?;
-    let two = Val::List(vec![in alloc; Val::U32(1), Val::U32(2)]?);
-    assert_ungranted(&rt, alloc, NUMBERS, two, 4294967292, TrapKind::Bounds)
+fn address_of_a_number(rt: HostRuntime) -> Result<(), Fail> {
+    let one = Val::List(vec![in rt.alloc(); Val::U32(1)]?);
+    assert_ungranted(&rt, rt.alloc(), NUMBERS, one, 2, TrapKind::Align)
+}
+
+#[test]
+fn address_of_two_numbers(rt: HostRuntime) -> Result<(), Fail> {
+    let two = Val::List(vec![in rt.alloc(); Val::U32(1), Val::U32(2)]?);
+    assert_ungranted(&rt, rt.alloc(), NUMBERS, two, 4294967292, TrapKind::Bounds)
 }
 
 #[test]
@@ -447,8 +478,8 @@ fn two_blocks_at_one_address(rt: HostRuntime) -> Result<(), Fail> {
     let value = Val::Record(texts(alloc, "ab", "cd")?);
     let answers = vec![in alloc; Ok(0), Ok(0)]?;
     let pair = "type t = tuple<string, string>;";
-    let (answer, bytes) = granted(&rt, alloc, pair, value, answers)?;
-    assert!(rt; answer.is_ok());
-    assert!(rt; matches!(bytes.as_slice(), [0x63, 0x64, 0, ..]));
+    let told = granted(&rt, alloc, pair, value, answers)?;
+    assert!(rt; told.answer.is_ok());
+    assert!(rt; told.bytes.get(..3) == Some(b"cd\0".as_slice()));
     Ok(())
 }

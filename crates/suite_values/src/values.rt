@@ -8,26 +8,47 @@ use std::alloc::Global;
 use std::process::Abort;
 use std::test::Fail;
 use tables::ValType;
-use witcall::open;
+use witcall::{Package, open};
 
-/// Stores a text at an address of sixteen zeros, whose allocator gives these answers, and tells the bytes.
-fn stored(
+/// Stores a text of a package's types.
+fn stored<G: Guest>(
+    rt: &impl Abort,
+    package: &Package,
+    text: String,
+    guest: &mut G,
+    at: u32,
+) -> Result<(), Fault> {
+    let (resolve, layouts) = (package.resolve(), package.layouts());
+    let value = Val::String(text);
+    assert!(rt; has_type(resolve, layouts, ValType::String, &value));
+    store(resolve, layouts, ValType::String, &value, guest, at)
+}
+
+/// Sixteen zeros whose allocator gives this answer.
+fn scripted(alloc: Global, granted: Result<u32, Full>) -> Result<Scripted, Fail> {
+    match Scripted::new(alloc, 16, vec![in alloc; granted]?) {
+        Ok(guest) => Ok(guest),
+        Err(_) => Err(Fail::from("no memory")),
+    }
+}
+
+/// Whether storing a text at an address of sixteen zeros, whose allocator gives this answer, answers so, and leaves these
+/// bytes.
+fn assert_stored(
     rt: &impl Abort,
     alloc: Global,
     text: &str,
     at: u32,
-    answers: Vec<Result<u32, Full>>,
-) -> Result<(Result<(), Fault>, Vec<u8>), Fail> {
+    granted: Result<u32, Full>,
+    wanted: Result<(), Fault>,
+    bytes: &[u8],
+) -> Result<(), Fail> {
     let package = open(alloc, b"package a:b; interface c { f: func(); }")?;
-    let value = Val::String(String::from_str(alloc, text)?);
-    let resolve = package.resolve();
-    let layouts = package.layouts();
-    assert!(rt; has_type(resolve, layouts, ValType::String, &value));
-    let Ok(mut guest) = Scripted::new(alloc, 16, answers) else {
-        return Err(Fail::from("no memory"));
-    };
-    let answer = store(resolve, layouts, ValType::String, &value, &mut guest, at);
-    Ok((answer, guest.bytes().to_vec(alloc)?))
+    let mut guest = scripted(alloc, granted)?;
+    let answer = stored(rt, &package, String::from_str(alloc, text)?, &mut guest, at);
+    assert!(rt; answer == wanted, "{text} at {at}");
+    assert!(rt; guest.bytes() == bytes, "{text} at {at}");
+    Ok(())
 }
 
 /// A trap of this kind in step `place`.
@@ -38,22 +59,14 @@ fn placing(kind: TrapKind) -> Result<(), Fault> {
 
 #[test]
 fn texts_are_stored(rt: HostRuntime) -> Result<(), Fail> {
-    let alloc = rt.alloc();
-    let (answer, bytes) = stored(&rt, alloc, "hi", 0, vec![in alloc; Ok(8)]?)?;
-    assert_eq!(rt; answer, Ok(()));
-    let told = [8, 0, 0, 0, 2, 0, 0, 0, 104, 105, 0, 0, 0, 0, 0, 0];
-    assert_eq!(rt; bytes.as_slice(), told.as_slice());
-    let (answer, bytes) = stored(&rt, alloc, "", 8, vec![in alloc; Ok(16)]?)?;
-    assert_eq!(rt; answer, Ok(()));
-    let told = [0, 0, 0, 0, 0, 0, 0, 0, 16, 0, 0, 0, 0, 0, 0, 0];
-    assert_eq!(rt; bytes.as_slice(), told.as_slice());
-    Ok(())
+    let hi = b"\x08\0\0\0\x02\0\0\0hi\0\0\0\0\0\0";
+    assert_stored(&rt, rt.alloc(), "hi", 0, Ok(8), Ok(()), hi)?;
+    let empty = b"\0\0\0\0\0\0\0\0\x10\0\0\0\0\0\0\0";
+    assert_stored(&rt, rt.alloc(), "", 8, Ok(16), Ok(()), empty)
 }
 
 #[test]
 fn faults_of_places_and_blocks(rt: HostRuntime) -> Result<(), Fail> {
-    let alloc = rt.alloc();
-    let zeros = [0; 16];
     for (at, granted, kind) in [
         (2, Ok(8), TrapKind::Align),
         (12, Ok(8), TrapKind::Bounds),
@@ -62,34 +75,46 @@ fn faults_of_places_and_blocks(rt: HostRuntime) -> Result<(), Fail> {
         (0, Ok(14), TrapKind::Bounds),
         (0, Ok(4294967292), TrapKind::Bounds),
     ] {
-        let (answer, bytes) = stored(&rt, alloc, "four", at, vec![in alloc; granted]?)?;
-        assert_eq!(rt; answer, placing(kind));
-        assert_eq!(rt; bytes.as_slice(), zeros.as_slice());
+        assert_stored(
+            &rt,
+            rt.alloc(),
+            "four",
+            at,
+            granted,
+            placing(kind),
+            &[0; 16],
+        )?;
     }
     Ok(())
 }
 
+/// A memory of sixteen bytes that begins with these.
+fn beginning(alloc: Global, bytes: &[u8]) -> Result<Bump, Fail> {
+    let mut guest = Bump::new(alloc, 16)?;
+    if bytes.len() <= guest.len() as usize {
+        guest.write(0, bytes);
+    }
+    Ok(guest)
+}
+
 #[test]
 fn texts_are_lent(rt: HostRuntime) -> Result<(), Fail> {
-    let Ok(mut guest) = Bump::new(rt.alloc(), 16) else {
-        return Err(Fail::from("no memory"));
-    };
-    if guest.len() < 8 {
-        return Err(Fail::from("no room"));
-    }
-    guest.write(0, b"hi\xc0\x80");
-    assert!(rt; matches!(str_at(&guest, 0, 2), Ok("hi")));
-    assert!(rt; matches!(str_at(&guest, 16, 0), Ok("")));
+    let guest = beginning(rt.alloc(), b"hi\xc0\x80")?;
+    assert!(rt; str_at(&guest, 0, 2) == Ok("hi"));
+    assert!(rt; str_at(&guest, 16, 0) == Ok(""));
+    Ok(())
+}
+
+#[test]
+fn faults_of_lent_texts(rt: HostRuntime) -> Result<(), Fail> {
+    let guest = beginning(rt.alloc(), b"hi\xc0\x80")?;
+    let step = Step::Take;
     for (at, len, kind) in [
         (2, 2, TrapKind::Utf8),
         (16, 1, TrapKind::Bounds),
         (4294967295, 1, TrapKind::Bounds),
     ] {
-        let Err(trap) = str_at(&guest, at, len) else {
-            return Err(Fail::from("no trap"));
-        };
-        let step = Step::Take;
-        assert_eq!(rt; trap, Trap { kind, step });
+        assert!(rt; str_at(&guest, at, len) == Err(Trap { kind, step }), "{at}");
     }
     Ok(())
 }
