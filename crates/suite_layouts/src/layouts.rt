@@ -151,12 +151,7 @@ fn assert_described(
 }
 
 /// The same of a package of one type.
-fn assert_one(
-    rt: &impl Abort,
-    alloc: Global,
-    kind: TypeDefKind,
-    wanted: &str,
-) -> Result<(), Fail> {
+fn assert_one(rt: &impl Abort, alloc: Global, kind: TypeDefKind, wanted: &str) -> Result<(), Fail> {
     let package = package(alloc, vec![in alloc; unnamed(kind)]?)?;
     assert_described(rt, alloc, &package, 0, wanted)
 }
@@ -345,7 +340,13 @@ fn nested(alloc: Global, count: u32) -> Result<Resolve, ResolveError>
 #[test]
 fn depths(rt: HostRuntime) -> Result<(), Fail> {
     for (count, wanted) in [(31, "16 4 4444 219"), (32, "error 51 too deep")] {
-        assert_laid(&rt, rt.alloc(), nested(rt.alloc(), count), count * 3, wanted)?;
+        assert_laid(
+            &rt,
+            rt.alloc(),
+            nested(rt.alloc(), count),
+            count * 3,
+            wanted,
+        )?;
     }
     Ok(())
 }

@@ -6,8 +6,9 @@ use lift_lower::Val;
 use memory::Bump;
 use std::alloc::Global;
 use std::process::Abort;
+use std::slice;
 use std::test::Fail;
-use witcall::Session;
+use witcall::{Package, Session};
 
 /// What a call answered, and the memories behind it.
 #[derive(Drop)]
@@ -28,6 +29,29 @@ impl Told {
     }
 }
 
+/// Calls `f` of the package.
+fn answered<C: Guest + Drop>(
+    rt: &impl Abort,
+    alloc: Global,
+    package: &Package,
+    arguments: &[Val],
+    caller: C,
+    callee: Bump,
+    body: Acting,
+) -> Result<Told, Fail> {
+    let f = function(package)?;
+    assert!(rt; package.takes(f, arguments));
+    let mut session = Session::new(package, caller, callee, body);
+    let answer = session.call(alloc, f, arguments);
+    let caller = session.caller().bytes().to_vec(alloc)?;
+    let callee = session.callee().bytes().to_vec(alloc)?;
+    Ok(Told {
+        answer,
+        caller,
+        callee,
+    })
+}
+
 /// Calls `f` of an interface of these items.
 fn called<C: Guest + Drop>(
     rt: &impl Abort,
@@ -39,37 +63,42 @@ fn called<C: Guest + Drop>(
     body: Acting,
 ) -> Result<Told, Fail> {
     let package = package(alloc, items)?;
-    let f = function(&package)?;
-    assert!(rt; package.takes(f, arguments));
-    let mut session = Session::new(&package, caller, callee, body);
-    let answer = session.call(alloc, f, arguments);
-    Ok(Told {
-        answer,
-        caller: session.caller().bytes().to_vec(alloc)?,
-        callee: session.callee().bytes().to_vec(alloc)?,
-    })
+    answered(rt, alloc, &package, arguments, caller, callee, body)
+}
+
+/// Calls a function of one text.
+fn called_with_text(
+    rt: &impl Abort,
+    alloc: Global,
+    items: &str,
+    text: String,
+    caller: Bump,
+    body: Acting,
+) -> Result<Told, Fail> {
+    let text = Val::String(text);
+    let callee = filled(alloc, 32, &[])?;
+    called(
+        rt,
+        alloc,
+        items,
+        slice::from_ref(&text),
+        caller,
+        callee,
+        body,
+    )
 }
 
 /// An empty text takes a block of no bytes, here and there.
 #[test]
 fn empty_text(rt: HostRuntime) -> Result<(), Fail> {
-    let alloc = rt.alloc();
-    let mut body = body_writing(alloc, 0, &[8, 0, 0, 0, 0, 0, 0, 0], Some(Flat::I32(0)))?;
+    let header = [8, 0, 0, 0, 0, 0, 0, 0];
+    let caller = filled(rt.alloc(), 32, &[])?;
+    let mut body = body_writing(rt.alloc(), 0, &header, Some(Flat::I32(0)))?;
     body.asks = true;
-    let told = called(
-        &rt,
-        alloc,
-        "f: func(s: string) -> string;",
-        &[Val::String(String::new(alloc))],
-        filled(alloc, 32, &[])?,
-        filled(alloc, 32, &[])?,
-        body,
-    )?;
+    let (items, empty) = ("f: func(s: string) -> string;", String::new(rt.alloc()));
+    let told = called_with_text(&rt, rt.alloc(), items, empty, caller, body)?;
     assert!(rt; told.is_text(""));
-    assert_eq!(rt;
-        told.caller.get(..9),
-        Some([8, 0, 0, 0, 0, 0, 0, 0, 0].as_slice())
-    );
+    assert!(rt; told.caller.get(..9) == Some(b"\x08\0\0\0\0\0\0\0\0".as_slice()));
     Ok(())
 }
 
@@ -110,26 +139,29 @@ fn called_with_seventeen(
 
 #[test]
 fn seventeen_go_through_memory(rt: HostRuntime) -> Result<(), Fail> {
-    let alloc = rt.alloc();
-    let body = body_writing(alloc, 0, &[], None)?;
-    let told = called_with_seventeen(&rt, alloc, "", 68, body)?;
-    assert!(rt; matches!(told.answer, Ok(None)));
-    assert_eq!(rt; told.callee.get(64..68), Some([16, 0, 0, 0].as_slice()));
-    let body = body_writing(alloc, 0, &[], None)?;
-    let told = called_with_seventeen(&rt, alloc, "", 67, body)?;
+    let body = body_writing(rt.alloc(), 0, &[], None)?;
+    let told = called_with_seventeen(&rt, rt.alloc(), "", 68, body)?;
+    assert!(rt; matches!(&told.answer, Ok(None)));
+    assert!(rt; told.callee.get(64..68) == Some([16, 0, 0, 0].as_slice()));
+    Ok(())
+}
+
+#[test]
+fn no_room_for_seventeen(rt: HostRuntime) -> Result<(), Fail> {
+    let body = body_writing(rt.alloc(), 0, &[], None)?;
+    let told = called_with_seventeen(&rt, rt.alloc(), "", 67, body)?;
     assert!(rt; told.is_trap(TrapKind::Full, Step::LowerArgs));
     Ok(())
 }
 
 #[test]
 fn seventeen_and_an_area(rt: HostRuntime) -> Result<(), Fail> {
-    let alloc = rt.alloc();
-    let text = [80, 0, 0, 0, 2, 0, 0, 0, 0x68, 0x69];
-    let body = body_writing(alloc, 72, text.as_slice(), Some(Flat::I32(72)))?;
-    let told = called_with_seventeen(&rt, alloc, " -> string", 128, body)?;
+    let text = b"\x50\0\0\0\x02\0\0\0hi";
+    let body = body_writing(rt.alloc(), 72, text, Some(Flat::I32(72)))?;
+    let told = called_with_seventeen(&rt, rt.alloc(), " -> string", 128, body)?;
     assert!(rt; told.is_text("hi"));
-    let wanted = [16, 0, 0, 0, 76, 0, 0, 0, 2, 0, 0, 0, 0x68, 0x69];
-    assert_eq!(rt; told.caller.get(64..78), Some(wanted.as_slice()));
+    let wanted = b"\x10\0\0\0\x4c\0\0\0\x02\0\0\0hi";
+    assert!(rt; told.caller.get(64..78) == Some(wanted.as_slice()));
     Ok(())
 }
 
@@ -147,19 +179,23 @@ fn text_of<C: Guest + Drop>(
     called(rt, alloc, "f: func() -> string;", &[], caller, callee, body)
 }
 
+/// What is told of a body that writes over its text, and then ends or does not.
+fn overwritten(rt: &impl Abort, alloc: Global, ends: bool) -> Result<Told, Fail> {
+    let mut body = body_writing(alloc, 0, &HI, Some(Flat::I32(0)))?;
+    body.fills = 10;
+    body.ends = ends;
+    text_of(rt, alloc, filled(alloc, 32, &[])?, body)
+}
+
 /// The caller's bytes stand whatever the callee does with its own after the result was read.
 #[test]
 fn bytes_after_post_return(rt: HostRuntime) -> Result<(), Fail> {
-    let alloc = rt.alloc();
     for ends in [true, false] {
-        let mut body = body_writing(alloc, 0, HI.as_slice(), Some(Flat::I32(0)))?;
-        body.fills = 10;
-        body.ends = ends;
-        let told = text_of(&rt, alloc, filled(alloc, 32, &[])?, body)?;
-        assert_eq!(rt; told.is_text("hi"), ends);
-        assert_eq!(rt; told.is_trap(TrapKind::Body, Step::Post), !ends);
-        assert_eq!(rt; told.caller.get(..10), Some(HI.as_slice()));
-        assert_eq!(rt; told.callee.get(..10), Some([0xee; 10].as_slice()));
+        let told = overwritten(&rt, rt.alloc(), ends)?;
+        assert!(rt; told.is_text("hi") == ends);
+        assert!(rt; told.is_trap(TrapKind::Body, Step::Post) != ends);
+        assert!(rt; told.caller.get(..10) == Some(HI.as_slice()));
+        assert!(rt; told.callee.get(..10) == Some([0xee; 10].as_slice()));
     }
     Ok(())
 }
@@ -167,11 +203,10 @@ fn bytes_after_post_return(rt: HostRuntime) -> Result<(), Fail> {
 /// The area and the text at one address: eight bytes of text are overwritten by their own header.
 #[test]
 fn text_under_its_header(rt: HostRuntime) -> Result<(), Fail> {
-    let alloc = rt.alloc();
-    let caller = scripted(alloc, 256, &[Ok(128), Ok(128)])?;
+    let caller = scripted(rt.alloc(), 256, &[Ok(128), Ok(128)])?;
     let text = b"\x08\0\0\0\x08\0\0\0aaaaaaaa";
-    let body = body_writing(alloc, 0, text, Some(Flat::I32(0)))?;
-    let told = text_of(&rt, alloc, caller, body)?;
+    let body = body_writing(rt.alloc(), 0, text, Some(Flat::I32(0)))?;
+    let told = text_of(&rt, rt.alloc(), caller, body)?;
     assert!(rt; told.is_trap(TrapKind::Utf8, Step::Take));
     Ok(())
 }
@@ -179,18 +214,11 @@ fn text_under_its_header(rt: HostRuntime) -> Result<(), Fail> {
 /// A text of 16,777,217 bytes is not asked for.
 #[test]
 fn text_past_the_limit(rt: HostRuntime) -> Result<(), Fail> {
-    let alloc = rt.alloc();
-    let text = String::from_utf8(vec![in alloc; b'a'; 16_777_217]?)?;
-    let told = called(
-        &rt,
-        alloc,
-        "f: func(x: string);",
-        &[Val::String(text)],
-        filled(alloc, 64, &[0xee; 64])?,
-        filled(alloc, 32, &[])?,
-        body_writing(alloc, 0, &[], None)?,
-    )?;
+    let text = String::from_utf8(vec![in rt.alloc(); b'a'; 16_777_217]?)?;
+    let caller = filled(rt.alloc(), 64, &[0xee; 64])?;
+    let body = body_writing(rt.alloc(), 0, &[], None)?;
+    let told = called_with_text(&rt, rt.alloc(), "f: func(x: string);", text, caller, body)?;
     assert!(rt; told.is_trap(TrapKind::Bounds, Step::Place));
-    assert_eq!(rt; told.caller.as_slice(), [0xee; 64].as_slice());
+    assert!(rt; told.caller.as_slice() == [0xee; 64].as_slice());
     Ok(())
 }

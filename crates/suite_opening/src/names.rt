@@ -6,126 +6,41 @@ use std::test::Fail;
 use witcall::open;
 
 // What opening answers, and which of several faults is told.
-static NAMES: [(&str, &str); 30] = [
-    (
-        "package a:b; interface x { use y.{t as u}; f: func(p: u) -> u; } interface y { type t = u16; } interface z { use x.{u}; g: func(q: u) -> u; }",
-        "ok",
-    ),
-    (
-        "package a:b; interface x { use y.{t as u}; use z.{u as k}; f: func(p: u) -> u; } interface y { type t = u16; } interface z { use x.{u}; g: func(q: u) -> u; }",
-        "error 42 cycle",
-    ),
-    ("package a:b;", "error 43 empty package"),
-    (
-        "package a:b; world w { }",
-        "error 33 unsupported later-stage at 13..18",
-    ),
-    (
-        "package a:b; interface c { type t = q; type t = u8; } world w { }",
-        "error 33 unsupported later-stage at 54..59",
-    ),
-    (
-        "package a:b; interface c { type t = q; type t = u8; }",
-        "error 40 duplicate t",
-    ),
-    (
-        "package a:b; interface c { type t = list<t>; }",
-        "error 42 cycle",
-    ),
-    ("package a:b; interface c { type t = t; }", "error 42 cycle"),
-    (
-        "package a:b; interface c { record r { a-b: u8, A-b: u8 } }",
-        "error 40 duplicate A-b",
-    ),
-    (
-        "package a:b; interface c { f: func(x: u8); F: func(); }",
-        "error 40 duplicate F",
-    ),
-    (
-        "package a:b; interface c { } interface C { }",
-        "error 40 duplicate C",
-    ),
-    (
-        "package a:b; interface c { record r { a: u8, a: u8 } } interface c { }",
-        "error 40 duplicate a",
-    ),
-    (
-        "package a:b; interface c { use d.{t, t}; } interface d { type t = u8; }",
-        "error 40 duplicate t",
-    ),
-    (
-        "package a:b; interface c { use d.{t as u}; type u = u8; } interface d { type t = u8; }",
-        "error 40 duplicate u",
-    ),
-    (
-        "package a:b; interface c { use c.{t}; type t = u8; }",
-        "error 40 duplicate t",
-    ),
-    (
-        "package a:b; interface c { variant v { x, x(u8) } }",
-        "error 40 duplicate x",
-    ),
-    (
-        "package a:b; interface c { enum e { x, y, X } }",
-        "error 40 duplicate X",
-    ),
-    (
-        "package a:b; interface c { flags g { x, %x } }",
-        "error 40 duplicate x",
-    ),
-    (
-        "package a:b; interface c { f: func(x: u8, X: u8); }",
-        "error 40 duplicate X",
-    ),
-    (
-        "package a:b; interface c { use d.{t}; }",
-        "error 41 unknown d",
-    ),
-    (
-        "package a:b; interface c { use d.{t}; } interface d { }",
-        "error 41 unknown t",
-    ),
-    (
-        "package a:b; interface c { use d.{f}; } interface d { f: func(); }",
-        "error 41 unknown f",
-    ),
-    (
-        "package a:b; interface c { type t = T; type u = u8; }",
-        "error 41 unknown T",
-    ),
-    (
-        "package a:b; interface c { g: func(x: f); f: func(); }",
-        "error 41 unknown f",
-    ),
-    (
-        "package a:b; interface c { f: func(x: q); use d.{t}; }",
-        "error 41 unknown q",
-    ),
-    (
-        "package a:b; interface c { use c.{t as u}; type t = u8; }",
-        "error 42 cycle",
-    ),
-    (
-        "package a:b; interface c { type t = u; type u = option<t>; }",
-        "error 42 cycle",
-    ),
-    (
-        "package a:b; interface c { f: func(x: t); type t = u; type u = u8; }",
-        "ok",
-    ),
-    (
-        "package a:b; interface c { type t = result<list<u8>, option<string>>; f: func() -> result; }",
-        "ok",
-    ),
-    (
-        "package a:b; interface c { type u = u8; } interface d { f: func(x: u); }",
-        "error 41 unknown u",
-    ),
-];
+const NAMES: &str = "\
+package a:b; interface x { use y.{t as u}; f: func(p: u) -> u; } interface y { type t = u16; } interface z { use x.{u}; g: func(q: u) -> u; } => ok
+package a:b; interface x { use y.{t as u}; use z.{u as k}; f: func(p: u) -> u; } interface y { type t = u16; } interface z { use x.{u}; g: func(q: u) -> u; } => error 42 cycle
+package a:b; => error 43 empty package
+package a:b; world w { } => error 33 unsupported later-stage at 13..18
+package a:b; interface c { type t = q; type t = u8; } world w { } => error 33 unsupported later-stage at 54..59
+package a:b; interface c { type t = q; type t = u8; } => error 40 duplicate t
+package a:b; interface c { type t = list<t>; } => error 42 cycle
+package a:b; interface c { type t = t; } => error 42 cycle
+package a:b; interface c { record r { a-b: u8, A-b: u8 } } => error 40 duplicate A-b
+package a:b; interface c { f: func(x: u8); F: func(); } => error 40 duplicate F
+package a:b; interface c { } interface C { } => error 40 duplicate C
+package a:b; interface c { record r { a: u8, a: u8 } } interface c { } => error 40 duplicate a
+package a:b; interface c { use d.{t, t}; } interface d { type t = u8; } => error 40 duplicate t
+package a:b; interface c { use d.{t as u}; type u = u8; } interface d { type t = u8; } => error 40 duplicate u
+package a:b; interface c { use c.{t}; type t = u8; } => error 40 duplicate t
+package a:b; interface c { variant v { x, x(u8) } } => error 40 duplicate x
+package a:b; interface c { enum e { x, y, X } } => error 40 duplicate X
+package a:b; interface c { flags g { x, %x } } => error 40 duplicate x
+package a:b; interface c { f: func(x: u8, X: u8); } => error 40 duplicate X
+package a:b; interface c { use d.{t}; } => error 41 unknown d
+package a:b; interface c { use d.{t}; } interface d { } => error 41 unknown t
+package a:b; interface c { use d.{f}; } interface d { f: func(); } => error 41 unknown f
+package a:b; interface c { type t = T; type u = u8; } => error 41 unknown T
+package a:b; interface c { g: func(x: f); f: func(); } => error 41 unknown f
+package a:b; interface c { f: func(x: q); use d.{t}; } => error 41 unknown q
+package a:b; interface c { use c.{t as u}; type t = u8; } => error 42 cycle
+package a:b; interface c { type t = u; type u = option<t>; } => error 42 cycle
+package a:b; interface c { f: func(x: t); type t = u; type u = u8; } => ok
+package a:b; interface c { type t = result<list<u8>, option<string>>; f: func() -> result; } => ok
+package a:b; interface c { type u = u8; } interface d { f: func(x: u); } => error 41 unknown u";
 
 #[test]
 fn names(rt: HostRuntime) -> Result<(), Fail> {
-    assert_rows(&rt, rt.alloc(), NAMES.as_slice())
+    assert_rows(&rt, rt.alloc(), NAMES)
 }
 
 #[test]

@@ -4,8 +4,9 @@ ghost use Rattle.std.specs.Prelude.{◌≡◌, false};
 
 use atoms::{Failed, Sink, Source, Watched, read_up_to};
 use std::alloc::Global;
+use std::process::Abort;
 use std::test::Fail;
-use witcall::{Refused, Reply, open, read_all, run, run_call};
+use witcall::{Package, Refused, Reply, open, read_all, run, run_call};
 use words::asked::Job;
 
 const P1: &str = "package a:b; interface c { f: func(x: u32) -> u32; }";
@@ -97,21 +98,41 @@ impl Sink for Short {
     }
 }
 
+fn assert_line(rt: &impl Abort, found: &str, wanted: &str) {
+    assert!(rt; found == wanted, "{found}, not {wanted}");
+}
+
 #[test]
-fn inputs(rt: HostRuntime) -> Result<(), Fail> {
-    let alloc = rt.alloc();
-    let bytes = read_all(alloc, &mut dripping(None))?;
+fn whole_inputs(rt: HostRuntime) -> Result<(), Fail> {
+    let bytes = read_all(rt.alloc(), &mut dripping(None))?;
     assert!(rt; bytes.as_slice() == P1.as_bytes());
-    let few = read_up_to(alloc, &mut dripping(None), 6);
+    Ok(())
+}
+
+#[test]
+fn few_bytes(rt: HostRuntime) -> Result<(), Fail> {
+    let few = read_up_to(rt.alloc(), &mut dripping(None), 6);
     assert!(rt; few.is_ok_and(|few| few.as_slice() == b"package".as_slice()));
-    for place in [0, 1, 20] {
-        let error = read_all(alloc, &mut dripping(Some(place)));
-        let wanted = format!(in alloc; "error 20 read at {place}")?;
-        let line = match error {
-            Ok(_bytes) => String::new(alloc),
-            Err(error) => format!(in alloc; "{error}")?,
-        };
-        assert!(rt; line.as_str() == wanted.as_str(), "{place}: {line}");
+    Ok(())
+}
+
+/// What reading an input that fails at this place answers.
+fn failed_read(alloc: Global, place: usize) -> Result<String, Fail> {
+    Ok(match read_all(alloc, &mut dripping(Some(place))) {
+        Ok(_bytes) => String::new(alloc),
+        Err(error) => format!(in alloc; "{error}")?,
+    })
+}
+
+#[test]
+fn failed_inputs(rt: HostRuntime) -> Result<(), Fail> {
+    for (place, wanted) in [
+        (0, "error 20 read at 0"),
+        (1, "error 20 read at 1"),
+        (20, "error 20 read at 20"),
+    ] {
+        let line = failed_read(rt.alloc(), place)?;
+        assert_line(&rt, line.as_str(), wanted);
     }
     Ok(())
 }
@@ -124,41 +145,46 @@ fn opened(alloc: Global, bytes: &[u8]) -> Result<String, Fail> {
     })
 }
 
+fn assert_opened(rt: &impl Abort, alloc: Global, bytes: &[u8], wanted: &str) -> Result<(), Fail> {
+    let line = opened(alloc, bytes)?;
+    assert_line(rt, line.as_str(), wanted);
+    Ok(())
+}
+
+/// Bytes, and what opening them answers.
+static BYTES: [(&[u8], &str); 6] = [
+    (b"\x00asm", "error 11 truncated at 4"),
+    (b"\x00asm\x0d\x00\x01\x00", "error 11 truncated at 8"),
+    (b"\x00as", "error 30 bad character at 0..1"),
+    (b"package a:b; // \xff", "error 60 not UTF-8 at 16"),
+    (b"\xc3", "error 60 not UTF-8 at 0"),
+    (b"a\xe2\x82", "error 60 not UTF-8 at 1"),
+];
+
 #[test]
 fn bytes(rt: HostRuntime) -> Result<(), Fail> {
-    let alloc = rt.alloc();
-    for (bytes, wanted) in [
-        (b"\x00asm".as_slice(), "error 11 truncated at 4"),
-        (
-            b"\x00asm\x0d\x00\x01\x00".as_slice(),
-            "error 11 truncated at 8",
-        ),
-        (b"\x00as".as_slice(), "error 30 bad character at 0..1"),
-        (
-            b"package a:b; // \xff".as_slice(),
-            "error 60 not UTF-8 at 16",
-        ),
-        (b"\xc3".as_slice(), "error 60 not UTF-8 at 0"),
-        (b"a\xe2\x82".as_slice(), "error 60 not UTF-8 at 1"),
-    ] {
-        let line = opened(alloc, bytes)?;
-        assert!(rt; line.as_str() == wanted, "{line}, not {wanted}");
+    for row in BYTES.as_slice() {
+        let (bytes, wanted) = *row;
+        assert_opened(&rt, rt.alloc(), bytes, wanted)?;
     }
-    let blanks = vec![in alloc; b' '; 1_048_576]?;
-    let line = opened(alloc, blanks.as_slice())?;
-    assert!(rt;
-        line.as_str() == "error 32 expected package at 1048576..1048576",
-        "{line}"
-    );
-    let mut long = vec![in alloc; 0xff; 1_048_577]?;
-    let line = opened(alloc, long.as_slice())?;
-    assert!(rt;
-        line.as_str() == "error 36 limit at 1048576..1048576",
-        "{line}"
-    );
-    long.push(0)?;
-    let read = read_all(alloc, &mut Watched::new(long.as_slice()))?;
-    assert_eq!(rt; read.len(), 1_048_577);
+    Ok(())
+}
+
+#[test]
+fn longest_texts(rt: HostRuntime) -> Result<(), Fail> {
+    let blanks = vec![in rt.alloc(); b' '; 1_048_576]?;
+    let wanted = "error 32 expected package at 1048576..1048576";
+    assert_opened(&rt, rt.alloc(), blanks.as_slice(), wanted)?;
+    let long = vec![in rt.alloc(); 0xff; 1_048_577]?;
+    let wanted = "error 36 limit at 1048576..1048576";
+    assert_opened(&rt, rt.alloc(), long.as_slice(), wanted)
+}
+
+#[test]
+fn longer_inputs(rt: HostRuntime) -> Result<(), Fail> {
+    let longer = vec![in rt.alloc(); 0xff; 1_048_578]?;
+    let read = read_all(rt.alloc(), &mut Watched::new(longer.as_slice()))?;
+    assert!(rt; read.len() == 1_048_577);
     Ok(())
 }
 
@@ -168,29 +194,38 @@ fn long_binaries(rt: HostRuntime) -> Result<(), Fail> {
     let mut long = Vec::from_slice(alloc, b"\x00asm")?;
     let zeros = vec![in alloc; 0; 1_048_573]?;
     long.extend_from_slice(zeros.as_slice())?;
-    let line = opened(alloc, long.as_slice())?;
-    assert!(rt; line.as_str() == "error 17 limit at 1048576", "{line}");
-    Ok(())
+    assert_opened(&rt, alloc, long.as_slice(), "error 17 limit at 1048576")
+}
+
+/// Whether a call whose output has this much room is written, and what room is left; none: it is refused for
+/// something else.
+fn called(alloc: Global, package: &Package, room: usize) -> Result<Option<(bool, usize)>, Fail> {
+    let body = Reply::of(alloc, package, "a:b/c", "f", "[8]")?;
+    let mut output = Short {
+        room,
+        failed: false,
+    };
+    let body = Box::new(alloc, body)?;
+    Ok(
+        match run_call(alloc, package, "a:b/c", "f", "[7]", body, &mut output) {
+            Ok(()) => Some((true, output.room)),
+            Err(Refused::Write) => Some((false, output.room)),
+            Err(_) => None,
+        },
+    )
 }
 
 #[test]
 fn failed_writes(rt: HostRuntime) -> Result<(), Fail> {
-    let alloc = rt.alloc();
-    let package = open(alloc, P1.as_bytes())?;
-    for (room, left, is_written) in [(0, 0, false), (1, 0, false), (2, 0, true), (5, 3, true)] {
-        let body = Reply::of(alloc, &package, "a:b/c", "f", "[8]")?;
-        let mut output = Short {
-            room,
-            failed: false,
-        };
-        let body = Box::new(alloc, body)?;
-        let answer = run_call(alloc, &package, "a:b/c", "f", "[7]", body, &mut output);
-        assert_eq!(rt; output.room, left);
-        let is_told = match answer {
-            Ok(()) => is_written,
-            Err(refused) => !is_written && matches!(refused, Refused::Write),
-        };
-        assert!(rt; is_told, "{room}");
+    let package = open(rt.alloc(), P1.as_bytes())?;
+    for (room, wanted) in [
+        (0, (false, 0)),
+        (1, (false, 0)),
+        (2, (true, 0)),
+        (5, (true, 3)),
+    ] {
+        let told = called(rt.alloc(), &package, room)?;
+        assert!(rt; told == Some(wanted), "{room}");
     }
     Ok(())
 }
@@ -246,12 +281,16 @@ fn binaries_that_are_cut(rt: HostRuntime) -> Result<(), Fail> {
 }
 
 #[test]
+fn a_job_whose_input_fails(rt: HostRuntime) -> Result<(), Fail> {
+    let line = refused(rt.alloc(), Job::Bin, &mut dripping(Some(20)))?;
+    assert_line(&rt, line.as_str(), "error 20 read at 20");
+    Ok(())
+}
+
+#[test]
 fn jobs_that_are_refused(rt: HostRuntime) -> Result<(), Fail> {
-    let alloc = rt.alloc();
-    let line = refused(alloc, Job::Bin, &mut dripping(Some(20)))?;
-    assert!(rt; line.as_str() == "error 20 read at 20", "{line}");
     for job in [Job::Show, Job::Text, Job::Layout] {
-        let line = refused(alloc, job, &mut dripping(Some(0)))?;
+        let line = refused(rt.alloc(), job, &mut dripping(Some(0)))?;
         assert!(rt; line.as_str().starts_with("usage: witcall"), "{line}");
     }
     Ok(())

@@ -5,11 +5,12 @@ use resolve::from_ast;
 use std::alloc::Global;
 use std::process::Abort;
 use std::test::*;
+use tables::Resolve;
 use wit_component::{from_raw, to_raw};
 use wit_text::parse;
 
 /// `package a:b; interface c { f: func(x: u32) -> u32; }`
-pub static SMALLEST: [u8; 55] = [
+pub const SMALLEST: [u8; 55] = [
     0x00, 0x61, 0x73, 0x6d, 0x0d, 0x00, 0x01, 0x00, 0x07, 0x1e, 0x01, 0x41, 0x02, 0x01, 0x42, 0x02,
     0x01, 0x40, 0x01, 0x01, 0x78, 0x79, 0x00, 0x79, 0x04, 0x00, 0x01, 0x66, 0x01, 0x00, 0x04, 0x00,
     0x05, 0x61, 0x3a, 0x62, 0x2f, 0x63, 0x05, 0x00, 0x0b, 0x0d, 0x01, 0x00, 0x07, 0x70, 0x61, 0x63,
@@ -17,7 +18,7 @@ pub static SMALLEST: [u8; 55] = [
 ];
 
 /// Names that are keywords.
-pub static KEYWORDS: [u8; 61] = [
+pub const KEYWORDS: [u8; 61] = [
     0x00, 0x61, 0x73, 0x6d, 0x0d, 0x00, 0x01, 0x00, 0x07, 0x24, 0x01, 0x41, 0x02, 0x01, 0x42, 0x02,
     0x01, 0x40, 0x01, 0x04, 0x74, 0x79, 0x70, 0x65, 0x7d, 0x01, 0x00, 0x04, 0x00, 0x04, 0x6c, 0x69,
     0x73, 0x74, 0x01, 0x00, 0x04, 0x00, 0x05, 0x61, 0x3a, 0x62, 0x2f, 0x63, 0x05, 0x00, 0x0b, 0x0d,
@@ -25,7 +26,7 @@ pub static KEYWORDS: [u8; 61] = [
 ];
 
 /// Three interfaces, of which each but the first uses a name of the one before it.
-pub static THREE: [u8; 140] = [
+pub const THREE: [u8; 140] = [
     0x00, 0x61, 0x73, 0x6d, 0x0d, 0x00, 0x01, 0x00, 0x07, 0x73, 0x01, 0x41, 0x08, 0x01, 0x42, 0x02,
     0x01, 0x7b, 0x04, 0x00, 0x01, 0x74, 0x03, 0x00, 0x00, 0x04, 0x00, 0x05, 0x61, 0x3a, 0x62, 0x2f,
     0x79, 0x05, 0x00, 0x02, 0x03, 0x00, 0x00, 0x01, 0x74, 0x01, 0x42, 0x04, 0x02, 0x03, 0x02, 0x01,
@@ -37,86 +38,111 @@ pub static THREE: [u8; 140] = [
     0x00, 0x07, 0x70, 0x61, 0x63, 0x6b, 0x61, 0x67, 0x65, 0x03, 0x00, 0x00,
 ];
 
-/// Whether the text's package is spelt by these bytes.
-fn assert_bytes(rt: &impl Abort, alloc: Global, text: &str, bytes: &[u8]) -> Result<(), Fail> {
-    let Ok(tree) = parse(alloc, text) else {
-        panic!(rt; "{text} is not read");
-    };
-    let package = from_ast(alloc, &tree)?;
-    let raw = to_raw(alloc, &package)?;
+/// Whether two files are the same bytes.
+pub fn assert_same(rt: &impl Abort, found: &[u8], wanted: &[u8]) {
+    assert!(rt; found == wanted, "{found:?}, not {wanted:?}");
+}
+
+/// Whether a line is the one that is wanted.
+pub fn assert_line(rt: &impl Abort, found: &str, wanted: &str) {
+    assert!(rt; found == wanted, "{found}, not {wanted}");
+}
+
+/// The bytes that a package is written as.
+fn spelt(alloc: Global, package: &Resolve) -> Result<Vec<u8>, Fail> {
+    let raw = to_raw(alloc, package)?;
     let mut spelt = Vec::new(alloc);
     encode(alloc, &raw, &mut spelt)?;
-    assert!(rt; spelt.as_slice() == bytes, "{text}: {spelt:?}");
+    Ok(spelt)
+}
+
+/// The same of a text's package.
+fn spelt_text(alloc: Global, text: &str) -> Result<Vec<u8>, Fail> {
+    let tree = parse(alloc, text)?;
+    let package = from_ast(alloc, &tree)?;
+    spelt(alloc, &package)
+}
+
+/// Whether the text's package is spelt by these bytes.
+fn assert_bytes(rt: &impl Abort, alloc: Global, text: &str, bytes: &[u8]) -> Result<(), Fail> {
+    let spelt = spelt_text(alloc, text)?;
+    assert_same(rt, spelt.as_slice(), bytes);
     Ok(())
 }
+
+/// Texts, and the bytes of their packages.
+pub static TEXTS: [(&str, &[u8]); 3] = [
+    (
+        "package a:b; interface c { f: func(x: u32) -> u32; }",
+        &SMALLEST,
+    ),
+    (
+        "package a:b; interface c { %list: func(%type: u8); }",
+        &KEYWORDS,
+    ),
+    (
+        "package a:b; interface x { use y.{t as u}; f: func(p: u) -> u; } interface y { type t = u16; } interface z { use x.{u}; g: func(q: u) -> u; }",
+        &THREE,
+    ),
+];
 
 #[test]
 fn a_package_is_its_bytes(rt: HostRuntime) -> Result<(), Fail> {
-    let alloc = rt.alloc();
-    let smallest = "package a:b; interface c { f: func(x: u32) -> u32; }";
-    assert_bytes(&rt, alloc, smallest, &SMALLEST)?;
-    let keywords = "package a:b; interface c { %list: func(%type: u8); }";
-    assert_bytes(&rt, alloc, keywords, &KEYWORDS)?;
-    let three =
-        "package a:b; interface x { use y.{t as u}; f: func(p: u) -> u; } interface y { type t = u16; } interface z { use x.{u}; g: func(q: u) -> u; }";
-    assert_bytes(&rt, alloc, three, &THREE)?;
+    for row in TEXTS.as_slice() {
+        let (text, bytes) = *row;
+        assert_bytes(&rt, rt.alloc(), text, bytes)?;
+    }
     Ok(())
 }
 
-/// What reading these bytes as a package answers: the bytes of the package that was read.
+/// Whether these bytes are read as a package that is written as them.
 fn assert_read(rt: &impl Abort, alloc: Global, bytes: &[u8]) -> Result<(), Fail> {
     let raw = decode(alloc, bytes)?;
     let package = from_raw(alloc, &raw)?;
-    let again = to_raw(alloc, &package)?;
-    let mut spelt = Vec::new(alloc);
-    encode(alloc, &again, &mut spelt)?;
-    assert!(rt; spelt.as_slice() == bytes, "{spelt:?}");
+    let spelt = spelt(alloc, &package)?;
+    assert_same(rt, spelt.as_slice(), bytes);
     Ok(())
 }
 
 #[test]
 fn bytes_are_their_package(rt: HostRuntime) -> Result<(), Fail> {
-    let alloc = rt.alloc();
-    assert_read(&rt, alloc, &SMALLEST)?;
-    assert_read(&rt, alloc, &KEYWORDS)?;
-    assert_read(&rt, alloc, &THREE)?;
+    for row in TEXTS.as_slice() {
+        let (_text, bytes) = *row;
+        assert_read(&rt, rt.alloc(), bytes)?;
+    }
     Ok(())
 }
 
-/// What this text's package is, written, read and written again.
+/// Whether this text's package, written and read, is written again as the same.
 fn assert_kept(rt: &impl Abort, alloc: Global, text: &str) -> Result<(), Fail> {
-    let Ok(tree) = parse(alloc, text) else {
-        panic!(rt; "{text} is not read");
-    };
-    let package = from_ast(alloc, &tree)?;
-    let raw = to_raw(alloc, &package)?;
-    let again = from_raw(alloc, &raw)?;
-    let written = to_raw(alloc, &again)?;
-    let mut first = Vec::new(alloc);
-    encode(alloc, &raw, &mut first)?;
-    let mut second = Vec::new(alloc);
-    encode(alloc, &written, &mut second)?;
-    assert!(rt; first.as_slice() == second.as_slice(), "{text}");
-    Ok(())
+    let spelt = spelt_text(alloc, text)?;
+    assert_read(rt, alloc, spelt.as_slice())
 }
 
 #[test]
 fn packages_are_kept(rt: HostRuntime) -> Result<(), Fail> {
-    let alloc = rt.alloc();
-    let kinds =
-        "package a:b@1.2.3; interface c { record r { x: list<list<u8>>, y: option<string> } variant v { p, q(tuple<u8, result<r>>) } enum e { one, two } flags fs { f0, f1 } type t = r; type l = list<t>; f: func(a: list<v>, b: t) -> result<_, l>; g: func(); } interface d { use c.{r, v as w}; h: func(x: list<r>) -> option<w>; } interface e { }";
-    assert_kept(&rt, alloc, kinds)?;
+    for text in [
+        "package a:b@1.2.3; interface c { record r { x: list<list<u8>>, y: option<string> } variant v { p, q(tuple<u8, result<r>>) } enum e { one, two } flags fs { f0, f1 } type t = r; type l = list<t>; f: func(a: list<v>, b: t) -> result<_, l>; g: func(); } interface d { use c.{r, v as w}; h: func(x: list<r>) -> option<w>; } interface e { }",
+        // Names of two interfaces stand in two scopes, as a parameter's and a function's do.
+        "package a:b; interface c { type t = u8; f: func(f: t, t: u8); } interface d { type t = u8; }",
+    ] {
+        assert_kept(&rt, rt.alloc(), text)?;
+    }
     Ok(())
 }
 
-/// What these bytes are refused with as a package.
-fn assert_refused(rt: &impl Abort, alloc: Global, bytes: &[u8], line: &str) -> Result<(), Fail> {
+/// What reading these bytes as a package answers.
+fn answer(alloc: Global, bytes: &[u8]) -> Result<String, Fail> {
     let raw = decode(alloc, bytes)?;
-    let Err(error) = from_raw(alloc, &raw) else {
-        panic!(rt; "{bytes:?} is read");
-    };
-    let said = format!(in alloc; "{error}")?;
-    assert!(rt; said.as_str() == line, "{said}, not {line}");
+    Ok(match from_raw(alloc, &raw) {
+        Ok(_package) => format!(in alloc; "ok")?,
+        Err(error) => format!(in alloc; "{error}")?,
+    })
+}
+
+fn assert_refused(rt: &impl Abort, alloc: Global, bytes: &[u8], line: &str) -> Result<(), Fail> {
+    let said = answer(alloc, bytes)?;
+    assert_line(rt, said.as_str(), line);
     Ok(())
 }
 
@@ -143,44 +169,89 @@ pub fn interface_of(alloc: Global, count: u8, decls: &[u8]) -> Result<Vec<u8>, F
 
 pub const SHAPE: &str = "error 44 not this shape";
 
+/// Two unnamed lists, used in their order and in the other.
+pub const ORDERED: [u8; 18] = [
+    0x01, 0x70, 0x7d, 0x01, 0x70, 0x7b, 0x01, 0x6f, 0x02, 0x00, 0x01, 0x04, 0x00, 0x01, 0x74, 0x03,
+    0x00, 0x02,
+];
+
+pub const SWAPPED: [u8; 18] = [
+    0x01, 0x70, 0x7d, 0x01, 0x70, 0x7b, 0x01, 0x6f, 0x02, 0x01, 0x00, 0x04, 0x00, 0x01, 0x74, 0x03,
+    0x00, 0x02,
+];
+
 #[test]
-fn other_components_are_refused(rt: HostRuntime) -> Result<(), Fail> {
-    let alloc = rt.alloc();
-    assert_refused(
-        &rt,
-        alloc,
-        &file_of(alloc, 0, &[])?,
-        "error 43 empty package",
-    )?;
-    // Two unnamed lists, used in their order and in the other.
-    let ordered = [
-        0x01, 0x70, 0x7d, 0x01, 0x70, 0x7b, 0x01, 0x6f, 0x02, 0x00, 0x01, 0x04, 0x00, 0x01, 0x74,
-        0x03, 0x00, 0x02,
-    ];
-    assert_read(&rt, alloc, &interface_of(alloc, 4, &ordered)?)?;
-    let swapped = [
-        0x01, 0x70, 0x7d, 0x01, 0x70, 0x7b, 0x01, 0x6f, 0x02, 0x01, 0x00, 0x04, 0x00, 0x01, 0x74,
-        0x03, 0x00, 0x02,
-    ];
-    assert_refused(&rt, alloc, &interface_of(alloc, 4, &swapped)?, SHAPE)?;
+fn lists_in_their_order(rt: HostRuntime) -> Result<(), Fail> {
+    let bytes = interface_of(rt.alloc(), 4, &ORDERED)?;
+    assert_read(&rt, rt.alloc(), bytes.as_slice())
+}
+
+/// How many declarations an interface has, these, and what its package is refused with.
+static INTERFACES: [(u8, &[u8], &str); 7] = [
+    (4, &SWAPPED, SHAPE),
     // One list for two occurrences.
-    let shared = [
-        0x01, 0x70, 0x7d, 0x01, 0x6f, 0x02, 0x00, 0x00, 0x04, 0x00, 0x01, 0x74, 0x03, 0x00, 0x01,
-    ];
-    assert_refused(&rt, alloc, &interface_of(alloc, 3, &shared)?, SHAPE)?;
-    // A function before a type.
-    let function = [
-        0x01, 0x40, 0x00, 0x01, 0x00, 0x04, 0x00, 0x01, 0x66, 0x01, 0x00,
-    ];
-    let ty = [0x01, 0x7d, 0x04, 0x00, 0x01, 0x74, 0x03, 0x00, 0x01];
-    let mut decls = Vec::from_slice(alloc, &function)?;
-    decls.extend_from_slice(&ty)?;
-    assert_refused(
-        &rt,
-        alloc,
-        &interface_of(alloc, 4, decls.as_slice())?,
+    (
+        3,
+        &[
+            0x01, 0x70, 0x7d, 0x01, 0x6f, 0x02, 0x00, 0x00, 0x04, 0x00, 0x01, 0x74, 0x03, 0x00,
+            0x01,
+        ],
         SHAPE,
-    )?;
+    ),
+    // A function before a type.
+    (
+        4,
+        &[
+            0x01, 0x40, 0x00, 0x01, 0x00, 0x04, 0x00, 0x01, 0x66, 0x01, 0x00, 0x01, 0x7d, 0x04,
+            0x00, 0x01, 0x74, 0x03, 0x00, 0x01,
+        ],
+        SHAPE,
+    ),
+    // A function before a type, and an enum of the labels `a` and `A`: the shape is tested before names.
+    (
+        4,
+        &[
+            0x01, 0x40, 0x00, 0x01, 0x00, 0x04, 0x00, 0x01, 0x66, 0x01, 0x00, 0x01, 0x6d, 0x02,
+            0x01, 0x61, 0x01, 0x41, 0x04, 0x00, 0x01, 0x74, 0x03, 0x00, 0x01,
+        ],
+        SHAPE,
+    ),
+    // `record r { a-b: u8, A-b: u8 }`
+    (
+        2,
+        &[
+            0x01, 0x72, 0x02, 0x03, 0x61, 0x2d, 0x62, 0x7d, 0x03, 0x41, 0x2d, 0x62, 0x7d, 0x04,
+            0x00, 0x01, 0x72, 0x03, 0x00, 0x00,
+        ],
+        "error 40 duplicate A-b",
+    ),
+    // `type t = u8;` and an enum of that name; its labels stand before its name.
+    (
+        4,
+        &[
+            0x01, 0x7d, 0x04, 0x00, 0x01, 0x74, 0x03, 0x00, 0x00, 0x01, 0x6d, 0x02, 0x01, 0x61,
+            0x01, 0x41, 0x04, 0x00, 0x01, 0x54, 0x03, 0x00, 0x02,
+        ],
+        "error 40 duplicate A",
+    ),
+    // `type t = u8; t: func();`
+    (
+        4,
+        &[
+            0x01, 0x7d, 0x04, 0x00, 0x01, 0x74, 0x03, 0x00, 0x00, 0x01, 0x40, 0x00, 0x01, 0x00,
+            0x04, 0x00, 0x01, 0x74, 0x01, 0x02,
+        ],
+        "error 40 duplicate t",
+    ),
+];
+
+#[test]
+fn other_interfaces_are_refused(rt: HostRuntime) -> Result<(), Fail> {
+    for row in INTERFACES.as_slice() {
+        let (count, decls, line) = *row;
+        let bytes = interface_of(rt.alloc(), count, decls)?;
+        assert_refused(&rt, rt.alloc(), bytes.as_slice(), line)?;
+    }
     Ok(())
 }
 
@@ -191,46 +262,9 @@ pub const TWICE: [u8; 26] = [
 ];
 
 #[test]
-fn repeated_names_are_refused(rt: HostRuntime) -> Result<(), Fail> {
-    let alloc = rt.alloc();
-    // `record r { a-b: u8, A-b: u8 }`
-    let fields = [
-        0x01, 0x72, 0x02, 0x03, 0x61, 0x2d, 0x62, 0x7d, 0x03, 0x41, 0x2d, 0x62, 0x7d, 0x04, 0x00,
-        0x01, 0x72, 0x03, 0x00, 0x00,
-    ];
-    let refused = interface_of(alloc, 2, &fields)?;
-    assert_refused(&rt, alloc, &refused, "error 40 duplicate A-b")?;
-    // `type t = u8;` and an enum of that name; its labels stand before its name.
-    let members = [
-        0x01, 0x7d, 0x04, 0x00, 0x01, 0x74, 0x03, 0x00, 0x00, 0x01, 0x6d, 0x02, 0x01, 0x61, 0x01,
-        0x41, 0x04, 0x00, 0x01, 0x54, 0x03, 0x00, 0x02,
-    ];
-    let refused = interface_of(alloc, 4, &members)?;
-    assert_refused(&rt, alloc, &refused, "error 40 duplicate A")?;
-    // `type t = u8; t: func();`
-    let function = [
-        0x01, 0x7d, 0x04, 0x00, 0x01, 0x74, 0x03, 0x00, 0x00, 0x01, 0x40, 0x00, 0x01, 0x00, 0x04,
-        0x00, 0x01, 0x74, 0x01, 0x02,
-    ];
-    let refused = interface_of(alloc, 4, &function)?;
-    assert_refused(&rt, alloc, &refused, "error 40 duplicate t")?;
-    let refused = file_of(alloc, 4, &TWICE)?;
-    assert_refused(&rt, alloc, &refused, "error 40 duplicate C")?;
-    // Names of two interfaces stand in two scopes, as a parameter's and a function's do.
-    let apart =
-        "package a:b; interface c { type t = u8; f: func(f: t, t: u8); } interface d { type t = u8; }";
-    assert_kept(&rt, alloc, apart)?;
-    Ok(())
-}
-
-#[test]
-fn the_shape_is_tested_before_names(rt: HostRuntime) -> Result<(), Fail> {
-    let alloc = rt.alloc();
-    // A function before a type, and an enum of the labels `a` and `A`.
-    let decls = [
-        0x01, 0x40, 0x00, 0x01, 0x00, 0x04, 0x00, 0x01, 0x66, 0x01, 0x00, 0x01, 0x6d, 0x02, 0x01,
-        0x61, 0x01, 0x41, 0x04, 0x00, 0x01, 0x74, 0x03, 0x00, 0x01,
-    ];
-    assert_refused(&rt, alloc, &interface_of(alloc, 4, &decls)?, SHAPE)?;
-    Ok(())
+fn other_packages_are_refused(rt: HostRuntime) -> Result<(), Fail> {
+    let empty = file_of(rt.alloc(), 0, &[])?;
+    assert_refused(&rt, rt.alloc(), empty.as_slice(), "error 43 empty package")?;
+    let twice = file_of(rt.alloc(), 4, &TWICE)?;
+    assert_refused(&rt, rt.alloc(), twice.as_slice(), "error 40 duplicate C")
 }

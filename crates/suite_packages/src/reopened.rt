@@ -1,7 +1,11 @@
 //! Packages that are opened from their texts, written as binaries and opened again from these.
 
-use crate::packages::{KEYWORDS, SHAPE, SMALLEST, THREE, TWICE, file_of, interface_of};
+use crate::packages::{
+    ORDERED, SHAPE, SMALLEST, SWAPPED, TEXTS, THREE, TWICE, assert_line, assert_same, file_of,
+    interface_of,
+};
 use canonical_abi::CoreKind;
+use ctype_bin::BinError;
 use std::alloc::Global;
 use std::process::Abort;
 use std::test::*;
@@ -17,31 +21,25 @@ fn opened(alloc: Global, bytes: &[u8]) -> Result<String, Fail> {
 
 fn assert_opened(rt: &impl Abort, alloc: Global, bytes: &[u8], answer: &str) -> Result<(), Fail> {
     let line = opened(alloc, bytes)?;
-    assert!(rt; line.as_str() == answer, "{line}, not {answer}");
+    assert_line(rt, line.as_str(), answer);
     Ok(())
 }
 
-/// Whether the text's package is these bytes, and theirs is.
-fn assert_reopened(rt: &impl Abort, alloc: Global, text: &str, bytes: &[u8]) -> Result<(), Fail> {
-    let package = open(alloc, text.as_bytes())?;
+/// Whether opening this and writing it as a binary gives these bytes.
+fn assert_written(rt: &impl Abort, alloc: Global, file: &[u8], bytes: &[u8]) -> Result<(), Fail> {
+    let package = open(alloc, file)?;
     let written = package.to_binary(alloc)?;
-    assert!(rt; written.as_slice() == bytes, "{text}: {written:?}");
-    let again = open(alloc, written.as_slice())?.to_binary(alloc)?;
-    assert!(rt; again.as_slice() == bytes, "{text}, again: {again:?}");
+    assert_same(rt, written.as_slice(), bytes);
     Ok(())
 }
-
-const TEXT_OF_THREE: &str =
-    "package a:b; interface x { use y.{t as u}; f: func(p: u) -> u; } interface y { type t = u16; } interface z { use x.{u}; g: func(q: u) -> u; }";
 
 #[test]
 fn binaries(rt: HostRuntime) -> Result<(), Fail> {
-    let alloc = rt.alloc();
-    let smallest = "package a:b; interface c { f: func(x: u32) -> u32; }";
-    assert_reopened(&rt, alloc, smallest, &SMALLEST)?;
-    let keywords = "package a:b; interface c { %list: func(%type: u8); }";
-    assert_reopened(&rt, alloc, keywords, &KEYWORDS)?;
-    assert_reopened(&rt, alloc, TEXT_OF_THREE, &THREE)?;
+    for row in TEXTS.as_slice() {
+        let (text, bytes) = *row;
+        assert_written(&rt, rt.alloc(), text.as_bytes(), bytes)?;
+        assert_written(&rt, rt.alloc(), bytes, bytes)?;
+    }
     Ok(())
 }
 
@@ -55,66 +53,74 @@ fn order_of(alloc: Global, package: &Package) -> Result<String, Fail> {
 }
 
 #[test]
-fn types_behind_used_names(rt: HostRuntime) -> Result<(), Fail> {
-    let alloc = rt.alloc();
-    let package = open(alloc, &THREE)?;
-    assert_eq!(&rt; order_of(alloc, &package)?.as_str(), "yxz");
-    let Some(g) = package.resolve().function("a:b/z", "g") else {
-        return Err(Fail::from("no function"));
-    };
-    let signature = package.layouts().lifted(g);
-    assert!(&rt; signature.params.as_slice() == [CoreKind::I32].as_slice());
-    assert!(&rt; signature.result == Some(CoreKind::I32));
+fn interfaces_in_their_order(rt: HostRuntime) -> Result<(), Fail> {
+    let package = open(rt.alloc(), &THREE)?;
+    let order = order_of(rt.alloc(), &package)?;
+    assert_line(&rt, order.as_str(), "yxz");
     Ok(())
 }
 
 #[test]
+fn types_behind_used_names(rt: HostRuntime) -> Result<(), Fail> {
+    let package = open(rt.alloc(), &THREE)?;
+    let Some(g) = package.resolve().function("a:b/z", "g") else {
+        return Err(Fail::from("no function"));
+    };
+    let signature = package.layouts().lifted(g);
+    assert!(rt; signature.params.as_slice() == [CoreKind::I32].as_slice());
+    assert!(rt; signature.result == Some(CoreKind::I32));
+    Ok(())
+}
+
+/// Whether the first `n` bytes of the smallest are told as cut there.
+fn assert_cut(rt: &impl Abort, alloc: Global, n: usize) -> Result<(), Fail> {
+    let wanted = format!(in alloc; "error 11 truncated at {n}")?;
+    assert_opened(rt, alloc, SMALLEST.get(..n).unwrap_or(&[]), wanted.as_str())
+}
+
+#[test]
 fn cut_binaries(rt: HostRuntime) -> Result<(), Fail> {
-    let alloc = rt.alloc();
-    assert_opened(
-        &rt,
-        alloc,
-        &SMALLEST[..0],
-        "error 32 expected package at 0..0",
-    )?;
-    for n in 1..4 {
-        assert_opened(&rt, alloc, &SMALLEST[..n], "error 30 bad character at 0..1")?;
-    }
     for n in 4..55 {
-        let wanted = format!(in alloc; "error 11 truncated at {n}")?;
-        assert_opened(&rt, alloc, &SMALLEST[..n], wanted.as_str())?;
+        assert_cut(&rt, rt.alloc(), n)?;
     }
-    assert_opened(&rt, alloc, &SMALLEST, "ok")?;
+    assert_opened(&rt, rt.alloc(), &SMALLEST, "ok")
+}
+
+#[test]
+fn cut_headers(rt: HostRuntime) -> Result<(), Fail> {
+    for n in 1..4 {
+        assert_opened(
+            &rt,
+            rt.alloc(),
+            &SMALLEST[..n],
+            "error 30 bad character at 0..1",
+        )?;
+    }
+    assert_opened(&rt, rt.alloc(), &[], "error 32 expected package at 0..0")
+}
+
+/// How many declarations an interface has, these, and what opening its package answers.
+static INTERFACES: [(u8, &[u8], &str); 2] = [(4, &ORDERED, "ok"), (4, &SWAPPED, SHAPE)];
+
+/// `tuple<list<u8>, list<u16>>` with its two lists in their order and in the other.
+#[test]
+fn interfaces(rt: HostRuntime) -> Result<(), Fail> {
+    for row in INTERFACES.as_slice() {
+        let (count, decls, wanted) = *row;
+        let bytes = interface_of(rt.alloc(), count, decls)?;
+        assert_opened(&rt, rt.alloc(), bytes.as_slice(), wanted)?;
+    }
     Ok(())
 }
 
 #[test]
 fn components_that_are_no_package(rt: HostRuntime) -> Result<(), Fail> {
-    let alloc = rt.alloc();
-    let empty = file_of(alloc, 0, &[])?;
-    assert_opened(&rt, alloc, empty.as_slice(), "error 43 empty package")?;
-    // `tuple<list<u8>, list<u16>>` with its two lists in their order and in the other.
-    let ordered = [
-        0x01, 0x70, 0x7d, 0x01, 0x70, 0x7b, 0x01, 0x6f, 0x02, 0x00, 0x01, 0x04, 0x00, 0x01, 0x74,
-        0x03, 0x00, 0x02,
-    ];
-    let ordered = interface_of(alloc, 4, &ordered)?;
-    assert_opened(&rt, alloc, ordered.as_slice(), "ok")?;
-    let swapped = [
-        0x01, 0x70, 0x7d, 0x01, 0x70, 0x7b, 0x01, 0x6f, 0x02, 0x01, 0x00, 0x04, 0x00, 0x01, 0x74,
-        0x03, 0x00, 0x02,
-    ];
-    let swapped = interface_of(alloc, 4, &swapped)?;
-    assert_opened(&rt, alloc, swapped.as_slice(), SHAPE)?;
-    assert_opened(
-        &rt,
-        alloc,
-        b"\x00asm\x0d\x00\x01\x01",
-        "error 10 not a component at 7",
-    )?;
-    let twice = file_of(alloc, 4, &TWICE)?;
-    assert_opened(&rt, alloc, twice.as_slice(), "error 40 duplicate C")?;
-    Ok(())
+    let empty = file_of(rt.alloc(), 0, &[])?;
+    assert_opened(&rt, rt.alloc(), empty.as_slice(), "error 43 empty package")?;
+    let twice = file_of(rt.alloc(), 4, &TWICE)?;
+    assert_opened(&rt, rt.alloc(), twice.as_slice(), "error 40 duplicate C")?;
+    let other = b"\x00asm\x0d\x00\x01\x01";
+    assert_opened(&rt, rt.alloc(), other, "error 10 not a component at 7")
 }
 
 /// A letter for each digit of a hexadecimal number.
@@ -126,48 +132,55 @@ fn letter_of(digit: u8) -> u8 {
     }
 }
 
-/// A package of one interface with so many functions, named by distinct labels of four bytes behind a front.
+/// Adds a function that is named by a label of four bytes behind a front.
+fn add_function(alloc: Global, text: &mut Vec<u8>, front: &str, number: u32) -> Result<(), Fail> {
+    let digits = format!(in alloc; "{number:04x}")?;
+    text.push(b'%')?;
+    text.extend_from_slice(front.as_bytes())?;
+    for digit in digits.as_bytes() {
+        text.push(letter_of(*digit))?;
+    }
+    text.extend_from_slice(b":func();")?;
+    Ok(())
+}
+
+/// A package of one interface with so many functions, whose names are distinct.
 fn functions(alloc: Global, front: &str, count: u32) -> Result<Vec<u8>, Fail> {
     let mut text = Vec::from_slice(alloc, b"package a:b; interface c {")?;
     for number in 0..count {
-        let digits = format!(in alloc; "{number:04x}")?;
-        text.push(b'%')?;
-        text.extend_from_slice(front.as_bytes())?;
-        for digit in digits.as_bytes() {
-            text.push(letter_of(*digit))?;
-        }
-        text.extend_from_slice(b":func();")?;
+        add_function(alloc, &mut text, front, number)?;
     }
     text.push(b'}')?;
     Ok(text)
 }
 
+/// The binary that such a package is.
+fn binary(alloc: Global, front: &str, count: u32) -> Result<Result<Vec<u8>, BinError>, Fail> {
+    let text = functions(alloc, front, count)?;
+    let package = open(alloc, text.as_slice())?;
+    Ok(package.to_binary(alloc))
+}
+
 #[test]
 fn most_type_entries(rt: HostRuntime) -> Result<(), Fail> {
-    let alloc = rt.alloc();
-    let most = functions(alloc, "", 65_533)?;
-    let written = open(alloc, most.as_slice())?.to_binary(alloc)?;
-    let again = open(alloc, written.as_slice())?;
-    assert_eq!(&rt; again.resolve().definitions.as_slice().len(), 65_533);
+    let written = binary(rt.alloc(), "", 65_533)??;
+    let again = open(rt.alloc(), written.as_slice())?;
+    assert!(rt; again.resolve().definitions.as_slice().len() == 65_533);
     Ok(())
 }
 
 #[test]
 fn one_more_type_entry(rt: HostRuntime) -> Result<(), Fail> {
-    let alloc = rt.alloc();
-    let more = functions(alloc, "", 65_534)?;
-    assert_opened(&rt, alloc, more.as_slice(), "error 45 limit")?;
-    Ok(())
+    let more = functions(rt.alloc(), "", 65_534)?;
+    assert_opened(&rt, rt.alloc(), more.as_slice(), "error 45 limit")
 }
 
 #[test]
 fn a_binary_that_is_too_long(rt: HostRuntime) -> Result<(), Fail> {
-    let alloc = rt.alloc();
-    let long = functions(alloc, "z", 65_533)?;
-    let line = match open(alloc, long.as_slice())?.to_binary(alloc) {
-        Ok(_bytes) => String::new(alloc),
-        Err(error) => format!(in alloc; "{error}")?,
+    let Err(error) = binary(rt.alloc(), "z", 65_533)? else {
+        return Err(Fail::from("written"));
     };
-    assert_eq!(&rt; line.as_str(), "error 17 limit at 1048576");
+    let line = format!(in rt.alloc(); "{error}")?;
+    assert_line(&rt, line.as_str(), "error 17 limit at 1048576");
     Ok(())
 }
