@@ -2,5 +2,3 @@ pub mod Parts
 pub mod ByShape
 pub mod Nodes
 pub mod Flats
-pub mod Relations
-pub mod Bounds

@@ -10,7 +10,7 @@ use Rattle.canonical_abi.specs.Memory.{BlockHolds, TextHolds}
 use Rattle.canonical_abi.specs.Reading.{number_at, case_number}
 use Rattle.canonical_abi.specs.Requests.{text_of}
 use Rattle.canonical_abi.specs.Storing.{header, IsBlock}
-use Rattle.canonical_abi.specs.Trace.{Grant, Event, grant, write, EventLeads, TraceLeads, RequestFails, RequestEnds}
+use Rattle.canonical_abi.specs.Trace.{Grant, Event, grant, write, EventLeads, TraceLeads, RequestFails}
 use Rattle.canonical_abi.specs.Laws.{ReadsExactly}
 use Rattle.canonical_abi.specs.declared.trap.TrapKind.{TrapKind}
 use Rattle.lift_lower.specs.Loading.{AreBytes}
@@ -21,11 +21,6 @@ use Rattle.crossing.specs.Outcome.{Walks, EachWalks, FieldsWalk, Behind, IsDone,
 use Rattle.crossing.specs.declared.stopped.Stopped.{Stopped}
 use Rattle.crossing.proofs.Parts.{IsBegun, begun, begun-as, begun-then, begun-done, begun-stopped, begun-ends, begun-node, begun-write, begun-grant, part-stopped, refused}
 use Rattle.crossing.proofs.ByShape.{field-stops, field-joins, fields-none, fields-some, each-stops, each-joins, each-none, each-some, record-walks, list-walks, told_case, variant-walks}
-
--- a request below 2^32 bytes that ended is one that failed
-pub request-fails : (allocates : Allocation) (old : Memory) (align size : ℕ) (k : TrapKind) (new : Memory) → size < 2 ^ 32 → RequestEnds 4294967295 allocates old align size k new → RequestFails allocates old align size k new
-request-fails allocates old align size k new few (inl h) = absurd (omega (arith, h.0, few))
-request-fails allocates old align size k new few (inr h) = h.1
 
 pub granted-led : (limit : ℕ) (allocates : Allocation) (align size at : ℕ) (old new : Memory) → low.IsDone limit allocates (GrantsBlock align size at) old new
     → (g : Grant) × IsBlock align size g × (g.at ≡ at) × EventLeads allocates old (grant g) new

@@ -14,7 +14,7 @@ request-in P (node ∷ es) g rest h = request-in P es g rest h
 request-in P (grant x ∷ es) g rest h = request-in P es g rest h.1
 request-in P (write a bs ∷ es) g rest h = request-in P es g rest h
 
-request-fails : (allocates : Allocation) (old : Memory) (align size : ℕ) (k : TrapKind) (new : Memory) → size < 2 ^ 32 → RequestEnds 4294967295 allocates old align size k new → RequestFails allocates old align size k new
+pub request-fails : (allocates : Allocation) (old : Memory) (align size : ℕ) (k : TrapKind) (new : Memory) → size < 2 ^ 32 → RequestEnds 4294967295 allocates old align size k new → RequestFails allocates old align size k new
 request-fails allocates old align size k new few (inl h) = absurd (omega (arith, h.0, few))
 request-fails allocates old align size k new few (inr h) = h.1
 

@@ -20,7 +20,7 @@ use Rattle.tables.specs.declared.tables.Owner.TheVariants as owner
 use Rattle.tables.specs.declared.tables.Definition.{Definition}
 use Rattle.tables.specs.declared.tables.Definition.TheVariants as row
 use Rattle.resolve.specs.Declarations.{UsedItem, TypeItem, FunctionItem, InterfaceTree}
-use Rattle.resolve.specs.Resolved.{primitive_tree, fields_of, unlabelled, choice, choices_of, enumerated, option_tree, resolved, resolved_all, resolved_maybe, resolved_if, member_meaning, case_meaning, definition_meaning, use_meaning, function_meaning, no_type, in_order, interface_meaning}
+use Rattle.resolve.specs.Resolved.{primitive_tree, fields_of, unlabelled, choice, choices_of, option_tree, resolved, resolved_all, resolved_maybe, resolved_if, member_meaning, case_meaning, definition_meaning, use_meaning, function_meaning, no_type, in_order, interface_meaning}
 
 -- each interface gets another name; none has none
 module _ (to : List ℕ → List ℕ) (none-kept : to [] ≡ []) where
@@ -216,7 +216,7 @@ module _ (to : List ℕ → List ℕ) (none-kept : to [] ≡ []) where
   cases-renamed i [] = refl
   cases-renamed i (c ∷ cs) = choice-renamed c.name (resolved_if (to i) c.payload) (resolved_if i c.payload) _ _ (if-renamed i c.payload) (cases-renamed i cs)
 
-  enumerated-same : (ns : List (List ℕ)) → enumerated ns ≡ renamed_choices (enumerated ns)
+  enumerated-same : (ns : List (List ℕ)) → read_enum ns ≡ renamed_choices (read_enum ns)
   enumerated-same [] = refl
   enumerated-same (n ∷ ns) = ap (empty n) (enumerated-same ns)
 

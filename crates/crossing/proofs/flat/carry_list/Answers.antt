@@ -7,8 +7,9 @@ use Rattle.canonical_abi.specs.declared.flat.Flat.{Flat}
 use Rattle.canonical_abi.proofs.Sizes.{is-alignment}
 use Rattle.tables.specs.Closed.{closed_type}
 use Rattle.lift_lower.specs.Loading.{AreBytes}
+use Rattle.lift_lower.proofs.Unlimited.{request-fails}
 use Rattle.crossing.specs.Outcome.{EachWalks, Ends, IsDone}
-use Rattle.crossing.proofs.Nodes.{request-fails, granted-led}
+use Rattle.crossing.proofs.Nodes.{granted-led}
 use Rattle.crossing.proofs.Flats.{header_behind, ListFlat, list-flat-refused, list-flat-ends}
 use Rattle.crossing.proofs.flat.carry_list.Goals as goal
 

@@ -12,10 +12,11 @@ use Rattle.lift_lower.specs.Loading.{AreBytes}
 use Rattle.lift_lower.specs.Members.{members_fields}
 use Rattle.lift_lower.proofs.TypesExtents.{member-depth, case-depth, payload-place, payload-fits}
 use Rattle.lift_lower.proofs.Steps.{fields-inside, fields-end, nth_field-some}
+use Rattle.lift_lower.proofs.Unlimited.{request-fails}
 use Rattle.crossing.specs.Outcome.{Walks, EachWalks, Ends}
 use Rattle.crossing.proofs.Parts.{begun}
 use Rattle.crossing.proofs.ByShape.{told_case, plain-walks, missing-walks}
-use Rattle.crossing.proofs.Nodes.{request-fails, granted-led, each-start, at-node, at-record, each-next, each-stopped, each-done, field-next, field-stopped, fields-done, list-refused, list-ends, variant-ends}
+use Rattle.crossing.proofs.Nodes.{granted-led, each-start, at-node, at-record, each-next, each-stopped, each-done, field-next, field-stopped, fields-done, list-refused, list-ends, variant-ends}
 use Rattle.crossing.proofs.walk.+cross.Goals as goal
 
 -- ---- the node itself
