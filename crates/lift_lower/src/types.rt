@@ -141,11 +141,7 @@ impl<'a> Types<'a> {
     }
 
     /// The flat kinds of types side by side, where at most `limit` carry them.
-    pub fn kinds_within(
-        &self,
-        types: &[ValType],
-        limit: usize,
-    ) -> Option<ArrayVec<CoreKind, 17>>
+    pub fn kinds_within(&self, types: &[ValType], limit: usize) -> Option<ArrayVec<CoreKind, 17>>
         requires inside { AreAllInside self.now types.now }
         requires limit { limit ≤ 16 }
         ensures kinds { IfSome result (λ ks. ks.items ≡ field_kinds (fields_of_types self.now types.now)) }

@@ -13,11 +13,12 @@ use Rattle.lift_lower.specs.NoValue.{AnswerStands}
 use Rattle.lift_lower.specs.Placing.{area_at, IsAreaIn}
 use Rattle.lift_lower.specs.Val.{value_of}
 use Rattle.adapter.proofs.Signatures.{result-inside, result-is}
+use Rattle.adapter.proofs.Chains.{world}
 use Rattle.witcall.specs.Session.{IsReady, IsNotReady}
 use Rattle.witcall.proofs.Prepared.{area_stays}
 use Rattle.witcall.proofs.Promised.{promised}
 use Rattle.witcall.proofs.Functions.{result_plain}
-use Rattle.witcall.proofs.TypedCalls.{world, placed, place_fails, link_fails, came_back, takes}
+use Rattle.witcall.proofs.TypedCalls.{placed, place_fails, link_fails, came_back, takes}
 use Rattle.witcall.proofs.session.Session.call.Goals as goal
 
 pub returns-in_err-placed-clause-call : goal.returns-in_err-placed-clause-call
