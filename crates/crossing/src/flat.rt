@@ -147,9 +147,11 @@ fn carry_list<G: Guest>(
     Ok(())
 }
 
-/// Carries on the members of a record, each in the flat values behind those of the member before it.
+/// Carries on the members of a record, each in the flat values behind those of the member before it: `out` grows by
+/// the flat values that carry them, and `nodes` by the nodes that were visited, as far as it has room. Where it ends
+/// early, what was put behind `out` says nothing. CanonicalABI.md, "Flat Lifting" and "Flat Lowering".
 #[cycle(flat)]
-pub(crate) fn carry_fields<G: Guest>(
+pub fn carry_fields<G: Guest>(
     table: &Types,
     members: &Members,
     count: usize,

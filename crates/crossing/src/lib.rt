@@ -10,5 +10,6 @@ mod leaves;
 mod stopped;
 mod walk;
 
+pub use flat::carry_fields;
 pub use stopped::Stopped;
-pub use walk::cross_at;
+pub use walk::{cross_at, cross_fields};

@@ -18,7 +18,10 @@ use lift_lower::nodes::{
 };
 use tables::ValType;
 
-/// Crosses the value whose place begins at `from` to the place that begins at `to`. `nodes` grows by the nodes that were visited.
+/// Crosses the value whose place begins at the address `from` of the source to the place that begins at `to`. Each node is
+/// tested in the source, its block is asked for, and it is written before the next is read; bytes that belong to no
+/// node, as padding, are not written. `nodes` grows by the nodes that were visited, as far as it has room. CanonicalABI.md,
+/// "Loading" and "Storing".
 #[cycle(cross)]
 pub fn cross_at<G: Guest>(
     table: &Types,
@@ -132,9 +135,9 @@ pub(crate) fn cross_elements<G: Guest>(
     Ok(())
 }
 
-/// Crosses the members of a record, each at the next multiple of its alignment.
+/// Crosses the members of a record whose first begins at `from`, each at the next multiple of its alignment.
 #[cycle(cross)]
-pub(crate) fn cross_fields<G: Guest>(
+pub fn cross_fields<G: Guest>(
     table: &Types,
     members: &Members,
     count: usize,
