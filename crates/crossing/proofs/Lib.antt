@@ -2,3 +2,4 @@ pub mod Parts
 pub mod ByShape
 pub mod Nodes
 pub mod Flats
+pub mod Passing

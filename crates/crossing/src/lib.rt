@@ -9,7 +9,9 @@ mod flat;
 mod leaves;
 mod stopped;
 mod walk;
+mod ways;
 
 pub use flat::carry_fields;
 pub use stopped::Stopped;
 pub use walk::{cross_at, cross_fields};
+pub use ways::cross_params;

@@ -1,0 +1,101 @@
+-- The scripts of a whole way, by those of its values.
+use Rattle.std.proofs.Common.{◌≡◌, ◌⊎◌, inl, inr, ℕ, ◌+◌, ◌^◌, ◌<◌, ◌≤◌, true, false, List, [], ◌∷◌, ◌++◌, length, map, Option, Some, None, Result, Ok, Err, refl, sym, subst}
+use Rattle.canonical_abi.specs.Guest.{Memory, Allocation}
+use Rattle.canonical_abi.specs.Types.{Fields, record_type}
+use Rattle.canonical_abi.specs.Values.{Value}
+use Rattle.canonical_abi.specs.Layout.{align, size, fits_flat, passed_kinds}
+use Rattle.canonical_abi.specs.Memory.{BlockHolds}
+use Rattle.canonical_abi.specs.Lowering.{FieldsLower}
+use Rattle.canonical_abi.specs.Reading.{low_bits, kind_of, number_of}
+use Rattle.canonical_abi.specs.Storing.{IsBlock}
+use Rattle.canonical_abi.specs.Trace.{Grant, Event, grant, EventLeads, RequestFails}
+use Rattle.canonical_abi.specs.Laws.{ReadsExactly}
+use Rattle.canonical_abi.specs.declared.flat.Flat.{Flat}
+use Rattle.canonical_abi.specs.declared.flat.Flat.TheVariants.{I32}
+use Rattle.canonical_abi.specs.declared.trap.TrapKind.{TrapKind}
+use Rattle.arrayvec.specs.ArrayVec.{ArrayVec}
+use Rattle.lift_lower.specs.Loading.{AreBytes}
+use Rattle.crossing.specs.Outcome.{Script, FlatScript, FieldsFlatWalk, FieldsWalk, FlatEnds, IsDone, WasRefused, HasStopped}
+use Rattle.crossing.specs.Ways.{ParamsWalk, WayEnds}
+use Rattle.crossing.specs.declared.stopped.Stopped.{Stopped}
+use Rattle.crossing.specs.declared.stopped.Stopped.TheVariants as stopped
+use Rattle.crossing.proofs.ByShape.{fields-some}
+use Rattle.crossing.proofs.Parts.{IsBegun, begun, begun-as, begun-last, begun-stopped, begun-grant, refused}
+
+module _ (limit : ℕ) (ts : Fields) (m : List ℕ) (flats : List Flat) (kinds : map kind_of flats ≡ passed_kinds limit ts) where
+  abbrev pub address : ℕ
+  address = low_bits (map number_of flats) 0 32
+
+  -- parameters that go flat are the fields of their record
+  pub flat-params : fits_flat limit ts ≡ true → (final : List Flat) (o : Option TrapKind) (es : List Event) → FieldsFlatWalk ts m (map number_of flats) [] final o es → ParamsWalk limit ts m flats final o es
+  flat-params fits final None es (vs, made, lifted, lowered, is) = (vs, (kinds, inl (fits, lifted)), inl (fits, subst (λ f. FieldsLower ts vs es f) (sym is) lowered))
+  flat-params fits final (Some k) es stops = ((kinds, inl fits), inl (fits, stops))
+
+  -- others are a record at an address, which has a block of its own
+  pub spilled-params : fits_flat limit ts ≡ false → BlockHolds m address (align (record_type ts)) (size (record_type ts)) → (g : Grant) → IsBlock (align (record_type ts)) (size (record_type ts)) g
+      → (o : Option TrapKind) (rest : List Event) → FieldsWalk ts m address g.at 0 o rest → ParamsWalk limit ts m flats (I32 g.at ∷ []) o (grant g ∷ rest)
+  spilled-params spilled stands g block None rest (vs, held, stored) = (vs, (kinds, inr (spilled, (stands, held))), inr (spilled, (g, rest, block, refl, stored, refl)))
+  spilled-params spilled stands g block (Some k) rest stops = ((kinds, inr (spilled, stands)), inr (spilled, g, rest, block, refl, stops))
+
+module _ (allocates : Allocation) where
+  -- ---- ends
+
+  pub way-stopped : (S : FlatScript) (F G : TrapKind → Type 0) (old : Memory) (n : ℕ) (s : Stopped) (new : Memory) (c : ℕ) → (final : List Flat) → HasStopped allocates (S final) old n s new c
+      → WayEnds allocates S F G old n (Err s) new c
+  way-stopped S F G old n (stopped.Source k) new c final u = inr (final, u)
+  way-stopped S F G old n (stopped.Target k) new c final u = inr (final, u)
+
+  stopped-as : (S T : Option TrapKind → List Event → Type 0) → ((o : Option TrapKind) (es : List Event) → T o es → S o es) → (old : Memory) (n : ℕ) (s : Stopped) (new : Memory) (c : ℕ)
+      → HasStopped allocates T old n s new c → HasStopped allocates S old n s new c
+  stopped-as S T same old n s new c u = begun-stopped allocates S T old old s new n n c (begun-as allocates S S T old old n n same (begun allocates S old n)) u
+
+  done-as : (S T : Option TrapKind → List Event → Type 0) → ((o : Option TrapKind) (es : List Event) → T o es → S o es) → (old : Memory) (n : ℕ) (new : Memory) (c : ℕ)
+      → IsDone allocates T old n new c → IsDone allocates S old n new c
+  done-as S T same old n new c u = begun-last allocates S T old old new n n c (begun-as allocates S S T old old n n same (begun allocates S old n)) u
+
+  module _ (limit : ℕ) (ts : Fields) (m : List ℕ) (flats : List Flat) (kinds : map kind_of flats ≡ passed_kinds limit ts) where
+    -- ---- flat parameters
+
+    pub flat-done : fits_flat limit ts ≡ true → (final : List Flat) (old : Memory) (n : ℕ) (new : Memory) (c : ℕ) → IsDone allocates (FieldsFlatWalk ts m (map number_of flats) [] final) old n new c
+        → IsDone allocates (ParamsWalk limit ts m flats final) old n new c
+    flat-done fits final old n new c u = done-as (ParamsWalk limit ts m flats final) (FieldsFlatWalk ts m (map number_of flats) [] final) (flat-params limit ts m flats kinds fits final) old n new c u
+
+    pub flat-stopped : fits_flat limit ts ≡ true → (F G : TrapKind → Type 0) (old : Memory) (n : ℕ) (s : Stopped) (new : Memory) (c : ℕ)
+        → ((final : List Flat) × HasStopped allocates (FieldsFlatWalk ts m (map number_of flats) [] final) old n s new c) → WayEnds allocates (ParamsWalk limit ts m flats) F G old n (Err s) new c
+    flat-stopped fits F G old n s new c (final, u) =
+        way-stopped (ParamsWalk limit ts m flats) F G old n s new c final (stopped-as (ParamsWalk limit ts m flats final) (FieldsFlatWalk ts m (map number_of flats) [] final) (flat-params limit ts m flats kinds fits final) old n s new c u)
+
+    -- ---- a record of parameters
+
+    module _ (spilled : fits_flat limit ts ≡ false) (a : ℕ) (is : a ≡ low_bits (map number_of flats) 0 32) (stands : BlockHolds m a (align (record_type ts)) (size (record_type ts))) where
+      abbrev RecordScript : ℕ → Option TrapKind → List Event → Type 0
+      RecordScript at = ParamsWalk limit ts m flats (I32 at ∷ [])
+
+      record-script : (g : Grant) → IsBlock (align (record_type ts)) (size (record_type ts)) g → (o : Option TrapKind) (rest : List Event) → FieldsWalk ts m a g.at 0 o rest → RecordScript g.at o (grant g ∷ rest)
+      record-script g block o rest h =
+          spilled-params limit ts m flats kinds spilled (subst (λ x. BlockHolds m x (align (record_type ts)) (size (record_type ts))) is stands) g block o rest (subst (λ x. FieldsWalk ts m x g.at 0 o rest) is h)
+
+      pub record-refused : AreBytes m → length m < 2 ^ 32 → ReadsExactly → (old : Memory) (n : ℕ) (k : TrapKind) (new : Memory) → RequestFails allocates old (align (record_type ts)) (size (record_type ts)) k new
+          → (final : List Flat) × WasRefused allocates (ParamsWalk limit ts m flats final) old n k new n
+      record-refused bytes short exactly old n k new fails =
+          let g : Grant = record { align = align (record_type ts); size = size (record_type ts); at = 0; contents = [] } in
+          let s = fields-some m bytes short exactly ts a 0 0 in
+          (I32 0 ∷ [], refused allocates (RecordScript 0) s.0 g s.1 old k new n (record-script g (refl, refl) s.0 s.1 s.2) fails)
+
+      record-begun : (g : Grant) → IsBlock (align (record_type ts)) (size (record_type ts)) g → (old mid : Memory) (n : ℕ) → EventLeads allocates old (grant g) mid → length old.bytes ≤ length mid.bytes
+          → IsBegun allocates (RecordScript g.at) (FieldsWalk ts m a g.at 0) old n mid n
+      record-begun g block old mid n granted longer =
+          let S = RecordScript g.at in
+          begun-as allocates S (λ o rest. S o (grant g ∷ rest)) (FieldsWalk ts m a g.at 0) old mid n n (record-script g block) (begun-grant allocates S S g old old mid n n (begun allocates S old n) granted longer)
+
+      pub record-done : (g : Grant) → IsBlock (align (record_type ts)) (size (record_type ts)) g → (final : List Flat) → final ≡ I32 g.at ∷ [] → (old mid : Memory) (n : ℕ) (new : Memory) (c : ℕ) → EventLeads allocates old (grant g) mid
+          → length old.bytes ≤ length mid.bytes → IsDone allocates (FieldsWalk ts m a g.at 0) mid n new c → IsDone allocates (ParamsWalk limit ts m flats final) old n new c
+      record-done g block final ends old mid n new c granted longer u =
+          subst (λ f. IsDone allocates (ParamsWalk limit ts m flats f) old n new c) (sym ends)
+          (begun-last allocates (RecordScript g.at) (FieldsWalk ts m a g.at 0) old mid new n n c (record-begun g block old mid n granted longer) u)
+
+      pub record-stopped : (g : Grant) → IsBlock (align (record_type ts)) (size (record_type ts)) g → (F G : TrapKind → Type 0) (old mid : Memory) (n : ℕ) (s : Stopped) (new : Memory) (c : ℕ) → EventLeads allocates old (grant g) mid
+          → length old.bytes ≤ length mid.bytes → HasStopped allocates (FieldsWalk ts m a g.at 0) mid n s new c → WayEnds allocates (ParamsWalk limit ts m flats) F G old n (Err s) new c
+      record-stopped g block F G old mid n s new c granted longer u =
+          way-stopped (ParamsWalk limit ts m flats) F G old n s new c (I32 g.at ∷ [])
+          (begun-stopped allocates (RecordScript g.at) (FieldsWalk ts m a g.at 0) old mid s new n n c (record-begun g block old mid n granted longer) u)

@@ -1,0 +1,35 @@
+-- CanonicalABI.md, "Lifting and Lowering Values": a whole way of a call, of parameters or of a result, and how it ended.
+use Rattle.std.specs.Prelude.{◌≡◌, ◌⊎◌, ℕ, List, [], Option, Some, None, Result, Ok, Err}
+use Rattle.arrayvec.specs.ArrayVec.{ArrayVec}
+use Rattle.canonical_abi.specs.Types.{Fields}
+use Rattle.canonical_abi.specs.Values.{Value}
+use Rattle.canonical_abi.specs.Flat.{Denotes}
+use Rattle.canonical_abi.specs.Guest.{Memory, Allocation}
+use Rattle.canonical_abi.specs.Lowering.{PassesParams, PassesResult}
+use Rattle.canonical_abi.specs.Script.{ParamsUntil, ResultUntil}
+use Rattle.canonical_abi.specs.declared.flat.Flat.{Flat}
+use Rattle.canonical_abi.specs.declared.trap.TrapKind.{TrapKind}
+use Rattle.crossing.specs.Outcome.{FlatScript, IsDone, MetFault, WasRefused}
+use Rattle.crossing.specs.declared.stopped.Stopped.{Stopped}
+use Rattle.crossing.specs.declared.stopped.Stopped.TheVariants as stopped
+
+-- what these flat values denote over m is passed on as parameters
+abbrev pub ParamsWalk : ℕ → Fields → List ℕ → List Flat → FlatScript
+ParamsWalk limit ts m flats final None es = (vs : List Value) × Denotes limit ts m flats vs × PassesParams limit ts vs es final
+ParamsWalk limit ts m flats final (Some k) es = ParamsUntil limit ts m flats k es
+
+-- the same of a result, with a return area
+abbrev pub ResultWalk : ℕ → Fields → List ℕ → List Flat → ℕ → FlatScript
+ResultWalk limit ts m flats area final None es = (vs : List Value) × Denotes limit ts m flats vs × PassesResult limit ts area vs es final
+ResultWalk limit ts m flats area final (Some k) es = ResultUntil limit ts m flats area k es
+
+-- a way that was not begun
+pub record IsUnbegun (old : Memory) (n : ℕ) (new : Memory) (c : ℕ) : Type 0 where
+  pub same : new ≡ old
+  pub uncounted : c ≡ n
+
+-- how a way ended: the source's addresses may be at fault (F), or those of the target (G), before it is begun
+abbrev pub WayEnds : Allocation → FlatScript → (TrapKind → Type 0) → (TrapKind → Type 0) → Memory → ℕ → Result (ArrayVec Flat) Stopped → Memory → ℕ → Type 0
+WayEnds allocates S F G old n (Ok out) new c = IsDone allocates (S out.items) old n new c
+WayEnds allocates S F G old n (Err (stopped.Source k)) new c = (F k × IsUnbegun old n new c) ⊎ ((final : List Flat) × MetFault allocates (S final) old n k new c)
+WayEnds allocates S F G old n (Err (stopped.Target k)) new c = (G k × IsUnbegun old n new c) ⊎ ((final : List Flat) × WasRefused allocates (S final) old n k new c)
