@@ -4,9 +4,10 @@ use Rattle.canonical_abi.specs.Guest.{Memory, Allocation}
 use Rattle.canonical_abi.specs.Types.{Fields, record_type}
 use Rattle.canonical_abi.specs.Values.{Value}
 use Rattle.canonical_abi.specs.Layout.{align, size, fits_flat, passed_kinds}
-use Rattle.canonical_abi.specs.Memory.{BlockHolds}
+use Rattle.canonical_abi.specs.Memory.{BlockHolds, FieldsHold}
 use Rattle.canonical_abi.specs.Lowering.{FieldsLower}
 use Rattle.canonical_abi.specs.Reading.{low_bits, kind_of, number_of}
+use Rattle.canonical_abi.specs.Script.{FieldsStoreUntil}
 use Rattle.canonical_abi.specs.Storing.{IsBlock}
 use Rattle.canonical_abi.specs.Trace.{Grant, Event, grant, EventLeads, RequestFails}
 use Rattle.canonical_abi.specs.Laws.{ReadsExactly}
@@ -16,7 +17,7 @@ use Rattle.canonical_abi.specs.declared.trap.TrapKind.{TrapKind}
 use Rattle.arrayvec.specs.ArrayVec.{ArrayVec}
 use Rattle.lift_lower.specs.Loading.{AreBytes}
 use Rattle.crossing.specs.Outcome.{Script, FlatScript, FieldsFlatWalk, FieldsWalk, FlatEnds, IsDone, WasRefused, HasStopped}
-use Rattle.crossing.specs.Ways.{ParamsWalk, WayEnds}
+use Rattle.crossing.specs.Ways.{ParamsWalk, ResultWalk, WayEnds}
 use Rattle.crossing.specs.declared.stopped.Stopped.{Stopped}
 use Rattle.crossing.specs.declared.stopped.Stopped.TheVariants as stopped
 use Rattle.crossing.proofs.ByShape.{fields-some}
@@ -37,6 +38,22 @@ module _ (limit : ℕ) (ts : Fields) (m : List ℕ) (flats : List Flat) (kinds :
   spilled-params spilled stands g block None rest (vs, held, stored) = (vs, (kinds, inr (spilled, (stands, held))), inr (spilled, (g, rest, block, refl, stored, refl)))
   spilled-params spilled stands g block (Some k) rest stops = ((kinds, inr (spilled, stands)), inr (spilled, g, rest, block, refl, stops))
 
+module _ (limit : ℕ) (ts : Fields) (m : List ℕ) (flats : List Flat) (area : ℕ) (target : List ℕ) (kinds : map kind_of flats ≡ passed_kinds limit ts) where
+  -- a result that goes flat is the one field
+  pub flat-result : fits_flat limit ts ≡ true → (final : List Flat) (o : Option TrapKind) (es : List Event) → FieldsFlatWalk ts m (map number_of flats) [] final o es → ResultWalk limit ts m flats area target final o es
+  flat-result fits final None es (vs, made, lifted, lowered, is) = (inl fits, vs, (kinds, inl (fits, lifted)), inl (fits, subst (λ f. FieldsLower ts vs es f) (sym is) lowered))
+  flat-result fits final (Some k) es stops = (inl fits, ((kinds, inl fits), inl (fits, stops)))
+
+  -- another is a record at an address, and is put into the return area
+  pub spilled-result : fits_flat limit ts ≡ false → BlockHolds target area (align (record_type ts)) (size (record_type ts)) → (a : ℕ) → a ≡ low_bits (map number_of flats) 0 32
+      → BlockHolds m a (align (record_type ts)) (size (record_type ts)) → (o : Option TrapKind) (es : List Event) → FieldsWalk ts m a area 0 o es → ResultWalk limit ts m flats area target [] o es
+  spilled-result spilled room a is stands None es (vs, held, stored) =
+      let here = subst (λ x. BlockHolds m x (align (record_type ts)) (size (record_type ts))) is stands in
+      (inr (spilled, room), vs, (kinds, inr (spilled, (here, subst (λ x. FieldsHold ts m x 0 vs) is held))), inr (spilled, stored, refl))
+  spilled-result spilled room a is stands (Some k) es stops =
+      let here = subst (λ x. BlockHolds m x (align (record_type ts)) (size (record_type ts))) is stands in
+      (inr (spilled, room), ((kinds, inr (spilled, here)), inr (spilled, subst (λ x. FieldsStoreUntil ts m x area 0 k es) is stops)))
+
 module _ (allocates : Allocation) where
   -- ---- ends
 
@@ -45,11 +62,11 @@ module _ (allocates : Allocation) where
   way-stopped S F G old n (stopped.Source k) new c final u = inr (final, u)
   way-stopped S F G old n (stopped.Target k) new c final u = inr (final, u)
 
-  stopped-as : (S T : Option TrapKind → List Event → Type 0) → ((o : Option TrapKind) (es : List Event) → T o es → S o es) → (old : Memory) (n : ℕ) (s : Stopped) (new : Memory) (c : ℕ)
+  pub stopped-as : (S T : Option TrapKind → List Event → Type 0) → ((o : Option TrapKind) (es : List Event) → T o es → S o es) → (old : Memory) (n : ℕ) (s : Stopped) (new : Memory) (c : ℕ)
       → HasStopped allocates T old n s new c → HasStopped allocates S old n s new c
   stopped-as S T same old n s new c u = begun-stopped allocates S T old old s new n n c (begun-as allocates S S T old old n n same (begun allocates S old n)) u
 
-  done-as : (S T : Option TrapKind → List Event → Type 0) → ((o : Option TrapKind) (es : List Event) → T o es → S o es) → (old : Memory) (n : ℕ) (new : Memory) (c : ℕ)
+  pub done-as : (S T : Option TrapKind → List Event → Type 0) → ((o : Option TrapKind) (es : List Event) → T o es → S o es) → (old : Memory) (n : ℕ) (new : Memory) (c : ℕ)
       → IsDone allocates T old n new c → IsDone allocates S old n new c
   done-as S T same old n new c u = begun-last allocates S T old old new n n c (begun-as allocates S S T old old n n same (begun allocates S old n)) u
 

@@ -3,10 +3,11 @@ use Rattle.std.specs.Prelude.{◌≡◌, ◌⊎◌, ℕ, List, [], Option, Some,
 use Rattle.arrayvec.specs.ArrayVec.{ArrayVec}
 use Rattle.canonical_abi.specs.Types.{Fields}
 use Rattle.canonical_abi.specs.Values.{Value}
+use Rattle.canonical_abi.specs.Call.{AreaStands, AreaFaulty}
 use Rattle.canonical_abi.specs.Flat.{Denotes}
 use Rattle.canonical_abi.specs.Guest.{Memory, Allocation}
 use Rattle.canonical_abi.specs.Lowering.{PassesParams, PassesResult}
-use Rattle.canonical_abi.specs.Script.{ParamsUntil, ResultUntil}
+use Rattle.canonical_abi.specs.Script.{AddressStands, ParamsUntil, ResultUntil}
 use Rattle.canonical_abi.specs.declared.flat.Flat.{Flat}
 use Rattle.canonical_abi.specs.declared.trap.TrapKind.{TrapKind}
 use Rattle.crossing.specs.Outcome.{FlatScript, IsDone, MetFault, WasRefused}
@@ -18,10 +19,15 @@ abbrev pub ParamsWalk : ℕ → Fields → List ℕ → List Flat → FlatScript
 ParamsWalk limit ts m flats final None es = (vs : List Value) × Denotes limit ts m flats vs × PassesParams limit ts vs es final
 ParamsWalk limit ts m flats final (Some k) es = ParamsUntil limit ts m flats k es
 
--- the same of a result, with a return area
-abbrev pub ResultWalk : ℕ → Fields → List ℕ → List Flat → ℕ → FlatScript
-ResultWalk limit ts m flats area final None es = (vs : List Value) × Denotes limit ts m flats vs × PassesResult limit ts area vs es final
-ResultWalk limit ts m flats area final (Some k) es = ResultUntil limit ts m flats area k es
+-- the same of a result, over a target whose return area stands
+abbrev pub ResultWalk : ℕ → Fields → List ℕ → List Flat → ℕ → List ℕ → FlatScript
+ResultWalk limit ts m flats area target final None es =
+    AreaStands limit ts area target × (vs : List Value) × Denotes limit ts m flats vs × PassesResult limit ts area vs es final
+ResultWalk limit ts m flats area target final (Some k) es = AreaStands limit ts area target × ResultUntil limit ts m flats area k es
+
+-- the return area is at fault, and the source's address is not
+abbrev pub AreaIsBad : ℕ → Fields → List ℕ → List Flat → ℕ → List ℕ → TrapKind → Type 0
+AreaIsBad limit ts m flats area target k = AddressStands limit ts m flats × AreaFaulty limit ts area target k
 
 -- a way that was not begun
 pub record IsUnbegun (old : Memory) (n : ℕ) (new : Memory) (c : ℕ) : Type 0 where

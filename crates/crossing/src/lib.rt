@@ -14,4 +14,4 @@ mod ways;
 pub use flat::carry_fields;
 pub use stopped::Stopped;
 pub use walk::{cross_at, cross_fields};
-pub use ways::cross_params;
+pub use ways::{cross_params, cross_result};

@@ -1,10 +1,12 @@
 //! Whole ways of a call: its parameters, and its result.
-ghost use Rattle.std.specs.Prelude.{◌≡◌, ◌^◌, ◌<◌, length, map, false};
+ghost use Rattle.std.specs.Prelude.{◌≡◌, ◌^◌, ◌<◌, ◌≤◌, length, map, false};
 ghost use Rattle.canonical_abi.specs.Types.{field_count, record_type, record_fields};
-ghost use Rattle.canonical_abi.specs.Layout.{max_flat_params, fits_flat, passed_kinds};
+ghost use Rattle.canonical_abi.specs.Layout.{size, max_flat_params, max_flat_results, fits_flat, passed_kinds};
 ghost use Rattle.canonical_abi.specs.Reading.{kind_of};
 ghost use Rattle.canonical_abi.specs.Script.{AddressFaulty};
-ghost use Rattle.crossing.specs.Ways.{ParamsWalk, WayEnds};
+ghost use Rattle.crossing.specs.Ways.{ParamsWalk, ResultWalk, AreaIsBad, WayEnds};
+ghost use Rattle.lift_lower.specs.Crossing.{fields_of_types};
+ghost use Rattle.lift_lower.specs.Members.{AreAllInside};
 ghost use Rattle.lift_lower.specs.Types.{IsInside};
 ghost use Rattle.tables.specs.Closed.{closed_type};
 
@@ -86,4 +88,72 @@ fn cross_record<G: Guest>(
     let mut out = Flats::new();
     out.push(Flat::I32(place as u32));
     Ok(out)
+}
+
+/// Crosses the result of a call, of at most one type: what `flats` denote over the source is put into the target, and the
+/// flat values that carry it there are answered. The kinds of `flats` were tested before. Where the result doesn't go
+/// flat it is put at the address `area`; the source's address is tested first, then the area. CanonicalABI.md, "Lifting and
+/// Lowering Values".
+pub fn cross_result<G: Guest>(
+    table: &Types,
+    types: &[ValType],
+    source: &[u8],
+    flats: &[Flat],
+    guest: &mut G,
+    area: u32,
+    nodes: &mut u64,
+) -> Result<Flats, Stopped>
+    requires inside { AreAllInside table.now types.now }
+    requires small { size (record_type (fields_of_types table.now types.now)) ≤ 16777216 }
+    requires short { length source.now < 2 ^ 32 }
+    requires kinds { map kind_of flats.now ≡ passed_kinds max_flat_results (fields_of_types table.now types.now) }
+    ensures { let ts = fields_of_types table.now types.now in
+        WayEnds G.allocates (ResultWalk max_flat_results ts source.now flats.now area (G.memory guest.old).bytes)
+        (AddressFaulty max_flat_results ts source.now flats.now) (AreaIsBad max_flat_results ts source.now flats.now area (G.memory guest.old).bytes)
+        (G.memory guest.old) nodes.old result (G.memory guest.new) nodes.new }
+{
+    let Some(_) = table.kinds_within(types, 1) else {
+        return cross_to_area(table, types, source, flats, guest, area, nodes);
+    };
+    let mut out = Flats::new();
+    let members = Members::Listed(types);
+    let count = types.len();
+    carry_fields(
+        table, &members, count, source, flats, guest, &mut out, nodes,
+    )?;
+    Ok(out)
+}
+
+/// Crosses a result into the return area.
+fn cross_to_area<G: Guest>(
+    table: &Types,
+    types: &[ValType],
+    source: &[u8],
+    flats: &[Flat],
+    guest: &mut G,
+    area: u32,
+    nodes: &mut u64,
+) -> Result<Flats, Stopped>
+    requires inside { AreAllInside table.now types.now }
+    requires small { size (record_type (fields_of_types table.now types.now)) ≤ 16777216 }
+    requires short { length source.now < 2 ^ 32 }
+    requires spilled { fits_flat max_flat_results (fields_of_types table.now types.now) ≡ false }
+    requires kinds { map kind_of flats.now ≡ passed_kinds max_flat_results (fields_of_types table.now types.now) }
+    ensures { let ts = fields_of_types table.now types.now in
+        WayEnds G.allocates (ResultWalk max_flat_results ts source.now flats.now area (G.memory guest.old).bytes)
+        (AddressFaulty max_flat_results ts source.now flats.now) (AreaIsBad max_flat_results ts source.now flats.now area (G.memory guest.old).bytes)
+        (G.memory guest.old) nodes.old result (G.memory guest.new) nodes.new }
+{
+    let (size, align) = table.record_extent(types);
+    let from = low_word(flats, 0) as usize;
+    if let Err(kind) = test_block(source.len(), from, align, size) {
+        return Err(Stopped::Source(kind));
+    }
+    let to = area as usize;
+    if let Err(kind) = test_block(guest.len() as usize, to, align, size) {
+        return Err(Stopped::Target(kind));
+    }
+    let members = Members::Listed(types);
+    cross_fields(table, &members, types.len(), source, from, guest, to, nodes)?;
+    Ok(Flats::new())
 }
