@@ -1,70 +1,151 @@
--- The parts of a call, put together from what lifting and lowering answer.
-use Rattle.std.proofs.Common.{◌≡◌, inl, inr, ℕ, List, [], length, map, refl, ap, ◌∙◌}
-use Rattle.canonical_abi.specs.Types.{FunctionType, result_fields}
-use Rattle.canonical_abi.specs.Values.{Value}
-use Rattle.canonical_abi.specs.Layout.{CoreSignature, lifted_signature, max_flat_params, max_flat_results}
-use Rattle.canonical_abi.specs.Reading.{low_bits, number_of}
-use Rattle.canonical_abi.specs.Flat.{Denotes}
+-- The parts of a call, put together from how its ways ended.
+use Rattle.std.proofs.Common.{◌≡◌, ◌≢◌, inl, inr, ℕ, Bool, true, false, if◌then◌else◌, List, [], ◌∷◌, ◌++◌, length, map, take, Option, Some, None, Result, Ok, Err, refl, sym, ap, ◌∙◌, subst, append-nil}
+use Rattle.std.proofs.Math.Seq.{take-append_seam, take-length}
+use Rattle.std.proofs.lemmas.List.{take-map}
+use Rattle.canonical_abi.specs.Types.{FunctionType, Fields, result_fields}
+use Rattle.canonical_abi.specs.Layout.{CoreSignature, lifted_signature, lowered_signature, max_flat_params, max_flat_results, fits_flat, passed_kinds}
+use Rattle.canonical_abi.specs.Reading.{low_bits, kind_of, number_of}
 use Rattle.canonical_abi.specs.Guest.{Memory, Allocation}
-use Rattle.canonical_abi.specs.Call.{area_of}
+use Rattle.canonical_abi.specs.Script.{AddressFaulty}
+use Rattle.canonical_abi.specs.Trace.{grant}
+use Rattle.canonical_abi.specs.Call.{area_of, argument_flats, KindsFit}
+use Rattle.canonical_abi.specs.declared.flat.CoreKind.{CoreKind}
+use Rattle.canonical_abi.specs.declared.flat.CoreKind.TheVariants as kind
 use Rattle.canonical_abi.specs.declared.flat.Flat.{Flat}
-use Rattle.canonical_abi.specs.declared.trap.Fault.{Fault}
 use Rattle.canonical_abi.specs.declared.trap.Fault.TheVariants as ended
 use Rattle.canonical_abi.specs.declared.trap.Step.TheVariants as step
 use Rattle.canonical_abi.specs.declared.trap.TrapKind.{TrapKind}
-use Rattle.lift_lower.specs.Passing.{IsTrapOf, ParamsPassed, ParamsFailed, ResultStops}
-use Rattle.adapter.specs.Crossing.{guests, memories, at_step, AreArguments, AreNoArguments, HasEntered, EntryFails, HasReturned, ReturnFails, IsHandedBack, HandingBackFails}
+use Rattle.canonical_abi.specs.declared.trap.TrapKind.TheVariants as trap
+use Rattle.canonical_abi.proofs.Stopped.{leaves-none}
+use Rattle.arrayvec.specs.ArrayVec.{ArrayVec}
+use Rattle.crossing.specs.Outcome.{IsDone, MetFault, WasRefused}
+use Rattle.crossing.specs.Ways.{ParamsWalk, ResultWalk, AreaIsBad, IsUnbegun, WayEnds}
+use Rattle.crossing.specs.declared.stopped.Stopped.{Stopped}
+use Rattle.crossing.specs.declared.stopped.Stopped.TheVariants as stopped
+use Rattle.adapter.specs.Crossing.{guests, memories, HasEntered, EntryFails, HasReturned, ReturnFails}
 
 -- the flat value behind those of the arguments
 pub area-is : (f : FunctionType) (flats : List Flat) (area count : ℕ) (s : CoreSignature) → area ≡ low_bits (map number_of flats) count 32 → count ≡ length s.params → s ≡ lifted_signature f
     → area ≡ area_of f flats
 area-is f flats area count s is counted same = is ∙ ap (λ n. low_bits (map number_of flats) n 32) (counted ∙ ap (λ t. length t.params) same)
 
+-- the kinds of the arguments' flat values, which stand in front of the return area's address
+pub argument-kinds : (f : FunctionType) (flats : List Flat) → KindsFit f flats → map kind_of (argument_flats f flats) ≡ passed_kinds max_flat_params f.params
+argument-kinds f flats kinds = sym (take-map kind_of (length ks) flats) ∙ ap (take (length ks)) kinds ∙ by (fits_flat max_flat_results (result_fields f.result))
+  where
+    ks : List CoreKind
+    ks = passed_kinds max_flat_params f.params
+
+    by : (b : Bool) → take (length ks) (if b then lifted_signature f else record { params = ks ++ kind.I32 ∷ []; results = [] }).params ≡ ks
+    by true = take-length ks
+    by false = take-append_seam ks (kind.I32 ∷ [])
+
+pub same-arguments : (f : FunctionType) (flats given : List Flat) (count : ℕ) (s : CoreSignature) → given ≡ take count flats → count ≡ length s.params → s ≡ lifted_signature f → given ≡ argument_flats f flats
+same-arguments f flats given count s is counted same = is ∙ ap (λ n. take n flats) (counted ∙ ap (λ t. length t.params) same)
+
 module _ (caller_allocates callee_allocates : Allocation) (f : FunctionType) (flats : List Flat) (caller callee : Memory) where
   -- ---- the arguments
 
-  pub has-entered : (vs : List Value) (handed : List Flat) (callee' : Memory) → AreArguments f caller.bytes flats vs
-      → ParamsPassed max_flat_params callee_allocates f.params vs callee handed callee'
-      → HasEntered (guests caller_allocates callee_allocates) f flats (memories caller callee) handed (memories caller callee')
-  has-entered vs handed callee' l p =
-      (vs, p.0, record { kinds = l.0; denoted = l.1; passes = p.1; leads = p.2; same_caller = refl; same_body = refl })
+  module _ (n : ℕ) (callee' : Memory) (c : ℕ) where
+    has-entered : (handed : List Flat) → KindsFit f flats → IsDone callee_allocates (ParamsWalk max_flat_params f.params caller.bytes (argument_flats f flats) handed) callee n callee' c
+        → HasEntered (guests caller_allocates callee_allocates) f flats (memories caller callee) handed (memories caller callee')
+    has-entered handed kinds d =
+        (d.scripted.0, d.events, record { kinds = kinds; denoted = d.scripted.1; passes = d.scripted.2; leads = d.leads; same_caller = refl; same_body = refl })
 
-  -- there are no arguments
-  pub no-arguments : (fault : Fault) → AreNoArguments f caller.bytes flats fault
-      → EntryFails (guests caller_allocates callee_allocates) f flats (memories caller callee) fault (memories caller callee)
-  no-arguments ended.NoMemory h = refl
-  no-arguments (ended.Trap t) (is, inl (other, kind)) = inl (is, [], inl (other, kind, refl, refl))
-  no-arguments (ended.Trap t) (is, inr (kinds, inl address)) = inl (is, [], inr (inl (kinds, address, refl, refl)))
-  no-arguments (ended.Trap t) (is, inr (kinds, inr (es, until))) =
-      inl (is, [], inr (inr (kinds, es, until, (es, refl), ([], refl, refl), refl, refl)))
+    -- the record of the arguments has no place
+    bad-address : (k : TrapKind) → KindsFit f flats → AddressFaulty max_flat_params f.params caller.bytes (argument_flats f flats) k → IsUnbegun callee n callee' c
+        → EntryFails (guests caller_allocates callee_allocates) f flats (memories caller callee) (ended.Trap (record { kind = k; step = step.LiftArgs })) (memories caller callee')
+    bad-address k kinds address none = inl (refl, [], inr (inl (kinds, address, refl, ap (λ m. memories caller m) none.same)))
 
-  -- the callee has no room for them
-  pub no-room : (vs : List Value) (k : TrapKind) (callee' : Memory) → AreArguments f caller.bytes flats vs
-      → ParamsFailed max_flat_params callee_allocates f.params vs callee k callee' → (fault : Fault) → fault ≡ ended.Trap (record { kind = k; step = step.LowerArgs })
-      → EntryFails (guests caller_allocates callee_allocates) f flats (memories caller callee) fault (memories caller callee')
-  no-room vs k callee' l p fault is = rw is (inr (refl, p.3.0, (l.0, p.0, inl (vs, p.1, l.1, p.2), p.3, refl, refl, refl)))
+    -- one of their nodes is at fault
+    bad-argument : (k : TrapKind) (final : List Flat) → KindsFit f flats → MetFault callee_allocates (ParamsWalk max_flat_params f.params caller.bytes (argument_flats f flats) final) callee n k callee' c
+        → EntryFails (guests caller_allocates callee_allocates) f flats (memories caller callee) (ended.Trap (record { kind = k; step = step.LiftArgs })) (memories caller callee')
+    bad-argument k final kinds u =
+        inl (refl, u.events, inr (inr (kinds, u.events, u.scripted, ([], sym (append-nil u.events)), (u.events, leaves-none u.events, u.leads), refl, refl)))
+
+    -- the callee has no room for them
+    no-room : (k : TrapKind) (final : List Flat) → KindsFit f flats → WasRefused callee_allocates (ParamsWalk max_flat_params f.params caller.bytes (argument_flats f flats) final) callee n k callee' c
+        → EntryFails (guests caller_allocates callee_allocates) f flats (memories caller callee) (ended.Trap (record { kind = k; step = step.LowerArgs })) (memories caller callee')
+    no-room k final kinds u = by u.outcome u.scripted
+      where
+        by : (o : Option TrapKind) → ParamsWalk max_flat_params f.params caller.bytes (argument_flats f flats) final o (u.done ++ grant u.next ∷ u.rest)
+            → EntryFails (guests caller_allocates callee_allocates) f flats (memories caller callee) (ended.Trap (record { kind = k; step = step.LowerArgs })) (memories caller callee')
+        by None (vs, denoted, passes) =
+            inr (refl, u.done, (kinds, u.done ++ grant u.next ∷ u.rest, inl (vs, final, denoted, passes), (u.done, u.done, u.rest, u.next, u.asked, refl, leaves-none u.done, u.leads, u.fails), refl, refl, refl))
+        by (Some j) stops =
+            inr (refl, u.done, (kinds, u.done ++ grant u.next ∷ u.rest, inr (j, stops), (u.done, u.done, u.rest, u.next, u.asked, refl, leaves-none u.done, u.leads, u.fails), refl, refl, refl))
+
+  -- what the end of the arguments' way says of the call
+  abbrev pub EndsArguments : Memory → Result (ArrayVec Flat) Stopped → Type 0
+  EndsArguments callee' (Ok handed) = HasEntered (guests caller_allocates callee_allocates) f flats (memories caller callee) handed.items (memories caller callee')
+  EndsArguments callee' (Err (stopped.Source k)) =
+      EntryFails (guests caller_allocates callee_allocates) f flats (memories caller callee) (ended.Trap (record { kind = k; step = step.LiftArgs })) (memories caller callee')
+  EndsArguments callee' (Err (stopped.Target k)) =
+      EntryFails (guests caller_allocates callee_allocates) f flats (memories caller callee) (ended.Trap (record { kind = k; step = step.LowerArgs })) (memories caller callee')
+
+  pub arguments-end : KindsFit f flats → (n : ℕ) (r : Result (ArrayVec Flat) Stopped) (callee' : Memory) (c : ℕ)
+      → WayEnds callee_allocates (ParamsWalk max_flat_params f.params caller.bytes (argument_flats f flats)) (AddressFaulty max_flat_params f.params caller.bytes (argument_flats f flats)) (λ k. ⊥) callee n r callee' c
+      → EndsArguments callee' r
+  arguments-end kinds n (Ok handed) callee' c d = has-entered n callee' c handed.items kinds d
+  arguments-end kinds n (Err (stopped.Source k)) callee' c (inl (address, none)) = bad-address n callee' c k kinds address none
+  arguments-end kinds n (Err (stopped.Source k)) callee' c (inr (final, u)) = bad-argument n callee' c k final kinds u
+  arguments-end kinds n (Err (stopped.Target k)) callee' c (inl (never, none)) = absurd never
+  arguments-end kinds n (Err (stopped.Target k)) callee' c (inr (final, u)) = no-room n callee' c k final kinds u
 
   -- ---- the result
 
-  module _ (answer : List Flat) where
-    pub has-returned : (vs : List Value) (back : List Flat) (caller' : Memory) → Denotes max_flat_results (result_fields f.result) callee.bytes answer vs
-        → IsHandedBack caller_allocates (result_fields f.result) (area_of f flats) vs caller back caller'
+  module _ (answer : List Flat) (n : ℕ) (caller' : Memory) (c : ℕ) where
+    abbrev fs : Fields
+    fs = result_fields f.result
+
+    has-returned : (back : List Flat) → IsDone caller_allocates (ResultWalk max_flat_results fs callee.bytes answer (area_of f flats) caller.bytes back) caller n caller' c
         → HasReturned (guests caller_allocates callee_allocates) f flats (memories caller callee) answer back (memories caller' callee)
-    has-returned vs back caller' d h =
-        (vs, h.1.0, record { denoted = d; area_stands = h.0; passes = h.1.1; leads = h.1.2; same_callee = refl; same_body = refl })
+    has-returned back d =
+        (d.scripted.1, d.events, record { denoted = d.scripted.2; area_stands = d.scripted.0; passes = d.scripted.3; leads = d.leads; same_callee = refl; same_body = refl })
 
-    -- the answer is at fault
-    pub no-result : (fault : Fault) → IsTrapOf (ResultStops max_flat_results (result_fields f.result) callee.bytes answer (area_of f flats)) fault
-        → ReturnFails (guests caller_allocates callee_allocates) f flats (memories caller callee) answer (at_step step.LiftResult fault) (memories caller callee)
-    no-result ended.NoMemory h = refl
-    no-result (ended.Trap t) (inl address) = inl (refl, [], inl (address, refl, refl))
-    no-result (ended.Trap t) (inr (es, until)) = inl (refl, [], inr (tt, es, until, (es, refl), ([], refl, refl), refl, refl))
+    -- the answer's kinds or the address of its record are at fault
+    bad-answer : (k : TrapKind) → AddressFaulty max_flat_results fs callee.bytes answer k → IsUnbegun caller n caller' c
+        → ReturnFails (guests caller_allocates callee_allocates) f flats (memories caller callee) answer (ended.Trap (record { kind = k; step = step.LiftResult })) (memories caller' callee)
+    bad-answer k address none = inl (refl, [], inl (address, refl, ap (λ m. memories m callee) none.same))
 
-    -- the area is bad, or the caller has no room
-    pub not-handed-back : (vs : List Value) (fault : Fault) (caller' : Memory) → Denotes max_flat_results (result_fields f.result) callee.bytes answer vs
-        → HandingBackFails caller_allocates (result_fields f.result) (area_of f flats) vs caller fault caller'
-        → ReturnFails (guests caller_allocates callee_allocates) f flats (memories caller callee) answer fault (memories caller' callee)
-    not-handed-back vs ended.NoMemory caller' d h = absurd h
-    not-handed-back vs (ended.Trap t) caller' d (is, inl (bad, same)) = inr (is, [], inl (tt, bad, refl, ap (λ m. memories m callee) same))
-    not-handed-back vs (ended.Trap t) caller' d (is, inr (stands, failed)) =
-        inr (is, failed.3.0, inr (stands, failed.0, inl (vs, failed.1, d, failed.2), failed.3, refl, refl, refl))
+    -- one of its nodes is
+    bad-result : (k : TrapKind) (final : List Flat) → MetFault caller_allocates (ResultWalk max_flat_results fs callee.bytes answer (area_of f flats) caller.bytes final) caller n k caller' c
+        → ReturnFails (guests caller_allocates callee_allocates) f flats (memories caller callee) answer (ended.Trap (record { kind = k; step = step.LiftResult })) (memories caller' callee)
+    bad-result k final u =
+        inl (refl, u.events, inr (tt, u.events, u.scripted.1, ([], sym (append-nil u.events)), (u.events, leaves-none u.events, u.leads), refl, refl))
+
+    -- the return area is
+    bad-area : (k : TrapKind) → AreaIsBad max_flat_results fs callee.bytes answer (area_of f flats) caller.bytes k → IsUnbegun caller n caller' c
+        → ReturnFails (guests caller_allocates callee_allocates) f flats (memories caller callee) answer (ended.Trap (record { kind = k; step = step.LowerResult })) (memories caller' callee)
+    bad-area k bad none = inr (refl, [], inl (tt, bad.1, refl, ap (λ m. memories m callee) none.same))
+
+    -- the caller has no room for it
+    no-room-back : (k : TrapKind) (final : List Flat) → WasRefused caller_allocates (ResultWalk max_flat_results fs callee.bytes answer (area_of f flats) caller.bytes final) caller n k caller' c
+        → ReturnFails (guests caller_allocates callee_allocates) f flats (memories caller callee) answer (ended.Trap (record { kind = k; step = step.LowerResult })) (memories caller' callee)
+    no-room-back k final u = by u.outcome u.scripted
+      where
+        by : (o : Option TrapKind) → ResultWalk max_flat_results fs callee.bytes answer (area_of f flats) caller.bytes final o (u.done ++ grant u.next ∷ u.rest)
+            → ReturnFails (guests caller_allocates callee_allocates) f flats (memories caller callee) answer (ended.Trap (record { kind = k; step = step.LowerResult })) (memories caller' callee)
+        by None (stands, vs, denoted, passes) =
+            inr (refl, u.done, inr (stands, u.done ++ grant u.next ∷ u.rest, inl (vs, final, denoted, passes), (u.done, u.done, u.rest, u.next, u.asked, refl, leaves-none u.done, u.leads, u.fails), refl, refl, refl))
+        by (Some j) (stands, stops) =
+            inr (refl, u.done, inr (stands, u.done ++ grant u.next ∷ u.rest, inr (j, stops), (u.done, u.done, u.rest, u.next, u.asked, refl, leaves-none u.done, u.leads, u.fails), refl, refl, refl))
+
+  module _ (answer : List Flat) where
+    -- what the end of the result's way says of the call
+    abbrev pub EndsResult : Memory → Result (ArrayVec Flat) Stopped → Type 0
+    EndsResult caller' (Ok back) = HasReturned (guests caller_allocates callee_allocates) f flats (memories caller callee) answer back.items (memories caller' callee)
+    EndsResult caller' (Err (stopped.Source k)) =
+        ReturnFails (guests caller_allocates callee_allocates) f flats (memories caller callee) answer (ended.Trap (record { kind = k; step = step.LiftResult })) (memories caller' callee)
+    EndsResult caller' (Err (stopped.Target k)) =
+        ReturnFails (guests caller_allocates callee_allocates) f flats (memories caller callee) answer (ended.Trap (record { kind = k; step = step.LowerResult })) (memories caller' callee)
+
+    pub result-ends : (n : ℕ) (r : Result (ArrayVec Flat) Stopped) (caller' : Memory) (c : ℕ)
+        → WayEnds caller_allocates (ResultWalk max_flat_results (result_fields f.result) callee.bytes answer (area_of f flats) caller.bytes) (AddressFaulty max_flat_results (result_fields f.result) callee.bytes answer)
+        (AreaIsBad max_flat_results (result_fields f.result) callee.bytes answer (area_of f flats) caller.bytes) caller n r caller' c
+        → EndsResult caller' r
+    result-ends n (Ok back) caller' c d = has-returned answer n caller' c back.items d
+    result-ends n (Err (stopped.Source k)) caller' c (inl (address, none)) = bad-answer answer n caller' c k address none
+    result-ends n (Err (stopped.Source k)) caller' c (inr (final, u)) = bad-result answer n caller' c k final u
+    result-ends n (Err (stopped.Target k)) caller' c (inl (bad, none)) = bad-area answer n caller' c k bad none
+    result-ends n (Err (stopped.Target k)) caller' c (inr (final, u)) = no-room-back answer n caller' c k final u

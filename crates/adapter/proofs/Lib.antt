@@ -4,3 +4,4 @@ pub mod Signatures
 pub mod Crossings
 pub mod Chains
 mod Promised
+pub mod Within

@@ -4,10 +4,10 @@ use Rattle.std.specs.List.{list_all}
 use Rattle.std.specs.Option.{option_map}
 use Rattle.std.proofs.Math.Bridge.{le_prop}
 use Rattle.std.proofs.Math.Logic.{∥∥₁_elim}
-use Rattle.std.proofs.lemmas.Bool.{and_parts}
+use Rattle.std.proofs.lemmas.Bool.{and_parts, and_from, lt-ltb}
 use Rattle.std.proofs.lemmas.List.{length-map}
 use Rattle.std.proofs.lemmas.List.Folds.{list_all-map, list_all_at}
-use Rattle.canonical_abi.specs.Types.{ClosedType, string_type, record_type, fields_of}
+use Rattle.canonical_abi.specs.Types.{ClosedType, string_type, record_type, fields_of, result_fields}
 use Rattle.canonical_abi.specs.Layout.{size}
 use Rattle.layout.specs.Layout.{Table, row_of, layouts_of, AreWithin, IsWithin}
 use Rattle.tables.specs.Tables.{option_all, definition_all, is_type}
@@ -18,13 +18,18 @@ use Rattle.tables.specs.declared.tables.Definition.TheVariants as row
 use Rattle.tables.specs.declared.tables.Function.{Function}
 use Rattle.tables.specs.declared.tables.FunctionId.{FunctionId}
 use Rattle.tables.specs.declared.tables.Resolve.{Resolve}
+use Rattle.tables.specs.declared.tables.TypeId.{TypeId}
 use Rattle.tables.specs.declared.tables.ValType.{ValType}
+use Rattle.tables.specs.declared.tables.ValType.TheVariants as val
 use Rattle.tables.proofs.Rows.{length-closed_rows, stands, function-row}
 use Rattle.lift_lower.specs.Crossing.{fields_of_types}
-use Rattle.lift_lower.specs.Members.{AreTypesOf}
+use Rattle.lift_lower.specs.Members.{AreAllInside, AreTypesOf}
 use Rattle.lift_lower.specs.Types.{IsInside}
+use Rattle.lift_lower.proofs.Alone.{alone-size}
 use Rattle.lift_lower.proofs.Known.{known-inside}
+use Rattle.adapter.specs.Carrying.{types_in}
 use Rattle.adapter.proofs.Functions.{params_in}
+use Rattle.adapter.proofs.Within.{type-small}
 
 -- a function has a row
 pub function-stands : (r : Resolve) (table : Table) (f : FunctionId) → table ≡ layouts_of r → IsFunction r f → f.0 < length table.rows
@@ -38,6 +43,28 @@ at-true p xs i d l h = by (p (get_or xs i d)) refl
     by : (b : Bool) → p (get_or xs i d) ≡ b → b ≡ true
     by true e = refl
     by false e = sym (list_all_at p xs i d l e) ∙ h
+
+-- its row is the record of its parameters
+pub params-row : (r : Resolve) (f : FunctionId) → IsFunction r f → (t : TypeId) → t.0 ≡ f.0 → closed_type r (val.Id t) ≡ record_type (function_type r f).params
+params-row r f h t same =
+    let st = stands r f h in
+    ap (λ i. get_or (closed_types r) i string_type) same ∙ function-row r f st ∙ sym (ap (λ o. record_type (type_of_function (closed_types r) o).params) st.at)
+
+pub params-inside : (r : Resolve) (f : FunctionId) → IsFunction r f → (t : TypeId) → t.0 ≡ f.0 → IsInside r (val.Id t)
+params-inside r f h t same = rw (lt-ltb t.0 (length r.definitions) (omega (arith, same, (stands r f h).in_range))) refl
+
+-- a result as a list of at most one type
+pub result-fields : (r : Resolve) (o : Option ValType) → fields_of_types r (types_in o) ≡ result_fields (option_map (closed_type r) o)
+result-fields r None = refl
+result-fields r (Some t) = refl
+
+pub all-inside : (r : Resolve) (o : Option ValType) → IfSome o (IsInside r) → AreAllInside r (types_in o)
+all-inside r None h = refl
+all-inside r (Some t) h = and_from _ true h refl
+
+pub result-small : (r : Resolve) → ∥ AreWithin r ∥₁ → (o : Option ValType) → IfSome o (IsTypeOf r) → size (record_type (fields_of_types r (types_in o))) ≤ 16777216
+result-small r within None known = omega arith
+result-small r within (Some t) known = omega (arith, alone-size (closed_type r t), type-small r within t known)
 
 module _ (r : Resolve) (f : FunctionId) (h : IsFunction r f) (s : Function) (found : function_at r f ≡ Some s) where
   own : (stands r f h).function ≡ s

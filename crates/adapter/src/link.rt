@@ -2,7 +2,7 @@
 ghost use Rattle.std.specs.Prelude.{◌≡◌, ◌≢◌, ◌≤◌, Err, length, IfOk};
 ghost use Rattle.canonical_abi.specs.Call.{Calls, Ways, either, AllowsSameRuns, AllowsSamePosts};
 ghost use Rattle.canonical_abi.specs.Headline.{IsLinkPromised};
-ghost use Rattle.tables.specs.Closed.{function_type, IsFunction, IsScalarFunction};
+ghost use Rattle.tables.specs.Closed.{function_type, IsFunction};
 ghost use Rattle.layout.specs.Layout.{layouts_of, AreWithin};
 ghost use Rattle.adapter.specs.Carrying.{answer_of};
 
@@ -13,7 +13,6 @@ use crate::results::pass_answer;
 use canonical_abi::{Fault, Flat, Guest, Step, TrapKind};
 use layout::Layouts;
 use lift_lower::{Flats, Types};
-use std::alloc::Global;
 use std::marker::Model;
 use tables::{FunctionId, Resolve};
 
@@ -49,12 +48,9 @@ impl<'a> Link<'a> {
     /// callee, the body makes one run on them, and its answer goes the same way back. Then its post-return
     /// runs, unless there was a trap. Over honest guests within the limit and a live return area the callee
     /// finds exactly what the caller holds and is run once, and the caller then holds exactly its answer.
-    /// Where the host has no memory for the arguments' tree, nothing was done; where it has none for the
-    /// result's, the body has answered. The call of a scalar function asks for none. After a fault the link
-    /// can be used again.
+    /// No tree of values is made, and no memory of the host is taken. After a fault the link can be used again.
     pub fn call<C: Guest, E: Guest, B: Body<E>>(
         &mut self,
-        alloc: Global,
         func: FunctionId,
         flats: &[Flat],
         caller: &mut C,
@@ -83,17 +79,17 @@ impl<'a> Link<'a> {
             (record { caller = C.memory caller.new; callee = E.memory callee.new; body = B.state body.new }) }
         ensures same_runs { AllowsSameRuns (B.runs body.old) (B.runs body.new) }
         ensures same_posts { AllowsSamePosts (B.posts body.old) (B.posts body.new) }
-        ensures no_memory { IsScalarFunction self.old.resolve func → result ≢ Err Fault.NoMemory }
+        ensures no_memory { result ≢ Err Fault.NoMemory }
         ensures no_shorter { IfOk result (λ _. length (C.memory caller.old).bytes ≤ length (C.memory caller.new).bytes) }
         ensures same_link { self.new ≡ self.old }
     {
         let table = &Types::new(self.resolve, self.layouts);
-        let handed = pass_arguments(alloc, table, func, flats, caller, callee)?;
+        let handed = pass_arguments(table, func, flats, caller, callee)?;
         let Ok(answer) = body.call(callee, handed.as_slice()) else {
             return Err(trap(TrapKind::Body, Step::Body));
         };
         let answer = answer.as_slice();
-        let back = pass_answer(alloc, table, func, flats, answer, caller, callee)?;
+        let back = pass_answer(table, func, flats, answer, caller, callee)?;
         let Ok(()) = body.post_return(callee, answer) else {
             return Err(trap(TrapKind::Body, Step::Post));
         };

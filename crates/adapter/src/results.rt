@@ -1,28 +1,20 @@
 //! The second way of a call: the result, from the callee into the caller.
-ghost use Rattle.std.specs.Prelude.{◌≡◌, ◌≢◌, ◌≤◌, Err, length, map, IfOk, IfErr, IfSome, IsTrue, option_map};
-ghost use Rattle.canonical_abi.specs.Types.{result_fields};
-ghost use Rattle.canonical_abi.specs.Layout.{max_flat_results};
+ghost use Rattle.std.specs.Prelude.{◌≡◌, ◌≢◌, ◌≤◌, Err, length, map, IfOk, IfErr};
 ghost use Rattle.canonical_abi.specs.Reading.{low_bits, number_of};
-ghost use Rattle.canonical_abi.specs.Requests.{fields_requests};
-ghost use Rattle.canonical_abi.specs.Session.{as_list};
-ghost use Rattle.canonical_abi.specs.Values.{HaveTypes};
-ghost use Rattle.lift_lower.specs.Passing.{AreAddressable};
-ghost use Rattle.lift_lower.specs.Val.{value_of};
-ghost use Rattle.tables.specs.Closed.{IsFunction, IsScalarFunction, closed_type, function_type};
-ghost use Rattle.tables.specs.Standard.{IsTypeOf};
-ghost use Rattle.adapter.specs.Crossing.{guests, memories, HasReturned, ReturnFails, IsHandedBack, HandingBackFails};
+ghost use Rattle.layout.specs.Layout.{AreWithin};
+ghost use Rattle.tables.specs.Closed.{IsFunction, function_type};
+ghost use Rattle.adapter.specs.Crossing.{guests, memories, HasReturned, ReturnFails};
 
-use crate::fault::{at_step, trap};
+use crate::fault::trap;
 use crate::scalars::carry_answer;
-use canonical_abi::{Fault, Flat, Guest, Step};
-use lift_lower::{Flats, Types, Val, check_area, lift_result, low_word, pass_result};
-use std::alloc::Global;
-use tables::{FunctionId, ValType};
+use canonical_abi::{Fault, Flat, Guest, Step, TrapKind};
+use crossing::{Stopped, cross_result};
+use lift_lower::{Flats, Types, are_kinds, low_word};
+use tables::FunctionId;
 
-/// Lifts the body's answer from the callee and lowers it into the caller: the flat values that carry it
-/// there. That of a scalar function takes no memory of the host.
+/// Puts the body's answer, as the callee holds it, into the caller: the flat values that carry it there. Takes no memory
+/// of the host.
 pub(crate) fn pass_answer<C: Guest, E: Guest>(
-    alloc: Global,
     table: &Types,
     func: FunctionId,
     flats: &[Flat],
@@ -30,24 +22,24 @@ pub(crate) fn pass_answer<C: Guest, E: Guest>(
     caller: &mut C,
     callee: &E,
 ) -> Result<Flats, Fault>
+    requires within { ∥ AreWithin table.now ∥₁ }
     requires function { IsFunction table.now func }
     ensures returned { IfOk result (λ back. HasReturned (guests C.allocates E.allocates) (function_type table.now func) flats.now
         (memories (C.memory caller.old) (E.memory callee.now)) answer.now back.items (memories (C.memory caller.new) (E.memory callee.now))) }
     ensures fault { IfErr result (λ fault. ReturnFails (guests C.allocates E.allocates) (function_type table.now func) flats.now
         (memories (C.memory caller.old) (E.memory callee.now)) answer.now fault (memories (C.memory caller.new) (E.memory callee.now))) }
     ensures no_shorter { IfOk result (λ _. length (C.memory caller.old).bytes ≤ length (C.memory caller.new).bytes) }
-    ensures no_memory { IsScalarFunction table.now func → result ≢ Err Fault.NoMemory }
+    ensures no_memory { result ≢ Err Fault.NoMemory }
 {
     let resolve = table.resolve();
     if resolve.is_scalar(func) {
         return carry_answer(resolve, func, answer);
     }
-    pass_tree(alloc, table, func, flats, answer, caller, callee)
+    pass_value(table, func, flats, answer, caller, callee)
 }
 
-/// Lifts the body's answer from the callee to a tree of values, and lowers it into the caller.
-fn pass_tree<C: Guest, E: Guest>(
-    alloc: Global,
+/// Puts an answer of any type into the caller. The kinds of its flat values come first.
+fn pass_value<C: Guest, E: Guest>(
     table: &Types,
     func: FunctionId,
     flats: &[Flat],
@@ -55,47 +47,36 @@ fn pass_tree<C: Guest, E: Guest>(
     caller: &mut C,
     callee: &E,
 ) -> Result<Flats, Fault>
+    requires within { ∥ AreWithin table.now ∥₁ }
     requires function { IsFunction table.now func }
     ensures returned { IfOk result (λ back. HasReturned (guests C.allocates E.allocates) (function_type table.now func) flats.now
         (memories (C.memory caller.old) (E.memory callee.now)) answer.now back.items (memories (C.memory caller.new) (E.memory callee.now))) }
     ensures fault { IfErr result (λ fault. ReturnFails (guests C.allocates E.allocates) (function_type table.now func) flats.now
         (memories (C.memory caller.old) (E.memory callee.now)) answer.now fault (memories (C.memory caller.new) (E.memory callee.now))) }
     ensures no_shorter { IfOk result (λ _. length (C.memory caller.old).bytes ≤ length (C.memory caller.new).bytes) }
+    ensures no_memory { result ≢ Err Fault.NoMemory }
 {
-    let ty = table.resolve().signature(func).result;
-    match lift_result(alloc, table, ty, answer, callee) {
-        Ok(value) => {
-            let area = area_in(flats, table.layouts().lifted(func).params.len());
-            hand_back(table, ty, &value, caller, area)
-        }
-        Err(fault) => Err(at_step(Step::LiftResult, fault)),
+    let signature = table.layouts().lifted(func);
+    if !are_kinds(signature.result.as_slice(), answer) {
+        return Err(trap(TrapKind::CoreSignature, Step::LiftResult));
     }
-}
-
-/// Lowers a result into the caller, whose return area is tested first.
-fn hand_back<C: Guest>(
-    table: &Types,
-    ty: Option<ValType>,
-    value: &Option<Val>,
-    caller: &mut C,
-    area: u32,
-) -> Result<Flats, Fault>
-    requires known { IfSome ty (IsTypeOf table.now) }
-    requires typed { HaveTypes (as_list (option_map value_of value.now)) (result_fields (option_map (closed_type table.now) ty)) }
-    requires addressable { AreAddressable
-        (fields_requests (result_fields (option_map (closed_type table.now) ty)) (as_list (option_map value_of value.now))) }
-    ensures passed { IfOk result (λ back. IsHandedBack C.allocates (result_fields (option_map (closed_type table.now) ty)) area
-        (as_list (option_map value_of value.now)) (C.memory caller.old) back.items (C.memory caller.new)) }
-    ensures fault { IfErr result (λ fault. HandingBackFails C.allocates (result_fields (option_map (closed_type table.now) ty)) area
-        (as_list (option_map value_of value.now)) (C.memory caller.old) fault (C.memory caller.new)) }
-    ensures no_shorter { IfOk result (λ _. length (C.memory caller.old).bytes ≤ length (C.memory caller.new).bytes) }
-{
-    if let Err(kind) = check_area(table, ty, caller, area) {
-        return Err(trap(kind, Step::LowerResult));
-    }
-    match pass_result(table, ty.as_slice(), value.as_slice(), caller, area) {
+    let area = area_in(flats, signature.params.len());
+    // A memory's length is a number of 32 bits.
+    let _len = callee.len();
+    let types = table.resolve().signature(func).result.as_slice();
+    let mut nodes = 0;
+    match cross_result(
+        table,
+        types,
+        callee.bytes(),
+        answer,
+        caller,
+        area,
+        &mut nodes,
+    ) {
         Ok(back) => Ok(back),
-        Err(kind) => Err(trap(kind, Step::LowerResult)),
+        Err(Stopped::Source(kind)) => Err(trap(kind, Step::LiftResult)),
+        Err(Stopped::Target(kind)) => Err(trap(kind, Step::LowerResult)),
     }
 }
 

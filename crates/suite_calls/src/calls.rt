@@ -99,7 +99,7 @@ fn carried(
     ensures { link.new ≡ link.old }
 {
     let mut body = BoxedBody::new(Box::new(alloc, body)?);
-    Ok(link.call(alloc, func, flats, caller, callee, &mut body))
+    Ok(link.call(func, flats, caller, callee, &mut body))
 }
 
 fn is_number(answer: &Result<Flats, Fault>, number: u32) -> bool {

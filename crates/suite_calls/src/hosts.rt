@@ -88,7 +88,7 @@ fn called(rt: &impl Abort, alloc: Global, package: &Package) -> Result<Flats, Fa
     let mut body = Constant(Flat::I32(8));
     let mut link = Link::new(package.resolve(), package.layouts());
     let flats = [Flat::I32(7)];
-    Ok(link.call(alloc, f, &flats, &mut caller, &mut callee, &mut body)?)
+    Ok(link.call(f, &flats, &mut caller, &mut callee, &mut body)?)
 }
 
 #[test]

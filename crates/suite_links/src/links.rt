@@ -38,7 +38,6 @@ impl Told {
 
 /// What the link of the package answers for a call of `f`.
 fn answered<C: Guest, E: Guest>(
-    alloc: Global,
     package: &Package,
     flats: &[Flat],
     caller: &mut C,
@@ -47,7 +46,7 @@ fn answered<C: Guest, E: Guest>(
 ) -> Result<Result<Flats, Fault>, Fail> {
     let f = function(package)?;
     let mut link = Link::new(package.resolve(), package.layouts());
-    Ok(link.call(alloc, f, flats, caller, callee, body))
+    Ok(link.call(f, flats, caller, callee, body))
 }
 
 fn told_of(
@@ -77,7 +76,7 @@ fn linked<C: Guest + Drop, E: Guest + Drop>(
     mut body: Acting,
 ) -> Result<Told, Fail> {
     let package = package(alloc, items)?;
-    let answer = answered(alloc, &package, flats, &mut caller, &mut callee, &mut body)?;
+    let answer = answered(&package, flats, &mut caller, &mut callee, &mut body)?;
     told_of(alloc, answer, caller.bytes(), callee.bytes(), body)
 }
 
@@ -234,33 +233,38 @@ fn requests_of_a_result(rt: HostRuntime) -> Result<(), Fail> {
     Ok(())
 }
 
-/// Functions, what their body writes and answers, and the trap of that.
-static ANSWERS: [(&str, &[u8], u32, TrapKind); 5] = [
+/// Functions, what their body writes and answers, the trap of that, and the return area in the end: a list's header is
+/// written before its elements are read.
+static ANSWERS: [(&str, &[u8], u32, TrapKind, [u8; 8]); 5] = [
     (
         "f: func() -> list<char>;",
         &[8, 0, 0, 0, 1, 0, 0, 0, 0, 0xd8],
         0,
         TrapKind::Char,
+        [0, 0, 0, 0, 1, 0, 0, 0],
     ),
-    ("f: func() -> option<u32>;", &[2], 0, TrapKind::Case),
-    (TEXT, &HI, 2, TrapKind::Align),
-    (TEXT, &HI, 28, TrapKind::Bounds),
+    ("f: func() -> option<u32>;", &[2], 0, TrapKind::Case, [0; 8]),
+    (TEXT, &HI, 2, TrapKind::Align, [0; 8]),
+    (TEXT, &HI, 28, TrapKind::Bounds, [0; 8]),
     (
         TEXT,
         &[8, 0, 0, 0, 2, 0, 0, 0, 0xc0, 0x80],
         0,
         TrapKind::Utf8,
+        [0; 8],
     ),
 ];
 
 #[test]
 fn faults_of_answers(rt: HostRuntime) -> Result<(), Fail> {
     for row in ANSWERS.as_slice() {
-        let (items, bytes, answer, kind) = *row;
+        let (items, bytes, answer, kind, area) = *row;
         let caller = filled(rt.alloc(), 32, &[])?;
         let told = answered_to(rt.alloc(), items, 0, caller, bytes, answer)?;
         assert_not_answered(&rt, &told, kind, Step::LiftResult);
-        assert!(rt; told.caller.as_slice() == [0; 32].as_slice());
+        let mut wanted = [0; 32];
+        wanted[..8].copy_from_slice(&area);
+        assert!(rt; told.caller.as_slice() == wanted.as_slice());
     }
     Ok(())
 }

@@ -5,10 +5,10 @@ use Rattle.std.specs.Option.{option_map}
 use Rattle.std.proofs.lemmas.Bool.{and_parts, and_from, false≢true, leb-true}
 use Rattle.std.proofs.lemmas.List.{length-map}
 use Rattle.std.proofs.lemmas.List.Folds.{list_all-map}
-use Rattle.canonical_abi.specs.Types.{ClosedType, IsPlain, fields_of, record_type, result_fields}
+use Rattle.canonical_abi.specs.Types.{ClosedType, fields_of, record_type, result_fields}
 use Rattle.canonical_abi.specs.Layout.{size}
 use Rattle.layout.specs.Layout.{AreWithin}
-use Rattle.tables.specs.Closed.{closed_val, closed_type, closed_types, closed_params, function_at, function_type, type_of_function, is_scalar, is_scalar_result, is_scalar_function, IsFunction, IsScalarFunction}
+use Rattle.tables.specs.Closed.{closed_val, closed_type, closed_types, closed_params, function_at, function_type, type_of_function, is_scalar, is_scalar_function, IsFunction, IsScalarFunction}
 use Rattle.tables.specs.Same.{IsSamePackage}
 use Rattle.tables.specs.Standard.{IsTypeOf}
 use Rattle.tables.specs.Tables.{function_of, is_there, is_type}
@@ -91,15 +91,3 @@ result_is_fields r f s found = result_fields_are r s.result ∙ sym (ap (λ o. r
 pub all_known : (r : Resolve) (o : Option ValType) → IfSome o (IsTypeOf r) → AreTypesOf r (option_to_list o)
 all_known r None h = refl
 all_known r (Some t) h = and_from (is_type r.definitions t) true h refl
-
-scalar_result : (rows : List ClosedType) (o : Option ValType) → is_scalar_result o ≡ true → IfSome o (λ t. IsPlain (closed_val rows t))
-scalar_result rows None h = tt
-scalar_result rows (Some (val.Primitive p)) h = tt
-scalar_result rows (Some val.String) h = absurd (false≢true h)
-scalar_result rows (Some (val.Id t)) h = absurd (false≢true h)
-
--- the result of a scalar function is plain
-pub result_plain : (r : Resolve) (f : FunctionId) (s : Function) → function_at r f ≡ Some s → IsScalarFunction r f → IfSome s.result (λ t. IsPlain (closed_type r t))
-result_plain r f s found h =
-    let scalar : is_scalar_function (Some s) ≡ true = subst (λ o. is_scalar_function o ≡ true) found h in
-    scalar_result (closed_types r) s.result (and_parts _ _ (and_parts _ _ scalar).1).1

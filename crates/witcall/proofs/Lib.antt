@@ -14,5 +14,4 @@ pub mod SessionRuns
 pub mod StandardSteps
 pub mod TypedCalls
 pub mod TypedLists
-pub mod Within
 pub mod Written

@@ -1,11 +1,11 @@
 //! Typed calls between two components.
 
-ghost use Rattle.std.specs.Prelude.{◌≡◌, ◌≢◌, ◌≤◌, ℕ, List, Err, length, map, is_ok, IfOk, IfErr, OnErr, OnOk, option_to_list};
+ghost use Rattle.std.specs.Prelude.{◌≡◌, ◌≢◌, ◌≤◌, ℕ, List, Err, length, map, is_ok, IfOk, IfErr, IfSome, OnErr, OnOk, option_to_list};
 ghost use Rattle.std.specs.List.{All};
 ghost use Rattle.std.specs.Option.{option_map};
 ghost use Rattle.canonical_abi.specs.Values.{HasType, HaveTypes};
 ghost use Rattle.canonical_abi.specs.Types.{IsPlain, result_fields};
-ghost use Rattle.tables.specs.Closed.{IsFunction, IsScalarFunction, closed_type, function_type};
+ghost use Rattle.tables.specs.Closed.{IsFunction, closed_type, function_type};
 ghost use Rattle.tables.specs.Standard.{IsTypeOf};
 ghost use Rattle.canonical_abi.specs.Layout.{max_flat_results};
 ghost use Rattle.canonical_abi.specs.Flat.{Denotes};
@@ -70,8 +70,8 @@ impl<'a, C: Guest, E: Guest, B: Body<E>> Session<'a, C, E, B> {
 
     /// Calls a function of the package: lowers the arguments into the caller and asks for the return area
     /// where the result does not go flat (step `place`), calls the link, and lifts the result (step `take`).
-    /// The blocks that it asked for stay live. Over honest guests
-    /// within the limit the callee finds exactly the arguments and is run once, the caller lifts exactly its
+    /// The blocks that it asked for stay live. Memory of the host is taken for the result's tree alone: none for no result, or
+    /// for one of a plain type. Over honest guests within the limit the callee finds exactly the arguments and is run once, the caller lifts exactly its
     /// answer, no byte outside the blocks is changed, and a trap stands.
     pub fn call(
         &mut self,
@@ -105,14 +105,13 @@ impl<'a, C: Guest, E: Guest, B: Body<E>> Session<'a, C, E, B> {
         ensures typed { IfOk result (λ v. HaveTypes (as_list (option_map value_of v))
             (result_fields (function_type self.old.package.now.resolve func).result)) }
         ensures package { self.new.package.now ≡ self.old.package.now }
-        ensures no_memory { IsScalarFunction self.old.package.now.resolve func → result ≢ Err Fault.NoMemory }
+        ensures no_memory { IfSome (function_type self.old.package.now.resolve func).result IsPlain → result ≢ Err Fault.NoMemory }
     {
         let table = self.package.types();
         let placed = place_call(&table, func, arguments, &mut self.caller)?;
         let resolve = table.resolve();
         let mut link = Link::new(resolve, table.layouts());
         let back = link.call(
-            alloc,
             func,
             placed.flats.as_slice(),
             &mut self.caller,

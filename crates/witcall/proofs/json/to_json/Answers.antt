@@ -4,7 +4,7 @@ use Rattle.serde_json.specs.View.{view}
 use Rattle.tables.specs.Labelled.{labelled_type}
 use Rattle.value_json.specs.Json.{Json}
 use Rattle.witcall.proofs.ReadBack.{read-back}
-use Rattle.witcall.proofs.Within.{type-shallow}
+use Rattle.adapter.proofs.Within.{type-shallow}
 use Rattle.witcall.proofs.json.to_json.Goals as goal
 
 pub returns-clause-written : goal.returns-clause-written

@@ -9,7 +9,7 @@ use Rattle.lift_lower.specs.Val.{value_of}
 use Rattle.lift_lower.proofs.Known.{known-inside}
 use Rattle.lift_lower.proofs.TypesExtents.{has-row}
 use Rattle.witcall.proofs.PlacedValues.{is_placed, is_not_granted, is_not_stored}
-use Rattle.witcall.proofs.Within.{type-small}
+use Rattle.adapter.proofs.Within.{type-small}
 use Rattle.witcall.proofs.placing.place_value.Goals as goal
 
 -- a request of the type's alignment and size, in the numbers that the layouts told

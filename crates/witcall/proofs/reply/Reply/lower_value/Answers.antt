@@ -7,7 +7,7 @@ use Rattle.lift_lower.specs.Crossing.{fields_of_types}
 use Rattle.tables.specs.Closed.{function_type}
 use Rattle.tables.specs.Standard.{IsTypeOf}
 use Rattle.witcall.proofs.Replied.{lent, no-room, result-small}
-use Rattle.witcall.proofs.Within.{type-small}
+use Rattle.adapter.proofs.Within.{type-small}
 use Rattle.witcall.proofs.reply.Reply.lower_value.Goals as goal
 
 pub lower_answer-requires-clause-small : goal.lower_answer-requires-clause-small

@@ -1,14 +1,15 @@
-use Rattle.std.proofs.Common.{ap, sym, map, subst, ◌∙◌, List, Ok, Err}
+use Rattle.std.proofs.Common.{ap, sym, map, subst, ◌∙◌, List, Option, None, Some, Ok, Err}
 use Rattle.std.proofs.lemmas.Result.{err_from_is_err_and}
 use Rattle.std.specs.Option.{option_map}
-use Rattle.std.specs.Prelude.{IfOk}
+use Rattle.std.specs.Prelude.{IfOk, IfSome}
 use Rattle.canonical_abi.specs.Session.{as_list, HasResult, HasResultFault}
-use Rattle.canonical_abi.specs.Types.{Fields, result_fields}
+use Rattle.canonical_abi.specs.Types.{ClosedType, Fields, IsPlain, result_fields}
 use Rattle.canonical_abi.specs.Call.{either, Parties, Ways, Calls}
 use Rattle.canonical_abi.specs.Values.{HaveTypes}
 use Rattle.canonical_abi.specs.declared.flat.Flat.{Flat}
 use Rattle.canonical_abi.specs.declared.trap.Step.TheVariants.{Take}
 use Rattle.tables.specs.Closed.{closed_type, function_type, IsFunction}
+use Rattle.tables.specs.declared.tables.ValType.{ValType}
 use Rattle.lift_lower.specs.NoValue.{AnswerStands}
 use Rattle.lift_lower.specs.Placing.{area_at, IsAreaIn}
 use Rattle.lift_lower.specs.Val.{value_of}
@@ -17,7 +18,6 @@ use Rattle.adapter.proofs.Chains.{world}
 use Rattle.witcall.specs.Session.{IsReady, IsNotReady}
 use Rattle.witcall.proofs.Prepared.{area_stays}
 use Rattle.witcall.proofs.Promised.{promised}
-use Rattle.witcall.proofs.Functions.{result_plain}
 use Rattle.witcall.proofs.TypedCalls.{placed, place_fails, link_fails, came_back, takes}
 use Rattle.witcall.proofs.session.Session.call.Goals as goal
 
@@ -106,10 +106,18 @@ returns-clause-typed g c =
     let same = ap result_fields (sym (result-is own c.args.func is c.signature.result.now (rw c.resolve-resolve.ensures at c.signature.ensures))) ∙ ap (λ q. result_fields (function_type q c.args.func).result) c.types-table.ensures.types in
     subst (λ ts. IfOk c.take_result.result (λ v. HaveTypes (as_list (option_map value_of v)) ts)) same c.take_result.ensures.typed
 
+-- a result of a plain type
+plain-of : (g : ValType → ClosedType) (o : Option ValType) → IfSome (option_map g o) IsPlain → IfSome o (λ t. IsPlain (g t))
+plain-of g None h = tt
+plain-of g (Some t) h = h
+
 pub returns-clause-no_memory : goal.returns-clause-no_memory
-returns-clause-no_memory g c = λ scalar.
+returns-clause-no_memory g c = λ plain.
     let own = c.types-table.result in
-    c.take_result.ensures.plain (result_plain own c.args.func c.signature.result.now (rw c.resolve-resolve.ensures at c.signature.ensures) (rw c.types-table.ensures.types scalar))
+    let is = subst (λ q. IsFunction q c.args.func) (sym c.types-table.ensures.types) c.requires.function in
+    let same = result-is own c.args.func is c.signature.result.now (rw c.resolve-resolve.ensures at c.signature.ensures) in
+    let here = subst (λ q. IfSome (function_type q c.args.func).result IsPlain) (sym c.types-table.ensures.types) plain in
+    c.take_result.ensures.plain (plain-of (closed_type own) c.signature.result.now.result (subst (λ o. IfSome o IsPlain) same here))
 
 pub returns-in_err-placed-clause-promise : goal.returns-in_err-placed-clause-promise
 returns-in_err-placed-clause-promise g c = promised _ _ _ c.args.self.now.package.now.resolve c.args.func _ _ _ _ c.requires.function (returns-in_err-placed-clause-call g c)
