@@ -4,4 +4,4 @@
 #[cfg(test)]
 mod first_fit;
 #[cfg(test)]
-mod max_tree;
+mod trees;
