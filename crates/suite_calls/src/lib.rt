@@ -4,7 +4,7 @@
 #[cfg(test)]
 mod calls;
 #[cfg(test)]
-mod crossing;
+mod compounds;
 #[cfg(test)]
 mod hosts;
 #[cfg(test)]
