@@ -14,7 +14,7 @@ use Rattle.ctype_bin.specs.Exactness.{IsBytes}
 use Rattle.ctype_bin.specs.Writing.{file_bytes}
 use Rattle.ctype_bin.specs.Spellable.{IsSpellable}
 use Rattle.ctype_bin.specs.Formed.{FormedFile}
-use Rattle.ctype_bin.specs.Parts.{IsWrong, Refuses}
+use Rattle.ctype_bin.specs.Parts.{IsWrong, ComponentRefuses}
 use Rattle.ctype_bin.specs.Accepted.{IsAccepted}
 use Rattle.ctype_bin.proofs.Decoded.{spellable, read_all}
 use Rattle.ctype_bin.proofs.File.{exact-file}
@@ -64,7 +64,7 @@ module _ (f : File) (bytes : List ℕ) (written : bytes ≡ file_bytes f) (forme
       }
 
 -- accepted parts are refused for want of memory alone
-pub only_memory : (f : File) (e : BinError) → FormedFile f → IsAccepted f → Refuses f e → e ≡ errors.NoMemory
+pub only_memory : (f : File) (e : BinError) → FormedFile f → IsAccepted f → ComponentRefuses f e → e ≡ errors.NoMemory
 only_memory f (errors.At fault place) formed accepted h = absurd (h.1.unspellable (file_bytes f, file_spelt f formed accepted))
 only_memory f (errors.Read place) formed accepted h = absurd h
 only_memory f errors.NoMemory formed accepted h = refl

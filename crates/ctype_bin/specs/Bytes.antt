@@ -168,6 +168,6 @@ Stops errors.Memory read = Unit {0}
 Stops (errors.Stuck f) read = read ≡ Err f
 
 -- What a function returned, seen by view, is what reading gives, unless memory ran out.
-abbrev pub Gives : {X Y : Type 0} → (X → Y) → Result X ItemError → Result Y Stuck → Type 0
-Gives view (Ok x) read = read ≡ Ok (view x)
-Gives view (Err e) read = Stops e read
+abbrev pub AnswersRead : {X Y : Type 0} → (X → Y) → Result X ItemError → Result Y Stuck → Type 0
+AnswersRead view (Ok x) read = read ≡ Ok (view x)
+AnswersRead view (Err e) read = Stops e read

@@ -27,7 +27,7 @@ pub record IsWrong (f : File) (fault : Fault) : Type 0 where
   pub kind : IsOfParts fault
 
 -- Why parts are refused: the fault has place 0.
-abbrev pub Refuses : File → BinError → Type 0
-Refuses f (errors.At fault place) = (place ≡ 0) × IsWrong f fault
-Refuses f (errors.Read place) = ⊥
-Refuses f errors.NoMemory = Unit {0}
+abbrev pub ComponentRefuses : File → BinError → Type 0
+ComponentRefuses f (errors.At fault place) = (place ≡ 0) × IsWrong f fault
+ComponentRefuses f (errors.Read place) = ⊥
+ComponentRefuses f errors.NoMemory = Unit {0}

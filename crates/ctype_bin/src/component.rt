@@ -5,7 +5,7 @@ ghost use Rattle.ctype_bin.specs.View.{file_of};
 ghost use Rattle.ctype_bin.specs.Writing.{file_bytes};
 ghost use Rattle.ctype_bin.specs.Formed.{FormedFile};
 ghost use Rattle.ctype_bin.specs.Spellable.{IsSpellable};
-ghost use Rattle.ctype_bin.specs.Parts.{Refuses};
+ghost use Rattle.ctype_bin.specs.Parts.{ComponentRefuses};
 ghost use Rattle.ctype_bin.specs.Accepted.{IsAccepted};
 
 use crate::encoding::spelling;
@@ -36,7 +36,7 @@ impl RawComponent {
         ensures exports { IfOk result (λ c. c.exports ≡ exports) }
         ensures only { IsSpellable (file_of types exports) → MatchResult result (λ _. Unit {0}) (λ e. e ≡ BinError.NoMemory) }
         ensures accepted { IsAccepted (file_of types exports) → MatchResult result (λ _. Unit {0}) (λ e. e ≡ BinError.NoMemory) }
-        ensures err { IfErr result (λ e. Refuses (file_of types exports) e) }
+        ensures err { IfErr result (λ e. ComponentRefuses (file_of types exports) e) }
     {
         let Ok(bytes) = spelling(alloc, types.as_slice(), exports.as_slice()) else {
             return Err(BinError::NoMemory);
@@ -72,7 +72,7 @@ impl RawComponent {
 /// Reads what was written of a component's parts, and so finds the first fault in them, which has no place.
 fn reread(alloc: Global, bytes: &[u8]) -> Result<(), BinError>
     requires { (f : File) × (bytes.now ≡ file_bytes f) × FormedFile f }
-    ensures { (f : File) → bytes.now ≡ file_bytes f → FormedFile f → MatchResult result (λ _. ∥ IsSpellable f ∥₁) (λ e. Refuses f e) }
+    ensures { (f : File) → bytes.now ≡ file_bytes f → FormedFile f → MatchResult result (λ _. ∥ IsSpellable f ∥₁) (λ e. ComponentRefuses f e) }
 {
     match parts_of(alloc, bytes) {
         Ok(_) => Ok(()),

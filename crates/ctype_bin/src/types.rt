@@ -1,7 +1,7 @@
 //! Reading types with scopes of their own, and the declarations in them. They nest at most four deep.
 ghost use Rattle.std.specs.Prelude.{◌≡◌, ◌<◌, ◌≤◌, ◌+◌, map, length, IfOk, OnOk, IsTrue};
 ghost use Rattle.productions.specs.Production.{run};
-ghost use Rattle.ctype_bin.specs.Bytes.{Gives};
+ghost use Rattle.ctype_bin.specs.Bytes.{AnswersRead};
 ghost use Rattle.ctype_bin.specs.Raw.{Alias};
 ghost use Rattle.ctype_bin.specs.Grammar.{IsWithin, is_nested, is_component, left_out, opcode, new_scope, entry_fault, instance_export, outer_type, alias, description, external, is_decl, decl, nested, scope_of, type};
 ghost use Rattle.ctype_bin.specs.View.{decl_view, type_view};
@@ -30,7 +30,7 @@ fn left_out(byte: u8) -> Fault
 /// The first byte of a type.
 #[tactic(auto, unfolding(crate::specs::Grammar::opcode))]
 fn type_opcode_of(depth: u32, entries: u32, bytes: &[u8]) -> Result<(Opcode, &[u8]), ItemError>
-    ensures reads { Gives (λ x. (x.0, x.1.now)) result ((opcode depth entries).read bytes.now) }
+    ensures reads { AnswersRead (λ x. (x.0, x.1.now)) result ((opcode depth entries).read bytes.now) }
     ensures room { OnOk result (entries < 65535) }
     ensures nested { IfOk result (λ x. IsTrue (is_nested x.0) → 0 < depth) }
 {
@@ -63,7 +63,7 @@ fn instance_export_of(
     scope: Scope,
     bytes: &[u8],
 ) -> Result<(RawAlias, &[u8]), ItemError>
-    ensures { Gives (λ x. (x.0, x.1.now)) result ((instance_export scope).read bytes.now) }
+    ensures { AnswersRead (λ x. (x.0, x.1.now)) result ((instance_export scope).read bytes.now) }
 {
     let (instance, rest) = index_of(scope.instances, bytes)?;
     let (name, rest) = label_of(alloc, rest)?;
@@ -76,7 +76,7 @@ fn outer_of<'a>(
     scope: Scope,
     bytes: &'a [u8],
 ) -> Result<(RawAlias, &'a [u8]), ItemError>
-    ensures { Gives (λ x. (x.0, x.1.now)) result ((outer_type around.now scope).read bytes.now) }
+    ensures { AnswersRead (λ x. (x.0, x.1.now)) result ((outer_type around.now scope).read bytes.now) }
 {
     let (count, rest) = u32_of(bytes)?;
     if count as usize > around.len() {
@@ -94,7 +94,7 @@ fn alias_of<'a>(
     bytes: &'a [u8],
 ) -> Result<(RawAlias, Scope, &'a [u8]), ItemError>
     requires { IsWithin scope }
-    ensures reads { Gives (λ x. ((Alias x.0, x.1), x.2.now)) result ((alias around.now scope).read bytes.now) }
+    ensures reads { AnswersRead (λ x. ((Alias x.0, x.1), x.2.now)) result ((alias around.now scope).read bytes.now) }
     ensures within { IfOk result (λ x. IsWithin x.1) }
     ensures more { IfOk result (λ x. scope.entries ≤ x.1.entries) }
     ensures instances { IfOk result (λ x. x.1.instances ≡ scope.instances) }
@@ -117,7 +117,7 @@ fn alias_of<'a>(
 fn description_of(scope: Scope, bytes: &[u8]) -> Result<(RawDescription, Scope, &[u8]), ItemError>
     requires within { IsWithin scope }
     requires instances { scope.instances < 4294967295 }
-    ensures reads { Gives (λ x. ((x.0, x.1), x.2.now)) result ((description scope).read bytes.now) }
+    ensures reads { AnswersRead (λ x. ((x.0, x.1), x.2.now)) result ((description scope).read bytes.now) }
     ensures within { IfOk result (λ x. IsWithin x.1) }
     ensures more { IfOk result (λ x. scope.entries ≤ x.1.entries) }
     ensures instances { IfOk result (λ x. x.1.instances ≤ scope.instances + 1) }
@@ -156,7 +156,7 @@ fn external_of(
 ) -> Result<(RawDecl, Scope, &[u8]), ItemError>
     requires within { IsWithin scope }
     requires instances { scope.instances < 4294967295 }
-    ensures reads { Gives (λ x. ((decl_view x.0, x.1), x.2.now)) result ((external scope sort).read bytes.now) }
+    ensures reads { AnswersRead (λ x. ((decl_view x.0, x.1), x.2.now)) result ((external scope sort).read bytes.now) }
     ensures within { IfOk result (λ x. IsWithin x.1) }
     ensures more { IfOk result (λ x. scope.entries ≤ x.1.entries) }
     ensures instances { IfOk result (λ x. x.1.instances ≤ scope.instances + 1) }
@@ -188,7 +188,7 @@ fn decl_of<'a>(
 ) -> Result<(RawDecl, Scope, &'a [u8]), ItemError>
     requires within { IsWithin scope }
     requires instances { scope.instances < 4294967295 }
-    ensures reads { Gives (λ x. ((decl_view x.0, x.1), x.2.now)) result ((decl (type depth) component around.now scope).read bytes.now) }
+    ensures reads { AnswersRead (λ x. ((decl_view x.0, x.1), x.2.now)) result ((decl (type depth) component around.now scope).read bytes.now) }
     ensures within { IfOk result (λ x. IsWithin x.1) }
     ensures more { IfOk result (λ x. scope.entries ≤ x.1.entries) }
     ensures instances { IfOk result (λ x. x.1.instances ≤ scope.instances + 1) }
@@ -222,7 +222,7 @@ fn decls_of<'a>(
     bytes: &'a [u8],
 ) -> Result<(Vec<RawDecl>, Scope, &'a [u8]), ItemError>
     requires { entries ≤ 65535 }
-    ensures reads { Gives (λ x. ((map decl_view x.0.items, x.1), x.2.now)) result ((run (decl (type depth) component around.now) count (new_scope entries)).read bytes.now) }
+    ensures reads { AnswersRead (λ x. ((map decl_view x.0.items, x.1), x.2.now)) result ((run (decl (type depth) component around.now) count (new_scope entries)).read bytes.now) }
     ensures within { IfOk result (λ x. (entries ≤ x.1.entries) × (x.1.entries ≤ 65535)) }
 {
     let mut decls = Vec::new(alloc);
@@ -260,7 +260,7 @@ fn scope_of<'a>(
     bytes: &'a [u8],
 ) -> Result<(RawType, u32, &'a [u8]), ItemError>
     requires { entries ≤ 65535 }
-    ensures reads { Gives (λ x. ((type_view x.0, x.1), x.2.now)) result ((scope_of (type depth) opcode around.now entries).read bytes.now) }
+    ensures reads { AnswersRead (λ x. ((type_view x.0, x.1), x.2.now)) result ((scope_of (type depth) opcode around.now entries).read bytes.now) }
     ensures within { IfOk result (λ x. (entries ≤ x.1) × (x.1 ≤ 65535)) }
 {
     let component = matches!(opcode, Opcode::Component);
@@ -280,7 +280,7 @@ pub(crate) fn type_of<'a>(
     bytes: &'a [u8],
 ) -> Result<(RawType, u32, &'a [u8]), ItemError>
     requires { IsWithin scope }
-    ensures reads { Gives (λ x. ((type_view x.0, x.1), x.2.now)) result ((type depth around.now scope).read bytes.now) }
+    ensures reads { AnswersRead (λ x. ((type_view x.0, x.1), x.2.now)) result ((type depth around.now scope).read bytes.now) }
     ensures within { IfOk result (λ x. (scope.entries < x.1) × (x.1 ≤ 65535)) }
 {
     let (opcode, rest) = type_opcode_of(depth, scope.entries, bytes)?;

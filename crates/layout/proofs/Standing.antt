@@ -18,7 +18,7 @@ use Rattle.tables.specs.declared.tables.Definition.TheVariants as row
 use Rattle.tables.specs.declared.tables.Resolve.{Resolve}
 use Rattle.tables.proofs.Rows.{split, earlier-at, closed-at, closed_val-stays}
 use Rattle.layout.specs.Parts.{payloads, followed, end_of, record_parts, variant_parts, kind_parts, definition_parts, parts_from}
-use Rattle.layout.specs.Queries.{Stands}
+use Rattle.layout.specs.Queries.{PartsStand}
 use Rattle.layout.specs.declared.parts.Parts.{Parts}
 use Rattle.layout.specs.declared.parts.Parts.TheVariants as parts
 use Rattle.layout.proofs.Agreement.{Agree, types-agree, payload-agrees, payloads-agree, mapped, mapped-options, no-payloads, length-parts, parts-more, parts_from-append}
@@ -80,16 +80,16 @@ module _ (c : ValType → ClosedType) (n : ℕ) where
   count-cases (None ∷ os) = ap suc (count-cases os)
   count-cases (Some v ∷ os) = ap suc (count-cases os)
 
-  record-stands : (vs : List ValType) (t : ClosedType) → t ≡ record_type (fields_of (map c vs)) → IsTrue (list_all (is_below n) vs) → Stands c n (record_parts room vs) t
+  record-stands : (vs : List ValType) (t : ClosedType) → t ≡ record_type (fields_of (map c vs)) → IsTrue (list_all (is_below n) vs) → PartsStand c n (record_parts room vs) t
   record-stands vs t e h = (e, ap (places_from 0) (fields-room vs), h)
 
-  variant-stands : (os : List (Option ValType)) (t : ClosedType) → t ≡ variant_type (cases_of (map (option_map c) os)) → IsTrue (list_all (option_below n) os) → Stands c n (variant_parts room os) t
+  variant-stands : (os : List (Option ValType)) (t : ClosedType) → t ≡ variant_type (cases_of (map (option_map c) os)) → IsTrue (list_all (option_below n) os) → PartsStand c n (variant_parts room os) t
   variant-stands os t e h =
       (e, ap (λ (k : ℕ). payload_at k (payloads (map (option_map room) os))) (count-cases os) ∙ ap (payload_at (case_count (cases_of (map (option_map c) os)))) (payloads-room os), h)
 
 kind-stands : (ts : List ClosedType) (n : ℕ) (ps : List Parts) (k : TypeDefKind) → IsTrue (kind_below n k)
     → ((v : ValType) → IsTrue (is_below n v) → closed_val ts (end_of ps v) ≡ closed_val ts v)
-    → Stands (closed_val ts) n (kind_parts (λ v. extent_of (closed_val ts v)) ps k) (closed_kind ts k)
+    → PartsStand (closed_val ts) n (kind_parts (λ v. extent_of (closed_val ts v)) ps k) (closed_kind ts k)
 kind-stands ts n ps (kind.Use t) h ends = sym (ends (val.Id t) h)
 kind-stands ts n ps (kind.Alias v) h ends = sym (ends v h)
 kind-stands ts n ps (kind.List v) h ends = (refl, h)
@@ -108,7 +108,7 @@ kind-stands ts n ps (kind.Flags names) h ends = refl
 
 definition-stands : (ts : List ClosedType) (n : ℕ) (ps : List Parts) (d : Definition) → IsTrue (definition_below n d)
     → ((v : ValType) → IsTrue (is_below n v) → closed_val ts (end_of ps v) ≡ closed_val ts v)
-    → Stands (closed_val ts) n (definition_parts (λ v. extent_of (closed_val ts v)) ps d) (closed_definition ts d)
+    → PartsStand (closed_val ts) n (definition_parts (λ v. extent_of (closed_val ts v)) ps d) (closed_definition ts d)
 definition-stands ts n ps (row.Type d) h ends = kind-stands ts n ps d.kind h ends
 definition-stands ts n ps (row.Function f) h ends =
     record-stands (closed_val ts) n (map (λ p. p.ty) f.params) _ (ap (λ (xs : List ClosedType). record_type (fields_of xs)) (sym (map-map (closed_val ts) (λ p. p.ty) f.params)))
@@ -135,17 +135,17 @@ module _ (r : Resolve) where
 
   -- what stands in definition k, which is d
   stands-in : (k : ℕ) (d : Definition) → k < length r.definitions → EndsAlike k
-      → Stands (closed_type r) k (definition_parts (λ v. extent_of (closed_type r v)) (front k) (get_or r.definitions k d)) (get_or (closed_types r) k string_type)
+      → PartsStand (closed_type r) k (definition_parts (λ v. extent_of (closed_type r v)) (front k) (get_or r.definitions k d)) (get_or (closed_types r) k string_type)
   stands-in k d h ends =
       let same : 0 + k ≡ k = omega arith in
       let at = earlier-at 0 r.definitions k d r.earlier h in
       let below : IsTrue (definition_below k (get_or r.definitions k d)) = rw same at at in
-      subst (λ (t : ClosedType). Stands (closed_type r) k (definition_parts (λ v. extent_of (closed_type r v)) (front k) (get_or r.definitions k d)) t)
+      subst (λ (t : ClosedType). PartsStand (closed_type r) k (definition_parts (λ v. extent_of (closed_type r v)) (front k) (get_or r.definitions k d)) t)
       (sym (closed-whole r k d h below))
       (definition-stands (closed_types r) k (front k) (get_or r.definitions k d) below ends)
 
   -- a name that is made of these parts ends alike
-  followed-alike : (t : ℕ) (p : Parts) (n : ℕ) → Stands (closed_type r) n p (get_or (closed_types r) t string_type) → closed_type r (followed (record { 0 = t }) p) ≡ get_or (closed_types r) t string_type
+  followed-alike : (t : ℕ) (p : Parts) (n : ℕ) → PartsStand (closed_type r) n p (get_or (closed_types r) t string_type) → closed_type r (followed (record { 0 = t }) p) ≡ get_or (closed_types r) t string_type
   followed-alike t (parts.Same v) n h = sym h
   followed-alike t (parts.List v) n h = refl
   followed-alike t (parts.Record vs ps) n h = refl
@@ -199,6 +199,6 @@ module _ (r : Resolve) where
       ∙ get_or_at (front k) p [] none_such k (length-front k (omega arith))
 
   -- the parts of each definition stand for its closed type
-  pub parts-stand : (k : ℕ) (d : Definition) → k < length r.definitions → Stands (closed_type r) k (get_or whole k none_such) (get_or (closed_types r) k string_type)
+  pub parts-stand : (k : ℕ) (d : Definition) → k < length r.definitions → PartsStand (closed_type r) k (get_or whole k none_such) (get_or (closed_types r) k string_type)
   parts-stand k d h =
-      subst (λ (p : Parts). Stands (closed_type r) k p (get_or (closed_types r) k string_type)) (sym (parts-at k d h)) (stands-in k d h (ends-alike k d (omega arith)))
+      subst (λ (p : Parts). PartsStand (closed_type r) k p (get_or (closed_types r) k string_type)) (sym (parts-at k d h)) (stands-in k d h (ends-alike k d (omega arith)))

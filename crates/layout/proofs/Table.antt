@@ -9,7 +9,7 @@ use Rattle.tables.specs.declared.tables.Definition.{Definition}
 use Rattle.tables.specs.declared.tables.Definition.TheVariants as row
 use Rattle.tables.specs.declared.tables.Resolve.{Resolve}
 use Rattle.tables.proofs.Rows.{split, below-at, option_below-later, length-closed_rows, length-front, closed_rows-more, closed-at}
-use Rattle.layout.specs.Layout.{row_of, IsSound, IsWithin, Refuses, StandsAt, RefusesFirst, AreWithin}
+use Rattle.layout.specs.Layout.{row_of, IsSound, IsWithin, LayoutRefuses, StandsAt, RefusesFirst, AreWithin}
 use Rattle.layout.specs.Rows.{definition_row, result_below, IsLimitedDefinition, RefusesDefinition}
 use Rattle.layout.specs.declared.rows.Row.{Row}
 use Rattle.layout.specs.declared.error.LayoutError.{LayoutError}
@@ -20,7 +20,7 @@ limited-within : (d : Definition) (t : ClosedType) → IsLimitedDefinition d (ro
 limited-within (row.Type d) t h = (omega (arith, h.0), h.1)
 limited-within (row.Function f) t h = h
 
-refused-closed : (e : LayoutError) (d : Definition) (t : ClosedType) → RefusesDefinition e d (row_of t) → Refuses e d t
+refused-closed : (e : LayoutError) (d : Definition) (t : ClosedType) → RefusesDefinition e d (row_of t) → LayoutRefuses e d t
 refused-closed TooDeep (row.Type d) t h = omega (arith, h)
 refused-closed TooDeep (row.Function f) t h = h
 refused-closed TooLarge (row.Type d) t h = (omega (arith, h.0), h.1)
@@ -80,13 +80,13 @@ module _ (r : Resolve) (i : ℕ) (rows : List Row) (d : Definition) (h : i < len
 
   pub refuses-first : (e : LayoutError) → RefusesDefinition e d (definition_row rows d) → RefusesFirst e r
   refuses-first e refused =
-      let closed : Refuses e d (get_or (closed_types r) i string_type) = refused-closed e d _ (subst (RefusesDefinition e d) made refused) in
+      let closed : LayoutRefuses e d (get_or (closed_types r) i string_type) = refused-closed e d _ (subst (RefusesDefinition e d) made refused) in
       by e closed
     where
-      stands : (e : LayoutError) → Refuses e d (get_or (closed_types r) i string_type) → StandsAt e r i
+      stands : (e : LayoutError) → LayoutRefuses e d (get_or (closed_types r) i string_type) → StandsAt e r i
       stands e q = record { definition = d; is = sym is; in_range = h; refused = q; before = λ k g l. so_far.within k l g }
 
-      by : (e : LayoutError) → Refuses e d (get_or (closed_types r) i string_type) → RefusesFirst e r
+      by : (e : LayoutError) → LayoutRefuses e d (get_or (closed_types r) i string_type) → RefusesFirst e r
       by TooDeep q = (i, stands TooDeep q)
       by TooLarge q = (i, stands TooLarge q)
       by NoMemory q = tt

@@ -18,7 +18,7 @@ use Rattle.tables.specs.declared.tables.Resolve.{Resolve}
 use Rattle.tables.proofs.Rows.{split, is_below-later, option_below-later, length-closed_rows}
 use Rattle.layout.specs.Parts.{end_of, is_end, is_no_name, AreEnded, parts_from}
 use Rattle.layout.specs.Layout.{row_of, Table, layouts_of}
-use Rattle.layout.specs.Queries.{HasShape, TellsField, TellsCase, shape_by, shape_of, field_by, field_of, placed, case_by, case_at, case_of, Stands}
+use Rattle.layout.specs.Queries.{HasShape, TellsField, TellsCase, shape_by, shape_of, field_by, field_of, placed, case_by, case_at, case_of, PartsStand}
 use Rattle.layout.specs.declared.parts.Parts.{Parts}
 use Rattle.layout.specs.declared.parts.Parts.TheVariants as parts
 use Rattle.layout.specs.declared.rows.Row.{Row}
@@ -77,14 +77,14 @@ get-none (z ∷ xs) (y ∷ ys) (suc i) x h e q = get-none xs ys i x (omega arith
 
 -- ---- by parts
 
-shape-by : (c : ValType → ClosedType) (k n : ℕ) (p : Parts) (t : ClosedType) → k ≤ n → IsTrue (is_no_name p) → Stands c k p t → HasShape c n t (shape_by p)
+shape-by : (c : ValType → ClosedType) (k n : ℕ) (p : Parts) (t : ClosedType) → k ≤ n → IsTrue (is_no_name p) → PartsStand c k p t → HasShape c n t (shape_by p)
 shape-by c k n (parts.Same v) t l h s = absurd (cc)
 shape-by c k n (parts.List v) t l h s = (s.0, is_below-later k n v l s.1)
 shape-by c k n (parts.Record vs ps) t l h s = (fields_of (map c vs), s.0, count-fields c vs)
 shape-by c k n (parts.Variant p os) t l h s = (cases_of (map (option_map c) os), s.0, count-cases c os)
 shape-by c k n (parts.Flags m) t l h s = s
 
-record-field : (c : ValType → ClosedType) (k n : ℕ) (vs : List ValType) (ps : List ℕ) (t : ClosedType) (i : ℕ) → k ≤ n → Stands c k (parts.Record vs ps) t
+record-field : (c : ValType → ClosedType) (k n : ℕ) (vs : List ValType) (ps : List ℕ) (t : ClosedType) (i : ℕ) → k ≤ n → PartsStand c k (parts.Record vs ps) t
     → TellsField c n t i (placed (slice_get vs i) (slice_get ps i))
 record-field c k n vs ps t i l s = by (slice_get vs i) (slice_get ps i) refl refl
   where
@@ -105,14 +105,14 @@ record-field c k n vs ps t i l s = by (slice_get vs i) (slice_get ps i) refl ref
     by (Some v) None e f = absurd (get-none vs ps i v count e f)
     by (Some v) (Some p) e f = (nth ∙ ap (option_map c) e, places ∙ f, is_below-later k n v l (below-all k vs i v s.2 e))
 
-field-by : (c : ValType → ClosedType) (k n : ℕ) (p : Parts) (t : ClosedType) (i : ℕ) → k ≤ n → IsTrue (is_no_name p) → Stands c k p t → TellsField c n t i (field_by p i)
+field-by : (c : ValType → ClosedType) (k n : ℕ) (p : Parts) (t : ClosedType) (i : ℕ) → k ≤ n → IsTrue (is_no_name p) → PartsStand c k p t → TellsField c n t i (field_by p i)
 field-by c k n (parts.Same v) t i l h s = absurd (cc)
 field-by c k n (parts.List v) t i l h s = ap (λ (u : ClosedType). nth_field (record_fields u) i) s.0
 field-by c k n (parts.Record vs ps) t i l h s = record-field c k n vs ps t i l s
 field-by c k n (parts.Variant p os) t i l h s = ap (λ (u : ClosedType). nth_field (record_fields u) i) s.0
 field-by c k n (parts.Flags m) t i l h s = ap (λ (u : ClosedType). nth_field (record_fields u) i) s
 
-variant-case : (c : ValType → ClosedType) (k n : ℕ) (p : ℕ) (os : List (Option ValType)) (t : ClosedType) (i : ℕ) → k ≤ n → Stands c k (parts.Variant p os) t
+variant-case : (c : ValType → ClosedType) (k n : ℕ) (p : ℕ) (os : List (Option ValType)) (t : ClosedType) (i : ℕ) → k ≤ n → PartsStand c k (parts.Variant p os) t
     → TellsCase c n t i (option_map (case_at p) (slice_get os i))
 variant-case c k n p os t i l s = by (slice_get os i) refl
   where
@@ -126,7 +126,7 @@ variant-case c k n p os t i l s = by (slice_get os i) refl
     by None e = nth ∙ ap (option_map (option_map c)) e
     by (Some o) e = (nth ∙ ap (option_map (option_map c)) e, s.1 ∙ ap payload_place (sym cases), option_below-later k n o l (below-options k os i o s.2 e))
 
-case-by : (c : ValType → ClosedType) (k n : ℕ) (p : Parts) (t : ClosedType) (i : ℕ) → k ≤ n → IsTrue (is_no_name p) → Stands c k p t → TellsCase c n t i (case_by p i)
+case-by : (c : ValType → ClosedType) (k n : ℕ) (p : Parts) (t : ClosedType) (i : ℕ) → k ≤ n → IsTrue (is_no_name p) → PartsStand c k p t → TellsCase c n t i (case_by p i)
 case-by c k n (parts.Same v) t i l h s = absurd (cc)
 case-by c k n (parts.List v) t i l h s = ap (λ (u : ClosedType). nth_case (variant_cases u) i) s.0
 case-by c k n (parts.Record vs ps) t i l h s = ap (λ (u : ClosedType). nth_case (variant_cases u) i) s.0

@@ -65,19 +65,19 @@ IsWithin (row.Type d) t = (depth t ≤ max_depth) × (size t ≤ max_size)
 IsWithin (row.Function f) t = size t ≤ max_size
 
 -- the refusal stands for a definition of this closed type
-abbrev pub Refuses : LayoutError → Definition → ClosedType → Type 0
-Refuses TooDeep (row.Type d) t = max_depth < depth t
-Refuses TooDeep (row.Function f) t = ⊥
-Refuses TooLarge (row.Type d) t = (depth t ≤ max_depth) × (max_size < size t)
-Refuses TooLarge (row.Function f) t = max_size < size t
-Refuses NoMemory d t = Unit {0}
+abbrev pub LayoutRefuses : LayoutError → Definition → ClosedType → Type 0
+LayoutRefuses TooDeep (row.Type d) t = max_depth < depth t
+LayoutRefuses TooDeep (row.Function f) t = ⊥
+LayoutRefuses TooLarge (row.Type d) t = (depth t ≤ max_depth) × (max_size < size t)
+LayoutRefuses TooLarge (row.Function f) t = max_size < size t
+LayoutRefuses NoMemory d t = Unit {0}
 
 -- the refusal stands for definition k, and all before it are within the limits
 pub record StandsAt (e : LayoutError) (r : Resolve) (k : ℕ) : Type 0 where
   pub definition : Definition
   pub is : slice_index_or r.definitions k definition ≡ definition
   pub in_range : k < length r.definitions
-  pub refused : Refuses e definition (slice_index_or (closed_types r) k string_type)
+  pub refused : LayoutRefuses e definition (slice_index_or (closed_types r) k string_type)
   pub before : (i : ℕ) (d : Definition) → i < k → slice_index_or r.definitions i d ≡ d → IsWithin d (slice_index_or (closed_types r) i string_type)
 
 abbrev pub RefusesFirst : LayoutError → Resolve → Type 0

@@ -78,11 +78,11 @@ case_of ps (val.Id t) i = case_by (slice_index_or ps t.0 (parts.Same val.String)
 case_of ps _ i = None
 
 -- ---- the law between them: these parts stand for a closed type
-abbrev pub Stands : (ValType → ClosedType) → ℕ → Parts → ClosedType → Type 0
-Stands c n (parts.Same v) t = t ≡ c v
-Stands c n (parts.List v) t = (t ≡ list_type (c v)) × IsTrue (is_below n v)
-Stands c n (parts.Record vs ps) t =
+abbrev pub PartsStand : (ValType → ClosedType) → ℕ → Parts → ClosedType → Type 0
+PartsStand c n (parts.Same v) t = t ≡ c v
+PartsStand c n (parts.List v) t = (t ≡ list_type (c v)) × IsTrue (is_below n v)
+PartsStand c n (parts.Record vs ps) t =
     (t ≡ record_type (fields_of (map c vs))) × (ps ≡ field_places (fields_of (map c vs))) × IsTrue (list_all (is_below n) vs)
-Stands c n (parts.Variant p os) t =
+PartsStand c n (parts.Variant p os) t =
     (t ≡ variant_type (cases_of (map (option_map c) os))) × (p ≡ payload_place (cases_of (map (option_map c) os))) × IsTrue (list_all (option_below n) os)
-Stands c n (parts.Flags k) t = t ≡ flags_type k
+PartsStand c n (parts.Flags k) t = t ≡ flags_type k

@@ -21,7 +21,7 @@ use Rattle.tables.specs.Closed.{prim_of, is_scalar}
 use Rattle.tables.specs.declared.tables.ValType.{ValType}
 use Rattle.tables.specs.declared.tables.ValType.TheVariants as val
 use Rattle.lift_lower.specs.Scalar.{prim_in, value_in, core_in, ScalarIs}
-use Rattle.lift_lower.specs.Scalars.{AreScalar, fields_in, prim_of_type, KindsFit, Stands, FirstFault, StandFor, FailAs, IsQuiet, AreCarried}
+use Rattle.lift_lower.specs.Scalars.{AreScalar, fields_in, prim_of_type, KindsFit, ScalarsStand, FirstFault, StandFor, FailAs, IsQuiet, AreCarried}
 use Rattle.lift_lower.specs.declared.scalar.Scalar.{Scalar}
 use Rattle.lift_lower.specs.declared.scalar.Scalar.TheVariants as scalar
 
@@ -49,7 +49,7 @@ kind_at (suc i) (t ∷ types) (f ∷ flats) d e h below =
     kind_at i types flats d e tail (omega arith)
 
 -- one more stands for its value
-pub stands_more : (i : ℕ) (types : List ValType) (flats : List Flat) (ss : List Scalar) (d : Flat) (e : ValType) (s : Scalar) → i < length flats → i < length types → Stands (take i types) (take i flats) ss → ScalarIs (prim_of_type (get_or types i e)) (number_of (get_or flats i d)) s → Stands (take (i + 1) types) (take (i + 1) flats) (ss ++ s ∷ [])
+pub stands_more : (i : ℕ) (types : List ValType) (flats : List Flat) (ss : List Scalar) (d : Flat) (e : ValType) (s : Scalar) → i < length flats → i < length types → ScalarsStand (take i types) (take i flats) ss → ScalarIs (prim_of_type (get_or types i e)) (number_of (get_or flats i d)) s → ScalarsStand (take (i + 1) types) (take (i + 1) flats) (ss ++ s ∷ [])
 stands_more i [] flats ss d e s f t h is = absurd (omega arith)
 stands_more i (y ∷ types) [] ss d e s f t h is = absurd (omega arith)
 stands_more zero (y ∷ types) (x ∷ flats) [] d e s f t h is = (is, tt)
@@ -59,7 +59,7 @@ stands_more (suc i) (y ∷ types) (x ∷ flats) (w ∷ ss) d e s f t h is =
     rw add-one (h.0, rw add-one at (stands_more i types flats ss d e s (omega arith) (omega arith) h.1 is))
 
 -- the first that stands for none
-pub fault_at : (i : ℕ) (types : List ValType) (flats : List Flat) (ss : List Scalar) (d : Flat) (e : ValType) (k : TrapKind) → i < length flats → i < length types → Stands (take i types) (take i flats) ss → PrimFaulty (prim_of_type (get_or types i e)) (number_of (get_or flats i d) % 2 ^ flat_bits (prim_of_type (get_or types i e))) k → FirstFault types flats k
+pub fault_at : (i : ℕ) (types : List ValType) (flats : List Flat) (ss : List Scalar) (d : Flat) (e : ValType) (k : TrapKind) → i < length flats → i < length types → ScalarsStand (take i types) (take i flats) ss → PrimFaulty (prim_of_type (get_or types i e)) (number_of (get_or flats i d) % 2 ^ flat_bits (prim_of_type (get_or types i e))) k → FirstFault types flats k
 fault_at i [] flats ss d e k f t h is = absurd (omega arith)
 fault_at i (y ∷ types) [] ss d e k f t h is = absurd (omega arith)
 fault_at zero (y ∷ types) (x ∷ flats) ss d e k f t h is = inl is
@@ -81,7 +81,7 @@ field_kinds-scalars rows (val.String ∷ types) h = cc
 field_kinds-scalars rows (val.Id t ∷ types) h = cc
 
 -- scalars stand for the values of the fields
-pub stands_lift : (rows : List ClosedType) (m : List ℕ) (types : List ValType) (flats : List Flat) (ss : List Scalar) → list_all is_scalar types ≡ true → Stands types flats ss → FieldsLift (fields_in rows types) m (map number_of flats) (map value_in ss)
+pub stands_lift : (rows : List ClosedType) (m : List ℕ) (types : List ValType) (flats : List Flat) (ss : List Scalar) → list_all is_scalar types ≡ true → ScalarsStand types flats ss → FieldsLift (fields_in rows types) m (map number_of flats) (map value_in ss)
 stands_lift rows m [] [] [] a h = refl
 stands_lift rows m [] [] (s ∷ ss) a h = absurd h
 stands_lift rows m [] (f ∷ flats) ss a h = absurd h
@@ -128,7 +128,7 @@ prim_typed (signed w) n v h = (_, read_sfits (width_of w) (n % 2 ^ bits w), h)
 prim_typed scalar_value n v h = (_, h.0, h.1)
 
 -- scalars that stand for core values are of their types
-pub stands_typed : (rows : List ClosedType) (types : List ValType) (flats : List Flat) (ss : List Scalar) → list_all is_scalar types ≡ true → Stands types flats ss → HaveTypes (map value_in ss) (fields_in rows types)
+pub stands_typed : (rows : List ClosedType) (types : List ValType) (flats : List Flat) (ss : List Scalar) → list_all is_scalar types ≡ true → ScalarsStand types flats ss → HaveTypes (map value_in ss) (fields_in rows types)
 stands_typed rows [] [] [] a h = refl
 stands_typed rows [] [] (s ∷ ss) a h = absurd h
 stands_typed rows [] (f ∷ flats) ss a h = absurd h
@@ -141,7 +141,7 @@ stands_typed rows (val.Id t ∷ types) (f ∷ flats) (s ∷ ss) a h = cc
 
 -- ---- what the whole list says
 
-pub lifted_values : (types : List ValType) (flats : List Flat) (ss : List Scalar) → AreScalar types → KindsFit types flats → Stands types flats ss → StandFor types flats (map value_in ss)
+pub lifted_values : (types : List ValType) (flats : List Flat) (ss : List Scalar) → AreScalar types → KindsFit types flats → ScalarsStand types flats ss → StandFor types flats (map value_in ss)
 lifted_values types flats ss scalar kinds h rows limit m few =
     (kinds ∙ sym (passed_kinds-scalars rows types limit scalar.primitive few), inl (scalars_fit rows types limit scalar.primitive few, stands_lift rows m types flats ss scalar.primitive h))
 

@@ -50,10 +50,10 @@ abbrev pub KindsFit : List ValType → List Flat → Type 0
 KindsFit types flats = map kind_of flats ≡ map (λ t. prim_kind (prim_of_type t)) types
 
 -- each core value stands for the scalar of its type
-abbrev pub Stands : List ValType → List Flat → List Scalar → Type 0
-Stands [] [] [] = Unit {0}
-Stands (t ∷ types) (f ∷ flats) (s ∷ ss) = ScalarIs (prim_of_type t) (number_of f) s × Stands types flats ss
-Stands _ _ _ = ⊥
+abbrev pub ScalarsStand : List ValType → List Flat → List Scalar → Type 0
+ScalarsStand [] [] [] = Unit {0}
+ScalarsStand (t ∷ types) (f ∷ flats) (s ∷ ss) = ScalarIs (prim_of_type t) (number_of f) s × ScalarsStand types flats ss
+ScalarsStand _ _ _ = ⊥
 
 -- the first that stands for none
 abbrev pub FirstFault : List ValType → List Flat → TrapKind → Type 0

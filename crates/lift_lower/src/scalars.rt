@@ -5,7 +5,7 @@ ghost use Rattle.canonical_abi.specs.Values.{HaveTypes};
 ghost use Rattle.tables.specs.Closed.{prim_of, is_scalar};
 ghost use Rattle.tables.specs.declared.tables.ValType.{ValType};
 ghost use Rattle.lift_lower.specs.Scalar.{value_in, core_in};
-ghost use Rattle.lift_lower.specs.Scalars.{AreScalar, fields_in, prim_of_type, KindsFit, Stands, FirstFault, StandFor, FailAs, AreOfTypes, AreCarried};
+ghost use Rattle.lift_lower.specs.Scalars.{AreScalar, fields_in, prim_of_type, KindsFit, ScalarsStand, FirstFault, StandFor, FailAs, AreOfTypes, AreCarried};
 
 use crate::scalar::{Scalar, core_kind, lift_scalar, lower_scalar};
 use arrayvec::ArrayVec;
@@ -67,7 +67,7 @@ fn kinds_fit(types: &[ValType], flats: &[Flat]) -> bool
 fn lift_each(types: &[ValType], flats: &[Flat]) -> Result<Scalars, TrapKind>
     requires scalar { AreScalar types.now }
     requires kinds { KindsFit types.now flats.now }
-    ensures values { IfOk result (λ ss. Stands types.now flats.now ss.items) }
+    ensures values { IfOk result (λ ss. ScalarsStand types.now flats.now ss.items) }
     ensures fault { IfErr result (FirstFault types.now flats.now) }
 {
     let mut values = Scalars::new();

@@ -8,7 +8,7 @@ use Rattle.package_form.specs.Postfix.{Leaves, whole, unnamed_if, unnamed_parame
 use Rattle.resolve.specs.Declarations.{UsedItem, TypeItem, FunctionItem, InterfaceTree, used_names}
 use Rattle.resolve.specs.Resolved.{Labelled, use_meaning, function_meaning, in_order, interface_meaning, no_type, fields_of}
 use Rattle.package_form.specs.Entries.{Table}
-use Rattle.resolve.specs.Building.{table_trees, table_definitions, name_at, Front, Extends, Adds, Grows, Stands, LowersKind, LowersIf, LowersParameters, IsEntry, IsScope, scope_name, scope_names, names_of, ordered_names, KnowsNames, CanUse, DefinesInterface, parameter_typed, read_parameter}
+use Rattle.resolve.specs.Building.{table_trees, table_definitions, name_at, Front, Extends, Adds, Grows, TreeStands, LowersKind, LowersIf, LowersParameters, IsEntry, IsScope, scope_name, scope_names, names_of, ordered_names, KnowsNames, CanUse, DefinesInterface, parameter_typed, read_parameter}
 use Rattle.package_form.specs.Scoped.{Entry}
 use Rattle.resolve.specs.declared.known.KnownTypes.{KnownTypes}
 use Rattle.tables.specs.declared.tables.Function.{Function}
@@ -53,8 +53,8 @@ define-grows first mid new before after k n m name id meaning en em at with is s
     let defined : definition_of mid.interfaces [] (table_trees mid) d ≡ one (scope_name first before) name meaning = rw (l.means, en, l.extends.front.interfaces) refl in
     let stands = with-stands mid new d with id at refl in
     let here : IsEntry new (scope_name new before) (record { name = m; id = id }) = record {
-      stands = subst (λ (ns : List (List ℕ)). Stands new (val.Id id) (Reference (record { interface = get_or ns before.interface.0 []; name = m }))) (sym front.interfaces)
-          (subst (λ (z : List ℕ). Stands new (val.Id id) (Reference (record { interface = get_or mid.interfaces before.interface.0 []; name = z }))) (en ∙ sym em) stands);
+      stands = subst (λ (ns : List (List ℕ)). TreeStands new (val.Id id) (Reference (record { interface = get_or ns before.interface.0 []; name = m }))) (sym front.interfaces)
+          (subst (λ (z : List ℕ). TreeStands new (val.Id id) (Reference (record { interface = get_or mid.interfaces before.interface.0 []; name = z }))) (en ∙ sym em) stands);
       named = with-unnamed mid new d with id at;
     } in
     record {

@@ -12,7 +12,7 @@ use Rattle.package_form.specs.Postfix.{unnamed, unnamed_if, unnamed_field, unnam
 use Rattle.resolve.specs.Declarations.{named, named_all}
 use Rattle.resolve.specs.Resolved.{Labelled, Choice, resolved, resolved_all, option_tree, tuple_tree, result_tree, fields_of, unlabelled, choices_of, choice}
 use Rattle.package_form.specs.Entries.{Table}
-use Rattle.resolve.specs.Building.{table_trees, Front, Extends, Stands, Lowers, LowersIf, LowersEach, LowersKind, LowersInner, IsScope, KnowsNames, scope_name, read_field, read_parameter, read_case, field_typed, parameter_typed, case_typed}
+use Rattle.resolve.specs.Building.{table_trees, Front, Extends, TreeStands, Lowers, LowersIf, LowersEach, LowersKind, LowersInner, IsScope, KnowsNames, scope_name, read_field, read_parameter, read_case, field_typed, parameter_typed, case_typed}
 use Rattle.resolve.specs.declared.known.KnownTypes.{KnownTypes}
 use Rattle.canonical_abi.specs.Labelled.{ok_label, error_label}
 use Rattle.tables.specs.declared.tables.ValType.{ValType}
@@ -55,7 +55,7 @@ scope-later old new s x h = record {
       let e = get_or s.entries k d in
       let was = h.each k d l in
       record {
-        stands = subst (λ (ns : List (List ℕ)). Stands new (val.Id e.id) (Reference (record { interface = get_or ns s.interface.0 []; name = e.name }))) (sym x.interfaces)
+        stands = subst (λ (ns : List (List ℕ)). TreeStands new (val.Id e.id) (Reference (record { interface = get_or ns s.interface.0 []; name = e.name }))) (sym x.interfaces)
             (stands-later old new (val.Id e.id) (Reference (record { interface = scope_name old s; name = e.name })) x was.stands);
         named = unnamed-same old new x (val.Id e.id) was.stands.typed ∙ was.named;
       };

@@ -20,7 +20,7 @@ use Rattle.package_form.specs.Scope.{AreDistinct}
 use Rattle.resolve.specs.Order.{IsPlacement}
 use Rattle.package_form.specs.Postfix.{IsPostfix}
 use Rattle.resolve.specs.Declarations.{UsedItem, InterfaceTree, interfaces, package_named, full_interface, full_interfaces, interface_at, interface_names, interface_name, type_names, named_definition, named_function, scopes}
-use Rattle.resolve.specs.Resolves.{HasPackage, IsTooLarge, Resolves, full_names, package_in, interface_uses, type_uses, PassesLimit, HasDuplicate, HasDistinctNames, IsKnownUse, IsUnknownUse, IsUnknownIn, HasUnknown, HasKnownNames, HasCycle, IsPackageOf, HasNoFaults, Refuses, AnswersOnly}
+use Rattle.resolve.specs.Resolves.{HasPackage, IsTooLarge, Resolves, full_names, package_in, interface_uses, type_uses, PassesLimit, HasDuplicate, HasDistinctNames, IsKnownUse, IsUnknownUse, IsUnknownIn, HasUnknown, HasKnownNames, HasCycle, IsPackageOf, HasNoFaults, ResolveRefuses, AnswersOnly}
 use Rattle.package_form.specs.Entries.{Table, table_of, entries_of, type_entries}
 use Rattle.resolve.proofs.Trees.{distinct-interfaces}
 use Rattle.package_form.proofs.OneRow.{same-place}
@@ -149,7 +149,7 @@ not-too-large f r h x =
 -- ---- no refusal but for memory
 
 -- Where a tree has a package, the only refusal is for memory.
-only-memory : (f : File) (r : Resolve) (e : ResolveError) → HasPackage f r → Refuses f e → e ≡ error.NoMemory
+only-memory : (f : File) (r : Resolve) (e : ResolveError) → HasPackage f r → ResolveRefuses f e → e ≡ error.NoMemory
 only-memory f r error.EmptyPackage h x = absurd (h.faults.interfaces.some x)
 only-memory f r error.NotThisShape h x = absurd (h.faults.interfaces.alone x)
 only-memory f r (error.Duplicate n) h x = absurd (no-duplicate f n h.faults.distinct x.1)
@@ -163,6 +163,6 @@ only-memory f r error.NoMemory h x = refl
 same-package : (f : File) (r s : Resolve) → IsPackageOf f r → IsPackageOf f s → package_of r ≡ package_of s
 same-package f r s a b = one-package (full_interfaces f) (package_of r) (package_of s) a.resolves b.resolves
 
-pub answers-only : (f : File) (answer : Result Resolve ResolveError) → IfOk answer (IsPackageOf f) → IfErr answer (Refuses f) → AnswersOnly f answer
+pub answers-only : (f : File) (answer : Result Resolve ResolveError) → IfOk answer (IsPackageOf f) → IfErr answer (ResolveRefuses f) → AnswersOnly f answer
 answers-only f (Ok p) ok err = λ r h. same-package f p r ok h.resolved
 answers-only f (Err e) ok err = λ r h. only-memory f r e h err

@@ -6,7 +6,7 @@ use Rattle.tables.specs.Tables.{is_type, is_there, type_of, definition_all, defi
 use Rattle.tables.specs.Package.{Tree, TextTree, NamedDefinition, Meaning, IsUse, IsType, IsFunction, references, reference, definitions_from, definition_of, read_val, read_kind, meaning_of}
 use Rattle.package_form.specs.Postfix.{Leaves, inner, unnamed, is_inner, is_unnamed, is_unnamed_row, one_if, inner_row}
 use Rattle.package_form.specs.Entries.{Table}
-use Rattle.resolve.specs.Building.{table_trees, table_definitions, Front, Extends, Adds, Stands, Lowers, LowersInner, is_expressed}
+use Rattle.resolve.specs.Building.{table_trees, table_definitions, Front, Extends, Adds, TreeStands, Lowers, LowersInner, is_expressed}
 use Rattle.tables.specs.declared.tables.ValType.{ValType}
 use Rattle.tables.specs.declared.tables.ValType.TheVariants as val
 use Rattle.tables.specs.declared.tables.TypeId.{TypeId}
@@ -70,7 +70,7 @@ unnamed-same old new x (val.Id t) h =
     ap (λ (o : Option Definition). one_if (is_unnamed_row o) t.0)
     (ap (λ (ds : List Definition). slice_get ds t.0) x.rows.1 ∙ get-front old.rows x.rows.0 t.0 l)
 
-pub stands-later : (old new : Table) (v : ValType) (tree : Tree) → Front old new → Stands old v tree → Stands new v tree
+pub stands-later : (old new : Table) (v : ValType) (tree : Tree) → Front old new → TreeStands old v tree → TreeStands new v tree
 stands-later old new v tree x s = record {
   typed = typed-stays old new x v s.typed;
   reads = read_val-same old new x v s.typed ∙ s.reads;
@@ -161,7 +161,7 @@ module _ (old new : Table) (d : Definition) (is : With old d new) where
   pub with-definitions : table_definitions new ≡ table_definitions old ++ definition_of old.interfaces [] (table_trees old) d
   with-definitions = definitions-more old new d with-names with-rows
 
-  pub with-stands : (id : TypeId) → id.0 ≡ length old.rows → is_there (type_of (Some d)) ≡ true → Stands new (val.Id id) (reference old.interfaces (table_trees old) d)
+  pub with-stands : (id : TypeId) → id.0 ≡ length old.rows → is_there (type_of (Some d)) ≡ true → TreeStands new (val.Id id) (reference old.interfaces (table_trees old) d)
   with-stands id at type = record {
     typed = ap (λ (o : Option Definition). is_there (type_of o)) (ap (λ (ds : List Definition). slice_get ds id.0) with-rows ∙ get-end old.rows d id.0 at) ∙ type;
     reads = rw (trees-more old new (d ∷ []) with-names with-rows) (get_or_at (table_trees old) (reference old.interfaces (table_trees old) d) [] TextTree id.0 (omega (arith, trees-length old)));

@@ -21,7 +21,7 @@ use Rattle.tables.specs.Package.{package_of, interface_names as names_in, world_
 use Rattle.resolve.specs.Resolved.{interface_meaning}
 use Rattle.resolve.specs.Declarations.{UsedItem, InterfaceTree, interface_of, interfaces, package_named, full_use, full_interface, full_interfaces, no_interface, interface_at, interface_name, interface_names, file_name}
 use Rattle.package_form.specs.Entries.{Table, table_of, labels_of, type_entries}
-use Rattle.resolve.specs.Resolves.{Resolves, full_names, package_in, names_in_order, uses_of_interface, IsKnownUse, HasKnownNames, interface_uses, type_uses, PassesLimit, IsOfInterfaces, HasNoFaults, HasDistinctNames, HasCycle, IsPackageOf, Refuses}
+use Rattle.resolve.specs.Resolves.{Resolves, full_names, package_in, names_in_order, uses_of_interface, IsKnownUse, HasKnownNames, interface_uses, type_uses, PassesLimit, IsOfInterfaces, HasNoFaults, HasDistinctNames, HasCycle, IsPackageOf, ResolveRefuses}
 use Rattle.package_form.specs.Ids.{interfaces_from, interfaces_in}
 use Rattle.resolve.specs.Building.{DefinesPackage, table_definitions}
 use Rattle.resolve.specs.Finished.{IsFinished, header}
@@ -69,14 +69,14 @@ pub distinct-interfaces : (f : File) → HasNoFaults f → AreDistinct (interfac
 distinct-interfaces f h =
     subst AreDistinct (sym (names-of f.entries (λ at n ws c. h.interfaces.alone (at, n, ws, c)))) (all-head AreDistinct _ _ h.distinct)
 
-pub refuses-unknown : (f : File) (is : List InterfaceTree) (e : ResolveError) → is ≡ interfaces f → IsOfInterfaces f → HasDistinctNames f → RefusesUnknown is e → Refuses f e
+pub refuses-unknown : (f : File) (is : List InterfaceTree) (e : ResolveError) → is ≡ interfaces f → IsOfInterfaces f → HasDistinctNames f → RefusesUnknown is e → ResolveRefuses f e
 refuses-unknown f is (error.Unknown n) same alone distinct h = (alone, distinct, subst (λ ts. RefusesUnknown ts (error.Unknown n)) same h)
 refuses-unknown f is error.NoMemory same alone distinct h = tt
 refuses-unknown f is _ same alone distinct h = absurd h
 
-pub refuses-cycle : (f : File) (e : ResolveError) → HasNoFaults f → (e ≡ error.NoMemory) ⊎ ((e ≡ error.Cycle) × HasCycle f) → Refuses f e
-refuses-cycle f e h (inl q) = subst (Refuses f) (sym q) tt
-refuses-cycle f e h (inr q) = subst (Refuses f) (sym q.0) (h, q.1)
+pub refuses-cycle : (f : File) (e : ResolveError) → HasNoFaults f → (e ≡ error.NoMemory) ⊎ ((e ≡ error.Cycle) × HasCycle f) → ResolveRefuses f e
+refuses-cycle f e h (inl q) = subst (ResolveRefuses f) (sym q) tt
+refuses-cycle f e h (inr q) = subst (ResolveRefuses f) (sym q.0) (h, q.1)
 
 -- ---- the package
 
@@ -170,9 +170,9 @@ module _ (p : PackageParts) (is : List InterfaceTree) (order : List ℕ) (orders
     definitions = definitions-ordered;
   }
 
-  pub refuses-limit : (f : File) (e : ResolveError) → p ≡ package_named f → is ≡ interfaces f → HasNoFaults f → (e ≡ error.NoMemory) ⊎ ((e ≡ error.Limit) × PassesLimit t) → Refuses f e
-  refuses-limit f e named same h (inl q) = subst (Refuses f) (sym q) tt
-  refuses-limit f e named same h (inr q) = subst (Refuses f) (sym q.0) (inr (
+  pub refuses-limit : (f : File) (e : ResolveError) → p ≡ package_named f → is ≡ interfaces f → HasNoFaults f → (e ≡ error.NoMemory) ⊎ ((e ≡ error.Limit) × PassesLimit t) → ResolveRefuses f e
+  refuses-limit f e named same h (inl q) = subst (ResolveRefuses f) (sym q) tt
+  refuses-limit f e named same h (inr q) = subst (ResolveRefuses f) (sym q.0) (inr (
     h,
     record {
       table = t;

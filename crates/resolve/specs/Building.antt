@@ -51,14 +51,14 @@ pub record Extends (old new : Table) (unused : List ℕ) : Type 0 where
   pub postfix : (before : List ℕ) → Leaves old.rows before → Leaves new.rows (before ++ unused)
 
 -- the type is one of the table and reads as the tree
-pub record Stands (t : Table) (v : ValType) (tree : Tree) : Type 0 where
+pub record TreeStands (t : Table) (v : ValType) (tree : Tree) : Type 0 where
   pub typed : is_type t.rows v ≡ true
   pub reads : read_val (table_trees t) v ≡ tree
 
 -- the table got the rows that the type needs
 pub record Lowers (old new : Table) (v : ValType) (tree : Tree) : Type 0 where
   pub extends : Extends old new (unnamed new.rows v)
-  pub stands : Stands new v tree
+  pub stands : TreeStands new v tree
 
 pub record LowersIf (old new : Table) (v : Option ValType) (tree : Option Tree) : Type 0 where
   pub extends : Extends old new (unnamed_if new.rows v)
@@ -121,7 +121,7 @@ pub record LowersInner (old new : Table) (k : TypeDefKind) (tree : Tree) : Type 
 
 -- each name is that name of the interface, and a row with a name
 pub record IsEntry (t : Table) (i : List ℕ) (e : Entry) : Type 0 where
-  pub stands : Stands t (val.Id e.id) (Reference (record { interface = i; name = e.name }))
+  pub stands : TreeStands t (val.Id e.id) (Reference (record { interface = i; name = e.name }))
   pub named : unnamed t.rows (val.Id e.id) ≡ []
 
 pub record IsScope (t : Table) (s : KnownTypes) : Type 0 where

@@ -190,14 +190,14 @@ pub record IsTooLarge (f : File) : Type 0 where
   pub passes : PassesLimit table
 
 -- a refusal: its cause stands, and no cause of an earlier class does
-abbrev pub Refuses : File → ResolveError → Type 0
-Refuses f error.EmptyPackage = f.entries ≡ []
-Refuses f error.NotThisShape = HasWorld f
-Refuses f (error.Duplicate n) = IsOfInterfaces f × HasDuplicate f n
-Refuses f (error.Unknown n) = IsOfInterfaces f × HasDistinctNames f × HasUnknown f n
-Refuses f error.Cycle = HasNoFaults f × HasCycle f
-Refuses f error.Limit = (IsOfInterfaces f × (file_fits f ≡ false)) ⊎ (HasNoFaults f × IsTooLarge f)
-Refuses f error.NoMemory = Unit {0}
+abbrev pub ResolveRefuses : File → ResolveError → Type 0
+ResolveRefuses f error.EmptyPackage = f.entries ≡ []
+ResolveRefuses f error.NotThisShape = HasWorld f
+ResolveRefuses f (error.Duplicate n) = IsOfInterfaces f × HasDuplicate f n
+ResolveRefuses f (error.Unknown n) = IsOfInterfaces f × HasDistinctNames f × HasUnknown f n
+ResolveRefuses f error.Cycle = HasNoFaults f × HasCycle f
+ResolveRefuses f error.Limit = (IsOfInterfaces f × (file_fits f ≡ false)) ⊎ (HasNoFaults f × IsTooLarge f)
+ResolveRefuses f error.NoMemory = Unit {0}
 
 -- the tree has no faults, is nested as a text, and has this package
 pub record HasPackage (f : File) (r : Resolve) : Type 0 where

@@ -7,7 +7,7 @@ ghost use Rattle.resolve.specs.Order.{IsPlacement};
 ghost use Rattle.resolve.specs.Resolves.{type_uses};
 ghost use Rattle.resolve.specs.Lent.{used_item_of, type_item, declared_type};
 ghost use Rattle.resolve.specs.Sources.{declared_tree, used_key, function_item, declared_function};
-ghost use Rattle.resolve.specs.Building.{Adds, Grows, Stands, IsScope, ArePlaced, KnowsNames, NamesEarlier, CanUse, DefinesInterface, DefinesNamed, TypesKnown, FunctionsKnown, name_at, scope_name, scope_names};
+ghost use Rattle.resolve.specs.Building.{Adds, Grows, TreeStands, IsScope, ArePlaced, KnowsNames, NamesEarlier, CanUse, DefinesInterface, DefinesNamed, TypesKnown, FunctionsKnown, name_at, scope_name, scope_names};
 ghost use Rattle.tables.specs.declared.tables.ValType.TheVariants.{Id};
 
 use crate::bodies::{lower_definition, lower_parameters};
@@ -65,7 +65,7 @@ fn define_use(
     used: &UsedType,
     target: TypeId,
 ) -> Result<(), AllocError>
-    requires target { Stands builder.old (Id target) (Reference (used_key (used_item_of used.now))) }
+    requires target { TreeStands builder.old (Id target) (Reference (used_key (used_item_of used.now))) }
     requires scoped { IsScope builder.old scope.old }
     ensures { OnOk result (Grows builder.old scope.old builder.new scope.new
         (use_meaning (scope_name builder.old scope.old) (used_item_of used.now) ∷ [])) }
@@ -137,7 +137,7 @@ fn target(builder: &Builder, names: &Names, scopes: &[KnownTypes], used: &UsedTy
     requires scoped { All (IsScope builder.now) scopes.now }
     requires names { names.now ≡ builder.now.interfaces }
     requires placed { ArePlaced scopes.now }
-    ensures { Stands builder.now (Id result) (Reference (used_key (used_item_of used.now))) }
+    ensures { TreeStands builder.now (Id result) (Reference (used_key (used_item_of used.now))) }
 {
     match names.place_of(used.interface) {
         Some(place) => scopes[place].entries.get(used.name),

@@ -8,7 +8,7 @@ ghost use Rattle.package_form.specs.Form.{IsInPackageForm};
 ghost use Rattle.package_form.specs.Naming.{package_scopes};
 ghost use Rattle.package_form.specs.Scope.{AreDistinct};
 ghost use Rattle.resolve.specs.Declarations.{interfaces, interface_names};
-ghost use Rattle.resolve.specs.Resolves.{interface_fits, IsPackageOf, Refuses, HasNoFaults, AnswersOnly};
+ghost use Rattle.resolve.specs.Resolves.{interface_fits, IsPackageOf, ResolveRefuses, HasNoFaults, AnswersOnly};
 ghost use Rattle.resolve.specs.Sources.{declared_tree, interface_entry, interface_syntax};
 ghost use Rattle.resolve.specs.Shape.{HasInterfaces, RefusesShape};
 
@@ -70,7 +70,7 @@ fn declarations(alloc: Global, ast: &Ast) -> Result<Vec<Declarations>, ResolveEr
     ensures faults { IfOk result (λ _. HasNoFaults (file_view ast.now)) }
     ensures ok { IfOk result (λ ds. map declared_tree ds.items ≡ interfaces (file_view ast.now)) }
     ensures labels { IfOk result (λ _. All IsLabel (interface_names (interfaces (file_view ast.now)))) }
-    ensures err { IfErr result (Refuses (file_view ast.now)) }
+    ensures err { IfErr result (ResolveRefuses (file_view ast.now)) }
 {
     let interfaces = interfaces(alloc, ast)?;
     if !are_nested(&interfaces) {
@@ -86,7 +86,7 @@ fn declarations(alloc: Global, ast: &Ast) -> Result<Vec<Declarations>, ResolveEr
 fn resolved_package(alloc: Global, ast: &Ast) -> Result<Resolve, ResolveError>
     ensures ok { IfOk result (IsPackageOf (file_view ast.now)) }
     ensures faults { IfOk result (λ _. HasNoFaults (file_view ast.now)) }
-    ensures err { IfErr result (Refuses (file_view ast.now)) }
+    ensures err { IfErr result (ResolveRefuses (file_view ast.now)) }
 {
     let all = declarations(alloc, ast)?;
     let order = interface_order(alloc, &all)?;
@@ -108,7 +108,7 @@ pub fn from_ast(alloc: Global, ast: &Ast) -> Result<Resolve, ResolveError>
     ensures faults { IfOk result (λ _. HasNoFaults (file_view ast.now)) }
     ensures form { IfOk result (λ r. IsTrue (has_full_names (file_view ast.now)) → IsInPackageForm r) }
     ensures distinct { IfOk result (λ r. IsTrue (has_full_names (file_view ast.now)) → All AreDistinct (package_scopes r)) }
-    ensures err { IfErr result (Refuses (file_view ast.now)) }
+    ensures err { IfErr result (ResolveRefuses (file_view ast.now)) }
     ensures only { AnswersOnly (file_view ast.now) result }
 {
     resolved_package(alloc, ast)

@@ -108,16 +108,16 @@ get-at (x ∷ ds) zero d e = (omega arith, λ y. cc)
 get-at (x ∷ ds) (suc k) d e = let rest = get-at ds k d e in (omega (arith, rest.0), rest.1)
 
 -- the function that stands at a place
-pub record Stands (r : Resolve) (f : FunctionId) : Type 0 where
+pub record RowStands (r : Resolve) (f : FunctionId) : Type 0 where
   pub function : Function
   pub in_range : f.0 < length r.definitions
   pub is : (d : Definition) → get_or r.definitions f.0 d ≡ row.Function function
   pub at : function_at r f ≡ Some function
 
-pub stands : (r : Resolve) (f : FunctionId) → IsFunction r f → Stands r f
+pub stands : (r : Resolve) (f : FunctionId) → IsFunction r f → RowStands r f
 stands r f h = by (slice_get r.definitions f.0) refl h
   where
-    by : (o : Option Definition) → slice_get r.definitions f.0 ≡ o → IsTrue (is_there (function_of o)) → Stands r f
+    by : (o : Option Definition) → slice_get r.definitions f.0 ≡ o → IsTrue (is_there (function_of o)) → RowStands r f
     by None e q = absurd (cc)
     by (Some (row.Type d)) e q = absurd (cc)
     by (Some (row.Function g)) e q =
@@ -125,7 +125,7 @@ stands r f h = by (slice_get r.definitions f.0) refl h
         record { function = g; in_range = at.0; is = at.1; at = ap function_of e }
 
 -- a function's row is the record of its parameters
-pub function-row : (r : Resolve) (f : FunctionId) (s : Stands r f) → get_or (closed_types r) f.0 string_type ≡ record_type (fields_of (closed_params (closed_types r) s.function.params))
+pub function-row : (r : Resolve) (f : FunctionId) (s : RowStands r f) → get_or (closed_types r) f.0 string_type ≡ record_type (fields_of (closed_params (closed_types r) s.function.params))
 function-row r f s =
     let d = row.Function s.function in
     let below : IsTrue (definition_below (0 + f.0) d) = subst (λ (e : Definition). IsTrue (definition_below (0 + f.0) e)) (s.is d) (earlier-at 0 r.definitions f.0 d r.earlier s.in_range) in
@@ -137,5 +137,5 @@ function-row r f s =
     (closed_params-stay r.definitions f.0 s.function.params (omega (arith, s.in_range)) (split (list_all (λ p. is_below f.0 p.ty) s.function.params) (option_below f.0 s.function.result) here).0)
 
 -- the closed types of the function at this place
-pub function-type : (r : Resolve) (f : FunctionId) (s : Stands r f) → function_type r f ≡ type_of_function (closed_types r) (Some s.function)
+pub function-type : (r : Resolve) (f : FunctionId) (s : RowStands r f) → function_type r f ≡ type_of_function (closed_types r) (Some s.function)
 function-type r f s = ap (type_of_function (closed_types r)) s.at

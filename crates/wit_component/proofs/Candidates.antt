@@ -20,7 +20,7 @@ use Rattle.wit_component.specs.Component.{aliases_of, front_after, interfaces_de
 use Rattle.wit_component.specs.FromComponent.{is_none, is_empty_package}
 use Rattle.package_form.specs.Naming.{package_scopes, table_scopes}
 use Rattle.package_form.specs.Form.{IsInPackageForm}
-use Rattle.wit_component.specs.ToComponent.{Stands}
+use Rattle.wit_component.specs.ToComponent.{ComponentStands}
 use Rattle.component_reader.specs.Instance.{if_found}
 use Rattle.component_reader.specs.Component.{package_named, no_component, declarations_read, candidate_named, candidate_of, Candidate, IsMadeOf, Makes}
 use Rattle.wit_component.proofs.Alike.{AreAlike}
@@ -28,7 +28,7 @@ use Rattle.wit_component.proofs.Reread.{reread, name-reread}
 use Rattle.wit_component.proofs.AlikeForm.{IsAlikePackage, package-same, component-same, form-same}
 use Rattle.wit_component.proofs.OneTarget.{same-definitions, same-package}
 
-module _ (raw : RawComponent) (r : Resolve) (s : Stands raw r) where
+module _ (raw : RawComponent) (r : Resolve) (s : ComponentStands raw r) where
   candidate-is : (c : Candidate) × (candidate_of (file_view raw) ≡ Some c) × ((p : Resolve) → IsMadeOf c p → IsAlikePackage r p)
       × (All AreDistinct (package_scopes r) → IsMadeOf c r)
   candidate-is =
@@ -97,7 +97,7 @@ some-declared r (i ∷ is) some =
     let rest = interfaces_declared r (front_after r.definitions no_front ds) (end_of 0 i) is in
     ap (λ (xs : List Decl). is_none (decls_of xs)) (append_assoc (aliases_of r.definitions ds) _ rest) ∙ some-decls (aliases_of r.definitions ds) _ _
 
-pub not-empty : (raw : RawComponent) (r : Resolve) → Stands raw r → is_empty_package (file_view raw).types ≡ false
+pub not-empty : (raw : RawComponent) (r : Resolve) → ComponentStands raw r → is_empty_package (file_view raw).types ≡ false
 not-empty raw r s = ap (λ (f : File). is_empty_package f.types) s.component ∙ some-declared r r.interfaces s.form.some
 
 -- the same tables have the same scopes

@@ -6,10 +6,10 @@ use Rattle.tables.specs.declared.tables.Resolve.{Resolve}
 use Rattle.ctype_bin.specs.declared.component.RawComponent.{RawComponent}
 use Rattle.package_form.specs.Distinct.{RefusesScopes}
 use Rattle.package_form.specs.Naming.{package_scopes}
-use Rattle.wit_component.specs.ToComponent.{Stands}
-use Rattle.wit_component.specs.FromComponent.{Refuses}
+use Rattle.wit_component.specs.ToComponent.{ComponentStands}
+use Rattle.wit_component.specs.FromComponent.{FromComponentRefuses}
 
-pub refuses-package : (raw : RawComponent) (r : Resolve) (e : ResolveError) → ∥ Stands raw r ∥₁ → RefusesScopes (package_scopes r) e → Refuses raw e
+pub refuses-package : (raw : RawComponent) (r : Resolve) (e : ResolveError) → ∥ ComponentStands raw r ∥₁ → RefusesScopes (package_scopes r) e → FromComponentRefuses raw e
 refuses-package raw r (error.Duplicate n) s h = ∥∥₁_map s (λ stands. (r, stands, h))
 refuses-package raw r error.NoMemory s h = tt
 refuses-package raw r _ s h = absurd h

@@ -6,7 +6,7 @@ use Rattle.ctype_bin.specs.declared.component.RawComponent.{RawComponent}
 use Rattle.tables.specs.declared.error.ResolveError.{ResolveError}
 use Rattle.tables.specs.declared.error.ResolveError.TheVariants as error
 use Rattle.tables.specs.declared.tables.Resolve.{Resolve}
-use Rattle.wit_component.specs.ToComponent.{Stands}
+use Rattle.wit_component.specs.ToComponent.{ComponentStands}
 use Rattle.package_form.specs.Naming.{Repeats}
 
 abbrev pub is_none : Decls → Bool
@@ -27,11 +27,11 @@ is_empty_package (t ∷ u ∷ ts) = false
 
 -- Why a component is refused: 43 looks at its one type alone, 44 tells that it stands for no package, and 40 names one that stands twice in
 -- a scope of a package that it stands for.
-abbrev pub Refuses : RawComponent → ResolveError → Type 0
-Refuses raw error.EmptyPackage = is_empty_package (file_view raw).types ≡ true
-Refuses raw error.NotThisShape = (is_empty_package (file_view raw).types ≡ false) × ((r : Resolve) → Stands raw r → ⊥)
-Refuses raw error.NoMemory = Unit {0}
-Refuses raw (error.Duplicate n) = ∥ ((r : Resolve) × Stands raw r × Repeats r n) ∥₁
-Refuses raw (error.Unknown n) = ⊥
-Refuses raw error.Cycle = ⊥
-Refuses raw error.Limit = ⊥
+abbrev pub FromComponentRefuses : RawComponent → ResolveError → Type 0
+FromComponentRefuses raw error.EmptyPackage = is_empty_package (file_view raw).types ≡ true
+FromComponentRefuses raw error.NotThisShape = (is_empty_package (file_view raw).types ≡ false) × ((r : Resolve) → ComponentStands raw r → ⊥)
+FromComponentRefuses raw error.NoMemory = Unit {0}
+FromComponentRefuses raw (error.Duplicate n) = ∥ ((r : Resolve) × ComponentStands raw r × Repeats r n) ∥₁
+FromComponentRefuses raw (error.Unknown n) = ⊥
+FromComponentRefuses raw error.Cycle = ⊥
+FromComponentRefuses raw error.Limit = ⊥

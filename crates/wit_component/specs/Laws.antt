@@ -6,9 +6,9 @@ use Rattle.tables.specs.declared.tables.Resolve.{Resolve}
 use Rattle.package_form.specs.Scope.{AreDistinct}
 use Rattle.package_form.specs.Naming.{package_scopes}
 use Rattle.component_reader.specs.Component.{candidate_of, Makes}
-use Rattle.wit_component.specs.ToComponent.{Stands}
+use Rattle.wit_component.specs.ToComponent.{ComponentStands}
 
 -- each index followed to the declaration that took it, and each declaration to the name of its export, the component reads as the
 -- package that it stands for
 abbrev pub Follows : RawComponent → Type 0
-Follows raw = (r : Resolve) → Stands raw r → All AreDistinct (package_scopes r) → Makes (candidate_of (file_view raw)) (Ok r)
+Follows raw = (r : Resolve) → ComponentStands raw r → All AreDistinct (package_scopes r) → Makes (candidate_of (file_view raw)) (Ok r)

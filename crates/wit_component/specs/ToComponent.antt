@@ -28,7 +28,7 @@ are_labelled rows start [] = true
 are_labelled rows start (i ∷ is) = (is_label i.name && list_all is_labelled (rows_of rows start i)) && are_labelled rows (end_of start i) is
 
 -- the component is the package's, in the layout of packages
-pub record Stands (raw : RawComponent) (r : Resolve) : Type 0 where
+pub record ComponentStands (raw : RawComponent) (r : Resolve) : Type 0 where
   pub component : file_view raw ≡ component_of r
   pub form : IsInPackageForm r
   pub labels : IsTrue (are_labelled r.definitions 0 r.interfaces)

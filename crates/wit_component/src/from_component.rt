@@ -4,8 +4,8 @@ ghost use Rattle.tables.specs.Same.{IsSamePackage};
 ghost use Rattle.package_form.specs.Scope.{AreDistinct};
 ghost use Rattle.package_form.specs.Naming.{package_scopes};
 ghost use Rattle.package_form.specs.Form.{IsInPackageForm};
-ghost use Rattle.wit_component.specs.ToComponent.{Stands};
-ghost use Rattle.wit_component.specs.FromComponent.{Refuses};
+ghost use Rattle.wit_component.specs.ToComponent.{ComponentStands};
+ghost use Rattle.wit_component.specs.FromComponent.{FromComponentRefuses};
 
 use crate::same::{is_empty_package, is_same};
 use crate::to_component::to_raw;
@@ -17,11 +17,11 @@ use tables::{Resolve, ResolveError};
 
 /// The package that a component stands for, whose names may stand twice in a scope.
 fn standing(alloc: Global, raw: &RawComponent) -> Result<Resolve, ResolveError>
-    ensures ok { IfOk result (λ r. ∥ Stands raw.now r ∥₁) }
+    ensures ok { IfOk result (λ r. ∥ ComponentStands raw.now r ∥₁) }
     ensures form { IfOk result (λ r. IsInPackageForm r) }
-    ensures same { IfOk result (λ p. (r : Resolve) → Stands raw.now r → All AreDistinct (package_scopes r) → IsSamePackage p r) }
+    ensures same { IfOk result (λ p. (r : Resolve) → ComponentStands raw.now r → All AreDistinct (package_scopes r) → IsSamePackage p r) }
     ensures err { IfErr result (λ e. (e ≡ ResolveError.NoMemory)
-        ⊎ ((e ≡ ResolveError.NotThisShape) × ((r : Resolve) → Stands raw.now r → ⊥))) }
+        ⊎ ((e ≡ ResolveError.NotThisShape) × ((r : Resolve) → ComponentStands raw.now r → ⊥))) }
 {
     let package = match candidate(alloc, raw) {
         Ok(package) => package,
@@ -42,11 +42,11 @@ fn standing(alloc: Global, raw: &RawComponent) -> Result<Resolve, ResolveError>
 /// of it stands twice in its scope, but for the case of its letters: the first in the order of the bytes, a definition's
 /// members before its name, an interface's definitions before the interface's. (Binary.md)
 pub fn from_raw(alloc: Global, raw: &RawComponent) -> Result<Resolve, ResolveError>
-    ensures ok { IfOk result (λ r. ∥ Stands raw.now r ∥₁) }
+    ensures ok { IfOk result (λ r. ∥ ComponentStands raw.now r ∥₁) }
     ensures distinct { IfOk result (λ r. All AreDistinct (package_scopes r)) }
-    ensures only { (r : Resolve) → Stands raw.now r → All AreDistinct (package_scopes r)
+    ensures only { (r : Resolve) → ComponentStands raw.now r → All AreDistinct (package_scopes r)
         → MatchResult result (λ p. IsSamePackage p r) (λ e. e ≡ ResolveError.NoMemory) }
-    ensures err { IfErr result (Refuses raw.now) }
+    ensures err { IfErr result (FromComponentRefuses raw.now) }
 {
     if is_empty_package(raw) {
         return Err(ResolveError::EmptyPackage);

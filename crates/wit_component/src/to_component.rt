@@ -3,7 +3,7 @@ ghost use Rattle.std.specs.Prelude.{◌≡◌, ◌⊎◌, [], ◌∷◌, IsTrue,
 ghost use Rattle.ctype_bin.specs.View.{file_of, export_view};
 ghost use Rattle.wit_component.specs.Component.{component_of, package_export};
 ghost use Rattle.package_form.specs.Form.{IsInPackageForm};
-ghost use Rattle.wit_component.specs.ToComponent.{Stands, are_labelled};
+ghost use Rattle.wit_component.specs.ToComponent.{ComponentStands, are_labelled};
 
 use crate::component::declarations;
 use atoms::Label;
@@ -41,7 +41,7 @@ fn parts_of(alloc: Global, resolve: &Resolve) -> Result<(Vec<RawType>, Vec<RawEx
 /// The component type that a package is, in the layout of packages. 44 `NotThisShape` exactly where the table isn't one
 /// that packages have, unless memory is wanting before that is known. (Binary.md)
 pub fn to_raw(alloc: Global, resolve: &Resolve) -> Result<RawComponent, ResolveError>
-    ensures ok { IfOk result (λ raw. Stands raw resolve.now) }
+    ensures ok { IfOk result (λ raw. ComponentStands raw resolve.now) }
     ensures err { IfErr result (λ e. (e ≡ ResolveError.NoMemory)
         ⊎ ((e ≡ ResolveError.NotThisShape) × (IsInPackageForm resolve.now → ⊥))) }
 {

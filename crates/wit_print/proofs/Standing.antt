@@ -20,7 +20,7 @@ abbrev pub IsSpace : List ℕ → Type 0
 IsSpace space = list_all is_blank space ≡ true
 
 -- the token stands at the front of its bytes with these behind them
-pub record Stands (w : Word) (rest : List ℕ) : Type 0 where
+pub record WordStands (w : Word) (rest : List ℕ) : Type 0 where
   pub blank : IsSpace w.space
   pub some : 0 < length w.bytes
   pub token : front_of (w.bytes ++ rest) ≡ front.Token w.kind (length w.bytes)
@@ -28,7 +28,7 @@ pub record Stands (w : Word) (rest : List ℕ) : Type 0 where
 -- each stands where the others follow it, and then these bytes
 abbrev pub AllStand : List Word → List ℕ → Type 0
 AllStand [] rest = Unit {0}
-AllStand (w ∷ ws) rest = Stands w (text_of ws rest) × AllStand ws rest
+AllStand (w ∷ ws) rest = WordStands w (text_of ws rest) × AllStand ws rest
 
 -- wherever the text breaks behind them
 abbrev pub StandEverywhere : List Word → Type 0
@@ -40,7 +40,7 @@ text-append (w ∷ ws) vs rest = ap (λ t. w.space ++ (w.bytes ++ t)) (text-appe
 
 stand-append : (ws vs : List Word) (rest : List ℕ) → AllStand ws (text_of vs rest) → AllStand vs rest → AllStand (ws ++ vs) rest
 stand-append [] vs rest h k = k
-stand-append (w ∷ ws) vs rest h k = (subst (Stands w) (sym (text-append ws vs rest)) h.0, stand-append ws vs rest h.1 k)
+stand-append (w ∷ ws) vs rest h k = (subst (WordStands w) (sym (text-append ws vs rest)) h.0, stand-append ws vs rest h.1 k)
 
 pub followed : (ws vs : List Word) (rest : List ℕ) → StandEverywhere ws → breaks (text_of vs rest) ≡ true → AllStand vs rest → AllStand (ws ++ vs) rest
 followed ws vs rest h b k = stand-append ws vs rest (h (text_of vs rest) b) k
@@ -92,7 +92,7 @@ mark-some mark.Underscore = omega arith
 mark-some mark.Slash = omega arith
 mark-some mark.At = omega arith
 
-pub mark-stands : (space : List ℕ) (p : Punctuation) (rest : List ℕ) → IsSpace space → is_printed p ≡ true → Stands (mark_word space p) rest
+pub mark-stands : (space : List ℕ) (p : Punctuation) (rest : List ℕ) → IsSpace space → is_printed p ≡ true → WordStands (mark_word space p) rest
 mark-stands space p rest s h = record { blank = s; some = mark-some p; token = mark-token p rest h }
 
 -- ---- keywords
@@ -194,7 +194,7 @@ unfolding is_label
 label-some [] h = absurd (false≢true h)
 label-some (c ∷ cs) h = omega arith
 
-pub keyword-stands : (space : List ℕ) (k : Keyword) (rest : List ℕ) → IsSpace space → breaks rest ≡ true → Stands (keyword_word space k) rest
+pub keyword-stands : (space : List ℕ) (k : Keyword) (rest : List ℕ) → IsSpace space → breaks rest ≡ true → WordStands (keyword_word space k) rest
 keyword-stands space k rest s b = record {
   blank = s;
   some = label-some (spelling k) (keyword-label k);
@@ -210,10 +210,10 @@ no-keyword : (o : Option Keyword) → is_some o ≡ false → keyword_kind o ≡
 no-keyword None e = refl
 no-keyword (Some k) e = absurd (false≢true (sym e))
 
-pub name-stands : (space n rest : List ℕ) → IsSpace space → is_label n ≡ true → breaks rest ≡ true → Stands (name_word space n) rest
+pub name-stands : (space n rest : List ℕ) → IsSpace space → is_label n ≡ true → breaks rest ≡ true → WordStands (name_word space n) rest
 name-stands space n rest s h b = by (is_some (keyword_of n)) refl
   where
-    by : (k : Bool) → is_some (keyword_of n) ≡ k → Stands (name_word space n) rest
+    by : (k : Bool) → is_some (keyword_of n) ≡ k → WordStands (name_word space n) rest
     by true e = record { blank = s; some = rw e (omega (arith, label-some n h)); token = rw e (escaped_stands n rest h b ∙ ap (front.Token kind.Identifier) (one-more (length n))) }
     by false e = record { blank = s; some = rw e (label-some n h); token = rw e (word_stands n rest h b ∙ ap (λ k. front.Token k (length n)) (no-keyword (keyword_of n) e)) }
 
@@ -227,7 +227,7 @@ digit-before : (v rest : List ℕ) → begins_digit v ≡ true → begins_digit 
 digit-before [] rest h = absurd (false≢true h)
 digit-before (c ∷ cs) rest h = h
 
-pub version-stands : (v rest : List ℕ) → IsPrintableVersion v → Stands (version_word v) (59 ∷ rest)
+pub version-stands : (v rest : List ℕ) → IsPrintableVersion v → WordStands (version_word v) (59 ∷ rest)
 unfolding front_of at_front
 version-stands v rest h = record {
   blank = refl;

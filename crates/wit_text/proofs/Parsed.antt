@@ -9,11 +9,11 @@ use Rattle.wit_tokens.specs.declared.error.TextError.TheVariants as error
 use Rattle.wit_tokens.specs.Lexing.{limit, Lexes, LexFault}
 use Rattle.wit_tokens.specs.Tokens.{Lexeme, lexemes}
 use Rattle.wit_syntax.specs.Syntax.{File}
-use Rattle.wit_text.specs.Faults.{Fails, Gives}
+use Rattle.wit_text.specs.Faults.{Fails, AnswersRead}
 use Rattle.wit_syntax.specs.View.{file_view}
 use Rattle.wit_syntax.specs.declared.ast.Ast.{Ast}
 use Rattle.wit_tokens.specs.declared.error.Feature.TheVariants.{ForeignInterface}
-use Rattle.wit_text.specs.Lookahead.{NoneBegins, Stands}
+use Rattle.wit_text.specs.Lookahead.{NoneBegins, LookaheadStands}
 use Rattle.wit_text.specs.Reading.{IsRead, IsFile, IsDepth, GrammarFault, Faulty}
 use Rattle.wit_text.specs.Grammar.{nesting, file}
 use Rattle.wit_tokens.specs.Laws.{OneLexing, BadIsRefused, OpenIsRefused}
@@ -72,7 +72,7 @@ module _ (text : List ℕ) (ts : List Token) (short : length text ≤ limit) (le
   anyhow e other h = refused e h (none-at-any-nesting (length text) (lexemes text ts) e other h)
 
   -- no fault of another class stands at a token
-  misplaced : (e : TextError) → ((front met : List Lexeme) → Stands (length text) front met e → ⊥) → answer ≡ Err e → ⊥
+  misplaced : (e : TextError) → ((front met : List Lexeme) → LookaheadStands (length text) front met e → ⊥) → answer ≡ Err e → ⊥
   misplaced e off h = let n = within e h in off n.front n.met n.place
 
   pub is_faulty : (e : TextError) → Fails e answer → Faulty text e
@@ -85,13 +85,13 @@ module _ (text : List ℕ) (ts : List Token) (short : length text ≤ limit) (le
   is_faulty (error.Depth s) h = refused (error.Depth s) h (within (error.Depth s) h)
 
   abbrev Answered : Result Ast TextError → Type 0
-  Answered r = Gives (λ a. let pair : File × List Lexeme = (file_view a, []) in pair) r answer
+  Answered r = AnswersRead (λ a. let pair : File × List Lexeme = (file_view a, []) in pair) r answer
 
   pub all_found : (r : Result Ast TextError) → Answered r → IfOk r (λ a. IsRead text (file_view a))
   all_found (Ok a) h = is_found (file_view a) h
   all_found (Err e) h = tt
 
-  pub only_those : (r : Result Ast TextError) → Answered r → (f : File) → IsRead text f → Gives file_view r (Ok f)
+  pub only_those : (r : Result Ast TextError) → Answered r → (f : File) → IsRead text f → AnswersRead file_view r (Ok f)
   only_those (Ok a) h f i = only_that (file_view a) f h i
   only_those (Err e) h f i = none_read e f h i
 

@@ -54,6 +54,6 @@ Fails (error.Depth s) read = read ≡ Err (error.Depth s)
 Fails error.Limit read = read ≡ Err error.Limit
 
 -- What a function answers, seen by view, is what reading gives, unless memory ran out.
-abbrev pub Gives : {X Y : Type 0} → (X → Y) → Result X TextError → Result Y TextError → Type 0
-Gives view (Ok x) read = read ≡ Ok (view x)
-Gives view (Err e) read = Fails e read
+abbrev pub AnswersRead : {X Y : Type 0} → (X → Y) → Result X TextError → Result Y TextError → Type 0
+AnswersRead view (Ok x) read = read ≡ Ok (view x)
+AnswersRead view (Err e) read = Fails e read

@@ -15,22 +15,22 @@ abbrev pub IsForeign : List Lexeme → TextError → Type 0
 IsForeign front e = (before : List Lexeme) × (colon : Lexeme) × (front ≡ before ++ colon ∷ []) × (e ≡ error.Unsupported ForeignInterface colon.token.span)
 
 -- between the tokens in front and those from the one met on
-abbrev pub Stands : ℕ → List Lexeme → List Lexeme → TextError → Type 0
-Stands end front met e = StandsAt end met e ⊎ IsForeign front e
+abbrev pub LookaheadStands : ℕ → List Lexeme → List Lexeme → TextError → Type 0
+LookaheadStands end front met e = StandsAt end met e ⊎ IsForeign front e
 
 -- The fault is known by the token met, whatever follows it.
 pub record Looks (end : ℕ) (E : List Lexeme → TextError → Type 0) (ts : List Lexeme) (e : TextError) : Type 0 where
   pub front : List Lexeme
   pub met : List Lexeme
   pub whole : ts ≡ front ++ met
-  pub place : Stands end front met e
+  pub place : LookaheadStands end front met e
   pub same : (other : List Lexeme) → next other ≡ next met → E (front ++ other) e
 
 next_behind : (front other met : List Lexeme) → next other ≡ next met → next (front ++ other) ≡ next (front ++ met)
 next_behind [] other met same = same
 next_behind (t ∷ front) other met same = refl
 
-stands_behind : (end : ℕ) (text front met : List Lexeme) (e : TextError) → Stands end front met e → Stands end (text ++ front) met e
+stands_behind : (end : ℕ) (text front met : List Lexeme) (e : TextError) → LookaheadStands end front met e → LookaheadStands end (text ++ front) met e
 stands_behind end text front met e place = elim place [
   | inl h ↦ inl h
   | inr h ↦ inr (text ++ h.0, h.1, ap (λ (t : List Lexeme). text ++ t) h.2 ∙ sym (append_assoc text h.0 (h.1 ∷ [])), h.3)
@@ -66,5 +66,5 @@ pub record NoneBegins {X : Type 0} (end : ℕ) (spells : List Lexeme → X → T
   pub front : List Lexeme
   pub met : List Lexeme
   pub whole : ts ≡ front ++ met
-  pub place : Stands end front met e
+  pub place : LookaheadStands end front met e
   pub none : (other : List Lexeme) → next other ≡ next met → (x : X) → spells (front ++ other) x → ⊥

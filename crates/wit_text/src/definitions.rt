@@ -3,7 +3,7 @@ ghost use Rattle.std.specs.Prelude.{◌≡◌, ◌<◌, ◌≤◌, length, IfOk}
 ghost use Rattle.wit_tokens.specs.Lexing.{limit};
 ghost use Rattle.wit_tokens.specs.Tokens.{lexemes};
 ghost use Rattle.wit_syntax.specs.View.{ty_view, optional_view, case_view, definition_view};
-ghost use Rattle.wit_text.specs.Faults.{Gives};
+ghost use Rattle.wit_text.specs.Faults.{AnswersRead};
 ghost use Rattle.wit_text.specs.Grammar.{nesting, alias, record_fields, payload, optional_payload, case_fault, case_id, variant_case, variant_cases, enum_cases, flag_names};
 
 use crate::functions::{NESTING, field};
@@ -24,7 +24,7 @@ pub fn alias<'a>(
     tokens: &'a [Token],
 ) -> Result<(TypeDefKind, &'a [Token]), TextError>
     requires { length tokens.now ≤ limit }
-    ensures gives { Gives (λ x. (definition_view x.0, lexemes source.now x.1.now)) result ((alias (length source.now) nesting).read (lexemes source.now tokens.now)) }
+    ensures gives { AnswersRead (λ x. (definition_view x.0, lexemes source.now x.1.now)) result ((alias (length source.now) nesting).read (lexemes source.now tokens.now)) }
     ensures shorter { IfOk result (λ x. length x.1.now < length tokens.now) }
 {
     let (_, tokens) = punctuation(source, tokens, Punctuation::Equals)?;
@@ -75,7 +75,7 @@ pub fn record_fields<'a>(
     tokens: &'a [Token],
 ) -> Result<(TypeDefKind, &'a [Token]), TextError>
     requires { length tokens.now ≤ limit }
-    ensures gives { Gives (λ x. (definition_view x.0, lexemes source.now x.1.now)) result ((record_fields (length source.now) nesting).read (lexemes source.now tokens.now)) }
+    ensures gives { AnswersRead (λ x. (definition_view x.0, lexemes source.now x.1.now)) result ((record_fields (length source.now) nesting).read (lexemes source.now tokens.now)) }
     ensures shorter { IfOk result (λ x. length x.1.now < length tokens.now) }
 {
     let (_, tokens) = punctuation(source, tokens, Punctuation::OpenBrace)?;
@@ -91,7 +91,7 @@ fn payload<'a>(
     tokens: &'a [Token],
 ) -> Result<(TypeExpression, &'a [Token]), TextError>
     requires { length tokens.now ≤ limit }
-    ensures gives { Gives (λ x. (ty_view x.0, lexemes source.now x.1.now)) result ((payload (length source.now) nesting).read (lexemes source.now tokens.now)) }
+    ensures gives { AnswersRead (λ x. (ty_view x.0, lexemes source.now x.1.now)) result ((payload (length source.now) nesting).read (lexemes source.now tokens.now)) }
     ensures shorter { IfOk result (λ x. length x.1.now < length tokens.now) }
 {
     let (ty, tokens) = type_at(alloc, source, NESTING, tokens)?;
@@ -107,7 +107,7 @@ fn optional_payload<'a>(
     tokens: &'a [Token],
 ) -> Result<(Option<TypeExpression>, &'a [Token]), TextError>
     requires { length tokens.now ≤ limit }
-    ensures gives { Gives (λ x. (optional_view x.0, lexemes source.now x.1.now)) result ((optional_payload (length source.now) nesting).read (lexemes source.now tokens.now)) }
+    ensures gives { AnswersRead (λ x. (optional_view x.0, lexemes source.now x.1.now)) result ((optional_payload (length source.now) nesting).read (lexemes source.now tokens.now)) }
     ensures shorter { IfOk result (λ x. length x.1.now ≤ length tokens.now) }
 {
     let open = TokenKind::Punctuation(Punctuation::OpenParenthesis);
@@ -139,7 +139,7 @@ fn case_id<'a>(
     source: &[u8],
     tokens: &'a [Token],
 ) -> Result<(Label, &'a [Token]), TextError>
-    ensures gives { Gives (λ x. (x.0, lexemes source.now x.1.now)) result ((case_id (length source.now)).read (lexemes source.now tokens.now)) }
+    ensures gives { AnswersRead (λ x. (x.0, lexemes source.now x.1.now)) result ((case_id (length source.now)).read (lexemes source.now tokens.now)) }
     ensures shorter { IfOk result (λ x. length x.1.now < length tokens.now) }
 {
     match tokens {
@@ -158,7 +158,7 @@ fn variant_case<'a>(
     tokens: &'a [Token],
 ) -> Result<(Case, &'a [Token]), TextError>
     requires { length tokens.now ≤ limit }
-    ensures gives { Gives (λ x. (case_view x.0, lexemes source.now x.1.now)) result ((variant_case (length source.now) nesting).read (lexemes source.now tokens.now)) }
+    ensures gives { AnswersRead (λ x. (case_view x.0, lexemes source.now x.1.now)) result ((variant_case (length source.now) nesting).read (lexemes source.now tokens.now)) }
     ensures shorter { IfOk result (λ x. length x.1.now < length tokens.now) }
 {
     let (name, tokens) = case_id(alloc, source, tokens)?;
@@ -208,7 +208,7 @@ pub fn variant_cases<'a>(
     tokens: &'a [Token],
 ) -> Result<(TypeDefKind, &'a [Token]), TextError>
     requires { length tokens.now ≤ limit }
-    ensures gives { Gives (λ x. (definition_view x.0, lexemes source.now x.1.now)) result ((variant_cases (length source.now) nesting).read (lexemes source.now tokens.now)) }
+    ensures gives { AnswersRead (λ x. (definition_view x.0, lexemes source.now x.1.now)) result ((variant_cases (length source.now) nesting).read (lexemes source.now tokens.now)) }
     ensures shorter { IfOk result (λ x. length x.1.now < length tokens.now) }
 {
     let (_, tokens) = punctuation(source, tokens, Punctuation::OpenBrace)?;
@@ -264,7 +264,7 @@ pub fn enum_cases<'a>(
     tokens: &'a [Token],
 ) -> Result<(TypeDefKind, &'a [Token]), TextError>
     requires { length tokens.now ≤ limit }
-    ensures gives { Gives (λ x. (definition_view x.0, lexemes source.now x.1.now)) result ((enum_cases (length source.now)).read (lexemes source.now tokens.now)) }
+    ensures gives { AnswersRead (λ x. (definition_view x.0, lexemes source.now x.1.now)) result ((enum_cases (length source.now)).read (lexemes source.now tokens.now)) }
     ensures shorter { IfOk result (λ x. length x.1.now < length tokens.now) }
 {
     let (_, tokens) = punctuation(source, tokens, Punctuation::OpenBrace)?;
@@ -280,7 +280,7 @@ pub fn flag_names<'a>(
     tokens: &'a [Token],
 ) -> Result<(TypeDefKind, &'a [Token]), TextError>
     requires { length tokens.now ≤ limit }
-    ensures gives { Gives (λ x. (definition_view x.0, lexemes source.now x.1.now)) result ((flag_names (length source.now)).read (lexemes source.now tokens.now)) }
+    ensures gives { AnswersRead (λ x. (definition_view x.0, lexemes source.now x.1.now)) result ((flag_names (length source.now)).read (lexemes source.now tokens.now)) }
     ensures shorter { IfOk result (λ x. length x.1.now < length tokens.now) }
 {
     let (_, tokens) = punctuation(source, tokens, Punctuation::OpenBrace)?;

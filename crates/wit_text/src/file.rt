@@ -6,7 +6,7 @@ ghost use Rattle.wit_tokens.specs.Lexing.{limit};
 ghost use Rattle.wit_tokens.specs.Tokens.{lexeme, lexemes};
 ghost use Rattle.wit_syntax.specs.Syntax.{File};
 ghost use Rattle.wit_syntax.specs.View.{item_view, file_view};
-ghost use Rattle.wit_text.specs.Faults.{Gives};
+ghost use Rattle.wit_text.specs.Faults.{AnswersRead};
 ghost use Rattle.wit_text.specs.Grammar.{nesting, file_keyword, file_feature, file_fault, begins_item, item, optional_item, items, file};
 ghost use Rattle.wit_text.specs.Reading.{IsRead, Faulty};
 
@@ -73,7 +73,7 @@ fn item<'a>(
     tokens: &'a [Token],
 ) -> Result<(Item, &'a [Token]), TextError>
     requires { length tokens.now ≤ limit }
-    ensures gives { Gives (λ x. (item_view x.0, lexemes source.now x.1.now)) result ((item (length source.now) nesting (lexeme source.now first)).read (lexemes source.now tokens.now)) }
+    ensures gives { AnswersRead (λ x. (item_view x.0, lexemes source.now x.1.now)) result ((item (length source.now) nesting (lexeme source.now first)).read (lexemes source.now tokens.now)) }
     ensures shorter { IfOk result (λ x. length x.1.now < length tokens.now) }
 {
     if same(first.kind, TokenKind::Keyword(Keyword::Interface)) {
@@ -91,7 +91,7 @@ fn optional_item<'a>(
     tokens: &'a [Token],
 ) -> Result<(Option<Item>, &'a [Token]), TextError>
     requires { length tokens.now ≤ limit }
-    ensures gives { Gives (λ x. (option_map item_view x.0, lexemes source.now x.1.now)) result ((optional_item (length source.now) nesting).read (lexemes source.now tokens.now)) }
+    ensures gives { AnswersRead (λ x. (option_map item_view x.0, lexemes source.now x.1.now)) result ((optional_item (length source.now) nesting).read (lexemes source.now tokens.now)) }
     ensures shorter { IfOk result (λ x. IfSome x.0 (λ i. length x.1.now < length tokens.now)) }
 {
     match tokens {
@@ -105,7 +105,7 @@ fn optional_item<'a>(
 
 /// Nothing more stands there.
 fn ended(source: &[u8], tokens: &[Token]) -> Result<(), TextError>
-    ensures { Gives (λ _. (0, [])) result ((at_end (file_fault (length source.now))).read (lexemes source.now tokens.now)) }
+    ensures { AnswersRead (λ _. (0, [])) result ((at_end (file_fault (length source.now))).read (lexemes source.now tokens.now)) }
 {
     match tokens {
         [] => Ok(()),
@@ -116,7 +116,7 @@ fn ended(source: &[u8], tokens: &[Token]) -> Result<(), TextError>
 /// What stands behind the package, to the end.
 fn items(alloc: Global, source: &[u8], tokens: &[Token]) -> Result<Vec<Item>, TextError>
     requires { length tokens.now < limit }
-    ensures { Gives (λ x. (map item_view x.items, [])) result ((items (length source.now) nesting limit).read (lexemes source.now tokens.now)) }
+    ensures { AnswersRead (λ x. (map item_view x.items, [])) result ((items (length source.now) nesting limit).read (lexemes source.now tokens.now)) }
 {
     let mut list = Vec::new(alloc);
     let mut left = tokens;
@@ -134,7 +134,7 @@ fn items(alloc: Global, source: &[u8], tokens: &[Token]) -> Result<Vec<Item>, Te
 #[tactic(auto, unfolding(crate::specs::Grammar::file))]
 fn file(alloc: Global, source: &[u8], tokens: &[Token]) -> Result<Ast, TextError>
     requires { length tokens.now ≤ limit }
-    ensures { Gives (λ a. (file_view a, [])) result ((file (length source.now) nesting).read (lexemes source.now tokens.now)) }
+    ensures { AnswersRead (λ a. (file_view a, [])) result ((file (length source.now) nesting).read (lexemes source.now tokens.now)) }
 {
     let (package, tokens) = header(alloc, source, tokens)?;
     let items = items(alloc, source, tokens)?;
@@ -145,7 +145,7 @@ fn file(alloc: Global, source: &[u8], tokens: &[Token]) -> Result<Ast, TextError
 /// wanting. Tokens and grammar are those of WIT.md.
 pub fn parse(alloc: Global, text: &str) -> Result<Ast, TextError>
     ensures found { IfOk result (λ a. IsRead text.now (file_view a)) }
-    ensures only { (f : File) → IsRead text.now f → Gives file_view result (Ok f) }
+    ensures only { (f : File) → IsRead text.now f → AnswersRead file_view result (Ok f) }
     ensures fault { IfErr result (λ e. Faulty text.now e) }
 {
     texts_have_one_lexing();

@@ -3,7 +3,7 @@ ghost use Rattle.std.specs.Prelude.{◌≡◌, ◌<◌, ◌≤◌, length, map, 
 ghost use Rattle.wit_tokens.specs.Lexing.{limit};
 ghost use Rattle.wit_tokens.specs.Tokens.{lexeme, lexemes};
 ghost use Rattle.wit_syntax.specs.View.{ty_view, field_view, function_view, optional_view};
-ghost use Rattle.wit_text.specs.Faults.{Gives, unless_feature};
+ghost use Rattle.wit_text.specs.Faults.{AnswersRead, unless_feature};
 ghost use Rattle.wit_tokens.specs.declared.error.Expected.TheVariants as want;
 ghost use Rattle.wit_tokens.specs.declared.token.Keyword.TheVariants as kw;
 ghost use Rattle.wit_text.specs.Grammar.{nesting, member, after_member, param_list, parameters, result_fault, function_result, optional_result, function, async_feature, func_word, after_function, function_end, whole_function};
@@ -25,7 +25,7 @@ pub fn field<'a>(
     tokens: &'a [Token],
 ) -> Result<(Field, &'a [Token]), TextError>
     requires { length tokens.now ≤ limit }
-    ensures gives { Gives (λ x. (field_view x.0, lexemes source.now x.1.now)) result ((member (length source.now) nesting).read (lexemes source.now tokens.now)) }
+    ensures gives { AnswersRead (λ x. (field_view x.0, lexemes source.now x.1.now)) result ((member (length source.now) nesting).read (lexemes source.now tokens.now)) }
     ensures shorter { IfOk result (λ x. length x.1.now < length tokens.now) }
 {
     let (name, tokens) = identifier(alloc, source, tokens)?;
@@ -37,7 +37,7 @@ pub fn field<'a>(
 /// What stands behind a parameter: whether more follow.
 #[tactic(auto, unfolding(crate::specs::Grammar::after_member))]
 fn after_param<'a>(source: &[u8], tokens: &'a [Token]) -> Result<(bool, &'a [Token]), TextError>
-    ensures gives { Gives (λ x. (x.0, lexemes source.now x.1.now)) result ((after_member (length source.now)).read (lexemes source.now tokens.now)) }
+    ensures gives { AnswersRead (λ x. (x.0, lexemes source.now x.1.now)) result ((after_member (length source.now)).read (lexemes source.now tokens.now)) }
     ensures shorter { IfOk result (λ x. length x.1.now < length tokens.now) }
 {
     comma_or(source, tokens, Punctuation::CloseParenthesis)
@@ -50,7 +50,7 @@ fn param_list<'a>(
     tokens: &'a [Token],
 ) -> Result<(Vec<Field>, &'a [Token]), TextError>
     requires { length tokens.now < limit }
-    ensures gives { Gives (λ x. (map field_view x.0.items, lexemes source.now x.1.now)) result ((param_list (length source.now) nesting limit).read (lexemes source.now tokens.now)) }
+    ensures gives { AnswersRead (λ x. (map field_view x.0.items, lexemes source.now x.1.now)) result ((param_list (length source.now) nesting limit).read (lexemes source.now tokens.now)) }
     ensures shorter { IfOk result (λ x. length x.1.now < length tokens.now) }
 {
     let mut list = Vec::new(alloc);
@@ -74,7 +74,7 @@ fn parameters<'a>(
     tokens: &'a [Token],
 ) -> Result<(Vec<Field>, &'a [Token]), TextError>
     requires { length tokens.now < limit }
-    ensures gives { Gives (λ x. (map field_view x.0.items, lexemes source.now x.1.now)) result ((parameters (length source.now) nesting).read (lexemes source.now tokens.now)) }
+    ensures gives { AnswersRead (λ x. (map field_view x.0.items, lexemes source.now x.1.now)) result ((parameters (length source.now) nesting).read (lexemes source.now tokens.now)) }
     ensures shorter { IfOk result (λ x. length x.1.now < length tokens.now) }
 {
     let close = TokenKind::Punctuation(Punctuation::CloseParenthesis);
@@ -106,7 +106,7 @@ fn function_result<'a>(
     tokens: &'a [Token],
 ) -> Result<(TypeExpression, &'a [Token]), TextError>
     requires { length tokens.now ≤ limit }
-    ensures gives { Gives (λ x. (ty_view x.0, lexemes source.now x.1.now)) result ((function_result (length source.now) nesting).read (lexemes source.now tokens.now)) }
+    ensures gives { AnswersRead (λ x. (ty_view x.0, lexemes source.now x.1.now)) result ((function_result (length source.now) nesting).read (lexemes source.now tokens.now)) }
     ensures shorter { IfOk result (λ x. length x.1.now < length tokens.now) }
 {
     match tokens {
@@ -125,7 +125,7 @@ fn optional_result<'a>(
     tokens: &'a [Token],
 ) -> Result<(Option<TypeExpression>, &'a [Token]), TextError>
     requires { length tokens.now ≤ limit }
-    ensures gives { Gives (λ x. (optional_view x.0, lexemes source.now x.1.now)) result ((optional_result (length source.now) nesting).read (lexemes source.now tokens.now)) }
+    ensures gives { AnswersRead (λ x. (optional_view x.0, lexemes source.now x.1.now)) result ((optional_result (length source.now) nesting).read (lexemes source.now tokens.now)) }
     ensures shorter { IfOk result (λ x. length x.1.now ≤ length tokens.now) }
 {
     let arrow = TokenKind::Punctuation(Punctuation::Arrow);
@@ -146,7 +146,7 @@ fn function<'a>(
     tokens: &'a [Token],
 ) -> Result<(FuncType, &'a [Token]), TextError>
     requires { length tokens.now ≤ limit }
-    ensures gives { Gives (λ x. (function_view x.0, lexemes source.now x.1.now)) result ((function (length source.now) nesting).read (lexemes source.now tokens.now)) }
+    ensures gives { AnswersRead (λ x. (function_view x.0, lexemes source.now x.1.now)) result ((function (length source.now) nesting).read (lexemes source.now tokens.now)) }
     ensures shorter { IfOk result (λ x. length x.1.now < length tokens.now) }
 {
     let (_, tokens) = punctuation(source, tokens, Punctuation::OpenParenthesis)?;
@@ -170,7 +170,7 @@ fn func_fault(source: &[u8], tokens: &[Token]) -> TextError
 /// `func` in an interface.
 #[tactic(auto, unfolding(crate::specs::Grammar::func_word))]
 pub fn func_word<'a>(source: &[u8], tokens: &'a [Token]) -> Result<(Token, &'a [Token]), TextError>
-    ensures gives { Gives (λ x. (lexeme source.now x.0, lexemes source.now x.1.now)) result ((func_word (length source.now) async_feature).read (lexemes source.now tokens.now)) }
+    ensures gives { AnswersRead (λ x. (lexeme source.now x.0, lexemes source.now x.1.now)) result ((func_word (length source.now) async_feature).read (lexemes source.now tokens.now)) }
     ensures shorter { IfOk result (λ x. length x.1.now < length tokens.now) }
 {
     let func = TokenKind::Keyword(Keyword::Func);
@@ -197,7 +197,7 @@ fn function_end<'a>(
     ty: &FuncType,
     tokens: &'a [Token],
 ) -> Result<(Token, &'a [Token]), TextError>
-    ensures gives { Gives (λ x. (lexeme source.now x.0, lexemes source.now x.1.now)) result ((function_end (length source.now) (function_view ty.now)).read (lexemes source.now tokens.now)) }
+    ensures gives { AnswersRead (λ x. (lexeme source.now x.0, lexemes source.now x.1.now)) result ((function_end (length source.now) (function_view ty.now)).read (lexemes source.now tokens.now)) }
     ensures shorter { IfOk result (λ x. length x.1.now < length tokens.now) }
 {
     let semicolon = TokenKind::Punctuation(Punctuation::Semicolon);
@@ -215,7 +215,7 @@ pub fn whole_function<'a>(
     tokens: &'a [Token],
 ) -> Result<(FuncType, &'a [Token]), TextError>
     requires { length tokens.now ≤ limit }
-    ensures gives { Gives (λ x. (function_view x.0, lexemes source.now x.1.now)) result ((whole_function (length source.now) nesting).read (lexemes source.now tokens.now)) }
+    ensures gives { AnswersRead (λ x. (function_view x.0, lexemes source.now x.1.now)) result ((whole_function (length source.now) nesting).read (lexemes source.now tokens.now)) }
     ensures shorter { IfOk result (λ x. length x.1.now < length tokens.now) }
 {
     let (ty, tokens) = function(alloc, source, tokens)?;

@@ -4,7 +4,7 @@ ghost use Rattle.std.specs.String.{string_bytes};
 ghost use Rattle.wit_tokens.specs.Tokens.{lexeme, lexemes};
 ghost use Rattle.wit_tokens.specs.declared.token.Span.{Span};
 ghost use Rattle.wit_syntax.specs.View.{version_view};
-ghost use Rattle.wit_text.specs.Faults.{Gives};
+ghost use Rattle.wit_text.specs.Faults.{AnswersRead};
 ghost use Rattle.wit_text.specs.Grammar.{is_version_text, is_version_token, version, is_lower_name, lower_id, gate, first_feature, first_fault, package_word, header_wanted, header_fault, header_end, header};
 
 use crate::parser::{feature_or, label_of, met, name_of, punctuation, same};
@@ -43,7 +43,7 @@ fn lower_identifier<'a>(
     source: &[u8],
     tokens: &'a [Token],
 ) -> Result<(Label, &'a [Token]), TextError>
-    ensures gives { Gives (λ x. (x.0, lexemes source.now x.1.now)) result ((lower_id (length source.now)).read (lexemes source.now tokens.now)) }
+    ensures gives { AnswersRead (λ x. (x.0, lexemes source.now x.1.now)) result ((lower_id (length source.now)).read (lexemes source.now tokens.now)) }
     ensures shorter { IfOk result (λ x. length x.1.now < length tokens.now) }
 {
     match tokens {
@@ -91,7 +91,7 @@ fn version<'a>(
     source: &[u8],
     tokens: &'a [Token],
 ) -> Result<(Option<String>, &'a [Token]), TextError>
-    ensures gives { Gives (λ x. (version_view x.0, lexemes source.now x.1.now)) result (version.read (lexemes source.now tokens.now)) }
+    ensures gives { AnswersRead (λ x. (version_view x.0, lexemes source.now x.1.now)) result (version.read (lexemes source.now tokens.now)) }
     ensures shorter { IfOk result (λ x. length x.1.now ≤ length tokens.now) }
 {
     let [first, rest @ ..] = tokens else {
@@ -141,7 +141,7 @@ fn header_end<'a>(
     version: &Option<String>,
     tokens: &'a [Token],
 ) -> Result<(Token, &'a [Token]), TextError>
-    ensures gives { Gives (λ x. (lexeme source.now x.0, lexemes source.now x.1.now)) result ((header_end (length source.now) (version_view version.now)).read (lexemes source.now tokens.now)) }
+    ensures gives { AnswersRead (λ x. (lexeme source.now x.0, lexemes source.now x.1.now)) result ((header_end (length source.now) (version_view version.now)).read (lexemes source.now tokens.now)) }
     ensures shorter { IfOk result (λ x. length x.1.now < length tokens.now) }
 {
     let semicolon = TokenKind::Punctuation(Punctuation::Semicolon);
@@ -153,7 +153,7 @@ fn header_end<'a>(
 
 #[tactic(auto, unfolding(crate::specs::Grammar::package_word))]
 fn package_word<'a>(source: &[u8], tokens: &'a [Token]) -> Result<(Token, &'a [Token]), TextError>
-    ensures gives { Gives (λ x. (lexeme source.now x.0, lexemes source.now x.1.now)) result ((package_word (length source.now)).read (lexemes source.now tokens.now)) }
+    ensures gives { AnswersRead (λ x. (lexeme source.now x.0, lexemes source.now x.1.now)) result ((package_word (length source.now)).read (lexemes source.now tokens.now)) }
     ensures shorter { IfOk result (λ x. length x.1.now < length tokens.now) }
 {
     let package = TokenKind::Keyword(Keyword::Package);
@@ -170,7 +170,7 @@ pub fn header<'a>(
     source: &[u8],
     tokens: &'a [Token],
 ) -> Result<(PackageId, &'a [Token]), TextError>
-    ensures gives { Gives (λ x. ((x.0.namespace, x.0.name, version_view x.0.version), lexemes source.now x.1.now)) result ((header (length source.now)).read (lexemes source.now tokens.now)) }
+    ensures gives { AnswersRead (λ x. ((x.0.namespace, x.0.name, version_view x.0.version), lexemes source.now x.1.now)) result ((header (length source.now)).read (lexemes source.now tokens.now)) }
     ensures shorter { IfOk result (λ x. length x.1.now < length tokens.now) }
 {
     let (_, tokens) = package_word(source, tokens)?;

@@ -3,7 +3,7 @@ ghost use Rattle.std.specs.Prelude.{◌≡◌, ◌<◌, ◌≤◌, length, map, 
 ghost use Rattle.wit_tokens.specs.Lexing.{limit};
 ghost use Rattle.wit_tokens.specs.Tokens.{lexeme, lexemes};
 ghost use Rattle.wit_syntax.specs.View.{definition_view, entry_view, item_view};
-ghost use Rattle.wit_text.specs.Faults.{Gives};
+ghost use Rattle.wit_text.specs.Faults.{AnswersRead};
 ghost use Rattle.wit_text.specs.Grammar.{nesting, item_keyword, item_mark, item_kind, is_item_start, begins_entry, item_feature, entry_fault, definition, defined, declared, keyword_entry, entry_behind, entry, entry_list, interface};
 
 use crate::definitions::{alias, enum_cases, flag_names, record_fields, variant_cases};
@@ -105,7 +105,7 @@ fn definition<'a>(
     tokens: &'a [Token],
 ) -> Result<(TypeDefKind, &'a [Token]), TextError>
     requires { length tokens.now ≤ limit }
-    ensures gives { Gives (λ x. (definition_view x.0, lexemes source.now x.1.now)) result ((definition (length source.now) nesting start).read (lexemes source.now tokens.now)) }
+    ensures gives { AnswersRead (λ x. (definition_view x.0, lexemes source.now x.1.now)) result ((definition (length source.now) nesting start).read (lexemes source.now tokens.now)) }
     ensures shorter { IfOk result (λ x. length x.1.now < length tokens.now) }
 {
     match start {
@@ -130,7 +130,7 @@ fn defined<'a>(
     tokens: &'a [Token],
 ) -> Result<(InterfaceItem, &'a [Token]), TextError>
     requires { length tokens.now ≤ limit }
-    ensures gives { Gives (λ x. (entry_view x.0, lexemes source.now x.1.now)) result ((defined (length source.now) nesting start span).read (lexemes source.now tokens.now)) }
+    ensures gives { AnswersRead (λ x. (entry_view x.0, lexemes source.now x.1.now)) result ((defined (length source.now) nesting start span).read (lexemes source.now tokens.now)) }
     ensures shorter { IfOk result (λ x. length x.1.now < length tokens.now) }
 {
     let (name, tokens) = identifier(alloc, source, tokens)?;
@@ -148,7 +148,7 @@ fn declared<'a>(
     tokens: &'a [Token],
 ) -> Result<(InterfaceItem, &'a [Token]), TextError>
     requires { length tokens.now ≤ limit }
-    ensures gives { Gives (λ x. (entry_view x.0, lexemes source.now x.1.now)) result ((declared (length source.now) nesting span name).read (lexemes source.now tokens.now)) }
+    ensures gives { AnswersRead (λ x. (entry_view x.0, lexemes source.now x.1.now)) result ((declared (length source.now) nesting span name).read (lexemes source.now tokens.now)) }
     ensures shorter { IfOk result (λ x. length x.1.now < length tokens.now) }
 {
     let (_, tokens) = punctuation(source, tokens, Punctuation::Colon)?;
@@ -167,7 +167,7 @@ fn keyword_entry<'a>(
     tokens: &'a [Token],
 ) -> Result<(InterfaceItem, &'a [Token]), TextError>
     requires { length tokens.now ≤ limit }
-    ensures gives { Gives (λ x. (entry_view x.0, lexemes source.now x.1.now)) result ((keyword_entry (length source.now) nesting start span).read (lexemes source.now tokens.now)) }
+    ensures gives { AnswersRead (λ x. (entry_view x.0, lexemes source.now x.1.now)) result ((keyword_entry (length source.now) nesting start span).read (lexemes source.now tokens.now)) }
     ensures shorter { IfOk result (λ x. length x.1.now < length tokens.now) }
 {
     match start {
@@ -190,7 +190,7 @@ fn entry_behind<'a>(
     tokens: &'a [Token],
 ) -> Result<(InterfaceItem, &'a [Token]), TextError>
     requires { length tokens.now ≤ limit }
-    ensures gives { Gives (λ x. (entry_view x.0, lexemes source.now x.1.now)) result ((entry_behind (length source.now) nesting (lexeme source.now first)).read (lexemes source.now tokens.now)) }
+    ensures gives { AnswersRead (λ x. (entry_view x.0, lexemes source.now x.1.now)) result ((entry_behind (length source.now) nesting (lexeme source.now first)).read (lexemes source.now tokens.now)) }
     ensures shorter { IfOk result (λ x. length x.1.now < length tokens.now) }
 {
     if is_name(source, first) {
@@ -208,7 +208,7 @@ fn entry<'a>(
     tokens: &'a [Token],
 ) -> Result<(InterfaceItem, &'a [Token]), TextError>
     requires { length tokens.now ≤ limit }
-    ensures gives { Gives (λ x. (entry_view x.0, lexemes source.now x.1.now)) result ((entry (length source.now) nesting).read (lexemes source.now tokens.now)) }
+    ensures gives { AnswersRead (λ x. (entry_view x.0, lexemes source.now x.1.now)) result ((entry (length source.now) nesting).read (lexemes source.now tokens.now)) }
     ensures shorter { IfOk result (λ x. length x.1.now < length tokens.now) }
 {
     match tokens {
@@ -226,7 +226,7 @@ fn entry_list<'a>(
     tokens: &'a [Token],
 ) -> Result<(Vec<InterfaceItem>, &'a [Token]), TextError>
     requires { length tokens.now < limit }
-    ensures gives { Gives (λ x. (map entry_view x.0.items, lexemes source.now x.1.now)) result ((entry_list (length source.now) nesting limit).read (lexemes source.now tokens.now)) }
+    ensures gives { AnswersRead (λ x. (map entry_view x.0.items, lexemes source.now x.1.now)) result ((entry_list (length source.now) nesting limit).read (lexemes source.now tokens.now)) }
     ensures shorter { IfOk result (λ x. length x.1.now < length tokens.now) }
 {
     let close = TokenKind::Punctuation(Punctuation::CloseBrace);
@@ -251,7 +251,7 @@ pub fn interface<'a>(
     tokens: &'a [Token],
 ) -> Result<(Item, &'a [Token]), TextError>
     requires { length tokens.now ≤ limit }
-    ensures gives { Gives (λ x. (item_view x.0, lexemes source.now x.1.now)) result ((interface (length source.now) nesting).read (lexemes source.now tokens.now)) }
+    ensures gives { AnswersRead (λ x. (item_view x.0, lexemes source.now x.1.now)) result ((interface (length source.now) nesting).read (lexemes source.now tokens.now)) }
     ensures shorter { IfOk result (λ x. length x.1.now < length tokens.now) }
 {
     let (name, tokens) = identifier(alloc, source, tokens)?;

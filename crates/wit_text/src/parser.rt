@@ -1,7 +1,7 @@
 //! Small readers: each takes a front of the tokens, and answers the rest.
 ghost use Rattle.std.specs.Prelude.{◌≡◌, ◌<◌, ◌≤◌, length, IsTrue, IfOk, Ok};
 ghost use Rattle.wit_tokens.specs.Tokens.{same_kind, lexeme, optional_lexeme, lexemes, bytes_of, word_of, name_of};
-ghost use Rattle.wit_text.specs.Faults.{Gives, feature_or, met, is, wanted};
+ghost use Rattle.wit_text.specs.Faults.{AnswersRead, feature_or, met, is, wanted};
 ghost use Rattle.wit_tokens.specs.declared.token.TokenKind.TheVariants as kind;
 ghost use Rattle.wit_tokens.specs.declared.error.Expected.TheVariants as want;
 ghost use Rattle.wit_tokens.specs.declared.token.Punctuation.TheVariants.{Comma};
@@ -98,7 +98,7 @@ pub fn token<'a>(
     kind: TokenKind,
     wanted: Expected,
 ) -> Result<(Token, &'a [Token]), TextError>
-    ensures gives { Gives (λ x. (lexeme source.now x.0, lexemes source.now x.1.now)) result ((token (length source.now) kind wanted).read (lexemes source.now tokens.now)) }
+    ensures gives { AnswersRead (λ x. (lexeme source.now x.0, lexemes source.now x.1.now)) result ((token (length source.now) kind wanted).read (lexemes source.now tokens.now)) }
     ensures shorter { IfOk result (λ x. length x.1.now < length tokens.now) }
 {
     match tokens {
@@ -113,7 +113,7 @@ pub fn punctuation<'a>(
     tokens: &'a [Token],
     mark: Punctuation,
 ) -> Result<(Token, &'a [Token]), TextError>
-    ensures gives { Gives (λ x. (lexeme source.now x.0, lexemes source.now x.1.now)) result ((punctuation (length source.now) mark).read (lexemes source.now tokens.now)) }
+    ensures gives { AnswersRead (λ x. (lexeme source.now x.0, lexemes source.now x.1.now)) result ((punctuation (length source.now) mark).read (lexemes source.now tokens.now)) }
     ensures shorter { IfOk result (λ x. length x.1.now < length tokens.now) }
 {
     let kind = TokenKind::Punctuation(mark);
@@ -131,7 +131,7 @@ pub fn is_name(source: &[u8], token: Token) -> bool
 #[tactic(auto, unfolding(crate::specs::Grammar::is_name))]
 pub fn label_of(alloc: Global, source: &[u8], token: Token) -> Result<Label, TextError>
     requires { IsTrue (is_name (lexeme source.now token)) }
-    ensures { Gives (λ l. l) result (Ok (name_of source.now token)) }
+    ensures { AnswersRead (λ l. l) result (Ok (name_of source.now token)) }
 {
     Ok(Label::from_bytes(alloc, name_of(source, token))?)
 }
@@ -143,7 +143,7 @@ pub fn identifier<'a>(
     source: &[u8],
     tokens: &'a [Token],
 ) -> Result<(Label, &'a [Token]), TextError>
-    ensures gives { Gives (λ x. (x.0, lexemes source.now x.1.now)) result ((id (length source.now)).read (lexemes source.now tokens.now)) }
+    ensures gives { AnswersRead (λ x. (x.0, lexemes source.now x.1.now)) result ((id (length source.now)).read (lexemes source.now tokens.now)) }
     ensures shorter { IfOk result (λ x. length x.1.now < length tokens.now) }
 {
     match tokens {
@@ -161,7 +161,7 @@ pub fn comma_or<'a>(
     tokens: &'a [Token],
     close: Punctuation,
 ) -> Result<(bool, &'a [Token]), TextError>
-    ensures gives { Gives (λ x. (x.0, lexemes source.now x.1.now)) result ((comma_or (is comma) (is (kind.Punctuation close)) (wanted (length source.now) (want.Punctuation Comma))).read (lexemes source.now tokens.now)) }
+    ensures gives { AnswersRead (λ x. (x.0, lexemes source.now x.1.now)) result ((comma_or (is comma) (is (kind.Punctuation close)) (wanted (length source.now) (want.Punctuation Comma))).read (lexemes source.now tokens.now)) }
     ensures shorter { IfOk result (λ x. length x.1.now < length tokens.now) }
 {
     let close = TokenKind::Punctuation(close);
@@ -184,7 +184,7 @@ pub fn separator<'a>(
     close: Punctuation,
     expected: Expected,
 ) -> Result<(bool, &'a [Token]), TextError>
-    ensures gives { Gives (λ x. (x.0, lexemes source.now x.1.now)) result ((separator (is comma) (is (kind.Punctuation close)) (wanted (length source.now) expected)).read (lexemes source.now tokens.now)) }
+    ensures gives { AnswersRead (λ x. (x.0, lexemes source.now x.1.now)) result ((separator (is comma) (is (kind.Punctuation close)) (wanted (length source.now) expected)).read (lexemes source.now tokens.now)) }
     ensures shorter { IfOk result (λ x. length x.1.now < length tokens.now) }
 {
     let close = TokenKind::Punctuation(close);

@@ -4,7 +4,7 @@ ghost use Rattle.wit_tokens.specs.Lexing.{limit};
 ghost use Rattle.wit_tokens.specs.Tokens.{lexeme, lexemes};
 ghost use Rattle.wit_syntax.specs.View.{ty_view, boxed_view};
 ghost use Rattle.wit_syntax.specs.Syntax.{ResultOf};
-ghost use Rattle.wit_text.specs.Faults.{Gives};
+ghost use Rattle.wit_text.specs.Faults.{AnswersRead};
 ghost use Rattle.wit_text.specs.Grammar.{keyword_start, kind_start, is_start, begins_type, type_fault, begun, type_behind, type_of, is_bare, greater_wanted, close_list, close_angle, list, option, members, tuple, error_type, result_error, result_ok, result_parts, result_type, ty};
 
 use crate::parser::{is_name, label_of, met, punctuation, same, separator};
@@ -133,7 +133,7 @@ fn close_list<'a>(
     ty: &TypeExpression,
     tokens: &'a [Token],
 ) -> Result<(Token, &'a [Token]), TextError>
-    ensures gives { Gives (λ x. (lexeme source.now x.0, lexemes source.now x.1.now)) result ((close_list (length source.now) (ty_view ty.now)).read (lexemes source.now tokens.now)) }
+    ensures gives { AnswersRead (λ x. (lexeme source.now x.0, lexemes source.now x.1.now)) result ((close_list (length source.now) (ty_view ty.now)).read (lexemes source.now tokens.now)) }
     ensures shorter { IfOk result (λ x. length x.1.now < length tokens.now) }
 {
     let greater = TokenKind::Punctuation(Punctuation::Greater);
@@ -155,7 +155,7 @@ fn close_angle<'a>(
     ty: &TypeExpression,
     tokens: &'a [Token],
 ) -> Result<(Token, &'a [Token]), TextError>
-    ensures gives { Gives (λ x. (lexeme source.now x.0, lexemes source.now x.1.now)) result ((close_angle (length source.now) (ty_view ty.now)).read (lexemes source.now tokens.now)) }
+    ensures gives { AnswersRead (λ x. (lexeme source.now x.0, lexemes source.now x.1.now)) result ((close_angle (length source.now) (ty_view ty.now)).read (lexemes source.now tokens.now)) }
     ensures shorter { IfOk result (λ x. length x.1.now < length tokens.now) }
 {
     let greater = TokenKind::Punctuation(Punctuation::Greater);
@@ -175,7 +175,7 @@ pub fn type_at<'a>(
     tokens: &'a [Token],
 ) -> Result<(TypeExpression, &'a [Token]), TextError>
     requires { length tokens.now ≤ limit }
-    ensures gives { Gives (λ x. (ty_view x.0, lexemes source.now x.1.now)) result ((ty (length source.now) nesting).read (lexemes source.now tokens.now)) }
+    ensures gives { AnswersRead (λ x. (ty_view x.0, lexemes source.now x.1.now)) result ((ty (length source.now) nesting).read (lexemes source.now tokens.now)) }
     ensures shorter { IfOk result (λ x. length x.1.now < length tokens.now) }
 {
     if nesting == 0 {
@@ -194,7 +194,7 @@ fn type_of<'a>(
     tokens: &'a [Token],
 ) -> Result<(TypeExpression, &'a [Token]), TextError>
     requires { length tokens.now ≤ limit }
-    ensures gives { Gives (λ x. (ty_view x.0, lexemes source.now x.1.now)) result ((type_of (length source.now) (ty (length source.now) nesting)).read (lexemes source.now tokens.now)) }
+    ensures gives { AnswersRead (λ x. (ty_view x.0, lexemes source.now x.1.now)) result ((type_of (length source.now) (ty (length source.now) nesting)).read (lexemes source.now tokens.now)) }
     ensures shorter { IfOk result (λ x. length x.1.now < length tokens.now) }
 {
     match tokens {
@@ -216,7 +216,7 @@ pub fn type_behind<'a>(
     tokens: &'a [Token],
 ) -> Result<(TypeExpression, &'a [Token]), TextError>
     requires { length tokens.now ≤ limit }
-    ensures gives { Gives (λ x. (ty_view x.0, lexemes source.now x.1.now)) result ((type_behind (length source.now) (ty (length source.now) nesting) (lexeme source.now first)).read (lexemes source.now tokens.now)) }
+    ensures gives { AnswersRead (λ x. (ty_view x.0, lexemes source.now x.1.now)) result ((type_behind (length source.now) (ty (length source.now) nesting) (lexeme source.now first)).read (lexemes source.now tokens.now)) }
     ensures shorter { IfOk result (λ x. length x.1.now ≤ length tokens.now) }
 {
     if is_name(source, first) {
@@ -237,7 +237,7 @@ fn begun<'a>(
     tokens: &'a [Token],
 ) -> Result<(TypeExpression, &'a [Token]), TextError>
     requires { length tokens.now ≤ limit }
-    ensures gives { Gives (λ x. (ty_view x.0, lexemes source.now x.1.now)) result ((begun (length source.now) (ty (length source.now) nesting) start).read (lexemes source.now tokens.now)) }
+    ensures gives { AnswersRead (λ x. (ty_view x.0, lexemes source.now x.1.now)) result ((begun (length source.now) (ty (length source.now) nesting) start).read (lexemes source.now tokens.now)) }
     ensures shorter { IfOk result (λ x. length x.1.now ≤ length tokens.now) }
 {
     match start {
@@ -260,7 +260,7 @@ fn list_type<'a>(
     tokens: &'a [Token],
 ) -> Result<(TypeExpression, &'a [Token]), TextError>
     requires { length tokens.now ≤ limit }
-    ensures gives { Gives (λ x. (ty_view x.0, lexemes source.now x.1.now)) result ((list (length source.now) (ty (length source.now) nesting)).read (lexemes source.now tokens.now)) }
+    ensures gives { AnswersRead (λ x. (ty_view x.0, lexemes source.now x.1.now)) result ((list (length source.now) (ty (length source.now) nesting)).read (lexemes source.now tokens.now)) }
     ensures shorter { IfOk result (λ x. length x.1.now < length tokens.now) }
 {
     let (_, tokens) = punctuation(source, tokens, Punctuation::Less)?;
@@ -279,7 +279,7 @@ fn option_type<'a>(
     tokens: &'a [Token],
 ) -> Result<(TypeExpression, &'a [Token]), TextError>
     requires { length tokens.now ≤ limit }
-    ensures gives { Gives (λ x. (ty_view x.0, lexemes source.now x.1.now)) result ((option (length source.now) (ty (length source.now) nesting)).read (lexemes source.now tokens.now)) }
+    ensures gives { AnswersRead (λ x. (ty_view x.0, lexemes source.now x.1.now)) result ((option (length source.now) (ty (length source.now) nesting)).read (lexemes source.now tokens.now)) }
     ensures shorter { IfOk result (λ x. length x.1.now < length tokens.now) }
 {
     let (_, tokens) = punctuation(source, tokens, Punctuation::Less)?;
@@ -298,7 +298,7 @@ fn tuple_type<'a>(
     tokens: &'a [Token],
 ) -> Result<(TypeExpression, &'a [Token]), TextError>
     requires { length tokens.now ≤ limit }
-    ensures gives { Gives (λ x. (ty_view x.0, lexemes source.now x.1.now)) result ((tuple (length source.now) (ty (length source.now) nesting)).read (lexemes source.now tokens.now)) }
+    ensures gives { AnswersRead (λ x. (ty_view x.0, lexemes source.now x.1.now)) result ((tuple (length source.now) (ty (length source.now) nesting)).read (lexemes source.now tokens.now)) }
     ensures shorter { IfOk result (λ x. length x.1.now < length tokens.now) }
 {
     let (_, tokens) = punctuation(source, tokens, Punctuation::Less)?;
@@ -315,7 +315,7 @@ fn member_list<'a>(
     tokens: &'a [Token],
 ) -> Result<(Vec<TypeExpression>, &'a [Token]), TextError>
     requires { length tokens.now ≤ limit }
-    ensures gives { Gives (λ x. (map ty_view x.0.items, lexemes source.now x.1.now)) result ((members (length source.now) (ty (length source.now) nesting) limit).read (lexemes source.now tokens.now)) }
+    ensures gives { AnswersRead (λ x. (map ty_view x.0.items, lexemes source.now x.1.now)) result ((members (length source.now) (ty (length source.now) nesting) limit).read (lexemes source.now tokens.now)) }
     ensures shorter { IfOk result (λ x. length x.1.now < length tokens.now) }
 {
     let mut list = Vec::new(alloc);
@@ -342,7 +342,7 @@ fn result_type<'a>(
     tokens: &'a [Token],
 ) -> Result<(TypeExpression, &'a [Token]), TextError>
     requires { length tokens.now ≤ limit }
-    ensures gives { Gives (λ x. (ty_view x.0, lexemes source.now x.1.now)) result ((result_type (length source.now) (ty (length source.now) nesting)).read (lexemes source.now tokens.now)) }
+    ensures gives { AnswersRead (λ x. (ty_view x.0, lexemes source.now x.1.now)) result ((result_type (length source.now) (ty (length source.now) nesting)).read (lexemes source.now tokens.now)) }
     ensures shorter { IfOk result (λ x. length x.1.now ≤ length tokens.now) }
 {
     let less = TokenKind::Punctuation(Punctuation::Less);
@@ -364,7 +364,7 @@ fn result_parts<'a>(
     tokens: &'a [Token],
 ) -> Result<(TypeExpression, &'a [Token]), TextError>
     requires { length tokens.now ≤ limit }
-    ensures gives { Gives (λ x. (ty_view x.0, lexemes source.now x.1.now)) result ((result_parts (length source.now) (ty (length source.now) nesting)).read (lexemes source.now tokens.now)) }
+    ensures gives { AnswersRead (λ x. (ty_view x.0, lexemes source.now x.1.now)) result ((result_parts (length source.now) (ty (length source.now) nesting)).read (lexemes source.now tokens.now)) }
     ensures shorter { IfOk result (λ x. length x.1.now ≤ length tokens.now) }
 {
     let underscore = TokenKind::Punctuation(Punctuation::Underscore);
@@ -386,7 +386,7 @@ fn result_error<'a>(
     tokens: &'a [Token],
 ) -> Result<(TypeExpression, &'a [Token]), TextError>
     requires { length tokens.now ≤ limit }
-    ensures gives { Gives (λ x. (ty_view x.0, lexemes source.now x.1.now)) result ((result_error (length source.now) (ty (length source.now) nesting)).read (lexemes source.now tokens.now)) }
+    ensures gives { AnswersRead (λ x. (ty_view x.0, lexemes source.now x.1.now)) result ((result_error (length source.now) (ty (length source.now) nesting)).read (lexemes source.now tokens.now)) }
     ensures shorter { IfOk result (λ x. length x.1.now ≤ length tokens.now) }
 {
     let (_, tokens) = punctuation(source, tokens, Punctuation::Comma)?;
@@ -405,7 +405,7 @@ fn error_type<'a>(
     tokens: &'a [Token],
 ) -> Result<(TypeExpression, &'a [Token]), TextError>
     requires { length tokens.now ≤ limit }
-    ensures gives { Gives (λ x. (ty_view x.0, lexemes source.now x.1.now)) result ((error_type (length source.now) (ty (length source.now) nesting)).read (lexemes source.now tokens.now)) }
+    ensures gives { AnswersRead (λ x. (ty_view x.0, lexemes source.now x.1.now)) result ((error_type (length source.now) (ty (length source.now) nesting)).read (lexemes source.now tokens.now)) }
     ensures shorter { IfOk result (λ x. length x.1.now ≤ length tokens.now) }
 {
     let (error, tokens) = type_at(alloc, source, nesting, tokens)?;
@@ -423,7 +423,7 @@ fn result_ok<'a>(
     tokens: &'a [Token],
 ) -> Result<(TypeExpression, &'a [Token]), TextError>
     requires { length tokens.now ≤ limit }
-    ensures gives { Gives (λ x. (ty_view x.0, lexemes source.now x.1.now)) result ((result_ok (length source.now) (ty (length source.now) nesting)).read (lexemes source.now tokens.now)) }
+    ensures gives { AnswersRead (λ x. (ty_view x.0, lexemes source.now x.1.now)) result ((result_ok (length source.now) (ty (length source.now) nesting)).read (lexemes source.now tokens.now)) }
     ensures shorter { IfOk result (λ x. length x.1.now ≤ length tokens.now) }
 {
     let greater = TokenKind::Punctuation(Punctuation::Greater);

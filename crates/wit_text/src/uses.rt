@@ -3,7 +3,7 @@ ghost use Rattle.std.specs.Prelude.{◌≡◌, ◌<◌, ◌≤◌, length, IfOk}
 ghost use Rattle.wit_tokens.specs.Lexing.{limit};
 ghost use Rattle.wit_tokens.specs.Tokens.{lexeme, lexemes};
 ghost use Rattle.wit_syntax.specs.View.{used_view, entry_view};
-ghost use Rattle.wit_text.specs.Faults.{Gives};
+ghost use Rattle.wit_text.specs.Faults.{AnswersRead};
 ghost use Rattle.wit_text.specs.Grammar.{local_name, used, use_dot, use_item};
 
 use crate::lists::{EntryReader, comma_list};
@@ -20,7 +20,7 @@ fn local_name<'a>(
     source: &[u8],
     tokens: &'a [Token],
 ) -> Result<(Option<Label>, &'a [Token]), TextError>
-    ensures gives { Gives (λ x. (x.0, lexemes source.now x.1.now)) result ((local_name (length source.now)).read (lexemes source.now tokens.now)) }
+    ensures gives { AnswersRead (λ x. (x.0, lexemes source.now x.1.now)) result ((local_name (length source.now)).read (lexemes source.now tokens.now)) }
     ensures shorter { IfOk result (λ x. length x.1.now ≤ length tokens.now) }
 {
     let word = TokenKind::Keyword(Keyword::As);
@@ -40,7 +40,7 @@ fn used<'a>(
     source: &[u8],
     tokens: &'a [Token],
 ) -> Result<(UsedName, &'a [Token]), TextError>
-    ensures gives { Gives (λ x. (used_view x.0, lexemes source.now x.1.now)) result ((used (length source.now)).read (lexemes source.now tokens.now)) }
+    ensures gives { AnswersRead (λ x. (used_view x.0, lexemes source.now x.1.now)) result ((used (length source.now)).read (lexemes source.now tokens.now)) }
     ensures shorter { IfOk result (λ x. length x.1.now < length tokens.now) }
 {
     let (name, tokens) = identifier(alloc, source, tokens)?;
@@ -87,7 +87,7 @@ impl EntryReader for UsedNames {
 /// The `.` behind the interface of a use.
 #[tactic(auto, unfolding(crate::specs::Grammar::use_dot))]
 fn use_dot<'a>(source: &[u8], tokens: &'a [Token]) -> Result<(Token, &'a [Token]), TextError>
-    ensures gives { Gives (λ x. (lexeme source.now x.0, lexemes source.now x.1.now)) result ((use_dot (length source.now)).read (lexemes source.now tokens.now)) }
+    ensures gives { AnswersRead (λ x. (lexeme source.now x.0, lexemes source.now x.1.now)) result ((use_dot (length source.now)).read (lexemes source.now tokens.now)) }
     ensures shorter { IfOk result (λ x. length x.1.now < length tokens.now) }
 {
     let dot = TokenKind::Punctuation(Punctuation::Dot);
@@ -114,7 +114,7 @@ pub fn use_item<'a>(
     tokens: &'a [Token],
 ) -> Result<(InterfaceItem, &'a [Token]), TextError>
     requires { length tokens.now ≤ limit }
-    ensures gives { Gives (λ x. (entry_view x.0, lexemes source.now x.1.now)) result ((use_item (length source.now) span).read (lexemes source.now tokens.now)) }
+    ensures gives { AnswersRead (λ x. (entry_view x.0, lexemes source.now x.1.now)) result ((use_item (length source.now) span).read (lexemes source.now tokens.now)) }
     ensures shorter { IfOk result (λ x. length x.1.now < length tokens.now) }
 {
     let (name, tokens) = identifier(alloc, source, tokens)?;

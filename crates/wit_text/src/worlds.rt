@@ -5,7 +5,7 @@ ghost use Rattle.wit_tokens.specs.Tokens.{lexeme, optional_lexeme, lexemes};
 ghost use Rattle.wit_tokens.specs.declared.error.Expected.TheVariants as want;
 ghost use Rattle.wit_tokens.specs.declared.token.Keyword.TheVariants as kw;
 ghost use Rattle.wit_syntax.specs.View.{world_entry_view, item_view};
-ghost use Rattle.wit_text.specs.Faults.{Gives, unless_feature};
+ghost use Rattle.wit_text.specs.Faults.{AnswersRead, unless_feature};
 ghost use Rattle.wit_text.specs.Grammar.{nesting, direction_keyword, direction_of, world_keyword, world_feature, world_fault, world_colon, single_keyword, single_kind, single_feature, func_word, single, world_entry_behind, world_entry, world_list, world};
 
 use crate::functions::whole_function;
@@ -106,7 +106,7 @@ fn single_fault(source: &[u8], tokens: &[Token]) -> TextError
 /// The `:` behind a name, where no identifier follows it.
 #[tactic(auto, unfolding(crate::specs::Grammar::world_colon, crate::specs::Grammar::colon_id))]
 fn world_colon<'a>(source: &[u8], tokens: &'a [Token]) -> Result<(Token, &'a [Token]), TextError>
-    ensures gives { Gives (λ x. ((lexeme source.now x.0, optional_lexeme source.now None), lexemes source.now x.1.now)) result ((world_colon (length source.now)).read (lexemes source.now tokens.now)) }
+    ensures gives { AnswersRead (λ x. ((lexeme source.now x.0, optional_lexeme source.now None), lexemes source.now x.1.now)) result ((world_colon (length source.now)).read (lexemes source.now tokens.now)) }
     ensures shorter { IfOk result (λ x. length x.1.now < length tokens.now) }
 {
     let (colon, rest) = punctuation(source, tokens, Punctuation::Colon)?;
@@ -120,7 +120,7 @@ fn world_colon<'a>(source: &[u8], tokens: &'a [Token]) -> Result<(Token, &'a [To
 /// `func` in a world.
 #[tactic(auto, unfolding(crate::specs::Grammar::func_word))]
 fn world_func<'a>(source: &[u8], tokens: &'a [Token]) -> Result<(Token, &'a [Token]), TextError>
-    ensures gives { Gives (λ x. (lexeme source.now x.0, lexemes source.now x.1.now)) result ((func_word (length source.now) single_feature).read (lexemes source.now tokens.now)) }
+    ensures gives { AnswersRead (λ x. (lexeme source.now x.0, lexemes source.now x.1.now)) result ((func_word (length source.now) single_feature).read (lexemes source.now tokens.now)) }
     ensures shorter { IfOk result (λ x. length x.1.now < length tokens.now) }
 {
     let func = TokenKind::Keyword(Keyword::Func);
@@ -141,7 +141,7 @@ fn single<'a>(
     tokens: &'a [Token],
 ) -> Result<(WorldItem, &'a [Token]), TextError>
     requires { length tokens.now ≤ limit }
-    ensures gives { Gives (λ x. (world_entry_view x.0, lexemes source.now x.1.now)) result ((single (length source.now) nesting direction span name).read (lexemes source.now tokens.now)) }
+    ensures gives { AnswersRead (λ x. (world_entry_view x.0, lexemes source.now x.1.now)) result ((single (length source.now) nesting direction span name).read (lexemes source.now tokens.now)) }
     ensures shorter { IfOk result (λ x. length x.1.now < length tokens.now) }
 {
     let (_, tokens) = world_colon(source, tokens)?;
@@ -161,7 +161,7 @@ fn world_entry_behind<'a>(
     tokens: &'a [Token],
 ) -> Result<(WorldItem, &'a [Token]), TextError>
     requires { length tokens.now ≤ limit }
-    ensures gives { Gives (λ x. (world_entry_view x.0, lexemes source.now x.1.now)) result ((world_entry_behind (length source.now) nesting direction span).read (lexemes source.now tokens.now)) }
+    ensures gives { AnswersRead (λ x. (world_entry_view x.0, lexemes source.now x.1.now)) result ((world_entry_behind (length source.now) nesting direction span).read (lexemes source.now tokens.now)) }
     ensures shorter { IfOk result (λ x. length x.1.now < length tokens.now) }
 {
     let semicolon = TokenKind::Punctuation(Punctuation::Semicolon);
@@ -183,7 +183,7 @@ fn world_entry<'a>(
     tokens: &'a [Token],
 ) -> Result<(WorldItem, &'a [Token]), TextError>
     requires { length tokens.now ≤ limit }
-    ensures gives { Gives (λ x. (world_entry_view x.0, lexemes source.now x.1.now)) result ((world_entry (length source.now) nesting).read (lexemes source.now tokens.now)) }
+    ensures gives { AnswersRead (λ x. (world_entry_view x.0, lexemes source.now x.1.now)) result ((world_entry (length source.now) nesting).read (lexemes source.now tokens.now)) }
     ensures shorter { IfOk result (λ x. length x.1.now < length tokens.now) }
 {
     let [first, rest @ ..] = tokens else {
@@ -202,7 +202,7 @@ fn world_list<'a>(
     tokens: &'a [Token],
 ) -> Result<(Vec<WorldItem>, &'a [Token]), TextError>
     requires { length tokens.now < limit }
-    ensures gives { Gives (λ x. (map world_entry_view x.0.items, lexemes source.now x.1.now)) result ((world_list (length source.now) nesting limit).read (lexemes source.now tokens.now)) }
+    ensures gives { AnswersRead (λ x. (map world_entry_view x.0.items, lexemes source.now x.1.now)) result ((world_list (length source.now) nesting limit).read (lexemes source.now tokens.now)) }
     ensures shorter { IfOk result (λ x. length x.1.now < length tokens.now) }
 {
     let close = TokenKind::Punctuation(Punctuation::CloseBrace);
@@ -228,7 +228,7 @@ pub fn world<'a>(
     tokens: &'a [Token],
 ) -> Result<(Item, &'a [Token]), TextError>
     requires { length tokens.now ≤ limit }
-    ensures gives { Gives (λ x. (item_view x.0, lexemes source.now x.1.now)) result ((world (length source.now) nesting span).read (lexemes source.now tokens.now)) }
+    ensures gives { AnswersRead (λ x. (item_view x.0, lexemes source.now x.1.now)) result ((world (length source.now) nesting span).read (lexemes source.now tokens.now)) }
     ensures shorter { IfOk result (λ x. length x.1.now < length tokens.now) }
 {
     let (name, tokens) = identifier(alloc, source, tokens)?;

@@ -13,7 +13,7 @@ use Rattle.layout.specs.declared.error.LayoutError.{LayoutError}
 use Rattle.tables.specs.declared.tables.Resolve.{Resolve}
 use Rattle.package_form.specs.Scope.{AreDistinct}
 use Rattle.package_form.specs.Naming.{package_scopes}
-use Rattle.wit_component.specs.ToComponent.{Stands}
+use Rattle.wit_component.specs.ToComponent.{ComponentStands}
 use Rattle.witcall.specs.Opening.{is_binary, IsOfText, IsOfBinary, IsOfBytes, IsBinaryOf, IsWrittenAs, TextRefuses, BinaryRefuses, OpenRefuses}
 use Rattle.witcall.specs.declared.package.OpenError.TheVariants as error
 
@@ -34,14 +34,14 @@ pub begins : (old new : List ℕ) (f : File) → old ≡ [] → new ≡ old ++ f
 begins old new f none all = ap is_binary (all ∙ ap (λ xs. xs ++ file_bytes f) none) ∙ file_begins f
 
 -- what was appended to nothing is a binary of the package that the component stands for, where it is short enough
-pub is_binary_of : (old new : List ℕ) (raw : RawComponent) (r own : Resolve) → old ≡ [] → own ≡ r → length new ≤ 1048576 → Stands raw own
+pub is_binary_of : (old new : List ℕ) (raw : RawComponent) (r own : Resolve) → old ≡ [] → own ≡ r → length new ≤ 1048576 → ComponentStands raw own
     → AppendsSpelling old new (file_view raw) → IsBinaryOf new r
 is_binary_of old new raw r own none same short stands spelt =
     let all : new ≡ spelt.bytes = spelt.appended ∙ ap (λ xs. xs ++ spelt.bytes) none in
     record {
       raw = raw;
       spelt = subst (λ xs. decoded xs ≡ Ok (file_view raw)) (sym all) (spelt.decodes (subst (λ xs. length xs ≤ 1048576) all short));
-      stands = subst (Stands raw) same stands;
+      stands = subst (ComponentStands raw) same stands;
     }
 
 -- a binary of a package whose names differ and that is within the limits

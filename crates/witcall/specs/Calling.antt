@@ -73,10 +73,10 @@ CallRefuses r f vs runs posts state refused.NoMemory =
 CallRefuses r f vs runs posts state _ = ⊥
 
 -- why the call that the words ask for is refused
-abbrev pub Refuses : Resolve → (iface func args : List ℕ) → Run → PostRun → (state : List ℕ) → Refused → Type 0
-Refuses r iface func args runs posts state refused.NoFunction = IsMissing r iface func
-Refuses r iface func args runs posts state (refused.Json e) =
+abbrev pub RunCallRefuses : Resolve → (iface func args : List ℕ) → Run → PostRun → (state : List ℕ) → Refused → Type 0
+RunCallRefuses r iface func args runs posts state refused.NoFunction = IsMissing r iface func
+RunCallRefuses r iface func args runs posts state (refused.Json e) =
     (f : FunctionId) × IsNamed r iface func f × RefusesArray r (signature_of (function_at r f)).params args e
-Refuses r iface func args runs posts state refused.Write = (output : List ℕ) × Prints r iface func args runs posts state output
-Refuses r iface func args runs posts state e =
+RunCallRefuses r iface func args runs posts state refused.Write = (output : List ℕ) × Prints r iface func args runs posts state output
+RunCallRefuses r iface func args runs posts state e =
     (f : FunctionId) × (vs : List Value) × Asks r iface func args f vs × CallRefuses r f vs runs posts state e

@@ -29,7 +29,7 @@ use Rattle.layout.specs.declared.error.LayoutError.TheVariants as layout_error
 use Rattle.wit_component.specs.Component.{component_of}
 use Rattle.package_form.specs.Naming.{package_scopes}
 use Rattle.wit_component.specs.FromComponent as component
-use Rattle.wit_component.specs.ToComponent.{Stands}
+use Rattle.wit_component.specs.ToComponent.{ComponentStands}
 use Rattle.layout.specs.Layout.{AreWithin, RefusesFirst}
 use Rattle.witcall.specs.declared.package.OpenError.{OpenError}
 use Rattle.witcall.specs.declared.package.OpenError.TheVariants as error
@@ -52,7 +52,7 @@ pub record IsOfText (bytes : List ℕ) (r : Resolve) : Type 0 where
 pub record IsBinaryOf (bytes : List ℕ) (r : Resolve) : Type 0 where
   pub raw : RawComponent
   pub spelt : decoded bytes ≡ Ok (file_view raw)
-  pub stands : Stands raw r
+  pub stands : ComponentStands raw r
 
 -- the bytes are a binary of this package, whose names differ in each scope
 pub record IsOfBinary (bytes : List ℕ) (r : Resolve) : Type 0 where

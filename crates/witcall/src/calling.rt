@@ -9,7 +9,7 @@ ghost use Rattle.canonical_abi.specs.Session.{as_list};
 ghost use Rattle.tables.specs.Closed.{IsFunction, function_at, function_type};
 ghost use Rattle.lift_lower.specs.Val.{value_of};
 ghost use Rattle.witcall.specs.Signature.{signature_of};
-ghost use Rattle.witcall.specs.Calling.{IsOutputOf, Prints, Refuses, CallAnswers, CallRefuses, fresh};
+ghost use Rattle.witcall.specs.Calling.{IsOutputOf, Prints, RunCallRefuses, CallAnswers, CallRefuses, fresh};
 
 use crate::json::{arguments_from_json, to_json};
 use crate::output::write_bytes;
@@ -47,7 +47,7 @@ pub fn run_call<W: Sink>(
     ensures begun { IsErrOf result Refused.Write → (output : List ℕ) × (count : ℕ)
         × Prints «package».now.resolve iface.now func.now args.now (runs body) (posts body) (state body) output
         × (count ≤ length output) × Appends (W.contents writer.old) (W.contents writer.new) (take count output) }
-    ensures err { IfErr result (Refuses «package».now.resolve iface.now func.now args.now (runs body) (posts body) (state body)) }
+    ensures err { IfErr result (RunCallRefuses «package».now.resolve iface.now func.now args.now (runs body) (posts body) (state body)) }
     ensures broken { IsErrOf result Refused.Write → W.has_failed writer.new ≡ true }
     ensures unwritten { IfErr result (λ e. e ≢ Refused.Write → Keeps (W.contents writer.old) (W.contents writer.new)) }
 {

@@ -1,7 +1,7 @@
 use Rattle.std.proofs.Common.{map}
 use Rattle.std.proofs.lemmas.Result.{IfOk-weaker, IfErr-weaker}
 use Rattle.lift_lower.specs.Scalar.{value_in}
-use Rattle.lift_lower.specs.Scalars.{Stands, FirstFault, StandFor, FailAs, AreOfTypes}
+use Rattle.lift_lower.specs.Scalars.{ScalarsStand, FirstFault, StandFor, FailAs, AreOfTypes}
 use Rattle.lift_lower.proofs.ScalarLists.{lifted_values, lifted_fault, other_kinds, stands_typed}
 use Rattle.lift_lower.proofs.scalars.lift_scalars.Goals as goal
 
@@ -14,14 +14,14 @@ returns-clause-values c =
     let types = c.args.types.now in
     let flats = c.args.flats.now in
     let kinds = c.kinds_fit.ensures.0 c.if-not-kinds_fit.false in
-    IfOk-weaker c.lift_each.result (λ ss. Stands types flats ss.items) (λ ss. StandFor types flats (map value_in ss.items))
+    IfOk-weaker c.lift_each.result (λ ss. ScalarsStand types flats ss.items) (λ ss. StandFor types flats (map value_in ss.items))
     (λ ss h. lifted_values types flats ss.items c.requires kinds h) c.lift_each.ensures.values
 
 pub returns-clause-typed : goal.returns-clause-typed
 returns-clause-typed c =
     let types = c.args.types.now in
     let flats = c.args.flats.now in
-    IfOk-weaker c.lift_each.result (λ ss. Stands types flats ss.items) (λ ss. AreOfTypes types ss.items)
+    IfOk-weaker c.lift_each.result (λ ss. ScalarsStand types flats ss.items) (λ ss. AreOfTypes types ss.items)
     (λ ss h rows. stands_typed rows types flats ss.items c.requires.primitive h) c.lift_each.ensures.values
 
 pub returns-clause-fault : goal.returns-clause-fault

@@ -6,7 +6,7 @@ use Rattle.ctype_bin.specs.FileView.{file_view}
 use Rattle.tables.specs.declared.tables.Resolve.{Resolve}
 use Rattle.tables.specs.declared.error.ResolveError.{ResolveError}
 use Rattle.tables.specs.declared.error.ResolveError.TheVariants as error
-use Rattle.wit_component.specs.ToComponent.{Stands}
+use Rattle.wit_component.specs.ToComponent.{ComponentStands}
 use Rattle.package_form.specs.Form.{IsInPackageForm}
 use Rattle.component_reader.specs.declared.unread.Unread.{Unread}
 use Rattle.component_reader.specs.Component.{candidate_of, Makes}
@@ -24,7 +24,7 @@ returns-in_err-written-clause-err c =
     rw (p.1, p.2) (by c.in_err-written.field-0.0 c.in_err-written.ensures.err)
   where
     by : (e : ResolveError) → (e ≡ error.NoMemory) ⊎ ((e ≡ error.NotThisShape) × (IsInPackageForm c.in-Ok.package → ⊥))
-        → (e ≡ error.NoMemory) ⊎ ((e ≡ error.NotThisShape) × ((r : Resolve) → Stands c.args.raw.now r → ⊥))
+        → (e ≡ error.NoMemory) ⊎ ((e ≡ error.NotThisShape) × ((r : Resolve) → ComponentStands c.args.raw.now r → ⊥))
     by e (inl h) = inl h
     by e (inr h) = inr (h.0, λ r s. h.1 (in-form c.args.raw.now r s c.in-Ok.package c.in-Ok.ensures))
 

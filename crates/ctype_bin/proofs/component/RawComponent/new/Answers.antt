@@ -1,6 +1,6 @@
 use Rattle.std.proofs.Common.{◌≡◌, ◌∙◌, arith}
 use Rattle.std.proofs.lemmas.Grind.{common_steps}
-use Rattle.ctype_bin.specs.Parts.{Refuses}
+use Rattle.ctype_bin.specs.Parts.{ComponentRefuses}
 use Rattle.ctype_bin.specs.View.{file_of}
 use Rattle.ctype_bin.specs.Writing.{file_bytes}
 use Rattle.ctype_bin.specs.Formed.{FormedFile}
@@ -15,5 +15,5 @@ pub returns-in_err-reread-clause-accepted : goal.returns-in_err-reread-clause-ac
 returns-in_err-reread-clause-accepted c =
     let formed : FormedFile (file_of c.args.types c.args.exports) = rw (c.as_slice.ensures.value, c.as_slice-2.ensures.value) at c.in-Ok.ensures.formed in
     let bytes : c.as_slice-3.result.now ≡ file_bytes (file_of c.args.types c.args.exports) = c.as_slice-3.ensures.value ∙ rw (c.as_slice.ensures.value, c.as_slice-2.ensures.value) at c.in-Ok.ensures.bytes in
-    let told : Refuses (file_of c.args.types c.args.exports) c.in_err-reread.field-0.0 = c.in_err-reread.ensures (file_of c.args.types c.args.exports) bytes formed in
+    let told : ComponentRefuses (file_of c.args.types c.args.exports) c.in_err-reread.field-0.0 = c.in_err-reread.ensures (file_of c.args.types c.args.exports) bytes formed in
     λ accepted. let memory = only_memory (file_of c.args.types c.args.exports) c.in_err-reread.field-0.0 formed accepted told in grind (arith, common_steps, memory)
