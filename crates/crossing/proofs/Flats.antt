@@ -22,7 +22,7 @@ use Rattle.canonical_abi.specs.declared.trap.TrapKind.TheVariants as trap
 use Rattle.canonical_abi.specs.Laws.{ReadsExactly}
 use Rattle.canonical_abi.proofs.Tells.{fields-lift}
 use Rattle.lift_lower.specs.Loading.{AreBytes}
-use Rattle.lift_lower.proofs.Denoted.{fields-lift-sound}
+use Rattle.lift_lower.proofs.Denoted.{fields-lift-typed}
 use Rattle.lift_lower.proofs.FlatSteps.{drop-more}
 use Rattle.lift_lower.proofs.Lowerings.{plain-lowered, payload-lowered}
 use Rattle.lift_lower.proofs.Scripted.{fields-lower-script}
@@ -124,7 +124,7 @@ fields-flat-some m bytes short ts ns front = by (lifting_fields ts m ns) refl
     by : (r : Result (List Value) TrapKind) → lifting_fields ts m ns ≡ r → (final : List Flat) × (o : Option TrapKind) × (es : List Event) × FieldsFlatWalk ts m ns front final o es
     by (Ok vs) e =
         let lifted = (fields-lift ts m ns).ok vs e in
-        let s = fields-lower-script ts vs (fields-lift-sound m bytes short ts ns vs lifted).0 in
+        let s = fields-lower-script ts vs (fields-lift-typed m bytes short ts ns vs lifted) in
         (front ++ s.1, None, s.0, (vs, s.1, lifted, s.2, refl))
     by (Err k) e = let u = fields-lower-until m bytes short ts ns k ((fields-lift ts m ns).err k e) in ([], Some k, u.0, u.1)
 

@@ -12,9 +12,6 @@ use Rattle.canonical_abi.specs.declared.flat.Flat.{Flat}
 use Rattle.canonical_abi.specs.declared.trap.TrapKind.{TrapKind}
 use Rattle.canonical_abi.proofs.Sizes.{is-alignment}
 use Rattle.lift_lower.specs.NoValue.{ReadsAs}
-use Rattle.canonical_abi.specs.Memory.{BlockFaulty}
-use Rattle.canonical_abi.specs.Call.{AreaStands, AreaFaulty}
-use Rattle.lift_lower.specs.Passing.{HasArea}
 use Rattle.lift_lower.specs.Loading.{reading_block, reading_members}
 use Rattle.lift_lower.specs.Val.{value_of}
 use Rattle.lift_lower.specs.declared.no_value.NoValue.{NoValue}
@@ -63,25 +60,6 @@ alone-size t =
     ∙ ap (λ e. next_multiple_of (e + size t) (align t)) (first-place t)
     ∙ ap (λ e. next_multiple_of e (align t)) (omega arith)
     ∙ next-same (size t) (align t) (is-alignment t) (size-multiple t)
-
--- the block of a record of one field is tested by the extent of its field
-module _ (t : ClosedType) (m : List ℕ) (at alignment n len : ℕ) (is_align : alignment ≡ align t) (is_size : n ≡ size t) (is_len : len ≡ length m) (spilled : fits_flat max_flat_results (field t no_field) ≡ false) where
-  pub alone-holds : (r : Result (Unit {0}) TrapKind) → OnOk r ((at % alignment ≡ 0) × (at + n ≤ len)) → OnOk r (AreaStands max_flat_results (field t no_field) at m)
-  alone-holds (Ok u) h =
-      let inside : at + size (record_type (field t no_field)) ≤ length m = omega (arith, h.1, is_size, is_len, alone-size t) in
-      let aligned : at % align (record_type (field t no_field)) ≡ 0 = subst (λ a. at % a ≡ 0) (is_align ∙ sym (alone-align t)) h.0 in
-      inr (spilled, (aligned, inside))
-  alone-holds (Err k) h = tt
-
-  pub alone-inside : len < 2 ^ 32 → (r : Result (Unit {0}) TrapKind) → OnOk r ((at % alignment ≡ 0) × (at + n ≤ len)) → OnOk r (HasArea max_flat_results (field t no_field) at m)
-  alone-inside short (Ok u) h = inr (omega (arith, h.1, is_size, is_len, alone-size t), omega (arith, h.1, is_size, short, alone-size t))
-  alone-inside short (Err k) h = tt
-
-  pub alone-faulty : (r : Result (Unit {0}) TrapKind) → IfErr r (λ k. (bytes : List ℕ) → length bytes ≡ len → BlockFaulty bytes at alignment n k) → IfErr r (AreaFaulty max_flat_results (field t no_field) at m)
-  alone-faulty (Ok u) h = tt
-  alone-faulty (Err k) h =
-      let P : ℕ → ℕ → Type 0 = λ a s. BlockFaulty m at a s k in
-      (spilled, subst (λ a. P a (size (record_type (field t no_field)))) (is_align ∙ sym (alone-align t)) (subst (P alignment) (is_size ∙ sym (alone-size t)) (h m (sym is_len))))
 
 -- ---- readings
 

@@ -1,23 +1,16 @@
 -- What has a first fault has events for its nodes before it.
-use Rattle.std.proofs.Common.{inl, inr, ℕ, zero, suc, ◌+◌, ◌*◌, ◌^◌, ◌<◌, List, [], ◌∷◌, ◌++◌, map, length, drop, Err, refl}
+use Rattle.std.proofs.Common.{inl, inr, ℕ, zero, suc, ◌+◌, ◌*◌, ◌^◌, ◌<◌, List, [], ◌∷◌, ◌++◌, length, drop, refl}
 use Rattle.std.specs.Int.{w32, next_multiple_of, to_le_bytes}
 use Rattle.canonical_abi.specs.Types.{ClosedType, prim_type, string_type, list_type, record_type, variant_type, flags_type, Fields, no_field, field, Cases, no_case, plain_case, case_with, case_count}
-use Rattle.canonical_abi.specs.Layout.{max_flat_params, max_flat_results, align, size, discriminant_size, payload_place, flat_kinds}
+use Rattle.canonical_abi.specs.Layout.{align, size, discriminant_size, payload_place, flat_kinds}
 use Rattle.canonical_abi.specs.Reading.{number_at, number_of, low_bits, byte_width, case_number}
 use Rattle.canonical_abi.specs.Memory.{EachFaulty, ListFaulty, Holds, Faulty, FieldsFaulty, CaseFaulty}
-use Rattle.canonical_abi.specs.Flat.{DenotesFault, LiftFaulty, FieldsLiftFaulty, CaseLiftFaulty}
+use Rattle.canonical_abi.specs.Flat.{LiftFaulty, FieldsLiftFaulty, CaseLiftFaulty}
 use Rattle.canonical_abi.specs.Script.{EachStops, ListStops, StoresUntil, FieldsStoreUntil, CaseStoresUntil, LowersUntil, FieldsLowerUntil, CaseLowersUntil}
 use Rattle.canonical_abi.specs.Storing.{header, Stores}
 use Rattle.canonical_abi.specs.Trace.{Grant, Event, node, grant, write}
-use Rattle.canonical_abi.specs.declared.flat.Flat.{Flat}
-use Rattle.canonical_abi.specs.declared.trap.Fault.{Fault}
-use Rattle.canonical_abi.specs.declared.trap.Fault.TheVariants as fault
-use Rattle.canonical_abi.specs.declared.trap.Step.TheVariants.{Take}
 use Rattle.canonical_abi.specs.declared.trap.TrapKind.{TrapKind}
-use Rattle.lift_lower.specs.Crossing.{LiftFails}
-use Rattle.lift_lower.specs.NoValue.{AnswerStands}
 use Rattle.lift_lower.specs.Loading.{AreBytes}
-use Rattle.lift_lower.specs.Passing.{IsTrapOf, ParamsStop, ResultStops}
 use Rattle.lift_lower.proofs.Denoted.{holds-typed, lifts-typed}
 use Rattle.lift_lower.proofs.Scripted.{block, stores-script, lowers-script}
 
@@ -96,37 +89,3 @@ module _ (m : List ℕ) (bytes : AreBytes m) (short : length m < 2 ^ 32) where
     case-lower-until (plain_case cs) fs (suc n) k h = case-lower-until cs fs n k h
     case-lower-until (case_with t cs) fs zero k h = lowers-until t fs k h
     case-lower-until (case_with t cs) fs (suc n) k h = case-lower-until cs fs n k h
-
-  -- ---- a whole way
-
-  pub params-stop : (limit : ℕ) (ts : Fields) (flats : List Flat) (k : TrapKind) → DenotesFault limit ts m flats k → ParamsStop limit ts m flats k
-  params-stop limit ts flats k (inl other) = inl (inl other)
-  params-stop limit ts flats k (inr (kinds, inl (flat, h))) =
-      let es = fields-lower-until ts (map number_of flats) k h in
-      inr (es.0, ((kinds, inl flat), inl (flat, es.1)))
-  params-stop limit ts flats k (inr (kinds, inr (spilled, inl faulty))) = inl (inr (kinds, spilled, faulty))
-  params-stop limit ts flats k (inr (kinds, inr (spilled, inr (stands, h)))) =
-      let g = block (align (record_type ts)) (size (record_type ts)) in
-      let rest = fields-store-until ts (low_bits (map number_of flats) 0 32) 0 0 k h in
-      inr (grant g ∷ rest.0, ((kinds, inr (spilled, stands)), inr (spilled, g, rest.0, (refl, refl), refl, rest.1)))
-
-  pub result-stops : (limit : ℕ) (ts : Fields) (flats : List Flat) (area : ℕ) (k : TrapKind) → DenotesFault limit ts m flats k → ResultStops limit ts m flats area k
-  result-stops limit ts flats area k (inl other) = inl (inl other)
-  result-stops limit ts flats area k (inr (kinds, inl (flat, h))) =
-      let es = fields-lower-until ts (map number_of flats) k h in
-      inr (es.0, ((kinds, inl flat), inl (flat, es.1)))
-  result-stops limit ts flats area k (inr (kinds, inr (spilled, inl faulty))) = inl (inr (kinds, spilled, faulty))
-  result-stops limit ts flats area k (inr (kinds, inr (spilled, inr (stands, h)))) =
-      let es = fields-store-until ts (low_bits (map number_of flats) 0 32) area 0 k h in
-      inr (es.0, ((kinds, inr (spilled, stands)), inr (spilled, es.1)))
-
-  -- ---- what lifting answers
-
-  pub lift-stops : (ts : Fields) (flats : List Flat) (f : Fault) → LiftFails ts m flats f → IsTrapOf (ParamsStop max_flat_params ts m flats) f
-  lift-stops ts flats (fault.Trap t) h = params-stop max_flat_params ts flats t.kind h.1
-  lift-stops ts flats fault.NoMemory h = tt
-
-  pub answer-stops : {X : Type 0} (ts : Fields) (flats : List Flat) (area : ℕ) (P : X → Type 0) (f : Fault) → AnswerStands Take P (DenotesFault max_flat_results ts m flats) (Err f)
-      → IsTrapOf (ResultStops max_flat_results ts m flats area) f
-  answer-stops ts flats area P (fault.Trap t) h = result-stops max_flat_results ts flats area t.kind h.1
-  answer-stops ts flats area P fault.NoMemory h = tt

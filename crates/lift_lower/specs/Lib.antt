@@ -3,7 +3,6 @@ pub mod NoValue
 pub mod Loading
 pub mod Lowered
 pub mod Members
-pub mod Passing
 pub mod Placing
 pub mod Scalar
 pub mod Scalars

@@ -3,7 +3,7 @@ use Rattle.std.specs.Prelude.{◌≡◌, ℕ, List, ◌++◌}
 use Rattle.canonical_abi.specs.Types.{ClosedType, Fields}
 use Rattle.canonical_abi.specs.Values.{Value}
 use Rattle.canonical_abi.specs.Trace.{Event}
-use Rattle.canonical_abi.specs.Lowering.{Lowers, FieldsLower, SpilledLower, PassesParams, PassesResult}
+use Rattle.canonical_abi.specs.Lowering.{Lowers, FieldsLower, SpilledLower, PassesParams}
 use Rattle.canonical_abi.specs.declared.flat.Flat.{Flat}
 
 abbrev pub LowersInto : ClosedType → Value → List Flat → List Flat → List Event → Type 0
@@ -21,9 +21,6 @@ FieldsLowerBy ts vs es = (flats : List Flat) × FieldsLower ts vs es flats
 
 abbrev pub PassesParamsBy : ℕ → Fields → List Value → List Event → Type 0
 PassesParamsBy limit ts vs es = (flats : List Flat) × PassesParams limit ts vs es flats
-
-abbrev pub PassesResultBy : ℕ → Fields → ℕ → List Value → List Event → Type 0
-PassesResultBy limit ts area vs es = (flats : List Flat) × PassesResult limit ts area vs es flats
 
 abbrev pub SpilledLowerBy : Fields → List Value → List Event → Type 0
 SpilledLowerBy ts vs es = (flats : List Flat) × SpilledLower ts vs es flats

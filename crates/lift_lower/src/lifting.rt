@@ -4,7 +4,6 @@ ghost use Rattle.canonical_abi.specs.Types.{record_type, result_fields, field, n
 ghost use Rattle.canonical_abi.specs.Flat.{Denotes, DenotesFault};
 ghost use Rattle.canonical_abi.specs.Layout.{size, max_flat_params, max_flat_results};
 ghost use Rattle.canonical_abi.specs.Reading.{denoting, kind_of};
-ghost use Rattle.canonical_abi.specs.Requests.{fields_requests, params_requests};
 ghost use Rattle.canonical_abi.specs.Session.{as_list};
 ghost use Rattle.canonical_abi.specs.Values.{HaveTypes};
 ghost use Rattle.canonical_abi.specs.declared.trap.Step.TheVariants.{Take};
@@ -14,7 +13,6 @@ ghost use Rattle.lift_lower.specs.Crossing.{fields_of_types, LiftFails};
 ghost use Rattle.lift_lower.specs.NoValue.{ReadsAs, AnswerStands};
 ghost use Rattle.lift_lower.specs.Loading.{reading_members, AreBytes};
 ghost use Rattle.lift_lower.specs.Members.{AreAllInside};
-ghost use Rattle.lift_lower.specs.Passing.{AreAddressable, IsTrapOf, ParamsStop, ResultStops};
 ghost use Rattle.lift_lower.specs.Types.{IsInside};
 ghost use Rattle.lift_lower.specs.Val.{value_of};
 
@@ -45,12 +43,8 @@ pub fn lift<G: Guest>(
     ensures values { IfOk result (λ values. Denotes max_flat_params (fields_of_types resolve.now types.now)
         (G.memory guest.now).bytes flats.now (map value_of values.items)) }
     ensures typed { IfOk result (λ values. HaveTypes (map value_of values.items) (fields_of_types resolve.now types.now)) }
-    ensures addressable { IfOk result (λ values. AreAddressable
-        (params_requests max_flat_params (fields_of_types resolve.now types.now) (map value_of values.items))) }
     ensures fault { IfErr result
         (LiftFails (fields_of_types resolve.now types.now) (G.memory guest.now).bytes flats.now) }
-    ensures stops { IfErr result (IsTrapOf
-        (ParamsStop max_flat_params (fields_of_types resolve.now types.now) (G.memory guest.now).bytes flats.now)) }
 {
     lift_params(alloc, &Types::new(resolve, layouts), types, flats, guest)
 }
@@ -68,12 +62,8 @@ pub fn lift_params<G: Guest>(
     ensures values { IfOk result (λ values. Denotes max_flat_params (fields_of_types table.now types.now)
         (G.memory guest.now).bytes flats.now (map value_of values.items)) }
     ensures typed { IfOk result (λ values. HaveTypes (map value_of values.items) (fields_of_types table.now types.now)) }
-    ensures addressable { IfOk result (λ values. AreAddressable
-        (params_requests max_flat_params (fields_of_types table.now types.now) (map value_of values.items))) }
     ensures fault { IfErr result
         (LiftFails (fields_of_types table.now types.now) (G.memory guest.now).bytes flats.now) }
-    ensures stops { IfErr result (IsTrapOf
-        (ParamsStop max_flat_params (fields_of_types table.now types.now) (G.memory guest.now).bytes flats.now)) }
 {
     // A memory's length is a number of 32 bits, and so is that of each of its blocks.
     let _len = guest.len();
@@ -100,10 +90,6 @@ pub fn lift_result<G: Guest>(
     ensures plain { IfSome ty (λ t. IsPlain (closed_type table.now t)) → result ≢ Err Fault.NoMemory }
     ensures typed { IfOk result (λ v. HaveTypes (as_list (option_map value_of v))
         (result_fields (option_map (closed_type table.now) ty))) }
-    ensures addressable { IfOk result (λ v. AreAddressable
-        (fields_requests (result_fields (option_map (closed_type table.now) ty)) (as_list (option_map value_of v)))) }
-    ensures stops { (area : ℕ) → IfErr result (IsTrapOf
-        (ResultStops max_flat_results (result_fields (option_map (closed_type table.now) ty)) (G.memory guest.now).bytes flats.now area)) }
 {
     let Some(ty) = ty else {
         if flats.is_empty() {

@@ -4,9 +4,8 @@ use Rattle.canonical_abi.proofs.Tells.{denoting-tells}
 use Rattle.lift_lower.specs.Crossing.{fields_of_types}
 use Rattle.lift_lower.specs.Val.{value_of}
 use Rattle.lift_lower.proofs.Denoting.{lift-fails}
-use Rattle.lift_lower.proofs.Stopping.{lift-stops}
 use Rattle.lift_lower.proofs.lifting.lift_params.Goals as goal
-use Rattle.lift_lower.proofs.Denoted.{denotes-typed, params-addressable}
+use Rattle.lift_lower.proofs.Denoted.{denotes-typed}
 
 pub returns-in-Ok-clause-values : goal.returns-in-Ok-clause-values
 returns-in-Ok-clause-values g c =
@@ -25,18 +24,3 @@ returns-in-Ok-clause-typed g c =
     let bytes : (i : ℕ) → get_or m i 0 < 256 = rw (← c.bytes.ensures) c.lift_values.ensures.bytes in
     let short : length m < 2 ^ 32 = rw (← c.len-len.ensures) c.len-len.type_inv in
     denotes-typed m bytes short max_flat_params ts c.args.flats.now (map value_of c.in-Ok.values.items) (returns-in-Ok-clause-values g c)
-
-pub returns-in-Ok-clause-addressable : goal.returns-in-Ok-clause-addressable
-returns-in-Ok-clause-addressable g c =
-    let m = (g.G.Guest.memory c.args.guest.now).bytes in
-    let ts = fields_of_types c.args.table.now c.args.types.now in
-    let bytes : (i : ℕ) → get_or m i 0 < 256 = rw (← c.bytes.ensures) c.lift_values.ensures.bytes in
-    let short : length m < 2 ^ 32 = rw (← c.len-len.ensures) c.len-len.type_inv in
-    params-addressable m bytes short max_flat_params ts c.args.flats.now (map value_of c.in-Ok.values.items) (omega (arith, c.requires.small)) (returns-in-Ok-clause-values g c)
-
-pub returns-in-Err-clause-stops : goal.returns-in-Err-clause-stops
-returns-in-Err-clause-stops g c =
-    let m = (g.G.Guest.memory c.args.guest.now).bytes in
-    let bytes : (i : ℕ) → get_or m i 0 < 256 = rw (← c.bytes.ensures) c.lift_values.ensures.bytes in
-    let short : length m < 2 ^ 32 = rw (← c.len-len.ensures) c.len-len.type_inv in
-    lift-stops m bytes short (fields_of_types c.args.table.now c.args.types.now) c.args.flats.now c.at.result (returns-in-Err-clause-fault g c)

@@ -11,9 +11,8 @@ use Rattle.tables.specs.Closed.{closed_type}
 use Rattle.lift_lower.specs.NoValue.{AnswerStands}
 use Rattle.lift_lower.specs.Val.{value_of}
 use Rattle.lift_lower.specs.declared.val.Val.{Val}
-use Rattle.lift_lower.proofs.Denoted.{denotes-typed, denotes-addressable}
+use Rattle.lift_lower.proofs.Denoted.{denotes-typed}
 use Rattle.lift_lower.proofs.Loadings.{fails-stand}
-use Rattle.lift_lower.proofs.Stopping.{answer-stops}
 use Rattle.lift_lower.proofs.lifting.lift_result.Goals as goal
 
 pub returns-in-Ok-clause-value : goal.returns-in-Ok-clause-value
@@ -37,18 +36,3 @@ returns-in-Ok-clause-typed g c =
     let bytes : (i : ℕ) → get_or m i 0 < 256 = rw (← c.bytes.ensures) c.lift_value.ensures.bytes in
     let short : length m < 2 ^ 32 = rw (← c.len-len.ensures) c.len-len.type_inv in
     denotes-typed m bytes short max_flat_results (result_fields (option_map (closed_type c.args.table.now) c.args.ty)) c.args.flats.now (value_of c.in-Ok.value ∷ []) (returns-in-Ok-clause-value g c)
-
-pub returns-in-Ok-clause-addressable : goal.returns-in-Ok-clause-addressable
-returns-in-Ok-clause-addressable g c =
-    let m = (g.G.Guest.memory c.args.guest.now).bytes in
-    let bytes : (i : ℕ) → get_or m i 0 < 256 = rw (← c.bytes.ensures) c.lift_value.ensures.bytes in
-    let short : length m < 2 ^ 32 = rw (← c.len-len.ensures) c.len-len.type_inv in
-    denotes-addressable m bytes short max_flat_results (result_fields (option_map (closed_type c.args.table.now) c.args.ty)) c.args.flats.now (value_of c.in-Ok.value ∷ []) (returns-in-Ok-clause-value g c)
-
-pub returns-in-Err-clause-stops : goal.returns-in-Err-clause-stops
-returns-in-Err-clause-stops g c area =
-    let m = (g.G.Guest.memory c.args.guest.now).bytes in
-    let bytes : (i : ℕ) → get_or m i 0 < 256 = rw (← c.bytes.ensures) c.lift_value.ensures.bytes in
-    let short : length m < 2 ^ 32 = rw (← c.len-len.ensures) c.len-len.type_inv in
-    let ts = result_fields (option_map (closed_type c.args.table.now) c.args.ty) in
-    answer-stops m bytes short ts c.args.flats.now area (λ v. Denotes max_flat_results ts m c.args.flats.now (as_list (option_map value_of v))) c.at-in-Err.result (returns-in-Err-clause-value g c)
