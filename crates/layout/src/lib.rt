@@ -9,7 +9,6 @@
 mod error;
 mod kinds;
 mod layouts;
-mod members;
 mod parts;
 mod queries;
 mod rows;

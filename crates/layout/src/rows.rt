@@ -11,11 +11,10 @@ ghost use Rattle.layout.specs.Rows.{row_in, rows_at, extent_at, extents, deepest
 
 use crate::error::LayoutError;
 use crate::kinds::Kinds;
-use crate::members::{Choice, Member};
 use crate::parts::Parts;
 use canonical_abi::CoreKind;
 use std::alloc::Global;
-use tables::{Definition, Primitive, Sequence, TypeDefKind, ValType};
+use tables::{Choice, Definition, Member, Primitive, Sequence, TypeDefKind, ValType};
 
 /// The greatest depth of a type.
 pub const MAX_DEPTH: u32 = 64;

@@ -1,10 +1,10 @@
 //! The types that a row is made of.
 ghost use Rattle.std.specs.Prelude.{◌≡◌, ◌++◌, flat_map, IfOk, OnOk};
 ghost use Rattle.tables.specs.declared.tables.Definition.TheVariants as row;
-ghost use Rattle.package_form.specs.References.{references, references_if, field_references, case_references, parameter_references, kind_references, row_references};
+ghost use Rattle.package_form.specs.References.{references, references_if, case_references, kind_references, row_references};
 
 use std::alloc::{AllocError, Global};
-use tables::{Case, Definition, Field, Function, Parameter, TypeDefKind, TypeId, ValType};
+use tables::{Case, Definition, Function, Member, TypeDefKind, TypeId, ValType};
 
 fn push_type(ids: &mut Vec<TypeId>, ty: ValType) -> Result<(), AllocError>
     ensures { OnOk result (ids.new.items ≡ ids.old.items ++ references ty) }
@@ -24,20 +24,11 @@ fn push_optional(ids: &mut Vec<TypeId>, ty: Option<ValType>) -> Result<(), Alloc
     }
 }
 
-fn push_members(ids: &mut Vec<TypeId>, types: &[ValType]) -> Result<(), AllocError>
-    ensures { OnOk result (ids.new.items ≡ ids.old.items ++ flat_map references types.now) }
+fn push_members<M: Member>(ids: &mut Vec<TypeId>, members: &[M]) -> Result<(), AllocError>
+    ensures { OnOk result (ids.new.items ≡ ids.old.items ++ flat_map (λ m. references (M.type_of m)) members.now) }
 {
-    for ty in types {
-        push_type(ids, *ty)?;
-    }
-    Ok(())
-}
-
-fn push_fields(ids: &mut Vec<TypeId>, fields: &[Field]) -> Result<(), AllocError>
-    ensures { OnOk result (ids.new.items ≡ ids.old.items ++ flat_map field_references fields.now) }
-{
-    for field in fields {
-        push_type(ids, field.ty)?;
+    for member in members {
+        push_type(ids, member.ty())?;
     }
     Ok(())
 }
@@ -47,15 +38,6 @@ fn push_cases(ids: &mut Vec<TypeId>, cases: &[Case]) -> Result<(), AllocError>
 {
     for case in cases {
         push_optional(ids, case.ty)?;
-    }
-    Ok(())
-}
-
-fn push_parameters(ids: &mut Vec<TypeId>, params: &[Parameter]) -> Result<(), AllocError>
-    ensures { OnOk result (ids.new.items ≡ ids.old.items ++ flat_map parameter_references params.now) }
-{
-    for param in params {
-        push_type(ids, param.ty)?;
     }
     Ok(())
 }
@@ -74,7 +56,7 @@ fn kind_references(alloc: Global, kind: &TypeDefKind) -> Result<Vec<TypeId>, All
             push_optional(&mut ids, *error)?;
         }
         TypeDefKind::Tuple(types) => push_members(&mut ids, types.as_slice())?,
-        TypeDefKind::Record(fields) => push_fields(&mut ids, fields.as_slice())?,
+        TypeDefKind::Record(fields) => push_members(&mut ids, fields.as_slice())?,
         TypeDefKind::Variant(cases) => push_cases(&mut ids, cases.as_slice())?,
     }
     Ok(ids)
@@ -84,7 +66,7 @@ fn function_references(alloc: Global, function: &Function) -> Result<Vec<TypeId>
     ensures { IfOk result (λ ids. ids.items ≡ row_references (row.Function function.now)) }
 {
     let mut ids = Vec::new(alloc);
-    push_parameters(&mut ids, function.params.as_slice())?;
+    push_members(&mut ids, function.params.as_slice())?;
     push_optional(&mut ids, function.result)?;
     Ok(ids)
 }

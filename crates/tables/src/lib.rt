@@ -10,12 +10,14 @@ mod copy;
 mod error;
 pub mod laws;
 mod lookup;
+mod members;
 mod parts;
 mod sequence;
 mod tables;
 
 pub use copy::copy_version;
 pub use error::ResolveError;
+pub use members::{Choice, Member};
 pub use parts::are_standard;
 pub use sequence::Sequence;
 pub use tables::{

@@ -5,10 +5,10 @@ ghost use Rattle.tables.specs.Tables.{option_all, kind_all, function_all, defini
 ghost use Rattle.tables.specs.Parts.{HasParts, is_package};
 
 use crate::error::ResolveError;
+use crate::members::Member;
 use crate::sequence::Sequence;
 use crate::tables::{
-    Case, Definition, Field, Function, FunctionId, Interface, PackageName, Parameter, Resolve,
-    TypeDefKind, TypeId, ValType, World,
+    Case, Definition, Function, FunctionId, Interface, PackageName, Resolve, TypeDefKind, TypeId, ValType, World,
 };
 
 /// The most cases of a variant or an enum.
@@ -36,22 +36,15 @@ fn is_option_earlier(definitions: &[Definition], place: usize, ty: Option<ValTyp
     }
 }
 
-fn are_types_earlier(definitions: &[Definition], place: usize, types: &[ValType]) -> bool
-    ensures { result ≡ list_all (is_earlier definitions.now place) types.now }
+fn are_members_earlier<M: Member>(
+    definitions: &[Definition],
+    place: usize,
+    members: &[M],
+) -> bool
+    ensures { result ≡ list_all (λ m. is_earlier definitions.now place (M.type_of m)) members.now }
 {
-    for ty in types {
-        if !is_earlier(definitions, place, *ty) {
-            return false;
-        }
-    }
-    true
-}
-
-fn are_fields_earlier(definitions: &[Definition], place: usize, fields: &[Field]) -> bool
-    ensures { result ≡ list_all (λ f. is_earlier definitions.now place f.ty) fields.now }
-{
-    for field in fields {
-        if !is_earlier(definitions, place, field.ty) {
+    for member in members {
+        if !is_earlier(definitions, place, member.ty()) {
             return false;
         }
     }
@@ -63,17 +56,6 @@ fn are_cases_earlier(definitions: &[Definition], place: usize, cases: &[Case]) -
 {
     for case in cases {
         if !is_option_earlier(definitions, place, case.ty) {
-            return false;
-        }
-    }
-    true
-}
-
-fn are_params_earlier(definitions: &[Definition], place: usize, params: &[Parameter]) -> bool
-    ensures { result ≡ list_all (λ p. is_earlier definitions.now place p.ty) params.now }
-{
-    for param in params {
-        if !is_earlier(definitions, place, param.ty) {
             return false;
         }
     }
@@ -92,8 +74,8 @@ fn is_kind_earlier(definitions: &[Definition], place: usize, kind: &TypeDefKind)
             is_option_earlier(definitions, place, *ok)
                 && is_option_earlier(definitions, place, *error)
         }
-        TypeDefKind::Tuple(types) => are_types_earlier(definitions, place, types.as_slice()),
-        TypeDefKind::Record(fields) => are_fields_earlier(definitions, place, fields.as_slice()),
+        TypeDefKind::Tuple(types) => are_members_earlier(definitions, place, types.as_slice()),
+        TypeDefKind::Record(fields) => are_members_earlier(definitions, place, fields.as_slice()),
         TypeDefKind::Variant(cases) => are_cases_earlier(definitions, place, cases.as_slice()),
         TypeDefKind::Enum(_) | TypeDefKind::Flags(_) => true,
     }
@@ -102,7 +84,7 @@ fn is_kind_earlier(definitions: &[Definition], place: usize, kind: &TypeDefKind)
 fn is_function_earlier(definitions: &[Definition], place: usize, function: &Function) -> bool
     ensures { result ≡ function_all (is_earlier definitions.now place) function.now }
 {
-    are_params_earlier(definitions, place, function.params.as_slice())
+    are_members_earlier(definitions, place, function.params.as_slice())
         && is_option_earlier(definitions, place, function.result)
 }
 

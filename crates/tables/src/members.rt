@@ -1,14 +1,15 @@
 //! What stands in a record or a variant, whatever it was written as.
 use atoms::Label;
-use tables::{Case, Field, Parameter, ValType};
+use crate::tables::{Case, Field, Parameter, ValType};
 
 /// What stands in a record, a tuple or a list of parameters: a type, under a name or not.
-pub(crate) trait Member {
+pub trait Member {
     ghost use Rattle.tables.specs.declared.tables.ValType.{ValType};
     ghost use Rattle.std.specs.Prelude.{◌≡◌};
 
     ghost type_of: { Self → ValType };
 
+    /// Its type.
     fn ty(&self) -> ValType
         ensures { result ≡ type_of self.now };
 }
@@ -38,12 +39,13 @@ impl Member for Parameter {
 }
 
 /// A case of a variant, an enum, an option or a result.
-pub(crate) trait Choice {
+pub trait Choice {
     ghost use Rattle.tables.specs.declared.tables.ValType.{ValType};
     ghost use Rattle.std.specs.Prelude.{◌≡◌, Option};
 
     ghost payload_of: { Self → Option ValType };
 
+    /// The type of its payload, where it has one.
     fn payload(&self) -> Option<ValType>
         ensures { result ≡ payload_of self.now };
 }
