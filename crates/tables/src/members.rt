@@ -1,6 +1,6 @@
 //! What stands in a record or a variant, whatever it was written as.
-use atoms::Label;
 use crate::tables::{Case, Field, Parameter, ValType};
+use atoms::Label;
 
 /// What stands in a record, a tuple or a list of parameters: a type, under a name or not.
 pub trait Member {

@@ -8,7 +8,8 @@ use crate::error::ResolveError;
 use crate::members::Member;
 use crate::sequence::Sequence;
 use crate::tables::{
-    Case, Definition, Function, FunctionId, Interface, PackageName, Resolve, TypeDefKind, TypeId, ValType, World,
+    Case, Definition, Function, FunctionId, Interface, PackageName, Resolve, TypeDefKind, TypeId,
+    ValType, World,
 };
 
 /// The most cases of a variant or an enum.
@@ -36,11 +37,7 @@ fn is_option_earlier(definitions: &[Definition], place: usize, ty: Option<ValTyp
     }
 }
 
-fn are_members_earlier<M: Member>(
-    definitions: &[Definition],
-    place: usize,
-    members: &[M],
-) -> bool
+fn are_members_earlier<M: Member>(definitions: &[Definition], place: usize, members: &[M]) -> bool
     ensures { result ≡ list_all (λ m. is_earlier definitions.now place (M.type_of m)) members.now }
 {
     for member in members {

@@ -11,11 +11,11 @@ use Rattle.wit_tokens.specs.declared.error.TextError.{TextError}
 use Rattle.wit_tokens.specs.Tokens.{Lexeme}
 use Rattle.wit_tokens.specs.Lexing.{limit}
 use Rattle.wit_syntax.specs.Syntax.{Ty, Member, CaseOf, Definition, Alias, Record, Variant, Enumeration, FlagSet, Defines}
-use Rattle.wit_text.specs.declared.interfaces.ItemStart.{ItemStart}
-use Rattle.wit_text.specs.declared.interfaces.ItemStart.TheVariants as begin
-use Rattle.wit_text.specs.Faults.{is}
-use Rattle.wit_text.specs.Lookahead.{Phrase}
-use Rattle.wit_text.specs.Grammar.{punctuation, nesting, member, comma, close_brace, comma_wanted, alias, record_fields, payload, optional_payload, case_id, variant_case, variant_cases, name_of_case, enum_cases, flag_names, definition, defined, open_parenthesis, is_name}
+use Rattle.wit_grammar.specs.declared.starts.ItemStart.{ItemStart}
+use Rattle.wit_grammar.specs.declared.starts.ItemStart.TheVariants as begin
+use Rattle.wit_grammar.specs.Faults.{is}
+use Rattle.wit_grammar.specs.Lookahead.{Phrase}
+use Rattle.wit_grammar.specs.Grammar.{punctuation, nesting, member, comma, close_brace, comma_wanted, alias, record_fields, payload, optional_payload, case_id, variant_case, variant_cases, name_of_case, enum_cases, flag_names, definition, defined, open_parenthesis, is_name}
 use Rattle.wit_print.specs.Words.{Word, text_of, mark_word, keyword_word, name_word}
 use Rattle.wit_print.specs.Canonical.{blank, member_line, item_line, ty_words, field_words, case_words, label_words, payload_words, lined_words}
 use Rattle.wit_print.specs.Printable.{IsLabel, IsPrintableType, IsPrintableOption, IsPrintableMember, IsPrintableCase, ArePrintable, IsPrintableDefinition}

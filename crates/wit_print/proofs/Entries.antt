@@ -15,11 +15,11 @@ use Rattle.wit_tokens.specs.Lexing.{limit}
 use Rattle.wit_syntax.specs.declared.ast.Direction.{Direction}
 use Rattle.wit_syntax.specs.declared.ast.Direction.TheVariants as direction
 use Rattle.wit_syntax.specs.Syntax.{UsedAs, Function, Local, Alias, Record, Variant, Enumeration, FlagSet, Entry, Uses, Defines, Declares, WorldEntry, Whole, Single}
-use Rattle.wit_text.specs.declared.interfaces.ItemStart.{ItemStart}
-use Rattle.wit_text.specs.declared.interfaces.ItemStart.TheVariants as begin
-use Rattle.wit_text.specs.Faults.{is}
-use Rattle.wit_text.specs.Lookahead.{Phrase}
-use Rattle.wit_text.specs.Grammar.{punctuation, id, is_name, nesting, comma, close_brace, semicolon, local_name, used, used_list, used_fault, use_dot, use_item, func_word, declared, keyword_entry, item_kind, is_item_start, begins_entry, entry_behind, entry, direction_of, begins_world_entry, world_colon, colon_id, single, world_entry_behind, directed, world_entry}
+use Rattle.wit_grammar.specs.declared.starts.ItemStart.{ItemStart}
+use Rattle.wit_grammar.specs.declared.starts.ItemStart.TheVariants as begin
+use Rattle.wit_grammar.specs.Faults.{is}
+use Rattle.wit_grammar.specs.Lookahead.{Phrase}
+use Rattle.wit_grammar.specs.Grammar.{punctuation, id, is_name, nesting, comma, close_brace, semicolon, local_name, used, used_list, used_fault, use_dot, use_item, func_word, declared, keyword_entry, item_kind, is_item_start, begins_entry, entry_behind, entry, direction_of, begins_world_entry, world_colon, colon_id, single, world_entry_behind, directed, world_entry}
 use Rattle.wit_print.specs.Words.{Word, text_of, mark_word, keyword_word, name_word}
 use Rattle.wit_print.specs.Canonical.{blank, line, item_line, local_words, used_words, uses_words, function_words, entry_words, direction_keyword, world_entry_words, braced_words}
 use Rattle.wit_print.specs.Printable.{IsLabel, IsLabelOrNone, IsPrintableUse, ArePrintable, IsPrintableFunction, IsPrintableEntry, IsPrintableWorldEntry}

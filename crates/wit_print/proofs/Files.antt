@@ -12,8 +12,8 @@ use Rattle.wit_tokens.specs.declared.error.Expected.TheVariants as want
 use Rattle.wit_tokens.specs.Tokens.{Lexeme, lexemes, same_kind}
 use Rattle.wit_tokens.specs.Lexing.{limit}
 use Rattle.wit_syntax.specs.Syntax.{Entry, WorldEntry, FileEntry, AnInterface, AWorld, File}
-use Rattle.wit_text.specs.Faults.{is, wanted}
-use Rattle.wit_text.specs.Grammar.{punctuation, nesting, is_version_token, version, package_word, header_end, header, entry, interface, world_entry, world, is_interface, begins_item, item, items, file, file_fault}
+use Rattle.wit_grammar.specs.Faults.{is, wanted}
+use Rattle.wit_grammar.specs.Grammar.{punctuation, nesting, is_version_token, version, package_word, header_end, header, entry, interface, world_entry, world, is_interface, begins_item, item, items, file, file_fault}
 use Rattle.wit_print.specs.Words.{Word, text_of, mark_word, keyword_word, name_word, version_word}
 use Rattle.wit_print.specs.Canonical.{blank, line, empty_line, entry_words, world_entry_words, braced_words, file_entry_words, items_words, version_words, file_words, canonical_text}
 use Rattle.wit_print.specs.Printable.{IsPrintableEntry, IsPrintableWorldEntry, IsPrintableFileEntry, IsPrintableVersionOrNone, IsPrintable}

@@ -12,8 +12,8 @@ use Rattle.wit_tokens.specs.declared.token.TokenKind.TheVariants as kind
 use Rattle.wit_tokens.specs.Keywords.{keyword_of}
 use Rattle.wit_tokens.specs.Lexing.{is_letter, begins_letter}
 use Rattle.wit_tokens.specs.Tokens.{Lexeme, same_kind, keyword_rank, mark_rank, word_of}
-use Rattle.wit_text.specs.Faults.{is}
-use Rattle.wit_text.specs.Grammar.{is_name, is_lower_name, is_version_token, is_version_text, id, lower_id}
+use Rattle.wit_grammar.specs.Faults.{is}
+use Rattle.wit_grammar.specs.Grammar.{is_name, is_lower_name, is_version_token, is_version_text, id, lower_id}
 use Rattle.wit_print.specs.Words.{Word, mark_word, keyword_word, name_word, version_word, escaped}
 use Rattle.wit_print.proofs.Fronts.{letter-first, from-start}
 use Rattle.wit_print.proofs.Written.{Spells, Writes, Bound, Passes, Misses, IsThe, then_writes, made_writes, one_writes}

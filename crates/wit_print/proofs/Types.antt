@@ -12,10 +12,10 @@ use Rattle.wit_tokens.specs.Lexing.{limit}
 use Rattle.wit_syntax.specs.declared.ast.Primitive.{Primitive}
 use Rattle.wit_syntax.specs.declared.ast.Primitive.TheVariants as primitive
 use Rattle.wit_syntax.specs.Syntax.{Ty, Prim, Named, ListOf, OptionOf, TupleOf, ResultOf, Tys, none, more, Absent, Present, tys_of, depth, depth_all}
-use Rattle.wit_text.specs.declared.types.Start.TheVariants as start
-use Rattle.wit_text.specs.Faults.{is}
-use Rattle.wit_text.specs.Lookahead.{Phrase}
-use Rattle.wit_text.specs.Grammar.{punctuation, is_name, kind_start, is_start, begins_type, type_behind, type_of, ty, begun, list, option, close_list, close_angle, greater, less, comma, underscore, tuple, members, comma_wanted, error_type, result_error, result_rest, result_ok, result_parts, result_type, or_bare}
+use Rattle.wit_grammar.specs.declared.types.Start.TheVariants as start
+use Rattle.wit_grammar.specs.Faults.{is}
+use Rattle.wit_grammar.specs.Lookahead.{Phrase}
+use Rattle.wit_grammar.specs.Grammar.{punctuation, is_name, kind_start, is_start, begins_type, type_behind, type_of, ty, begun, list, option, close_list, close_angle, greater, less, comma, underscore, tuple, members, comma_wanted, error_type, result_error, result_rest, result_ok, result_parts, result_type, or_bare}
 use Rattle.productions.specs.Production.{give}
 use Rattle.wit_print.specs.Words.{Word, mark_word, keyword_word, name_word}
 use Rattle.wit_print.specs.Canonical.{blank, primitive_keyword, ty_words, tys_words}

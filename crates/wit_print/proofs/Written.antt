@@ -6,7 +6,7 @@ use Rattle.productions.specs.Production.{give, optional, unless_some, by_option,
 use Rattle.wit_tokens.specs.declared.token.TokenKind.{TokenKind}
 use Rattle.wit_tokens.specs.declared.error.TextError.{TextError}
 use Rattle.wit_tokens.specs.Tokens.{Lexeme, word_of}
-use Rattle.wit_text.specs.Lookahead.{Phrase}
+use Rattle.wit_grammar.specs.Lookahead.{Phrase}
 use Rattle.wit_print.specs.Words.{Word}
 
 -- a token without its place

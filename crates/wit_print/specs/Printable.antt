@@ -5,7 +5,7 @@ use Rattle.atoms.specs.Label.{is_label}
 use Rattle.atoms.specs.FullName.{is_package_label}
 use Rattle.wit_tokens.specs.Lexing.{limit, begins_digit, version_run}
 use Rattle.wit_syntax.specs.Syntax.{Ty, Prim, Named, ListOf, OptionOf, TupleOf, ResultOf, Tys, none, more, MaybeTy, Absent, Present, depth, Member, CaseOf, UsedAs, Definition, Alias, Record, Variant, Enumeration, FlagSet, Function, PathTo, Local, Entry, Uses, Defines, Declares, WorldEntry, Whole, Single, FileEntry, AnInterface, AWorld, File}
-use Rattle.wit_text.specs.Grammar.{nesting, is_version_text}
+use Rattle.wit_grammar.specs.Grammar.{nesting, is_version_text}
 
 abbrev pub types_count : Tys → ℕ
 types_count none = 0

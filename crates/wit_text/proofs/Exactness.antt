@@ -15,17 +15,17 @@ use Rattle.wit_tokens.specs.declared.error.Feature.{Feature}
 use Rattle.wit_tokens.specs.declared.error.Feature.TheVariants as feature
 use Rattle.wit_tokens.specs.declared.error.TextError.{TextError}
 use Rattle.wit_tokens.specs.declared.error.TextError.TheVariants as error
-use Rattle.wit_text.specs.declared.types.Start.{Start}
-use Rattle.wit_text.specs.declared.types.Start.TheVariants as start
-use Rattle.wit_text.specs.declared.interfaces.ItemStart.{ItemStart}
-use Rattle.wit_text.specs.declared.interfaces.ItemStart.TheVariants as begin
+use Rattle.wit_grammar.specs.declared.types.Start.{Start}
+use Rattle.wit_grammar.specs.declared.types.Start.TheVariants as start
+use Rattle.wit_grammar.specs.declared.starts.ItemStart.{ItemStart}
+use Rattle.wit_grammar.specs.declared.starts.ItemStart.TheVariants as begin
 use Rattle.wit_syntax.specs.declared.ast.Direction.{Direction}
 use Rattle.wit_tokens.specs.Lexing.{limit}
 use Rattle.wit_tokens.specs.Tokens.{Lexeme}
 use Rattle.wit_syntax.specs.Syntax.{Ty, Member, Single}
-use Rattle.wit_text.specs.Faults.{wanted, is, StandsAt}
-use Rattle.wit_text.specs.Lookahead.{lookahead, Looks, Phrase}
-use Rattle.wit_text.specs.Grammar as g
+use Rattle.wit_grammar.specs.Faults.{wanted, is, StandsAt}
+use Rattle.wit_grammar.specs.Lookahead.{lookahead, Looks, Phrase}
+use Rattle.wit_grammar.specs.Grammar as g
 use Rattle.wit_text.proofs.KindLemmas.{same_true}
 use Rattle.wit_text.proofs.FaultLemmas.{ByNext, exact-token, exact-fault, owed, owed-end, next-first, next-wanted, next-feature, feature_place}
 use Rattle.atoms.proofs.FullNames.{first}

@@ -8,8 +8,8 @@ use Rattle.wit_tokens.specs.declared.error.Expected.{Expected}
 use Rattle.wit_tokens.specs.declared.error.Feature.{Feature}
 use Rattle.wit_tokens.specs.declared.error.TextError.{TextError}
 use Rattle.wit_tokens.specs.Tokens.{Lexeme}
-use Rattle.wit_text.specs.Faults.{met, wanted, feature_or, unless_feature, StandsAt}
-use Rattle.wit_text.specs.Lookahead.{lookahead, Looks, Phrase, NoneBegins}
+use Rattle.wit_grammar.specs.Faults.{met, wanted, feature_or, unless_feature, StandsAt}
+use Rattle.wit_grammar.specs.Lookahead.{lookahead, Looks, Phrase, NoneBegins}
 
 pub record ByNext (end : ℕ) (fault : List Lexeme → TextError) : Type 0 where
   pub same : (ts other : List Lexeme) → next other ≡ next ts → fault other ≡ fault ts

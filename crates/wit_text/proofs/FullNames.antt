@@ -12,8 +12,8 @@ use Rattle.wit_tokens.specs.declared.token.Span.{Span}
 use Rattle.wit_tokens.specs.Lexing.{limit}
 use Rattle.wit_syntax.specs.Syntax.{FileEntry, File}
 use Rattle.wit_syntax.specs.FullNames.{has_label, has_full_names}
-use Rattle.wit_text.specs.Faults.{is as is-kind}
-use Rattle.wit_text.specs.Grammar as g
+use Rattle.wit_grammar.specs.Faults.{is as is-kind}
+use Rattle.wit_grammar.specs.Grammar as g
 use Rattle.wit_text.specs.Laws.{HasFullNames}
 
 both : (a b : Bool) → a ≡ true → b ≡ true → (a && b) ≡ true

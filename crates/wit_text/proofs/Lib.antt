@@ -1,10 +1,7 @@
 pub mod Versions
 pub mod Names
-pub mod Handed
 pub mod KindLemmas
 pub mod FaultLemmas
-pub mod TypeLemmas
-pub mod Results
 pub mod Exactness
 pub mod Limits
 pub mod Parsed

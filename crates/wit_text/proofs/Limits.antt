@@ -9,19 +9,19 @@ use Rattle.wit_tokens.specs.declared.token.Span.{Span}
 use Rattle.wit_tokens.specs.declared.token.Punctuation.TheVariants as mark
 use Rattle.wit_tokens.specs.declared.error.TextError.{TextError}
 use Rattle.wit_tokens.specs.declared.error.TextError.TheVariants as error
-use Rattle.wit_text.specs.declared.types.Start.{Start}
-use Rattle.wit_text.specs.declared.types.Start.TheVariants as start
-use Rattle.wit_text.specs.declared.interfaces.ItemStart.{ItemStart}
-use Rattle.wit_text.specs.declared.interfaces.ItemStart.TheVariants as begin
+use Rattle.wit_grammar.specs.declared.types.Start.{Start}
+use Rattle.wit_grammar.specs.declared.types.Start.TheVariants as start
+use Rattle.wit_grammar.specs.declared.starts.ItemStart.{ItemStart}
+use Rattle.wit_grammar.specs.declared.starts.ItemStart.TheVariants as begin
 use Rattle.wit_syntax.specs.declared.ast.Direction.{Direction}
 use Rattle.wit_tokens.specs.Lexing.{limit}
 use Rattle.wit_tokens.specs.Tokens.{Lexeme}
 use Rattle.wit_syntax.specs.Syntax.{Ty, File}
-use Rattle.wit_text.specs.Faults.{is}
-use Rattle.wit_text.specs.Lookahead.{Phrase, NoneBegins}
-use Rattle.wit_text.specs.Grammar as g
+use Rattle.wit_grammar.specs.Faults.{is}
+use Rattle.wit_grammar.specs.Lookahead.{Phrase, NoneBegins}
+use Rattle.wit_grammar.specs.Grammar as g
 use Rattle.wit_text.specs.Reading.{IsFile, IsDepth}
-use Rattle.wit_text.proofs.TypeLemmas.{type_fails, type_missing, type_stops}
+use Rattle.wit_grammar.proofs.TypeLemmas.{type_fails, type_missing, type_stops}
 use Rattle.wit_text.proofs.Exactness.{exact-file}
 
 abbrev Alike : {X : Type 0} → Phrase X → Phrase X → Type 0

@@ -6,8 +6,8 @@ use Rattle.atoms.specs.Label.{is_label, is_upper}
 use Rattle.atoms.specs.FullName.{is_package_label}
 use Rattle.wit_tokens.specs.declared.token.TokenKind.TheVariants as kind
 use Rattle.wit_tokens.specs.Tokens.{Lexeme}
-use Rattle.wit_text.specs.Faults.{is}
-use Rattle.wit_text.specs.Grammar.{is_name, is_lower_name}
+use Rattle.wit_grammar.specs.Faults.{is}
+use Rattle.wit_grammar.specs.Grammar.{is_name, is_lower_name}
 
 front : (a b c : Bool) → (a && (b && c)) ≡ true → (a && b) ≡ true
 front true true c h = refl

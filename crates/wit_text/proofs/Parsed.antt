@@ -9,18 +9,18 @@ use Rattle.wit_tokens.specs.declared.error.TextError.TheVariants as error
 use Rattle.wit_tokens.specs.Lexing.{limit, Lexes, LexFault}
 use Rattle.wit_tokens.specs.Tokens.{Lexeme, lexemes}
 use Rattle.wit_syntax.specs.Syntax.{File}
-use Rattle.wit_text.specs.Faults.{Fails, AnswersRead}
+use Rattle.wit_grammar.specs.Faults.{Fails, AnswersRead}
 use Rattle.wit_syntax.specs.View.{file_view}
 use Rattle.wit_syntax.specs.declared.ast.Ast.{Ast}
 use Rattle.wit_tokens.specs.declared.error.Feature.TheVariants.{ForeignInterface}
-use Rattle.wit_text.specs.Lookahead.{NoneBegins, LookaheadStands}
+use Rattle.wit_grammar.specs.Lookahead.{NoneBegins, LookaheadStands}
 use Rattle.wit_text.specs.Reading.{IsRead, IsFile, IsDepth, GrammarFault, Faulty}
-use Rattle.wit_text.specs.Grammar.{nesting, file}
+use Rattle.wit_grammar.specs.Grammar.{nesting, file}
 use Rattle.wit_tokens.specs.Laws.{OneLexing, BadIsRefused, OpenIsRefused}
 use Rattle.wit_text.proofs.FaultLemmas.{none-begins}
 use Rattle.wit_text.proofs.Exactness.{exact-file}
 use Rattle.wit_text.proofs.Limits.{none-at-any-nesting}
-use Rattle.wit_text.proofs.Handed.{Fails-on}
+use Rattle.wit_grammar.proofs.Handed.{Fails-on}
 
 pub lex_faulty : (text : List ℕ) (e : TextError) → LexFault text e → Faulty text e
 lex_faulty text (error.BadChar s) h = h

@@ -4,7 +4,7 @@ use Rattle.std.specs.Prelude.{◌&&◌}
 use Rattle.std.specs.Str.{IsUtf8, is_utf8}
 use Rattle.std.proofs.lemmas.Str.{IsUtf8-from_is_utf8, is_utf8-from_IsUtf8}
 use Rattle.atoms.specs.FullName.{is_version}
-use Rattle.wit_text.specs.Grammar.{is_version_text}
+use Rattle.wit_grammar.specs.Grammar.{is_version_text}
 
 pub bad_version : (text : List ℕ) → (IsUtf8 text → ⊥) → false ≡ is_version_text text
 bad_version text h = by (is_utf8 text) refl

@@ -5,8 +5,8 @@ use Rattle.wit_tokens.specs.declared.error.TextError.{TextError}
 use Rattle.wit_tokens.specs.Tokens.{Lexeme}
 use Rattle.wit_syntax.specs.Syntax.{File}
 use Rattle.wit_syntax.specs.FullNames.{has_full_names}
-use Rattle.wit_text.specs.Lookahead.{lookahead, NoneBegins}
-use Rattle.wit_text.specs.Grammar.{nesting, file}
+use Rattle.wit_grammar.specs.Lookahead.{lookahead, NoneBegins}
+use Rattle.wit_grammar.specs.Grammar.{nesting, file}
 use Rattle.wit_text.specs.Reading.{IsRead, IsFile, IsDepth}
 
 -- reading a file finds just what its production spells, or its first fault

@@ -1,5 +1,2 @@
-pub mod Faults
-pub mod Lookahead
-pub mod Grammar
 pub mod Reading
 pub mod Laws

@@ -7,8 +7,8 @@ use Rattle.wit_tokens.specs.declared.error.TextError.TheVariants as error
 use Rattle.wit_tokens.specs.Lexing.{limit, Lexes, LexFault}
 use Rattle.wit_tokens.specs.Tokens.{Lexeme, lexemes}
 use Rattle.wit_syntax.specs.Syntax.{File}
-use Rattle.wit_text.specs.Lookahead.{NoneBegins}
-use Rattle.wit_text.specs.Grammar.{nesting, file}
+use Rattle.wit_grammar.specs.Lookahead.{NoneBegins}
+use Rattle.wit_grammar.specs.Grammar.{nesting, file}
 
 -- The text's tokens spell this file, types within the limit of nesting, and it is not too long.
 pub record IsRead (text : List ℕ) (f : File) : Type 0 where

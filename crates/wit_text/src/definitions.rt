@@ -3,21 +3,21 @@ ghost use Rattle.std.specs.Prelude.{◌≡◌, ◌<◌, ◌≤◌, length, IfOk}
 ghost use Rattle.wit_tokens.specs.Lexing.{limit};
 ghost use Rattle.wit_tokens.specs.Tokens.{lexemes};
 ghost use Rattle.wit_syntax.specs.View.{ty_view, optional_view, case_view, definition_view};
-ghost use Rattle.wit_text.specs.Faults.{AnswersRead};
-ghost use Rattle.wit_text.specs.Grammar.{nesting, alias, record_fields, payload, optional_payload, case_fault, case_id, variant_case, variant_cases, enum_cases, flag_names};
+ghost use Rattle.wit_grammar.specs.Faults.{AnswersRead};
+ghost use Rattle.wit_grammar.specs.Grammar.{nesting, alias, record_fields, payload, optional_payload, case_fault, case_id, variant_case, variant_cases, enum_cases, flag_names};
 
 use crate::functions::{NESTING, field};
 use crate::header::first_feature;
-use crate::lists::{EntryReader, comma_list};
-use crate::parser::{feature_or, identifier, is_name, label_of, punctuation, same};
-use crate::types::type_at;
 use atoms::Label;
 use std::alloc::Global;
+use wit_grammar::{
+    EntryReader, comma_list, feature_or, identifier, is_name, label_of, punctuation, same, type_at,
+};
 use wit_syntax::{Case, Field, TypeDefKind, TypeExpression};
 use wit_tokens::{Expected, Punctuation, TextError, Token, TokenKind};
 
 /// `=`, a type and `;`.
-#[tactic(auto, unfolding(crate::specs::Grammar::alias))]
+#[tactic(auto, unfolding(wit_grammar::specs::Grammar::alias))]
 pub fn alias<'a>(
     alloc: Global,
     source: &[u8],
@@ -41,7 +41,7 @@ impl EntryReader for Fields {
     ghost use Rattle.wit_tokens.specs.declared.token.Punctuation.TheVariants.{Comma};
     ghost use Rattle.wit_syntax.specs.Syntax.{Member};
     ghost use Rattle.wit_syntax.specs.View.{field_view};
-    ghost use Rattle.wit_text.specs.Grammar.{nesting, member};
+    ghost use Rattle.wit_grammar.specs.Grammar.{nesting, member};
 
     type Entry = Field;
 
@@ -68,7 +68,7 @@ impl EntryReader for Fields {
 }
 
 /// The fields of a record in their braces.
-#[tactic(auto, unfolding(crate::specs::Grammar::record_fields))]
+#[tactic(auto, unfolding(wit_grammar::specs::Grammar::record_fields))]
 pub fn record_fields<'a>(
     alloc: Global,
     source: &[u8],
@@ -84,7 +84,7 @@ pub fn record_fields<'a>(
 }
 
 /// A type behind `(`, with the `)`.
-#[tactic(auto, unfolding(crate::specs::Grammar::payload))]
+#[tactic(auto, unfolding(wit_grammar::specs::Grammar::payload))]
 fn payload<'a>(
     alloc: Global,
     source: &[u8],
@@ -100,7 +100,7 @@ fn payload<'a>(
 }
 
 /// A type in parentheses, or nothing.
-#[tactic(auto, unfolding(crate::specs::Grammar::optional_payload))]
+#[tactic(auto, unfolding(wit_grammar::specs::Grammar::optional_payload))]
 fn optional_payload<'a>(
     alloc: Global,
     source: &[u8],
@@ -121,7 +121,7 @@ fn optional_payload<'a>(
 }
 
 /// What is answered where no case begins.
-#[tactic(auto, unfolding(crate::specs::Grammar::case_fault))]
+#[tactic(auto, unfolding(wit_grammar::specs::Grammar::case_fault))]
 fn case_fault(source: &[u8], tokens: &[Token]) -> TextError
     ensures { result ≡ case_fault (length source.now) (lexemes source.now tokens.now) }
 {
@@ -133,7 +133,7 @@ fn case_fault(source: &[u8], tokens: &[Token]) -> TextError
 }
 
 /// A case's name.
-#[tactic(auto, unfolding(crate::specs::Grammar::case_id))]
+#[tactic(auto, unfolding(wit_grammar::specs::Grammar::case_id))]
 fn case_id<'a>(
     alloc: Global,
     source: &[u8],
@@ -151,7 +151,7 @@ fn case_id<'a>(
 }
 
 /// A case of a variant.
-#[tactic(auto, unfolding(crate::specs::Grammar::variant_case))]
+#[tactic(auto, unfolding(wit_grammar::specs::Grammar::variant_case))]
 fn variant_case<'a>(
     alloc: Global,
     source: &[u8],
@@ -174,7 +174,7 @@ impl EntryReader for Cases {
     ghost use Rattle.wit_tokens.specs.declared.token.Punctuation.TheVariants.{Comma};
     ghost use Rattle.wit_syntax.specs.Syntax.{CaseOf};
     ghost use Rattle.wit_syntax.specs.View.{case_view};
-    ghost use Rattle.wit_text.specs.Grammar.{nesting, variant_case};
+    ghost use Rattle.wit_grammar.specs.Grammar.{nesting, variant_case};
 
     type Entry = Case;
 
@@ -201,7 +201,7 @@ impl EntryReader for Cases {
 }
 
 /// The cases of a variant in their braces.
-#[tactic(auto, unfolding(crate::specs::Grammar::variant_cases))]
+#[tactic(auto, unfolding(wit_grammar::specs::Grammar::variant_cases))]
 pub fn variant_cases<'a>(
     alloc: Global,
     source: &[u8],
@@ -225,7 +225,7 @@ impl EntryReader for Names {
     ghost use Rattle.std.specs.Prelude.{ℕ, List};
     ghost use Rattle.wit_tokens.specs.declared.error.Expected.TheVariants as want;
     ghost use Rattle.wit_tokens.specs.declared.token.Punctuation.TheVariants.{Comma};
-    ghost use Rattle.wit_text.specs.Grammar.{name_of_case};
+    ghost use Rattle.wit_grammar.specs.Grammar.{name_of_case};
 
     type Entry = Label;
 
@@ -237,7 +237,7 @@ impl EntryReader for Names {
 
     ghost wanted_behind = { λ _. want.Punctuation Comma };
 
-    #[tactic(auto, unfolding(crate::specs::Grammar::name_of_case))]
+    #[tactic(auto, unfolding(wit_grammar::specs::Grammar::name_of_case))]
     fn read<'a>(
         &self,
         alloc: Global,
@@ -257,7 +257,7 @@ impl EntryReader for Names {
 }
 
 /// The cases of an enum in their braces.
-#[tactic(auto, using(crate::proofs::Maps::same_items), unfolding(crate::specs::Grammar::enum_cases))]
+#[tactic(auto, using(crate::proofs::Maps::same_items), unfolding(wit_grammar::specs::Grammar::enum_cases))]
 pub fn enum_cases<'a>(
     alloc: Global,
     source: &[u8],
@@ -273,7 +273,7 @@ pub fn enum_cases<'a>(
 }
 
 /// The names of flags in their braces.
-#[tactic(auto, using(crate::proofs::Maps::same_items), unfolding(crate::specs::Grammar::flag_names))]
+#[tactic(auto, using(crate::proofs::Maps::same_items), unfolding(wit_grammar::specs::Grammar::flag_names))]
 pub fn flag_names<'a>(
     alloc: Global,
     source: &[u8],

@@ -6,15 +6,15 @@ ghost use Rattle.wit_tokens.specs.Lexing.{limit};
 ghost use Rattle.wit_tokens.specs.Tokens.{lexeme, lexemes};
 ghost use Rattle.wit_syntax.specs.Syntax.{File};
 ghost use Rattle.wit_syntax.specs.View.{item_view, file_view};
-ghost use Rattle.wit_text.specs.Faults.{AnswersRead};
-ghost use Rattle.wit_text.specs.Grammar.{nesting, file_keyword, file_feature, file_fault, begins_item, item, optional_item, items, file};
+ghost use Rattle.wit_grammar.specs.Faults.{AnswersRead};
+ghost use Rattle.wit_grammar.specs.Grammar.{nesting, file_keyword, file_feature, file_fault, begins_item, item, optional_item, items, file};
 ghost use Rattle.wit_text.specs.Reading.{IsRead, Faulty};
 
 use crate::header::{gate, header};
 use crate::interfaces::interface;
-use crate::parser::{feature_or, same};
 use crate::worlds::world;
 use std::alloc::Global;
+use wit_grammar::{feature_or, same};
 use wit_syntax::{Ast, Item};
 use wit_tokens::{
     Expected, Feature, Keyword, TextError, Token, TokenKind, lex, texts_have_one_lexing,
@@ -41,7 +41,7 @@ fn file_feature(kind: TokenKind) -> Option<Feature>
 }
 
 /// What is answered where no item of a file begins.
-#[tactic(auto, unfolding(crate::specs::Grammar::file_fault))]
+#[tactic(auto, unfolding(wit_grammar::specs::Grammar::file_fault))]
 fn file_fault(source: &[u8], tokens: &[Token]) -> TextError
     ensures { result ≡ file_fault (length source.now) (lexemes source.now tokens.now) }
 {
@@ -65,7 +65,7 @@ fn begins_item(token: Token) -> bool
 }
 
 /// An interface or a world behind its first token.
-#[tactic(auto, unfolding(crate::specs::Grammar::item))]
+#[tactic(auto, unfolding(wit_grammar::specs::Grammar::item))]
 fn item<'a>(
     alloc: Global,
     source: &[u8],
@@ -84,7 +84,7 @@ fn item<'a>(
 }
 
 /// An interface or a world, or nothing.
-#[tactic(auto, unfolding(crate::specs::Grammar::optional_item))]
+#[tactic(auto, unfolding(wit_grammar::specs::Grammar::optional_item))]
 fn optional_item<'a>(
     alloc: Global,
     source: &[u8],
@@ -131,7 +131,7 @@ fn items(alloc: Global, source: &[u8], tokens: &[Token]) -> Result<Vec<Item>, Te
     }
 }
 
-#[tactic(auto, unfolding(crate::specs::Grammar::file))]
+#[tactic(auto, unfolding(wit_grammar::specs::Grammar::file))]
 fn file(alloc: Global, source: &[u8], tokens: &[Token]) -> Result<Ast, TextError>
     requires { length tokens.now ≤ limit }
     ensures { AnswersRead (λ a. (file_view a, [])) result ((file (length source.now) nesting).read (lexemes source.now tokens.now)) }

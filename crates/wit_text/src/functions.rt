@@ -3,14 +3,16 @@ ghost use Rattle.std.specs.Prelude.{◌≡◌, ◌<◌, ◌≤◌, length, map, 
 ghost use Rattle.wit_tokens.specs.Lexing.{limit};
 ghost use Rattle.wit_tokens.specs.Tokens.{lexeme, lexemes};
 ghost use Rattle.wit_syntax.specs.View.{ty_view, field_view, function_view, optional_view};
-ghost use Rattle.wit_text.specs.Faults.{AnswersRead, unless_feature};
+ghost use Rattle.wit_grammar.specs.Faults.{AnswersRead, unless_feature};
 ghost use Rattle.wit_tokens.specs.declared.error.Expected.TheVariants as want;
 ghost use Rattle.wit_tokens.specs.declared.token.Keyword.TheVariants as kw;
-ghost use Rattle.wit_text.specs.Grammar.{nesting, member, after_member, param_list, parameters, result_fault, function_result, optional_result, function, async_feature, func_word, after_function, function_end, whole_function};
+ghost use Rattle.wit_grammar.specs.Grammar.{nesting, member, after_member, param_list, parameters, result_fault, function_result, optional_result, function, async_feature, func_word, after_function, function_end, whole_function};
 
-use crate::parser::{comma_or, feature_or, identifier, met, punctuation, same};
-use crate::types::{begins_type, type_at, type_behind, type_fault};
 use std::alloc::Global;
+use wit_grammar::{
+    begins_type, comma_or, feature_or, identifier, met, punctuation, same, type_at, type_behind,
+    type_fault,
+};
 use wit_syntax::{Field, FuncType, TypeExpression};
 use wit_tokens::{Expected, Feature, Keyword, Punctuation, TextError, Token, TokenKind};
 
@@ -18,7 +20,7 @@ use wit_tokens::{Expected, Feature, Keyword, Punctuation, TextError, Token, Toke
 pub const NESTING: u32 = 64;
 
 /// A name, and its type behind `:`.
-#[tactic(auto, unfolding(crate::specs::Grammar::member))]
+#[tactic(auto, unfolding(wit_grammar::specs::Grammar::member))]
 pub fn field<'a>(
     alloc: Global,
     source: &[u8],
@@ -35,7 +37,7 @@ pub fn field<'a>(
 }
 
 /// What stands behind a parameter: whether more follow.
-#[tactic(auto, unfolding(crate::specs::Grammar::after_member))]
+#[tactic(auto, unfolding(wit_grammar::specs::Grammar::after_member))]
 fn after_param<'a>(source: &[u8], tokens: &'a [Token]) -> Result<(bool, &'a [Token]), TextError>
     ensures gives { AnswersRead (λ x. (x.0, lexemes source.now x.1.now)) result ((after_member (length source.now)).read (lexemes source.now tokens.now)) }
     ensures shorter { IfOk result (λ x. length x.1.now < length tokens.now) }
@@ -67,7 +69,7 @@ fn param_list<'a>(
 }
 
 /// Behind `(`, with the `)`.
-#[tactic(auto, unfolding(crate::specs::Grammar::parameters))]
+#[tactic(auto, unfolding(wit_grammar::specs::Grammar::parameters))]
 fn parameters<'a>(
     alloc: Global,
     source: &[u8],
@@ -85,7 +87,7 @@ fn parameters<'a>(
 }
 
 /// What is answered where a function's result is wanted.
-#[tactic(auto, unfolding(crate::specs::Grammar::result_fault, crate::specs::Grammar::type_fault))]
+#[tactic(auto, unfolding(wit_grammar::specs::Grammar::result_fault, wit_grammar::specs::Grammar::type_fault))]
 fn result_fault(source: &[u8], tokens: &[Token]) -> TextError
     ensures { result ≡ result_fault (length source.now) (lexemes source.now tokens.now) }
 {
@@ -99,7 +101,7 @@ fn result_fault(source: &[u8], tokens: &[Token]) -> TextError
 }
 
 /// The type behind `->`.
-#[tactic(auto, unfolding(crate::specs::Grammar::function_result))]
+#[tactic(auto, unfolding(wit_grammar::specs::Grammar::function_result))]
 fn function_result<'a>(
     alloc: Global,
     source: &[u8],
@@ -118,7 +120,7 @@ fn function_result<'a>(
 }
 
 /// `->` and a type, or nothing.
-#[tactic(auto, unfolding(crate::specs::Grammar::optional_result))]
+#[tactic(auto, unfolding(wit_grammar::specs::Grammar::optional_result))]
 fn optional_result<'a>(
     alloc: Global,
     source: &[u8],
@@ -139,7 +141,7 @@ fn optional_result<'a>(
 }
 
 /// Parameters and result, behind `func`.
-#[tactic(auto, unfolding(crate::specs::Grammar::function))]
+#[tactic(auto, unfolding(wit_grammar::specs::Grammar::function))]
 fn function<'a>(
     alloc: Global,
     source: &[u8],
@@ -168,7 +170,7 @@ fn func_fault(source: &[u8], tokens: &[Token]) -> TextError
 }
 
 /// `func` in an interface.
-#[tactic(auto, unfolding(crate::specs::Grammar::func_word))]
+#[tactic(auto, unfolding(wit_grammar::specs::Grammar::func_word))]
 pub fn func_word<'a>(source: &[u8], tokens: &'a [Token]) -> Result<(Token, &'a [Token]), TextError>
     ensures gives { AnswersRead (λ x. (lexeme source.now x.0, lexemes source.now x.1.now)) result ((func_word (length source.now) async_feature).read (lexemes source.now tokens.now)) }
     ensures shorter { IfOk result (λ x. length x.1.now < length tokens.now) }
@@ -191,7 +193,7 @@ fn after_function(ty: &FuncType) -> Expected
 }
 
 /// The `;` behind a function.
-#[tactic(auto, unfolding(crate::specs::Grammar::function_end))]
+#[tactic(auto, unfolding(wit_grammar::specs::Grammar::function_end))]
 fn function_end<'a>(
     source: &[u8],
     ty: &FuncType,
@@ -208,7 +210,7 @@ fn function_end<'a>(
 }
 
 /// A function and its `;`, behind `func`.
-#[tactic(auto, unfolding(crate::specs::Grammar::whole_function))]
+#[tactic(auto, unfolding(wit_grammar::specs::Grammar::whole_function))]
 pub fn whole_function<'a>(
     alloc: Global,
     source: &[u8],

@@ -3,72 +3,22 @@ ghost use Rattle.std.specs.Prelude.{◌≡◌, ◌<◌, ◌≤◌, length, map, 
 ghost use Rattle.wit_tokens.specs.Lexing.{limit};
 ghost use Rattle.wit_tokens.specs.Tokens.{lexeme, lexemes};
 ghost use Rattle.wit_syntax.specs.View.{definition_view, entry_view, item_view};
-ghost use Rattle.wit_text.specs.Faults.{AnswersRead};
-ghost use Rattle.wit_text.specs.Grammar.{nesting, item_keyword, item_mark, item_kind, is_item_start, begins_entry, item_feature, entry_fault, definition, defined, declared, keyword_entry, entry_behind, entry, entry_list, interface};
+ghost use Rattle.wit_grammar.specs.Faults.{AnswersRead};
+ghost use Rattle.wit_grammar.specs.Grammar.{nesting, item_keyword, item_mark, item_kind, is_item_start, begins_entry, item_feature, entry_fault, definition, defined, declared, keyword_entry, entry_behind, entry, entry_list, interface};
 
 use crate::definitions::{alias, enum_cases, flag_names, record_fields, variant_cases};
 use crate::functions::{func_word, whole_function};
-use crate::parser::{feature_or, identifier, is_name, label_of, peek, punctuation};
 use crate::uses::use_item;
 use atoms::Label;
 use std::alloc::Global;
+use wit_grammar::{
+    ItemStart, feature_or, identifier, is_item_start, is_name, item_kind, label_of, peek,
+    punctuation,
+};
 use wit_syntax::{Func, Interface, InterfaceItem, Item, TypeDef, TypeDefKind};
 use wit_tokens::{Expected, Feature, Keyword, Punctuation, Span, TextError, Token, TokenKind};
 
-/// What a keyword or a mark is where an item of an interface may stand.
-#[derive(Clone, Copy, Debug)]
-pub enum ItemStart {
-    Use,
-    Alias,
-    Record,
-    Variant,
-    Enum,
-    Flags,
-    LeftOut(Feature),
-    Nothing,
-}
-
-fn item_keyword(keyword: Keyword) -> ItemStart
-    ensures { result ≡ item_keyword keyword }
-{
-    match keyword {
-        Keyword::Use => ItemStart::Use,
-        Keyword::Type => ItemStart::Alias,
-        Keyword::Record => ItemStart::Record,
-        Keyword::Variant => ItemStart::Variant,
-        Keyword::Enum => ItemStart::Enum,
-        Keyword::Flags => ItemStart::Flags,
-        Keyword::Resource => ItemStart::LeftOut(Feature::Resource),
-        _ => ItemStart::Nothing,
-    }
-}
-
-fn item_mark(mark: Punctuation) -> ItemStart
-    ensures { result ≡ item_mark mark }
-{
-    match mark {
-        Punctuation::At => ItemStart::LeftOut(Feature::Gate),
-        _ => ItemStart::Nothing,
-    }
-}
-
-fn item_kind(kind: TokenKind) -> ItemStart
-    ensures { result ≡ item_kind kind }
-{
-    match kind {
-        TokenKind::Keyword(keyword) => item_keyword(keyword),
-        TokenKind::Punctuation(mark) => item_mark(mark),
-        _ => ItemStart::Nothing,
-    }
-}
-
-fn is_item_start(start: ItemStart) -> bool
-    ensures { result ≡ is_item_start start }
-{
-    !matches!(start, ItemStart::LeftOut(_) | ItemStart::Nothing)
-}
-
-#[tactic(auto, unfolding(crate::specs::Grammar::begins_entry))]
+#[tactic(auto, unfolding(wit_grammar::specs::Grammar::begins_entry))]
 fn begins_entry(source: &[u8], token: Token) -> bool
     ensures { result ≡ begins_entry (lexeme source.now token) }
 {
@@ -85,7 +35,7 @@ fn item_feature(start: ItemStart) -> Option<Feature>
 }
 
 /// What is answered where no item of an interface begins.
-#[tactic(auto, unfolding(crate::specs::Grammar::entry_fault))]
+#[tactic(auto, unfolding(wit_grammar::specs::Grammar::entry_fault))]
 fn entry_fault(source: &[u8], tokens: &[Token]) -> TextError
     ensures { result ≡ entry_fault (length source.now) (lexemes source.now tokens.now) }
 {
@@ -97,7 +47,7 @@ fn entry_fault(source: &[u8], tokens: &[Token]) -> TextError
 }
 
 /// What a type definition has behind its name.
-#[tactic(auto, unfolding(crate::specs::Grammar::definition))]
+#[tactic(auto, unfolding(wit_grammar::specs::Grammar::definition))]
 fn definition<'a>(
     alloc: Global,
     source: &[u8],
@@ -121,7 +71,7 @@ fn definition<'a>(
 }
 
 /// A type definition behind its keyword, which stands at `span`.
-#[tactic(auto, unfolding(crate::specs::Grammar::defined))]
+#[tactic(auto, unfolding(wit_grammar::specs::Grammar::defined))]
 fn defined<'a>(
     alloc: Global,
     source: &[u8],
@@ -139,7 +89,7 @@ fn defined<'a>(
 }
 
 /// Behind a function's name, which stands at `span`.
-#[tactic(auto, unfolding(crate::specs::Grammar::declared))]
+#[tactic(auto, unfolding(wit_grammar::specs::Grammar::declared))]
 fn declared<'a>(
     alloc: Global,
     source: &[u8],
@@ -158,7 +108,7 @@ fn declared<'a>(
 }
 
 /// An item behind its keyword, which stands at `span`.
-#[tactic(auto, unfolding(crate::specs::Grammar::keyword_entry))]
+#[tactic(auto, unfolding(wit_grammar::specs::Grammar::keyword_entry))]
 fn keyword_entry<'a>(
     alloc: Global,
     source: &[u8],
@@ -182,7 +132,7 @@ fn keyword_entry<'a>(
 }
 
 /// An item behind its first token.
-#[tactic(auto, unfolding(crate::specs::Grammar::entry_behind))]
+#[tactic(auto, unfolding(wit_grammar::specs::Grammar::entry_behind))]
 fn entry_behind<'a>(
     alloc: Global,
     source: &[u8],
@@ -201,7 +151,7 @@ fn entry_behind<'a>(
 }
 
 /// An item of an interface.
-#[tactic(auto, unfolding(crate::specs::Grammar::entry))]
+#[tactic(auto, unfolding(wit_grammar::specs::Grammar::entry))]
 fn entry<'a>(
     alloc: Global,
     source: &[u8],
@@ -244,7 +194,7 @@ fn entry_list<'a>(
 }
 
 /// Behind `interface`.
-#[tactic(auto, unfolding(crate::specs::Grammar::interface))]
+#[tactic(auto, unfolding(wit_grammar::specs::Grammar::interface))]
 pub fn interface<'a>(
     alloc: Global,
     source: &[u8],

@@ -10,9 +10,6 @@ mod functions;
 mod header;
 mod interfaces;
 mod laws;
-mod lists;
-mod parser;
-mod types;
 mod uses;
 mod worlds;
 

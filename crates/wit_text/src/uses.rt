@@ -3,18 +3,17 @@ ghost use Rattle.std.specs.Prelude.{◌≡◌, ◌<◌, ◌≤◌, length, IfOk}
 ghost use Rattle.wit_tokens.specs.Lexing.{limit};
 ghost use Rattle.wit_tokens.specs.Tokens.{lexeme, lexemes};
 ghost use Rattle.wit_syntax.specs.View.{used_view, entry_view};
-ghost use Rattle.wit_text.specs.Faults.{AnswersRead};
-ghost use Rattle.wit_text.specs.Grammar.{local_name, used, use_dot, use_item};
+ghost use Rattle.wit_grammar.specs.Faults.{AnswersRead};
+ghost use Rattle.wit_grammar.specs.Grammar.{local_name, used, use_dot, use_item};
 
-use crate::lists::{EntryReader, comma_list};
-use crate::parser::{identifier, met, punctuation, same};
 use atoms::Label;
 use std::alloc::Global;
+use wit_grammar::{EntryReader, comma_list, identifier, met, punctuation, same};
 use wit_syntax::{InterfaceItem, Path, Use, UsedName};
 use wit_tokens::{Expected, Feature, Keyword, Punctuation, Span, TextError, Token, TokenKind};
 
 /// `as` and a name, or nothing.
-#[tactic(auto, unfolding(crate::specs::Grammar::local_name))]
+#[tactic(auto, unfolding(wit_grammar::specs::Grammar::local_name))]
 fn local_name<'a>(
     alloc: Global,
     source: &[u8],
@@ -34,7 +33,7 @@ fn local_name<'a>(
 }
 
 /// A used name, and its local name if it has one.
-#[tactic(auto, unfolding(crate::specs::Grammar::used))]
+#[tactic(auto, unfolding(wit_grammar::specs::Grammar::used))]
 fn used<'a>(
     alloc: Global,
     source: &[u8],
@@ -54,7 +53,7 @@ struct UsedNames;
 impl EntryReader for UsedNames {
     ghost use Rattle.wit_syntax.specs.Syntax.{UsedAs};
     ghost use Rattle.wit_syntax.specs.View.{used_view};
-    ghost use Rattle.wit_text.specs.Grammar.{used, after_used};
+    ghost use Rattle.wit_grammar.specs.Grammar.{used, after_used};
 
     type Entry = UsedName;
 
@@ -85,7 +84,7 @@ impl EntryReader for UsedNames {
 }
 
 /// The `.` behind the interface of a use.
-#[tactic(auto, unfolding(crate::specs::Grammar::use_dot))]
+#[tactic(auto, unfolding(wit_grammar::specs::Grammar::use_dot))]
 fn use_dot<'a>(source: &[u8], tokens: &'a [Token]) -> Result<(Token, &'a [Token]), TextError>
     ensures gives { AnswersRead (λ x. (lexeme source.now x.0, lexemes source.now x.1.now)) result ((use_dot (length source.now)).read (lexemes source.now tokens.now)) }
     ensures shorter { IfOk result (λ x. length x.1.now < length tokens.now) }
@@ -106,7 +105,7 @@ fn use_dot<'a>(source: &[u8], tokens: &'a [Token]) -> Result<(Token, &'a [Token]
 }
 
 /// Behind `use`, which stands at `span`.
-#[tactic(auto, unfolding(crate::specs::Grammar::use_item))]
+#[tactic(auto, unfolding(wit_grammar::specs::Grammar::use_item))]
 pub fn use_item<'a>(
     alloc: Global,
     source: &[u8],

@@ -5,14 +5,14 @@ ghost use Rattle.wit_tokens.specs.Tokens.{lexeme, optional_lexeme, lexemes};
 ghost use Rattle.wit_tokens.specs.declared.error.Expected.TheVariants as want;
 ghost use Rattle.wit_tokens.specs.declared.token.Keyword.TheVariants as kw;
 ghost use Rattle.wit_syntax.specs.View.{world_entry_view, item_view};
-ghost use Rattle.wit_text.specs.Faults.{AnswersRead, unless_feature};
-ghost use Rattle.wit_text.specs.Grammar.{nesting, direction_keyword, direction_of, world_keyword, world_feature, world_fault, world_colon, single_keyword, single_kind, single_feature, func_word, single, world_entry_behind, world_entry, world_list, world};
+ghost use Rattle.wit_grammar.specs.Faults.{AnswersRead, unless_feature};
+ghost use Rattle.wit_grammar.specs.Grammar.{nesting, direction_keyword, direction_of, world_keyword, world_feature, world_fault, world_colon, single_keyword, single_kind, single_feature, func_word, single, world_entry_behind, world_entry, world_list, world};
 
 use crate::functions::whole_function;
 use crate::header::gate;
-use crate::parser::{feature_or, identifier, peek, punctuation, same};
 use atoms::Label;
 use std::alloc::Global;
+use wit_grammar::{feature_or, identifier, peek, punctuation, same};
 use wit_syntax::{Direction, Func, Item, Path, World, WorldItem, WorldItemKind};
 use wit_tokens::{Expected, Feature, Keyword, Punctuation, Span, TextError, Token, TokenKind};
 
@@ -62,7 +62,7 @@ fn world_feature(kind: TokenKind) -> Option<Feature>
 }
 
 /// What is answered where no item of a world begins.
-#[tactic(auto, unfolding(crate::specs::Grammar::world_fault))]
+#[tactic(auto, unfolding(wit_grammar::specs::Grammar::world_fault))]
 fn world_fault(source: &[u8], tokens: &[Token]) -> TextError
     ensures { result ≡ world_fault (length source.now) (lexemes source.now tokens.now) }
 {
@@ -104,7 +104,7 @@ fn single_fault(source: &[u8], tokens: &[Token]) -> TextError
 }
 
 /// The `:` behind a name, where no identifier follows it.
-#[tactic(auto, unfolding(crate::specs::Grammar::world_colon, crate::specs::Grammar::colon_id))]
+#[tactic(auto, unfolding(wit_grammar::specs::Grammar::world_colon, wit_grammar::specs::Grammar::colon_id))]
 fn world_colon<'a>(source: &[u8], tokens: &'a [Token]) -> Result<(Token, &'a [Token]), TextError>
     ensures gives { AnswersRead (λ x. ((lexeme source.now x.0, optional_lexeme source.now None), lexemes source.now x.1.now)) result ((world_colon (length source.now)).read (lexemes source.now tokens.now)) }
     ensures shorter { IfOk result (λ x. length x.1.now < length tokens.now) }
@@ -118,7 +118,7 @@ fn world_colon<'a>(source: &[u8], tokens: &'a [Token]) -> Result<(Token, &'a [To
 }
 
 /// `func` in a world.
-#[tactic(auto, unfolding(crate::specs::Grammar::func_word))]
+#[tactic(auto, unfolding(wit_grammar::specs::Grammar::func_word))]
 fn world_func<'a>(source: &[u8], tokens: &'a [Token]) -> Result<(Token, &'a [Token]), TextError>
     ensures gives { AnswersRead (λ x. (lexeme source.now x.0, lexemes source.now x.1.now)) result ((func_word (length source.now) single_feature).read (lexemes source.now tokens.now)) }
     ensures shorter { IfOk result (λ x. length x.1.now < length tokens.now) }
@@ -131,7 +131,7 @@ fn world_func<'a>(source: &[u8], tokens: &'a [Token]) -> Result<(Token, &'a [Tok
 }
 
 /// A function of a world behind its name; the item stands at `span`.
-#[tactic(auto, unfolding(crate::specs::Grammar::single))]
+#[tactic(auto, unfolding(wit_grammar::specs::Grammar::single))]
 fn single<'a>(
     alloc: Global,
     source: &[u8],
@@ -152,7 +152,7 @@ fn single<'a>(
 }
 
 /// An item of a world behind its direction, which stands at `span`.
-#[tactic(auto, unfolding(crate::specs::Grammar::world_entry_behind))]
+#[tactic(auto, unfolding(wit_grammar::specs::Grammar::world_entry_behind))]
 fn world_entry_behind<'a>(
     alloc: Global,
     source: &[u8],
@@ -176,7 +176,7 @@ fn world_entry_behind<'a>(
 }
 
 /// An item of a world.
-#[tactic(auto, unfolding(crate::specs::Grammar::world_entry))]
+#[tactic(auto, unfolding(wit_grammar::specs::Grammar::world_entry))]
 fn world_entry<'a>(
     alloc: Global,
     source: &[u8],
@@ -220,7 +220,7 @@ fn world_list<'a>(
 }
 
 /// Behind `world`, which stands at `span`.
-#[tactic(auto, unfolding(crate::specs::Grammar::world))]
+#[tactic(auto, unfolding(wit_grammar::specs::Grammar::world))]
 pub fn world<'a>(
     alloc: Global,
     source: &[u8],

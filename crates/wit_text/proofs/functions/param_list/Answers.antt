@@ -8,10 +8,10 @@ use Rattle.wit_tokens.specs.Lexing.{limit}
 use Rattle.wit_tokens.specs.Tokens.{lexemes}
 use Rattle.wit_syntax.specs.View.{field_view}
 use Rattle.wit_syntax.specs.Syntax.{Member}
-use Rattle.wit_text.specs.Lookahead.{Phrase}
-use Rattle.wit_text.specs.Faults.{wanted}
-use Rattle.wit_text.specs.Grammar.{nesting, member, after_member}
-use Rattle.wit_text.proofs.Handed.{Fails-on}
+use Rattle.wit_grammar.specs.Lookahead.{Phrase}
+use Rattle.wit_grammar.specs.Faults.{wanted}
+use Rattle.wit_grammar.specs.Grammar.{nesting, member, after_member}
+use Rattle.wit_grammar.proofs.Handed.{Fails-on}
 use Rattle.wit_text.proofs.functions.param_list.Goals as goal
 
 abbrev last : ℕ → Phrase (List Member)

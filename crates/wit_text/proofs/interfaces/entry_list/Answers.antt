@@ -5,11 +5,11 @@ use Rattle.productions.proofs.Lists.{many_goes_on, many_fails, many_closes}
 use Rattle.wit_tokens.specs.Lexing.{limit}
 use Rattle.wit_tokens.specs.Tokens.{Lexeme, lexeme, lexemes}
 use Rattle.wit_syntax.specs.View.{entry_view}
-use Rattle.wit_text.specs.Faults.{is, wanted}
-use Rattle.wit_text.specs.Grammar.{entry, nesting, close_brace}
+use Rattle.wit_grammar.specs.Faults.{is, wanted}
+use Rattle.wit_grammar.specs.Grammar.{entry, nesting, close_brace}
 use Rattle.wit_tokens.specs.declared.error.TextError.{TextError}
 use Rattle.wit_tokens.specs.declared.error.Expected.TheVariants as want
-use Rattle.wit_text.proofs.Handed.{Fails-on, peeked}
+use Rattle.wit_grammar.proofs.Handed.{Fails-on, peeked}
 use Rattle.wit_text.proofs.interfaces.entry_list.Goals as goal
 
 abbrev fault : ℕ → List Lexeme → TextError

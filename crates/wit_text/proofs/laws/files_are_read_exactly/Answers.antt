@@ -1,5 +1,5 @@
 use Rattle.std.proofs.Common.{refl}
-use Rattle.wit_text.specs.Grammar as g
+use Rattle.wit_grammar.specs.Grammar as g
 use Rattle.wit_text.proofs.FaultLemmas.{none-begins}
 use Rattle.wit_text.proofs.Exactness.{exact-file}
 use Rattle.wit_text.proofs.Limits.{none-at-any-nesting, one-file}

@@ -5,12 +5,12 @@ use Rattle.productions.proofs.Lists.{many_goes_on, many_fails, many_closes}
 use Rattle.wit_tokens.specs.Lexing.{limit}
 use Rattle.wit_tokens.specs.Tokens.{Lexeme, lexeme, lexemes}
 use Rattle.wit_syntax.specs.View.{world_entry_view}
-use Rattle.wit_text.specs.Faults.{is, wanted}
-use Rattle.wit_text.specs.Grammar.{world_entry, nesting, close_brace}
+use Rattle.wit_grammar.specs.Faults.{is, wanted}
+use Rattle.wit_grammar.specs.Grammar.{world_entry, nesting, close_brace}
 use Rattle.wit_tokens.specs.declared.error.TextError.{TextError}
 use Rattle.wit_tokens.specs.declared.error.Expected.TheVariants as want
 use Rattle.wit_tokens.specs.declared.token.Keyword.TheVariants as kw
-use Rattle.wit_text.proofs.Handed.{Fails-on, peeked}
+use Rattle.wit_grammar.proofs.Handed.{Fails-on, peeked}
 use Rattle.wit_text.proofs.worlds.world_list.Goals as goal
 
 abbrev fault : ℕ → List Lexeme → TextError

@@ -18,17 +18,17 @@ use Rattle.wit_tokens.specs.declared.error.Feature.{Feature}
 use Rattle.wit_tokens.specs.declared.error.Feature.TheVariants as feature
 use Rattle.wit_tokens.specs.declared.error.TextError.{TextError}
 use Rattle.wit_tokens.specs.declared.error.TextError.TheVariants as error
-use Rattle.wit_text.specs.declared.types.Start.{Start}
-use Rattle.wit_text.specs.declared.types.Start.TheVariants as start
-use Rattle.wit_text.specs.declared.interfaces.ItemStart.{ItemStart}
-use Rattle.wit_text.specs.declared.interfaces.ItemStart.TheVariants as begin
+use Rattle.wit_grammar.specs.declared.types.Start.{Start}
+use Rattle.wit_grammar.specs.declared.types.Start.TheVariants as start
+use Rattle.wit_grammar.specs.declared.starts.ItemStart.{ItemStart}
+use Rattle.wit_grammar.specs.declared.starts.ItemStart.TheVariants as begin
 use Rattle.wit_syntax.specs.declared.ast.Primitive.TheVariants as primitive
 use Rattle.wit_syntax.specs.declared.ast.Direction.{Direction}
 use Rattle.wit_syntax.specs.declared.ast.Direction.TheVariants as direction
 use Rattle.wit_tokens.specs.Lexing.{limit}
 use Rattle.wit_tokens.specs.Tokens.{Lexeme}
-use Rattle.wit_text.specs.Faults.{wanted, is, feature_or, unless_feature}
-use Rattle.wit_text.specs.Lookahead.{Phrase}
+use Rattle.wit_grammar.specs.Faults.{wanted, is, feature_or, unless_feature}
+use Rattle.wit_grammar.specs.Lookahead.{Phrase}
 use Rattle.wit_syntax.specs.Syntax.{Ty, Prim, Named, ListOf, OptionOf, TupleOf, ResultOf, Absent, Present, tys_of, Member, CaseOf, UsedAs, Definition, Alias, Record, Variant, Enumeration, FlagSet, Function, Local, Entry, Uses, Defines, Declares, WorldEntry, Whole, Single, FileEntry, AnInterface, AWorld, File}
 
 -- ---- tokens

@@ -3,8 +3,8 @@ use Rattle.productions.proofs.Lists.{with_front}
 use Rattle.wit_tokens.specs.Lexing.{limit}
 use Rattle.wit_tokens.specs.Tokens.{lexemes}
 use Rattle.wit_syntax.specs.View.{ty_view}
-use Rattle.wit_text.specs.Grammar.{ty, members}
-use Rattle.wit_text.proofs.types.+types.Given as goal
+use Rattle.wit_grammar.specs.Grammar.{ty, members}
+use Rattle.wit_grammar.proofs.types.+types.Given as goal
 
 abbrev pub decreases-list_type : goal.decreases-list_type
 decreases-list_type l = 8 * l.nesting + 1

@@ -4,10 +4,10 @@ use Rattle.std.proofs.lemmas.List.{map_push, length-append}
 use Rattle.productions.proofs.Lists.{goes_on, is_done, item_fails, separator_fails}
 use Rattle.wit_tokens.specs.Lexing.{limit}
 use Rattle.wit_tokens.specs.Tokens.{lexemes}
-use Rattle.wit_text.specs.Faults.{is, wanted}
-use Rattle.wit_text.specs.Grammar.{comma, close_brace}
-use Rattle.wit_text.proofs.Handed.{Fails-on}
-use Rattle.wit_text.proofs.lists.comma_list.Goals as goal
+use Rattle.wit_grammar.specs.Faults.{is, wanted}
+use Rattle.wit_grammar.specs.Grammar.{comma, close_brace}
+use Rattle.wit_grammar.proofs.Handed.{Fails-on}
+use Rattle.wit_grammar.proofs.lists.comma_list.Goals as goal
 
 room : (n : ℕ) → n < limit → limit - n ≡ suc (limit - suc n)
 room n h = omega arith

@@ -8,7 +8,7 @@ use Rattle.wit_tokens.specs.declared.error.TextError.{TextError}
 use Rattle.wit_tokens.specs.declared.error.TextError.TheVariants as error
 use Rattle.wit_tokens.specs.declared.error.Feature.TheVariants.{ForeignInterface}
 use Rattle.wit_tokens.specs.Tokens.{Lexeme}
-use Rattle.wit_text.specs.Faults.{StandsAt}
+use Rattle.wit_grammar.specs.Faults.{StandsAt}
 
 -- The one fault that stands a token earlier: the `:` of another package's interface in a world, known by the name behind it.
 abbrev pub IsForeign : List Lexeme → TextError → Type 0

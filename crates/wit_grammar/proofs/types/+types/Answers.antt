@@ -5,10 +5,10 @@ use Rattle.productions.proofs.Lists.{goes_on, is_done, item_fails, separator_fai
 use Rattle.wit_tokens.specs.Lexing.{limit}
 use Rattle.wit_tokens.specs.Tokens.{lexemes}
 use Rattle.wit_syntax.specs.View.{ty_view}
-use Rattle.wit_text.specs.Grammar.{ty, comma, greater, comma_wanted}
-use Rattle.wit_text.specs.Faults.{is}
-use Rattle.wit_text.proofs.Handed.{Fails-on}
-use Rattle.wit_text.proofs.types.+types.Goals as goal
+use Rattle.wit_grammar.specs.Grammar.{ty, comma, greater, comma_wanted}
+use Rattle.wit_grammar.specs.Faults.{is}
+use Rattle.wit_grammar.proofs.Handed.{Fails-on}
+use Rattle.wit_grammar.proofs.types.+types.Goals as goal
 
 room : (n : ℕ) → n < limit → limit - n ≡ suc (limit - suc n)
 room n h = omega arith

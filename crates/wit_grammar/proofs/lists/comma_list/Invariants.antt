@@ -3,9 +3,9 @@ use Rattle.productions.specs.Production.{listed}
 use Rattle.productions.proofs.Lists.{with_front}
 use Rattle.wit_tokens.specs.Lexing.{limit}
 use Rattle.wit_tokens.specs.Tokens.{lexemes}
-use Rattle.wit_text.specs.Faults.{is, wanted}
-use Rattle.wit_text.specs.Grammar.{comma, close_brace}
-use Rattle.wit_text.proofs.lists.comma_list.Given as goal
+use Rattle.wit_grammar.specs.Faults.{is, wanted}
+use Rattle.wit_grammar.specs.Grammar.{comma, close_brace}
+use Rattle.wit_grammar.proofs.lists.comma_list.Given as goal
 
 abbrev pub invariant-list : goal.invariant-list
 invariant-list g l = record {

@@ -8,7 +8,7 @@ use Rattle.std.specs.Option.{option_map}
 use Rattle.wit_syntax.specs.Syntax.{FileEntry}
 use Rattle.wit_syntax.specs.View.{item_view}
 use Rattle.wit_syntax.specs.declared.ast.Item.{Item}
-use Rattle.wit_text.specs.Faults.{Fails}
+use Rattle.wit_grammar.specs.Faults.{Fails}
 
 pub Fails-on : {Y V : Type 0} (e : TextError) (r : Result Y TextError) (s : Result V TextError) → (r ≡ Err e → s ≡ Err e) → Fails e r → Fails e s
 Fails-on error.NoMemory r s h p = tt

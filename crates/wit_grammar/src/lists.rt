@@ -3,8 +3,8 @@ ghost use Rattle.std.specs.Prelude.{◌≡◌, ◌<◌, ◌≤◌, length, map, 
 ghost use Rattle.productions.specs.Production.{listed};
 ghost use Rattle.wit_tokens.specs.Lexing.{limit};
 ghost use Rattle.wit_tokens.specs.Tokens.{lexemes};
-ghost use Rattle.wit_text.specs.Faults.{AnswersRead, is, wanted};
-ghost use Rattle.wit_text.specs.Grammar.{comma, close_brace};
+ghost use Rattle.wit_grammar.specs.Faults.{AnswersRead, is, wanted};
+ghost use Rattle.wit_grammar.specs.Grammar.{comma, close_brace};
 
 use crate::parser::separator;
 use std::alloc::Global;
@@ -15,8 +15,8 @@ pub trait EntryReader {
     ghost use Rattle.std.specs.Prelude.{◌≡◌, ◌<◌, ◌≤◌, ℕ, length, IfOk};
     ghost use Rattle.wit_tokens.specs.Lexing.{limit};
     ghost use Rattle.wit_tokens.specs.Tokens.{lexemes};
-    ghost use Rattle.wit_text.specs.Faults.{AnswersRead};
-    ghost use Rattle.wit_text.specs.Lookahead.{Phrase};
+    ghost use Rattle.wit_grammar.specs.Faults.{AnswersRead};
+    ghost use Rattle.wit_grammar.specs.Lookahead.{Phrase};
     ghost use Rattle.wit_tokens.specs.declared.error.Expected.{Expected};
 
     type Entry: Drop;

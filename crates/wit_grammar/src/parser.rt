@@ -1,12 +1,12 @@
 //! Small readers: each takes a front of the tokens, and answers the rest.
 ghost use Rattle.std.specs.Prelude.{◌≡◌, ◌<◌, ◌≤◌, length, IsTrue, IfOk, Ok};
 ghost use Rattle.wit_tokens.specs.Tokens.{same_kind, lexeme, optional_lexeme, lexemes, bytes_of, word_of, name_of};
-ghost use Rattle.wit_text.specs.Faults.{AnswersRead, feature_or, met, is, wanted};
+ghost use Rattle.wit_grammar.specs.Faults.{AnswersRead, feature_or, met, is, wanted};
 ghost use Rattle.wit_tokens.specs.declared.token.TokenKind.TheVariants as kind;
 ghost use Rattle.wit_tokens.specs.declared.error.Expected.TheVariants as want;
 ghost use Rattle.wit_tokens.specs.declared.token.Punctuation.TheVariants.{Comma};
 ghost use Rattle.productions.specs.Production.{comma_or, separator};
-ghost use Rattle.wit_text.specs.Grammar.{comma, peek, token, punctuation, is_name, id};
+ghost use Rattle.wit_grammar.specs.Grammar.{comma, peek, token, punctuation, is_name, id};
 
 use atoms::{Label, is_label};
 use std::alloc::Global;

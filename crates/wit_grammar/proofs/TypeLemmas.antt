@@ -1,7 +1,7 @@
 -- Reading a type by its first token.
 use Rattle.std.proofs.Common.{◌≡◌, ℕ, zero, suc, ◌-◌, ◌<◌, false, List, [], ◌∷◌, Err, refl, arith}
 use Rattle.wit_tokens.specs.Tokens.{Lexeme}
-use Rattle.wit_text.specs.Grammar.{ty, type_of, begins_type, type_fault}
+use Rattle.wit_grammar.specs.Grammar.{ty, type_of, begins_type, type_fault}
 
 pub type_step : (end n : ℕ) (ts : List Lexeme) → 0 < n → (ty end n).read ts ≡ (type_of end (ty end (n - 1))).read ts
 unfolding ty

@@ -1,0 +1,5 @@
+use Rattle.wit_grammar.proofs.Results.{view_result}
+use Rattle.wit_grammar.proofs.types.result_of.Goals as goal
+
+pub returns : goal.returns
+returns c = view_result c.args.ok c.args.error
