@@ -4,7 +4,7 @@ use Rattle.std.proofs.lemmas.Bool.{eq-eqb, ne_eqb}
 use Rattle.std.proofs.lemmas.List.{append-nil}
 use Rattle.atoms.specs.FullName.{NameParts, Lacks, IsName, IsFullName, name_text, package_text}
 use Rattle.atoms.proofs.FullNames.{label_lacks, package_lacks}
-use Rattle.ctype_bin.specs.Names.{cut_at}
+use Rattle.ctype_format.specs.Names.{cut_at}
 use Rattle.component_reader.specs.Component.{before, behind, second, namespace_in, behind_namespace, package_in, behind_package, interface_in, version_in}
 
 module _ (mark : ℕ) where

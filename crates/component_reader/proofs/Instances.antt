@@ -8,9 +8,9 @@ use Rattle.std.specs.Global.{Vec}
 use Rattle.std.specs.Map.{lookup}
 use Rattle.std.specs.Str.{bytes_eq}
 use Rattle.indexmap.specs.IndexMap.{insert_entry}
-use Rattle.ctype_bin.specs.Raw.{none, then}
-use Rattle.ctype_bin.specs.View.{decl_view, decls_of}
-use Rattle.ctype_bin.specs.declared.raw.RawDecl.{RawDecl}
+use Rattle.ctype_format.specs.Raw.{none, then}
+use Rattle.ctype_format.specs.View.{decl_view, decls_of}
+use Rattle.ctype_format.specs.declared.raw.RawDecl.{RawDecl}
 use Rattle.package_form.specs.Scoped.{Entry as Named, entry_of}
 use Rattle.tables.specs.declared.tables.TypeId.{TypeId}
 use Rattle.component_reader.specs.declared.unread.Unread.{Unread}

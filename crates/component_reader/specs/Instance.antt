@@ -3,11 +3,11 @@ use Rattle.std.specs.Prelude.{◌==◌, ℕ, List, [], ◌∷◌, ◌++◌, leng
 use Rattle.std.specs.Option.{option_map}
 use Rattle.std.specs.Str.{bytes_eq}
 use Rattle.atoms.specs.Label.{is_label}
-use Rattle.ctype_bin.specs.Raw.{Definition as AnyType, Define, Func, Component, Instance, Decl, Entry, Alias, Import, Export, Decls, none, then as more}
-use Rattle.ctype_bin.specs.declared.raw.RawAlias.{RawAlias}
-use Rattle.ctype_bin.specs.declared.raw.RawAlias.TheVariants as alias
-use Rattle.ctype_bin.specs.declared.raw.RawDescription.{RawDescription}
-use Rattle.ctype_bin.specs.declared.raw.RawDescription.TheVariants as described
+use Rattle.ctype_format.specs.Raw.{Definition as AnyType, Define, Func, Component, Instance, Decl, Entry, Alias, Import, Export, Decls, none, then as more}
+use Rattle.ctype_format.specs.declared.raw.RawAlias.{RawAlias}
+use Rattle.ctype_format.specs.declared.raw.RawAlias.TheVariants as alias
+use Rattle.ctype_format.specs.declared.raw.RawDescription.{RawDescription}
+use Rattle.ctype_format.specs.declared.raw.RawDescription.TheVariants as described
 use Rattle.package_form.specs.Scoped.{Entry as Named}
 use Rattle.package_form.specs.Ids.{type_id, function_id}
 use Rattle.package_form.specs.Postfix.{inner_row}

@@ -1,9 +1,9 @@
 //! The package that a raw component may stand for: whether it does is seen by writing it again.
 ghost use Rattle.std.specs.Prelude.{◌≡◌, length, map, IfOk, IfSome, IfNone, None, Some};
 ghost use Rattle.atoms.specs.FullName.{IsFullName, full_name_text};
-ghost use Rattle.ctype_bin.specs.Names.{name_view};
+ghost use Rattle.ctype_format.specs.Names.{name_view};
 ghost use Rattle.ctype_bin.specs.FileView.{file_view};
-ghost use Rattle.ctype_bin.specs.View.{decl_view, decls_of, type_view};
+ghost use Rattle.ctype_format.specs.View.{decl_view, decls_of, type_view};
 ghost use Rattle.component_reader.specs.Types.{ReadsAs, Becomes};
 ghost use Rattle.component_reader.specs.Component.{Makes, no_component, alias_read, type_read, instance_exported, export_read, declaration_read, declarations_read, full_name_declared, first_full_name, package_named, candidate_named, candidate_of_decls, candidate_of_type, candidate_of};
 ghost use Rattle.component_reader.specs.Names.{parts_view};

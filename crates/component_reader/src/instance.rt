@@ -1,7 +1,7 @@
 //! The declarations of an instance type as rows of the table.
 ghost use Rattle.std.specs.Prelude.{◌≡◌, List, length, map, IfOk, OnOk};
 ghost use Rattle.atoms.specs.Label.{IsLabel};
-ghost use Rattle.ctype_bin.specs.View.{decl_view, decls_of, type_view};
+ghost use Rattle.ctype_format.specs.View.{decl_view, decls_of, type_view};
 ghost use Rattle.tables.specs.declared.tables.Definition.{Definition};
 ghost use Rattle.package_form.specs.Ids.{package_id};
 ghost use Rattle.component_reader.specs.Types.{ReadsAs, Becomes, both_found, all_found, parameter_read, optional_type};

@@ -1,5 +1,5 @@
 //! The parts of exports' names.
-ghost use Rattle.ctype_bin.specs.Names.{name_view};
+ghost use Rattle.ctype_format.specs.Names.{name_view};
 ghost use Rattle.component_reader.specs.Names.{IsNamed};
 
 use ctype_bin::ExternName;

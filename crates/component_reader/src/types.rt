@@ -1,6 +1,6 @@
 //! Types with indices as types of the table.
 ghost use Rattle.std.specs.Prelude.{◌≡◌, Some, IfOk};
-ghost use Rattle.ctype_bin.specs.View.{defined_view};
+ghost use Rattle.ctype_format.specs.View.{defined_view};
 ghost use Rattle.component_reader.specs.Types.{Reads, all_found, primitive_type, row_at, val_type, optional_type, field_read, parameter_read, case_read, kind_of};
 
 use crate::unread::Unread;

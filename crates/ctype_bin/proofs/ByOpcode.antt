@@ -1,12 +1,12 @@
 -- A type, by its opcode.
 use Rattle.std.proofs.Common.{◌≡◌, ℕ, zero, suc, ◌+◌, ◌-◌, ◌<◌, true, false, List, [], ◌∷◌, ◌++◌, Ok, refl, arith}
-use Rattle.ctype_bin.specs.declared.error.ItemError.{ItemError}
-use Rattle.ctype_bin.specs.declared.error.ItemError.TheVariants as errors
-use Rattle.ctype_bin.specs.declared.opcode.Opcode.{Opcode}
-use Rattle.ctype_bin.specs.declared.scope.Scope.{Scope}
-use Rattle.ctype_bin.specs.Raw.{Definition}
-use Rattle.ctype_bin.specs.Bytes.{Stops}
-use Rattle.ctype_bin.specs.Grammar.{opcode, plain, plain_type, scope_of, is_nested, type}
+use Rattle.ctype_format.specs.declared.error.ItemError.{ItemError}
+use Rattle.ctype_format.specs.declared.error.ItemError.TheVariants as errors
+use Rattle.ctype_format.specs.declared.opcode.Opcode.{Opcode}
+use Rattle.ctype_format.specs.declared.scope.Scope.{Scope}
+use Rattle.ctype_format.specs.Raw.{Definition}
+use Rattle.ctype_format.specs.Bytes.{Stops}
+use Rattle.ctype_format.specs.Grammar.{opcode, plain, plain_type, scope_of, is_nested, type}
 
 pub type_stops : (depth : ℕ) (around : List ℕ) (scope : Scope) (bytes : List ℕ) (e : ItemError) → Stops e ((opcode depth scope.entries).read bytes) → Stops e ((type depth around scope).read bytes)
 unfolding type

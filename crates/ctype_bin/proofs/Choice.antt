@@ -1,12 +1,12 @@
 -- A choice by the first byte is read exactly.
 use Rattle.std.proofs.Common.{◌≡◌, ℕ, Bool, true, false, cond, List, [], ◌∷◌, ◌++◌, Option, Ok, Err, refl, sym, ap, subst, ◌∙◌}
 use Rattle.std.specs.Prelude.{MatchBool}
-use Rattle.ctype_bin.specs.declared.error.Stuck.{Stuck}
-use Rattle.ctype_bin.specs.declared.error.Stuck.TheVariants.{End}
+use Rattle.ctype_format.specs.declared.error.Stuck.{Stuck}
+use Rattle.ctype_format.specs.declared.error.Stuck.TheVariants.{End}
 use Rattle.productions.specs.Production.{next}
 use Rattle.productions.specs.Exactness.{Took}
 use Rattle.ctype_bin.specs.Exactness.{IsBytes, Inside, Exact}
-use Rattle.ctype_bin.specs.Bytes.{Bytes, choose, spells_by, stops_by, fails_by, read_by}
+use Rattle.ctype_format.specs.Bytes.{Bytes, choose, spells_by, stops_by, fails_by, read_by}
 use Rattle.productions.proofs.Exact.{no_ok}
 use Rattle.ctype_bin.proofs.Exact.{stopped, took}
 

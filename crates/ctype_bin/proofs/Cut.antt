@@ -4,10 +4,10 @@ use Rattle.std.specs.Prelude.{IfSome}
 use Rattle.std.proofs.lemmas.Bool.{cases_lt, lt-ltb}
 use Rattle.std.proofs.lemmas.List.{take_all, length-take, length-take-le}
 use Rattle.atoms.specs.Streams.{ReadsUpTo}
-use Rattle.ctype_bin.specs.declared.error.BinError.{BinError}
-use Rattle.ctype_bin.specs.declared.error.BinError.TheVariants as errors
-use Rattle.ctype_bin.specs.Raw.{File}
-use Rattle.ctype_bin.specs.File.{decoded, max_length, Decodes, DecodesOrReads}
+use Rattle.ctype_format.specs.declared.error.BinError.{BinError}
+use Rattle.ctype_format.specs.declared.error.BinError.TheVariants as errors
+use Rattle.ctype_format.specs.Raw.{File}
+use Rattle.ctype_format.specs.File.{decoded, max_length, Decodes, DecodesOrReads}
 
 cut_same : (xs : List ℕ) → decoded (take (max_length + 1) xs) ≡ decoded xs
 unfolding decoded

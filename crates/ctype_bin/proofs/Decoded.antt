@@ -5,17 +5,17 @@ use Rattle.std.proofs.lemmas.Bool.{cases_lt, lt-ltb, le-ltb}
 use Rattle.std.proofs.lemmas.List.{append-nil}
 use Rattle.productions.specs.Production.{at_end, read_end, unless_some}
 use Rattle.productions.proofs.Exact.{after_ok, no_ok, no_err, one-fault}
-use Rattle.ctype_bin.specs.declared.error.Fault.{Fault}
-use Rattle.ctype_bin.specs.declared.error.Fault.TheVariants.{Limit}
-use Rattle.ctype_bin.specs.declared.error.Stuck.{Stuck}
-use Rattle.ctype_bin.specs.declared.error.Stuck.TheVariants.{Past}
-use Rattle.ctype_bin.specs.Bytes.{sized, ended}
-use Rattle.ctype_bin.specs.declared.error.BinError.{BinError}
-use Rattle.ctype_bin.specs.declared.error.BinError.TheVariants as errors
-use Rattle.ctype_bin.specs.Raw.{File}
+use Rattle.ctype_format.specs.declared.error.Fault.{Fault}
+use Rattle.ctype_format.specs.declared.error.Fault.TheVariants.{Limit}
+use Rattle.ctype_format.specs.declared.error.Stuck.{Stuck}
+use Rattle.ctype_format.specs.declared.error.Stuck.TheVariants.{Past}
+use Rattle.ctype_format.specs.Bytes.{sized, ended}
+use Rattle.ctype_format.specs.declared.error.BinError.{BinError}
+use Rattle.ctype_format.specs.declared.error.BinError.TheVariants as errors
+use Rattle.ctype_format.specs.Raw.{File}
 use Rattle.ctype_bin.specs.Exactness.{IsBytes, within}
-use Rattle.ctype_bin.specs.File.{file, exactly, preamble, section, type_section, export_section, trailing, trailing_fault, custom_next, decoded, max_length, placed, at_place, Faulty, Decodes}
-use Rattle.ctype_bin.specs.Writing.{file_bytes}
+use Rattle.ctype_format.specs.File.{file, exactly, preamble, section, type_section, export_section, trailing, trailing_fault, custom_next, decoded, max_length, placed, at_place, Faulty, Decodes}
+use Rattle.ctype_format.specs.Writing.{file_bytes}
 use Rattle.ctype_bin.specs.Spellable.{IsSpellable}
 use Rattle.ctype_bin.specs.Encoding.{AppendsSpelling}
 use Rattle.ctype_bin.proofs.File.{exact-file}

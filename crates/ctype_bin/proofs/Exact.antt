@@ -2,15 +2,15 @@
 use Rattle.std.proofs.Common.{◌≡◌, ℕ, ◌+◌, ◌^◌, ◌<◌, ◌≤◌, true, cond, leb, List, [], ◌∷◌, ◌++◌, length, take, drop, Option, Some, None, Result, Ok, Err, refl, sym, subst, arith, inl, inr}
 use Rattle.std.proofs.lemmas.Bool.{cases_lt, le-leb, lt-leb}
 use Rattle.std.proofs.lemmas.List.{take_at, drop_at, take-append-drop, length-append, length-take, get_or-take, get_or_past, append-nil}
-use Rattle.ctype_bin.specs.declared.error.Fault.{Fault}
-use Rattle.ctype_bin.specs.declared.error.Stuck.{Stuck}
-use Rattle.ctype_bin.specs.declared.error.Stuck.TheVariants.{End, At, Past}
+use Rattle.ctype_format.specs.declared.error.Fault.{Fault}
+use Rattle.ctype_format.specs.declared.error.Stuck.{Stuck}
+use Rattle.ctype_format.specs.declared.error.Stuck.TheVariants.{End, At, Past}
 use Rattle.productions.specs.Production.{next}
 use Rattle.productions.specs.Exactness.{Took}
 use Rattle.productions.proofs.Exact as general
 use Rattle.productions.proofs.Exact.{no_err, no_ok}
 use Rattle.ctype_bin.specs.Exactness.{IsBytes, Inside, Exact, ExactToEnd, within}
-use Rattle.ctype_bin.specs.Bytes.{Bytes, ended, at, placed_at, byte, several, remaining, only, StaysSmall}
+use Rattle.ctype_format.specs.Bytes.{Bytes, ended, at, placed_at, byte, several, remaining, only, StaysSmall}
 
 abbrev pub done : {X : Type 0} → X → Result X Stuck
 done x = Ok x

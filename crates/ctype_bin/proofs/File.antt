@@ -5,13 +5,13 @@ use Rattle.productions.specs.Production.{give, by_option, unless_some, at_end, n
 use Rattle.productions.specs.Exactness.{Anything, Unless}
 use Rattle.productions.proofs.Exact as laws
 use Rattle.productions.proofs.Exact.{exact-then, exact-bind, exact-last, exact-give, exact-never, exact-when, exact-times, exact-run, exact-end}
-use Rattle.ctype_bin.specs.declared.error.Fault.TheVariants.{UnknownOpcode, BadSection, NotComponent}
-use Rattle.ctype_bin.specs.declared.error.Stuck.TheVariants.{End, Past}
-use Rattle.ctype_bin.specs.declared.scope.Scope.{Scope}
+use Rattle.ctype_format.specs.declared.error.Fault.TheVariants.{UnknownOpcode, BadSection, NotComponent}
+use Rattle.ctype_format.specs.declared.error.Stuck.TheVariants.{End, Past}
+use Rattle.ctype_format.specs.declared.scope.Scope.{Scope}
 use Rattle.ctype_bin.specs.Exactness.{Exact, ExactToEnd, Inside, within}
-use Rattle.ctype_bin.specs.Bytes.{Bytes, byte, only, unless, u32, sized, remaining, ended}
-use Rattle.ctype_bin.specs.Grammar.{zero_byte, index, utf8, extern_name, new_scope, type}
-use Rattle.ctype_bin.specs.File as f
+use Rattle.ctype_format.specs.Bytes.{Bytes, byte, only, unless, u32, sized, remaining, ended}
+use Rattle.ctype_format.specs.Grammar.{zero_byte, index, utf8, extern_name, new_scope, type}
+use Rattle.ctype_format.specs.File as f
 use Rattle.ctype_bin.proofs.Exact.{exact-byte, exact-only, exact-remaining}
 use Rattle.ctype_bin.proofs.Numbers.{exact-u32}
 use Rattle.ctype_bin.proofs.Sized.{exact-sized}

@@ -4,14 +4,14 @@ use Rattle.std.specs.Prelude.{◌||◌, nat_lt, nat_le, ◌==◌}
 use Rattle.atoms.specs.Leb128.{SpellsS33}
 use Rattle.productions.specs.Production.{give, ◌>>=◌, times, run, when}
 use Rattle.productions.proofs.Exact.{exact-then, exact-give, exact-never, exact-when, exact-times, exact-run}
-use Rattle.ctype_bin.specs.declared.error.Fault.TheVariants.{UnknownOpcode, BadIndex}
-use Rattle.ctype_bin.specs.declared.opcode.Opcode.{Opcode}
-use Rattle.ctype_bin.specs.declared.opcode.Opcode.TheVariants as op
-use Rattle.ctype_bin.specs.declared.scope.Scope.{Scope}
+use Rattle.ctype_format.specs.declared.error.Fault.TheVariants.{UnknownOpcode, BadIndex}
+use Rattle.ctype_format.specs.declared.opcode.Opcode.{Opcode}
+use Rattle.ctype_format.specs.declared.opcode.Opcode.TheVariants as op
+use Rattle.ctype_format.specs.declared.scope.Scope.{Scope}
 use Rattle.ctype_bin.specs.Exactness.{Exact, within}
-use Rattle.ctype_bin.specs.Bytes.{Bytes, byte, several, only, unless, u32, s33, ended}
-use Rattle.ctype_bin.specs.Opcodes.{opcode_of}
-use Rattle.ctype_bin.specs.Grammar as g
+use Rattle.ctype_format.specs.Bytes.{Bytes, byte, several, only, unless, u32, s33, ended}
+use Rattle.ctype_format.specs.Opcodes.{opcode_of}
+use Rattle.ctype_format.specs.Grammar as g
 use Rattle.ctype_bin.proofs.Exact.{exact-byte, exact-several, exact-only}
 use Rattle.ctype_bin.proofs.Numbers.{exact-u32, exact-s33}
 use Rattle.ctype_bin.proofs.Choice.{exact-choose}

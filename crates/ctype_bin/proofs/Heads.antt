@@ -1,12 +1,12 @@
 -- Custom sections before a section, and to the end.
 use Rattle.std.proofs.Common.{◌≡◌, ℕ, suc, ◌+◌, ◌-◌, ◌<◌, ◌≤◌, List, Some, None, Result, Ok, Err, refl, sym, ◌∙◌, arith}
 use Rattle.productions.specs.Production.{at_end}
-use Rattle.ctype_bin.specs.declared.error.Stuck.{Stuck}
-use Rattle.ctype_bin.specs.declared.error.Stuck.TheVariants.{End}
-use Rattle.ctype_bin.specs.declared.error.ItemError.{ItemError}
-use Rattle.ctype_bin.specs.declared.error.ItemError.TheVariants as errors
-use Rattle.ctype_bin.specs.Bytes.{Stops}
-use Rattle.ctype_bin.specs.File.{head, section, custom_next, trailing, trailing_fault}
+use Rattle.ctype_format.specs.declared.error.Stuck.{Stuck}
+use Rattle.ctype_format.specs.declared.error.Stuck.TheVariants.{End}
+use Rattle.ctype_format.specs.declared.error.ItemError.{ItemError}
+use Rattle.ctype_format.specs.declared.error.ItemError.TheVariants as errors
+use Rattle.ctype_format.specs.Bytes.{Stops}
+use Rattle.ctype_format.specs.File.{head, section, custom_next, trailing, trailing_fault}
 
 one_less : (n i : ℕ) → i < n → n - i ≡ suc (n - (i + 1))
 one_less n i lt = omega arith

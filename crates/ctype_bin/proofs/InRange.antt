@@ -4,24 +4,24 @@ use Rattle.std.specs.Prelude.{MatchBool, ◌||◌, ◌==◌, nat_le, nat_lt, if�
 use Rattle.std.proofs.lemmas.Bool.{ltb-true, leb-true}
 use Rattle.std.proofs.Math.Bridge.{le_prop}
 use Rattle.productions.specs.Production.{give, ◌>>=◌, when, times, run}
-use Rattle.ctype_bin.specs.declared.error.Fault.{Fault}
-use Rattle.ctype_bin.specs.declared.error.Fault.TheVariants.{UnknownOpcode, BadIndex}
-use Rattle.ctype_bin.specs.declared.raw.RawValType.{RawValType}
-use Rattle.ctype_bin.specs.declared.raw.RawValType.TheVariants as valtypes
-use Rattle.ctype_bin.specs.declared.raw.RawAlias.{RawAlias}
-use Rattle.ctype_bin.specs.declared.raw.RawAlias.TheVariants as aliases
-use Rattle.ctype_bin.specs.declared.raw.RawDescription.{RawDescription}
-use Rattle.ctype_bin.specs.declared.raw.RawDescription.TheVariants as descriptions
-use Rattle.ctype_bin.specs.declared.opcode.Opcode.{Opcode}
-use Rattle.ctype_bin.specs.declared.opcode.Opcode.TheVariants as op
-use Rattle.ctype_bin.specs.declared.scope.Scope.{Scope}
-use Rattle.ctype_bin.specs.Bytes.{Bytes, byte, only, unless, u32, s33, choose, spells_by}
-use Rattle.ctype_bin.specs.Grammar as g
-use Rattle.ctype_bin.specs.File as f
-use Rattle.ctype_bin.specs.View.{decls_of}
-use Rattle.ctype_bin.specs.Raw as raw
-use Rattle.ctype_bin.specs.Raw.{Definition, Define, Func, Component, Instance, Decl, Entry, Alias, Import, Export, Decls, Exported, File}
-use Rattle.ctype_bin.specs.Formed.{All}
+use Rattle.ctype_format.specs.declared.error.Fault.{Fault}
+use Rattle.ctype_format.specs.declared.error.Fault.TheVariants.{UnknownOpcode, BadIndex}
+use Rattle.ctype_format.specs.declared.raw.RawValType.{RawValType}
+use Rattle.ctype_format.specs.declared.raw.RawValType.TheVariants as valtypes
+use Rattle.ctype_format.specs.declared.raw.RawAlias.{RawAlias}
+use Rattle.ctype_format.specs.declared.raw.RawAlias.TheVariants as aliases
+use Rattle.ctype_format.specs.declared.raw.RawDescription.{RawDescription}
+use Rattle.ctype_format.specs.declared.raw.RawDescription.TheVariants as descriptions
+use Rattle.ctype_format.specs.declared.opcode.Opcode.{Opcode}
+use Rattle.ctype_format.specs.declared.opcode.Opcode.TheVariants as op
+use Rattle.ctype_format.specs.declared.scope.Scope.{Scope}
+use Rattle.ctype_format.specs.Bytes.{Bytes, byte, only, unless, u32, s33, choose, spells_by}
+use Rattle.ctype_format.specs.Grammar as g
+use Rattle.ctype_format.specs.File as f
+use Rattle.ctype_format.specs.View.{decls_of}
+use Rattle.ctype_format.specs.Raw as raw
+use Rattle.ctype_format.specs.Raw.{Definition, Define, Func, Component, Instance, Decl, Entry, Alias, Import, Export, Decls, Exported, File}
+use Rattle.ctype_format.specs.Formed.{All}
 use Rattle.ctype_bin.specs.InRange.{ValTypeInRange, OptionInRange, FieldInRange, CaseInRange, DefinedInRange, DescriptionInRange, AliasInRange, types_with, instances_with, types_behind, instances_behind, TypeInRange, DeclInRange, DeclsInRange, TypesInRange, FileInRange}
 use Rattle.ctype_bin.proofs.Rewritten.{passes}
 use Rattle.ctype_bin.proofs.RewrittenFile.{sized_both}

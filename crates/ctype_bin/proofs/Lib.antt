@@ -4,17 +4,13 @@ pub mod Choice
 pub mod Sized
 pub mod Grammar
 pub mod File
-pub mod FullNames
-pub mod Views
 pub mod Loop
 pub mod Runs
 pub mod ByOpcode
 pub mod Heads
 pub mod Decoded
 pub mod Cut
-pub mod Least
 pub mod Written
-pub mod Rows
 pub mod Rewritten
 pub mod RewrittenTypes
 pub mod RewrittenDecls

@@ -1,19 +1,19 @@
 -- What is read of a written component: it is that component, or its parts are wrong.
 use Rattle.std.proofs.Common.{◌≡◌, List, ℕ, [], Result, Ok, Err, refl, sym, ap, subst, ◌∙◌}
-use Rattle.ctype_bin.specs.declared.error.Fault.{Fault}
-use Rattle.ctype_bin.specs.declared.error.Stuck.{Stuck}
-use Rattle.ctype_bin.specs.declared.error.Stuck.TheVariants.{End, At, Past}
-use Rattle.ctype_bin.specs.declared.error.BinError.{BinError}
-use Rattle.ctype_bin.specs.declared.error.BinError.TheVariants as errors
-use Rattle.ctype_bin.specs.declared.error.ItemError.{ItemError}
-use Rattle.ctype_bin.specs.declared.error.ItemError.TheVariants as items
-use Rattle.ctype_bin.specs.Bytes.{Stops}
-use Rattle.ctype_bin.specs.Raw.{File}
-use Rattle.ctype_bin.specs.File.{file}
+use Rattle.ctype_format.specs.declared.error.Fault.{Fault}
+use Rattle.ctype_format.specs.declared.error.Stuck.{Stuck}
+use Rattle.ctype_format.specs.declared.error.Stuck.TheVariants.{End, At, Past}
+use Rattle.ctype_format.specs.declared.error.BinError.{BinError}
+use Rattle.ctype_format.specs.declared.error.BinError.TheVariants as errors
+use Rattle.ctype_format.specs.declared.error.ItemError.{ItemError}
+use Rattle.ctype_format.specs.declared.error.ItemError.TheVariants as items
+use Rattle.ctype_format.specs.Bytes.{Stops}
+use Rattle.ctype_format.specs.Raw.{File}
+use Rattle.ctype_format.specs.File.{file}
 use Rattle.ctype_bin.specs.Exactness.{IsBytes}
-use Rattle.ctype_bin.specs.Writing.{file_bytes}
+use Rattle.ctype_format.specs.Writing.{file_bytes}
 use Rattle.ctype_bin.specs.Spellable.{IsSpellable}
-use Rattle.ctype_bin.specs.Formed.{FormedFile}
+use Rattle.ctype_format.specs.Formed.{FormedFile}
 use Rattle.ctype_bin.specs.Parts.{IsWrong, ComponentRefuses}
 use Rattle.ctype_bin.specs.Accepted.{IsAccepted}
 use Rattle.ctype_bin.proofs.Decoded.{spellable, read_all}

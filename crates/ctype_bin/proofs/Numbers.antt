@@ -7,14 +7,14 @@ use Rattle.atoms.specs.declared.error.AtomError.TheVariants as atoms
 use Rattle.atoms.specs.Leb128.{Spells, groups_at}
 use Rattle.atoms.proofs.Laws.{is_found, is_truncated, groups_again, only_errors, failed}
 use Rattle.atoms.proofs.Groups.{spells-groups}
-use Rattle.ctype_bin.specs.declared.error.Fault.{Fault}
-use Rattle.ctype_bin.specs.declared.error.Fault.TheVariants.{Overlong}
-use Rattle.ctype_bin.specs.declared.error.Stuck.{Stuck}
-use Rattle.ctype_bin.specs.declared.error.Stuck.TheVariants.{End, At}
+use Rattle.ctype_format.specs.declared.error.Fault.{Fault}
+use Rattle.ctype_format.specs.declared.error.Fault.TheVariants.{Overlong}
+use Rattle.ctype_format.specs.declared.error.Stuck.{Stuck}
+use Rattle.ctype_format.specs.declared.error.Stuck.TheVariants.{End, At}
 use Rattle.productions.specs.Exactness.{Took}
 use Rattle.productions.proofs.Exact.{no_err}
 use Rattle.ctype_bin.specs.Exactness.{IsBytes, Inside, Exact}
-use Rattle.ctype_bin.specs.Bytes.{Bytes, NoNumber, number, number_from, u32, s33, signed_fault}
+use Rattle.ctype_format.specs.Bytes.{Bytes, NoNumber, number, number_from, u32, s33, signed_fault}
 use Rattle.ctype_bin.proofs.Exact.{ok_is, took}
 
 number_ok : (fault : List ℕ → Fault) (bytes : List ℕ) (r : Result (ℕ × ℕ) AtomError) (y : ℕ × List ℕ) → number_from fault bytes r ≡ Ok y → (x : ℕ × ℕ) × (r ≡ Ok x) × ((x.0, drop x.1 bytes) ≡ y)

@@ -7,18 +7,18 @@ use Rattle.productions.specs.Production.{give, ◌>>=◌, times, run, after, pas
 use Rattle.atoms.specs.declared.error.AtomError.{AtomError}
 use Rattle.atoms.specs.declared.error.AtomError.TheVariants as atoms
 use Rattle.atoms.specs.Leb128.{Spells, groups_at}
-use Rattle.ctype_bin.specs.declared.error.Fault.{Fault}
-use Rattle.ctype_bin.specs.declared.error.Stuck.{Stuck}
-use Rattle.ctype_bin.specs.declared.error.Stuck.TheVariants.{End, At, Past}
-use Rattle.ctype_bin.specs.Bytes.{Bytes, byte, several, only, placed_at, number, u32, s33, signed_fault, number_from, choose, read_by}
+use Rattle.ctype_format.specs.declared.error.Fault.{Fault}
+use Rattle.ctype_format.specs.declared.error.Stuck.{Stuck}
+use Rattle.ctype_format.specs.declared.error.Stuck.TheVariants.{End, At, Past}
+use Rattle.ctype_format.specs.Bytes.{Bytes, byte, several, only, placed_at, number, u32, s33, signed_fault, number_from, choose, read_by}
 use Rattle.ctype_bin.specs.Exactness.{Exact}
-use Rattle.ctype_bin.specs.Writing.{u32_bytes, s33_bytes, each, counted}
-use Rattle.ctype_bin.specs.Formed.{Fits, All, Counted}
+use Rattle.ctype_format.specs.Writing.{u32_bytes, s33_bytes, each, counted}
+use Rattle.ctype_format.specs.Formed.{Fits, All, Counted}
 use Rattle.ctype_bin.specs.Parts.{IsOfParts}
-use Rattle.ctype_bin.specs.Shortest.{groups}
+use Rattle.ctype_format.specs.Shortest.{groups}
 use Rattle.ctype_bin.proofs.Exact.{exact-several}
 use Rattle.ctype_bin.proofs.Numbers.{exact-u32, exact-s33}
-use Rattle.ctype_bin.proofs.Least.{more_groups, least_of, one_power}
+use Rattle.ctype_format.proofs.Least.{more_groups, least_of, one_power}
 
 -- a fault that values have, where W is known
 abbrev pub OfValue : Type 0 → Stuck → Type 0

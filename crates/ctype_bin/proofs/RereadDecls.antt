@@ -2,23 +2,23 @@
 use Rattle.std.proofs.Common.{◌≡◌, ℕ, zero, suc, ◌+◌, Bool, true, false, List, [], ◌∷◌, ◌++◌, length, Option, None, refl, sym, ap, subst, ◌∙◌}
 use Rattle.std.specs.Prelude.{◌||◌, ◌&&◌, not, ◌==◌, nat_le, if◌then◌else◌}
 use Rattle.productions.specs.Production.{give, ◌>>=◌, when, run}
-use Rattle.ctype_bin.specs.declared.error.Fault.{Fault}
-use Rattle.ctype_bin.specs.declared.error.Fault.TheVariants.{UnknownOpcode, BadIndex, Limit}
-use Rattle.ctype_bin.specs.declared.raw.RawAlias.{RawAlias}
-use Rattle.ctype_bin.specs.declared.raw.RawAlias.TheVariants as aliases
-use Rattle.ctype_bin.specs.declared.raw.RawDescription.{RawDescription}
-use Rattle.ctype_bin.specs.declared.raw.RawDescription.TheVariants as descriptions
-use Rattle.ctype_bin.specs.declared.opcode.Opcode.{Opcode}
-use Rattle.ctype_bin.specs.declared.opcode.Opcode.TheVariants as op
-use Rattle.ctype_bin.specs.declared.scope.Scope.{Scope}
-use Rattle.ctype_bin.specs.Opcodes.{opcode_of}
-use Rattle.ctype_bin.specs.Bytes.{Bytes, byte, only, unless, u32}
-use Rattle.ctype_bin.specs.Grammar as g
-use Rattle.ctype_bin.specs.View.{decls_of}
-use Rattle.ctype_bin.specs.Raw.{Definition, Define, Func, Component, Instance, Decl, Entry, Alias, Import, Export, Decls, none}
-use Rattle.ctype_bin.specs.Raw as raw
-use Rattle.ctype_bin.specs.Writing.{u32_bytes, name_bytes, extern_bytes, description_bytes, alias_bytes, decl_count, type_bytes, decl_bytes, decls_bytes}
-use Rattle.ctype_bin.specs.Formed.{Fits, FormedAlias, FormedDescription, FormedName, FormedType, FormedDecl, FormedDecls}
+use Rattle.ctype_format.specs.declared.error.Fault.{Fault}
+use Rattle.ctype_format.specs.declared.error.Fault.TheVariants.{UnknownOpcode, BadIndex, Limit}
+use Rattle.ctype_format.specs.declared.raw.RawAlias.{RawAlias}
+use Rattle.ctype_format.specs.declared.raw.RawAlias.TheVariants as aliases
+use Rattle.ctype_format.specs.declared.raw.RawDescription.{RawDescription}
+use Rattle.ctype_format.specs.declared.raw.RawDescription.TheVariants as descriptions
+use Rattle.ctype_format.specs.declared.opcode.Opcode.{Opcode}
+use Rattle.ctype_format.specs.declared.opcode.Opcode.TheVariants as op
+use Rattle.ctype_format.specs.declared.scope.Scope.{Scope}
+use Rattle.ctype_format.specs.Opcodes.{opcode_of}
+use Rattle.ctype_format.specs.Bytes.{Bytes, byte, only, unless, u32}
+use Rattle.ctype_format.specs.Grammar as g
+use Rattle.ctype_format.specs.View.{decls_of}
+use Rattle.ctype_format.specs.Raw.{Definition, Define, Func, Component, Instance, Decl, Entry, Alias, Import, Export, Decls, none}
+use Rattle.ctype_format.specs.Raw as raw
+use Rattle.ctype_format.specs.Writing.{u32_bytes, name_bytes, extern_bytes, description_bytes, alias_bytes, decl_count, type_bytes, decl_bytes, decls_bytes}
+use Rattle.ctype_format.specs.Formed.{Fits, FormedAlias, FormedDescription, FormedName, FormedType, FormedDecl, FormedDecls}
 use Rattle.ctype_bin.proofs.RewrittenTypes.{opcode_byte, opcode_back}
 use Rattle.ctype_bin.proofs.Reread.{OfFault, Rereads, reread-then, reread-next, reread-give, reread-gives, reread-only, reread-tested, reread-byte, reread-u32}
 use Rattle.ctype_bin.proofs.RereadTypes.{of_index, of_limit, reread-index, reread-zero, reread-label, reread-extern, OpensPlain, opens_defined, opens_function}

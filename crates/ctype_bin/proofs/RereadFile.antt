@@ -5,16 +5,16 @@ use Rattle.std.proofs.Math.Seq.{take-append_seam, drop-append_seam}
 use Rattle.std.proofs.lemmas.Bool.{eq-eqb, le-leb}
 use Rattle.std.proofs.lemmas.List.{append-nil, length-append}
 use Rattle.productions.specs.Production.{give, ◌>>=◌, when, times, run, by_option}
-use Rattle.ctype_bin.specs.declared.error.Fault.TheVariants.{UnknownOpcode, BadSection}
-use Rattle.ctype_bin.specs.declared.error.Stuck.{Stuck}
-use Rattle.ctype_bin.specs.declared.error.Stuck.TheVariants.{End, At, Past}
-use Rattle.ctype_bin.specs.declared.scope.Scope.{Scope}
-use Rattle.ctype_bin.specs.Bytes.{Bytes, byte, only, unless, u32, sized, section_from, in_section}
-use Rattle.ctype_bin.specs.Grammar.{index, zero_byte, extern_name, type, new_scope, with_entries}
-use Rattle.ctype_bin.specs.File as f
-use Rattle.ctype_bin.specs.Raw.{Definition, Exported, File}
-use Rattle.ctype_bin.specs.Writing.{u32_bytes, each, counted, extern_bytes, type_bytes, exported_bytes, section_bytes, file_bytes}
-use Rattle.ctype_bin.specs.Formed.{Fits, Counted, FormedType, FormedExport, FormedFile}
+use Rattle.ctype_format.specs.declared.error.Fault.TheVariants.{UnknownOpcode, BadSection}
+use Rattle.ctype_format.specs.declared.error.Stuck.{Stuck}
+use Rattle.ctype_format.specs.declared.error.Stuck.TheVariants.{End, At, Past}
+use Rattle.ctype_format.specs.declared.scope.Scope.{Scope}
+use Rattle.ctype_format.specs.Bytes.{Bytes, byte, only, unless, u32, sized, section_from, in_section}
+use Rattle.ctype_format.specs.Grammar.{index, zero_byte, extern_name, type, new_scope, with_entries}
+use Rattle.ctype_format.specs.File as f
+use Rattle.ctype_format.specs.Raw.{Definition, Exported, File}
+use Rattle.ctype_format.specs.Writing.{u32_bytes, each, counted, extern_bytes, type_bytes, exported_bytes, section_bytes, file_bytes}
+use Rattle.ctype_format.specs.Formed.{Fits, Counted, FormedType, FormedExport, FormedFile}
 use Rattle.ctype_bin.proofs.File.{exact-exactly}
 use Rattle.ctype_bin.proofs.RewrittenFile.{exactly_spelt}
 use Rattle.ctype_bin.proofs.Reread.{OfFault, OfValue, Again, Rereads, then_at, reread-next, reread-gives, reread-tested, reread-byte, reread-spelt, reread-u32, reread-times, reread-run}

@@ -3,19 +3,19 @@ use Rattle.std.proofs.Common.{◌≡◌, ℕ, zero, suc, Bool, true, false, List
 use Rattle.std.specs.Prelude.{◌||◌, ◌==◌, nat_lt}
 use Rattle.atoms.specs.Label.{is_label}
 use Rattle.productions.specs.Production.{times}
-use Rattle.ctype_bin.specs.declared.error.Fault.TheVariants.{UnknownOpcode, BadIndex, EmptyType, BadName, Limit}
-use Rattle.ctype_bin.specs.declared.raw.RawValType.{RawValType}
-use Rattle.ctype_bin.specs.declared.raw.RawValType.TheVariants as valtypes
-use Rattle.ctype_bin.specs.declared.raw.RawField.{RawField}
-use Rattle.ctype_bin.specs.declared.raw.RawCase.{RawCase}
-use Rattle.ctype_bin.specs.declared.opcode.Opcode.{Opcode}
-use Rattle.ctype_bin.specs.declared.opcode.Opcode.TheVariants as op
-use Rattle.ctype_bin.specs.Names.{is_extern_name}
-use Rattle.ctype_bin.specs.Bytes.{byte, several, only, unless, u32, s33}
-use Rattle.ctype_bin.specs.Grammar as g
-use Rattle.ctype_bin.specs.Raw.{Defined, Prim, Record, Variant, ListOf, Tuple, FlagSet, Enumeration, OptionOf, ResultOf, Function, Definition, Define, Func}
-use Rattle.ctype_bin.specs.Writing.{u32_bytes, s33_bytes, each, counted, name_bytes, extern_bytes, primitive_byte, valtype_bytes, optional_bytes, outcome_bytes, field_bytes, case_bytes, type_bytes}
-use Rattle.ctype_bin.specs.Formed.{Fits, FormedLabel, FormedName, FormedValType, FormedOption, FormedField, FormedCase, FormedDefined, FormedFunction}
+use Rattle.ctype_format.specs.declared.error.Fault.TheVariants.{UnknownOpcode, BadIndex, EmptyType, BadName, Limit}
+use Rattle.ctype_format.specs.declared.raw.RawValType.{RawValType}
+use Rattle.ctype_format.specs.declared.raw.RawValType.TheVariants as valtypes
+use Rattle.ctype_format.specs.declared.raw.RawField.{RawField}
+use Rattle.ctype_format.specs.declared.raw.RawCase.{RawCase}
+use Rattle.ctype_format.specs.declared.opcode.Opcode.{Opcode}
+use Rattle.ctype_format.specs.declared.opcode.Opcode.TheVariants as op
+use Rattle.ctype_format.specs.Names.{is_extern_name}
+use Rattle.ctype_format.specs.Bytes.{byte, several, only, unless, u32, s33}
+use Rattle.ctype_format.specs.Grammar as g
+use Rattle.ctype_format.specs.Raw.{Defined, Prim, Record, Variant, ListOf, Tuple, FlagSet, Enumeration, OptionOf, ResultOf, Function, Definition, Define, Func}
+use Rattle.ctype_format.specs.Writing.{u32_bytes, s33_bytes, each, counted, name_bytes, extern_bytes, primitive_byte, valtype_bytes, optional_bytes, outcome_bytes, field_bytes, case_bytes, type_bytes}
+use Rattle.ctype_format.specs.Formed.{Fits, FormedLabel, FormedName, FormedValType, FormedOption, FormedField, FormedCase, FormedDefined, FormedFunction}
 use Rattle.ctype_bin.proofs.Rewritten.{index_begins, primitive_opens, primitive_back, no_fault}
 use Rattle.ctype_bin.proofs.RewrittenTypes.{opcode_byte}
 use Rattle.ctype_bin.proofs.Reread.{OfFault, Rereads, reread-next, reread-give, reread-gives, reread-tested, reread-byte, reread-several, reread-u32, reread-s33, reread-first, reread-second, reread-times, reread-counted}

@@ -4,19 +4,19 @@ use Rattle.std.specs.Prelude.{MatchBool, ◌||◌, ◌==◌, nat_le, nat_lt}
 use Rattle.std.proofs.lemmas.Bool.{cases_lt, lt-leb, le-leb, le-ltb, eqb-true}
 use Rattle.std.proofs.lemmas.List.{length-append}
 use Rattle.productions.specs.Production.{give, ◌>>=◌, when}
-use Rattle.ctype_bin.specs.declared.error.Fault.{Fault}
-use Rattle.ctype_bin.specs.declared.error.Fault.TheVariants.{UnknownOpcode, BadIndex}
-use Rattle.ctype_bin.specs.declared.raw.Primitive.{Primitive}
-use Rattle.ctype_bin.specs.declared.raw.Primitive.TheVariants as prim
-use Rattle.ctype_bin.specs.declared.raw.RawValType.{RawValType}
-use Rattle.ctype_bin.specs.declared.raw.RawValType.TheVariants as valtypes
-use Rattle.ctype_bin.specs.Opcodes.{primitive_of}
+use Rattle.ctype_format.specs.declared.error.Fault.{Fault}
+use Rattle.ctype_format.specs.declared.error.Fault.TheVariants.{UnknownOpcode, BadIndex}
+use Rattle.ctype_format.specs.declared.raw.Primitive.{Primitive}
+use Rattle.ctype_format.specs.declared.raw.Primitive.TheVariants as prim
+use Rattle.ctype_format.specs.declared.raw.RawValType.{RawValType}
+use Rattle.ctype_format.specs.declared.raw.RawValType.TheVariants as valtypes
+use Rattle.ctype_format.specs.Opcodes.{primitive_of}
 use Rattle.ctype_bin.specs.Exactness.{Written}
-use Rattle.ctype_bin.specs.Bytes.{Bytes, byte, several, only, unless, placed_at, u32, s33, choose, spells_by}
-use Rattle.ctype_bin.specs.Grammar as g
-use Rattle.ctype_bin.specs.Shortest.{groups}
-use Rattle.ctype_bin.specs.Writing.{u32_bytes, s33_bytes, name_bytes, extern_bytes, primitive_byte, valtype_bytes, optional_bytes, outcome_bytes, field_bytes, case_bytes}
-use Rattle.ctype_bin.proofs.Least.{least_spells, one_group, more_groups}
+use Rattle.ctype_format.specs.Bytes.{Bytes, byte, several, only, unless, placed_at, u32, s33, choose, spells_by}
+use Rattle.ctype_format.specs.Grammar as g
+use Rattle.ctype_format.specs.Shortest.{groups}
+use Rattle.ctype_format.specs.Writing.{u32_bytes, s33_bytes, name_bytes, extern_bytes, primitive_byte, valtype_bytes, optional_bytes, outcome_bytes, field_bytes, case_bytes}
+use Rattle.ctype_format.proofs.Least.{least_spells, one_group, more_groups}
 use Rattle.ctype_bin.proofs.Written.{written-then, written-give, written-gives, written-only, written-when, written-byte, one_byte, itself, written-several}
 
 -- ---- numbers and names

@@ -4,18 +4,18 @@ use Rattle.std.specs.Prelude.{◌||◌, ◌&&◌, ◌==◌, if◌then◌else◌}
 use Rattle.std.proofs.lemmas.Bool.{eqb-true}
 use Rattle.std.proofs.lemmas.List.{length-append, append-nil}
 use Rattle.productions.specs.Production.{give, ◌>>=◌, when, run}
-use Rattle.ctype_bin.specs.declared.error.Fault.TheVariants.{UnknownOpcode}
-use Rattle.ctype_bin.specs.declared.raw.RawDescription.{RawDescription}
-use Rattle.ctype_bin.specs.declared.raw.RawDescription.TheVariants as descriptions
-use Rattle.ctype_bin.specs.declared.opcode.Opcode.{Opcode}
-use Rattle.ctype_bin.specs.declared.opcode.Opcode.TheVariants as op
-use Rattle.ctype_bin.specs.declared.scope.Scope.{Scope}
+use Rattle.ctype_format.specs.declared.error.Fault.TheVariants.{UnknownOpcode}
+use Rattle.ctype_format.specs.declared.raw.RawDescription.{RawDescription}
+use Rattle.ctype_format.specs.declared.raw.RawDescription.TheVariants as descriptions
+use Rattle.ctype_format.specs.declared.opcode.Opcode.{Opcode}
+use Rattle.ctype_format.specs.declared.opcode.Opcode.TheVariants as op
+use Rattle.ctype_format.specs.declared.scope.Scope.{Scope}
 use Rattle.ctype_bin.specs.Exactness.{Written}
-use Rattle.ctype_bin.specs.Bytes.{Bytes, byte, only, unless, placed_at, u32}
-use Rattle.ctype_bin.specs.Grammar as g
-use Rattle.ctype_bin.specs.Raw.{Definition, Decl, Entry, Import, Export}
-use Rattle.ctype_bin.specs.Writing.{u32_bytes, each, counted, extern_bytes, description_bytes, type_bytes, decl_bytes}
-use Rattle.ctype_bin.proofs.Rows.{decls_are}
+use Rattle.ctype_format.specs.Bytes.{Bytes, byte, only, unless, placed_at, u32}
+use Rattle.ctype_format.specs.Grammar as g
+use Rattle.ctype_format.specs.Raw.{Definition, Decl, Entry, Import, Export}
+use Rattle.ctype_format.specs.Writing.{u32_bytes, each, counted, extern_bytes, description_bytes, type_bytes, decl_bytes}
+use Rattle.ctype_format.proofs.Rows.{decls_are}
 use Rattle.ctype_bin.proofs.Written.{written-then, written-gives, written-only, written-when, written-byte, one_byte, written-run, run-length}
 use Rattle.ctype_bin.proofs.Rewritten.{written-u32, written-index, passes, zero_is, written-zero, written-extern}
 use Rattle.ctype_bin.proofs.RewrittenTypes.{body, opcode_byte, written-opcode, written-plain_type, type_head, written-alias}

@@ -4,17 +4,17 @@ use Rattle.std.specs.Prelude.{◌||◌, ◌==◌}
 use Rattle.std.proofs.lemmas.Bool.{eqb-true, eq-eqb}
 use Rattle.std.proofs.lemmas.List.{append-nil}
 use Rattle.productions.specs.Production.{give, times, run, when, by_option}
-use Rattle.ctype_bin.specs.declared.error.Fault.TheVariants.{UnknownOpcode, BadSection, NotComponent}
-use Rattle.ctype_bin.specs.declared.error.Stuck.{Stuck}
-use Rattle.ctype_bin.specs.declared.error.Stuck.TheVariants.{Past}
-use Rattle.ctype_bin.specs.declared.scope.Scope.{Scope}
+use Rattle.ctype_format.specs.declared.error.Fault.TheVariants.{UnknownOpcode, BadSection, NotComponent}
+use Rattle.ctype_format.specs.declared.error.Stuck.{Stuck}
+use Rattle.ctype_format.specs.declared.error.Stuck.TheVariants.{Past}
+use Rattle.ctype_format.specs.declared.scope.Scope.{Scope}
 use Rattle.ctype_bin.specs.Exactness.{Written}
-use Rattle.ctype_bin.specs.Bytes.{Bytes, byte, only, unless, placed_at, u32, sized}
-use Rattle.ctype_bin.specs.Grammar.{index, extern_name, type, new_scope, with_entries}
-use Rattle.ctype_bin.specs.File as f
-use Rattle.ctype_bin.specs.Raw.{Definition, Exported, File}
-use Rattle.ctype_bin.specs.Writing.{u32_bytes, each, counted, extern_bytes, type_bytes, exported_bytes, section_bytes, file_bytes}
-use Rattle.ctype_bin.proofs.Least.{small, least_of}
+use Rattle.ctype_format.specs.Bytes.{Bytes, byte, only, unless, placed_at, u32, sized}
+use Rattle.ctype_format.specs.Grammar.{index, extern_name, type, new_scope, with_entries}
+use Rattle.ctype_format.specs.File as f
+use Rattle.ctype_format.specs.Raw.{Definition, Exported, File}
+use Rattle.ctype_format.specs.Writing.{u32_bytes, each, counted, extern_bytes, type_bytes, exported_bytes, section_bytes, file_bytes}
+use Rattle.ctype_format.proofs.Least.{small, least_of}
 use Rattle.ctype_bin.proofs.Written.{written-then, written-gives, written-only, written-byte, one_byte, written-times, times-length, written-run, run-length}
 use Rattle.ctype_bin.proofs.Rewritten.{written-u32, written-index, passes, written-closed, written-extern}
 use Rattle.ctype_bin.proofs.RewrittenDecls.{written-type}

@@ -4,21 +4,21 @@ use Rattle.std.specs.Prelude.{◌||◌, ◌&&◌, ◌==◌, nat_le, not, unwrap_
 use Rattle.std.proofs.lemmas.Bool.{eqb-true}
 use Rattle.std.proofs.lemmas.List.{length-append, append-nil, drop_at}
 use Rattle.productions.specs.Production.{give, ◌>>=◌, when, times}
-use Rattle.ctype_bin.specs.declared.error.Fault.TheVariants.{UnknownOpcode, BadIndex, Limit}
-use Rattle.ctype_bin.specs.declared.raw.Primitive.TheVariants as prim
-use Rattle.ctype_bin.specs.declared.raw.RawValType.{RawValType}
-use Rattle.ctype_bin.specs.declared.raw.RawField.{RawField}
-use Rattle.ctype_bin.specs.declared.raw.RawAlias.{RawAlias}
-use Rattle.ctype_bin.specs.declared.raw.RawAlias.TheVariants as aliases
-use Rattle.ctype_bin.specs.declared.opcode.Opcode.{Opcode}
-use Rattle.ctype_bin.specs.declared.opcode.Opcode.TheVariants as op
-use Rattle.ctype_bin.specs.declared.scope.Scope.{Scope}
-use Rattle.ctype_bin.specs.Opcodes.{primitive_of, opcode_of}
+use Rattle.ctype_format.specs.declared.error.Fault.TheVariants.{UnknownOpcode, BadIndex, Limit}
+use Rattle.ctype_format.specs.declared.raw.Primitive.TheVariants as prim
+use Rattle.ctype_format.specs.declared.raw.RawValType.{RawValType}
+use Rattle.ctype_format.specs.declared.raw.RawField.{RawField}
+use Rattle.ctype_format.specs.declared.raw.RawAlias.{RawAlias}
+use Rattle.ctype_format.specs.declared.raw.RawAlias.TheVariants as aliases
+use Rattle.ctype_format.specs.declared.opcode.Opcode.{Opcode}
+use Rattle.ctype_format.specs.declared.opcode.Opcode.TheVariants as op
+use Rattle.ctype_format.specs.declared.scope.Scope.{Scope}
+use Rattle.ctype_format.specs.Opcodes.{primitive_of, opcode_of}
 use Rattle.ctype_bin.specs.Exactness.{Written}
-use Rattle.ctype_bin.specs.Bytes.{Bytes, byte, only, unless, placed_at, u32}
-use Rattle.ctype_bin.specs.Grammar as g
-use Rattle.ctype_bin.specs.Raw.{Prim, Record, Variant, ListOf, Tuple, FlagSet, Enumeration, OptionOf, ResultOf, Definition, Define, Func, Alias}
-use Rattle.ctype_bin.specs.Writing.{u32_bytes, each, counted, name_bytes, primitive_byte, valtype_bytes, optional_bytes, outcome_bytes, field_bytes, case_bytes, alias_bytes, type_bytes, decl_bytes}
+use Rattle.ctype_format.specs.Bytes.{Bytes, byte, only, unless, placed_at, u32}
+use Rattle.ctype_format.specs.Grammar as g
+use Rattle.ctype_format.specs.Raw.{Prim, Record, Variant, ListOf, Tuple, FlagSet, Enumeration, OptionOf, ResultOf, Definition, Define, Func, Alias}
+use Rattle.ctype_format.specs.Writing.{u32_bytes, each, counted, name_bytes, primitive_byte, valtype_bytes, optional_bytes, outcome_bytes, field_bytes, case_bytes, alias_bytes, type_bytes, decl_bytes}
 use Rattle.ctype_bin.proofs.Written.{written-then, written-give, written-gives, written-only, written-when, written-byte, one_byte, written-times, times-length}
 use Rattle.ctype_bin.proofs.Rewritten.{written-u32, written-index, passes, written-label, written-valtype, written-optional, written-outcome, written-field, written-case}
 

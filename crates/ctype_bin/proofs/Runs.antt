@@ -1,11 +1,11 @@
 -- Loops that read an item a turn, with a state.
 use Rattle.std.proofs.Common.{◌≡◌, ℕ, suc, ◌+◌, ◌-◌, ◌<◌, ◌≤◌, List, [], ◌∷◌, ◌++◌, Result, Ok, Err, refl, sym, ap, ◌∙◌, append_assoc, arith}
 use Rattle.std.proofs.lemmas.List.{append-nil}
-use Rattle.ctype_bin.specs.declared.error.Stuck.{Stuck}
-use Rattle.ctype_bin.specs.declared.error.ItemError.{ItemError}
-use Rattle.ctype_bin.specs.declared.error.ItemError.TheVariants as errors
+use Rattle.ctype_format.specs.declared.error.Stuck.{Stuck}
+use Rattle.ctype_format.specs.declared.error.ItemError.{ItemError}
+use Rattle.ctype_format.specs.declared.error.ItemError.TheVariants as errors
 use Rattle.productions.specs.Production.{after, run}
-use Rattle.ctype_bin.specs.Bytes.{Bytes, Stops}
+use Rattle.ctype_format.specs.Bytes.{Bytes, Stops}
 
 -- what was read before, and then what is read
 abbrev pub with_front : {X S : Type 0} → List X → Result ((List X × S) × List ℕ) Stuck → Result ((List X × S) × List ℕ) Stuck

@@ -7,11 +7,11 @@ use Rattle.productions.specs.Production.{next}
 use Rattle.productions.specs.Exactness as general
 use Rattle.productions.specs.Exactness.{Took}
 use Rattle.productions.proofs.Exact.{no_err, no_ok}
-use Rattle.ctype_bin.specs.declared.error.Fault.TheVariants.{SizeMismatch}
-use Rattle.ctype_bin.specs.declared.error.Stuck.{Stuck}
-use Rattle.ctype_bin.specs.declared.error.Stuck.TheVariants.{End, At, Past}
+use Rattle.ctype_format.specs.declared.error.Fault.TheVariants.{SizeMismatch}
+use Rattle.ctype_format.specs.declared.error.Stuck.{Stuck}
+use Rattle.ctype_format.specs.declared.error.Stuck.TheVariants.{End, At, Past}
 use Rattle.ctype_bin.specs.Exactness.{IsBytes, Inside, Exact, within}
-use Rattle.ctype_bin.specs.Bytes.{Bytes, in_section, section_from, cut_section_from, Begins, FailsInSection, sized}
+use Rattle.ctype_format.specs.Bytes.{Bytes, in_section, section_from, cut_section_from, Begins, FailsInSection, sized}
 use Rattle.ctype_bin.proofs.Exact.{stopped, ok_is, took, IsBytes-take}
 
 -- bytes are left

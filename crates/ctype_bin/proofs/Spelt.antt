@@ -5,20 +5,20 @@ use Rattle.std.proofs.lemmas.Bool.{lt-ltb}
 use Rattle.std.proofs.lemmas.List.{append-nil}
 use Rattle.productions.specs.Production.{give, ◌>>=◌, times}
 use Rattle.atoms.specs.Label.{is_label}
-use Rattle.ctype_bin.specs.declared.error.Fault.{Fault}
-use Rattle.ctype_bin.specs.declared.error.Fault.TheVariants.{UnknownOpcode, BadIndex, EmptyType, BadName}
-use Rattle.ctype_bin.specs.declared.raw.RawValType.{RawValType}
-use Rattle.ctype_bin.specs.declared.raw.RawValType.TheVariants as valtypes
-use Rattle.ctype_bin.specs.declared.raw.RawField.{RawField}
-use Rattle.ctype_bin.specs.declared.raw.RawCase.{RawCase}
-use Rattle.ctype_bin.specs.Names.{is_extern_name}
-use Rattle.ctype_bin.specs.Bytes.{Bytes, byte, several, only, unless, u32, s33, choose}
-use Rattle.ctype_bin.specs.Grammar as g
-use Rattle.ctype_bin.specs.Writing.{u32_bytes, s33_bytes, each, counted, name_bytes, extern_bytes, primitive_byte, valtype_bytes, optional_bytes, outcome_bytes, field_bytes, case_bytes}
-use Rattle.ctype_bin.specs.Formed.{Fits, All, Counted, FormedLabel, FormedName, FormedValType, FormedOption, FormedField, FormedCase}
+use Rattle.ctype_format.specs.declared.error.Fault.{Fault}
+use Rattle.ctype_format.specs.declared.error.Fault.TheVariants.{UnknownOpcode, BadIndex, EmptyType, BadName}
+use Rattle.ctype_format.specs.declared.raw.RawValType.{RawValType}
+use Rattle.ctype_format.specs.declared.raw.RawValType.TheVariants as valtypes
+use Rattle.ctype_format.specs.declared.raw.RawField.{RawField}
+use Rattle.ctype_format.specs.declared.raw.RawCase.{RawCase}
+use Rattle.ctype_format.specs.Names.{is_extern_name}
+use Rattle.ctype_format.specs.Bytes.{Bytes, byte, several, only, unless, u32, s33, choose}
+use Rattle.ctype_format.specs.Grammar as g
+use Rattle.ctype_format.specs.Writing.{u32_bytes, s33_bytes, each, counted, name_bytes, extern_bytes, primitive_byte, valtype_bytes, optional_bytes, outcome_bytes, field_bytes, case_bytes}
+use Rattle.ctype_format.specs.Formed.{Fits, All, Counted, FormedLabel, FormedName, FormedValType, FormedOption, FormedField, FormedCase}
 use Rattle.ctype_bin.specs.InRange.{ValTypeInRange, OptionInRange, FieldInRange, CaseInRange}
 use Rattle.ctype_bin.specs.Accepted.{Among}
-use Rattle.ctype_bin.proofs.Least.{least_of}
+use Rattle.ctype_format.proofs.Least.{least_of}
 use Rattle.ctype_bin.proofs.Rewritten.{index_begins, primitive_opens, primitive_spelt, placed_none}
 
 -- these bytes spell this value

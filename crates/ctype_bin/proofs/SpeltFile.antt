@@ -3,14 +3,14 @@ use Rattle.std.proofs.Common.{◌≡◌, ℕ, ◌+◌, ◌<◌, ◌≤◌, List,
 use Rattle.std.specs.Prelude.{◌==◌, sum}
 use Rattle.std.proofs.lemmas.List.Sums.{sum_by-cons}
 use Rattle.productions.specs.Production.{give, ◌>>=◌, times, run}
-use Rattle.ctype_bin.specs.declared.error.Fault.TheVariants.{UnknownOpcode}
-use Rattle.ctype_bin.specs.declared.scope.Scope.{Scope}
-use Rattle.ctype_bin.specs.Bytes.{byte, only, unless, u32}
-use Rattle.ctype_bin.specs.Grammar.{index, zero_byte, extern_name, type, new_scope, with_entries, max_entries}
-use Rattle.ctype_bin.specs.File as f
-use Rattle.ctype_bin.specs.Raw.{Definition, Exported, File}
-use Rattle.ctype_bin.specs.Writing.{u32_bytes, each, counted, extern_bytes, type_bytes, exported_bytes, file_bytes}
-use Rattle.ctype_bin.specs.Formed.{All, Counted, FormedType, FormedExport, FormedFile}
+use Rattle.ctype_format.specs.declared.error.Fault.TheVariants.{UnknownOpcode}
+use Rattle.ctype_format.specs.declared.scope.Scope.{Scope}
+use Rattle.ctype_format.specs.Bytes.{byte, only, unless, u32}
+use Rattle.ctype_format.specs.Grammar.{index, zero_byte, extern_name, type, new_scope, with_entries, max_entries}
+use Rattle.ctype_format.specs.File as f
+use Rattle.ctype_format.specs.Raw.{Definition, Exported, File}
+use Rattle.ctype_format.specs.Writing.{u32_bytes, each, counted, extern_bytes, type_bytes, exported_bytes, file_bytes}
+use Rattle.ctype_format.specs.Formed.{All, Counted, FormedType, FormedExport, FormedFile}
 use Rattle.ctype_bin.specs.InRange.{TypesInRange}
 use Rattle.ctype_bin.specs.Accepted.{AllowedType, entries_of_type, IsAccepted}
 use Rattle.ctype_bin.proofs.RewrittenFile.{file_from}

@@ -3,15 +3,15 @@ use Rattle.std.proofs.Common.{◌≡◌, ℕ, zero, suc, ◌+◌, ◌<◌, Bool,
 use Rattle.std.specs.Prelude.{◌&&◌, ◌==◌}
 use Rattle.std.proofs.lemmas.Bool.{lt-leb}
 use Rattle.productions.specs.Production.{when, times}
-use Rattle.ctype_bin.specs.declared.opcode.Opcode.{Opcode}
-use Rattle.ctype_bin.specs.declared.opcode.Opcode.TheVariants as op
-use Rattle.ctype_bin.specs.declared.scope.Scope.{Scope}
-use Rattle.ctype_bin.specs.Opcodes.{opcode_of}
-use Rattle.ctype_bin.specs.Bytes.{byte, only, u32}
-use Rattle.ctype_bin.specs.Grammar as g
-use Rattle.ctype_bin.specs.Raw.{Defined, Prim, Record, Variant, ListOf, Tuple, FlagSet, Enumeration, OptionOf, ResultOf, Function, Definition, Define, Func}
-use Rattle.ctype_bin.specs.Writing.{u32_bytes, each, counted, name_bytes, valtype_bytes, optional_bytes, outcome_bytes, field_bytes, case_bytes, type_bytes}
-use Rattle.ctype_bin.specs.Formed.{All, FormedLabel, FormedValType, FormedField, FormedCase, FormedDefined, FormedFunction}
+use Rattle.ctype_format.specs.declared.opcode.Opcode.{Opcode}
+use Rattle.ctype_format.specs.declared.opcode.Opcode.TheVariants as op
+use Rattle.ctype_format.specs.declared.scope.Scope.{Scope}
+use Rattle.ctype_format.specs.Opcodes.{opcode_of}
+use Rattle.ctype_format.specs.Bytes.{byte, only, u32}
+use Rattle.ctype_format.specs.Grammar as g
+use Rattle.ctype_format.specs.Raw.{Defined, Prim, Record, Variant, ListOf, Tuple, FlagSet, Enumeration, OptionOf, ResultOf, Function, Definition, Define, Func}
+use Rattle.ctype_format.specs.Writing.{u32_bytes, each, counted, name_bytes, valtype_bytes, optional_bytes, outcome_bytes, field_bytes, case_bytes, type_bytes}
+use Rattle.ctype_format.specs.Formed.{All, FormedLabel, FormedValType, FormedField, FormedCase, FormedDefined, FormedFunction}
 use Rattle.ctype_bin.specs.InRange.{ValTypeInRange, FieldInRange, CaseInRange, DefinedInRange, FunctionInRange}
 use Rattle.ctype_bin.specs.Accepted.{AllowedDefined}
 use Rattle.ctype_bin.proofs.RewrittenTypes.{opcode_byte, opcode_back}

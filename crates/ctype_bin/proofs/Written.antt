@@ -2,10 +2,10 @@
 use Rattle.std.proofs.Common.{◌≡◌, ℕ, zero, suc, ◌+◌, Bool, true, false, List, [], ◌∷◌, ◌++◌, length, drop, Option, refl, sym, ap, ◌∙◌, arith}
 use Rattle.std.proofs.lemmas.List.{length-append, append-nil}
 use Rattle.productions.specs.Production.{give, ◌>>=◌, when, times, run}
-use Rattle.ctype_bin.specs.declared.error.Fault.{Fault}
+use Rattle.ctype_format.specs.declared.error.Fault.{Fault}
 use Rattle.ctype_bin.specs.Exactness.{Written}
-use Rattle.ctype_bin.specs.Bytes.{Bytes, byte, several, only}
-use Rattle.ctype_bin.specs.Writing.{each}
+use Rattle.ctype_format.specs.Bytes.{Bytes, byte, several, only}
+use Rattle.ctype_format.specs.Writing.{each}
 
 pub written-then : {X Y : Type 0} (p : Bytes X) (q : X → Bytes Y) (wp : X → List ℕ) (wq : X → Y → List ℕ) (w : Y → List ℕ) → Written p wp → ((x : X) → Written (q x) (wq x))
     → ((x : X) (y : Y) (front back : List ℕ) → p.spells front x → (q x).spells back y → w y ≡ wp x ++ wq x y) → Written (p >>= q) w

@@ -1,11 +1,11 @@
 -- What validation asks of the parts of a component, beyond what the types of the parts hold.
 use Rattle.std.specs.Prelude.{◌≡◌, ◌<◌, ◌≤◌, ℕ, zero, suc, ◌+◌, Bool, true, false, length, map, sum}
-use Rattle.ctype_bin.specs.declared.raw.RawDescription.{RawDescription}
-use Rattle.ctype_bin.specs.declared.raw.RawDescription.TheVariants as descriptions
-use Rattle.ctype_bin.specs.Raw.{Defined, Prim, Record, Variant, ListOf, Tuple, FlagSet, Enumeration, OptionOf, ResultOf, Definition, Define, Func, Component, Instance, Decl, Entry, Alias, Import, Export, Decls, none, then, File}
-use Rattle.ctype_bin.specs.Grammar.{max_cases, max_flags, max_entries}
-use Rattle.ctype_bin.specs.File.{max_depth}
-use Rattle.ctype_bin.specs.Formed.{All}
+use Rattle.ctype_format.specs.declared.raw.RawDescription.{RawDescription}
+use Rattle.ctype_format.specs.declared.raw.RawDescription.TheVariants as descriptions
+use Rattle.ctype_format.specs.Raw.{Defined, Prim, Record, Variant, ListOf, Tuple, FlagSet, Enumeration, OptionOf, ResultOf, Definition, Define, Func, Component, Instance, Decl, Entry, Alias, Import, Export, Decls, none, then, File}
+use Rattle.ctype_format.specs.Grammar.{max_cases, max_flags, max_entries}
+use Rattle.ctype_format.specs.File.{max_depth}
+use Rattle.ctype_format.specs.Formed.{All}
 use Rattle.ctype_bin.specs.InRange.{FileInRange}
 
 -- ---- counts, nesting and imports

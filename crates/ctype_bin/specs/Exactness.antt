@@ -4,9 +4,9 @@ use Rattle.std.proofs.Common.{arith}
 use Rattle.std.proofs.lemmas.List.{length-append}
 use Rattle.productions.specs.Exactness as general
 use Rattle.productions.specs.Exactness.{Rules, Anything, AtEnd}
-use Rattle.ctype_bin.specs.declared.error.Stuck.{Stuck}
-use Rattle.ctype_bin.specs.declared.error.Stuck.TheVariants.{End, At, Past}
-use Rattle.ctype_bin.specs.Bytes.{Bytes}
+use Rattle.ctype_format.specs.declared.error.Stuck.{Stuck}
+use Rattle.ctype_format.specs.declared.error.Stuck.TheVariants.{End, At, Past}
+use Rattle.ctype_format.specs.Bytes.{Bytes}
 
 abbrev pub IsBytes : List ℕ → Type 0
 IsBytes bytes = (i : ℕ) → slice_index bytes i < 256

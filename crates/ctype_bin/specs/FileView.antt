@@ -1,5 +1,5 @@
-use Rattle.ctype_bin.specs.Raw.{File}
-use Rattle.ctype_bin.specs.View.{file_of}
+use Rattle.ctype_format.specs.Raw.{File}
+use Rattle.ctype_format.specs.View.{file_of}
 use Rattle.ctype_bin.specs.declared.component.RawComponent.{RawComponent}
 
 -- the component type binary that a raw component stands for

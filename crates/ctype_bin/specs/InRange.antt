@@ -1,16 +1,16 @@
 -- Each index is below the count of its space, as that is where the index stands.
 use Rattle.std.specs.Prelude.{◌<◌, ◌≤◌, ℕ, ◌+◌, List, [], ◌∷◌, ◌++◌, length, Option, Some, None}
-use Rattle.ctype_bin.specs.declared.raw.RawValType.{RawValType}
-use Rattle.ctype_bin.specs.declared.raw.RawValType.TheVariants as valtypes
-use Rattle.ctype_bin.specs.declared.raw.RawField.{RawField}
-use Rattle.ctype_bin.specs.declared.raw.RawCase.{RawCase}
-use Rattle.ctype_bin.specs.declared.raw.RawAlias.{RawAlias}
-use Rattle.ctype_bin.specs.declared.raw.RawAlias.TheVariants as aliases
-use Rattle.ctype_bin.specs.declared.raw.RawDescription.{RawDescription}
-use Rattle.ctype_bin.specs.declared.raw.RawDescription.TheVariants as descriptions
-use Rattle.ctype_bin.specs.Raw.{Defined, Prim, Record, Variant, ListOf, Tuple, FlagSet, Enumeration, OptionOf, ResultOf, Function, Definition, Define, Func, Component, Instance, Decl, Entry, Alias, Import, Export, Decls, none, then, File}
-use Rattle.ctype_bin.specs.Grammar.{types_at}
-use Rattle.ctype_bin.specs.Formed.{All}
+use Rattle.ctype_format.specs.declared.raw.RawValType.{RawValType}
+use Rattle.ctype_format.specs.declared.raw.RawValType.TheVariants as valtypes
+use Rattle.ctype_format.specs.declared.raw.RawField.{RawField}
+use Rattle.ctype_format.specs.declared.raw.RawCase.{RawCase}
+use Rattle.ctype_format.specs.declared.raw.RawAlias.{RawAlias}
+use Rattle.ctype_format.specs.declared.raw.RawAlias.TheVariants as aliases
+use Rattle.ctype_format.specs.declared.raw.RawDescription.{RawDescription}
+use Rattle.ctype_format.specs.declared.raw.RawDescription.TheVariants as descriptions
+use Rattle.ctype_format.specs.Raw.{Defined, Prim, Record, Variant, ListOf, Tuple, FlagSet, Enumeration, OptionOf, ResultOf, Function, Definition, Define, Func, Component, Instance, Decl, Entry, Alias, Import, Export, Decls, none, then, File}
+use Rattle.ctype_format.specs.Grammar.{types_at}
+use Rattle.ctype_format.specs.Formed.{All}
 
 -- ---- among so many types
 

@@ -1,17 +1,7 @@
-pub mod Raw
-pub mod Names
-pub mod View
 pub mod FileView
-pub mod Opcodes
-pub mod Bytes
 pub mod Exactness
-pub mod Grammar
-pub mod File
-pub mod Shortest
-pub mod Writing
 pub mod Spellable
 pub mod Encoding
-pub mod Formed
 pub mod Parts
 pub mod InRange
 pub mod Accepted

@@ -1,13 +1,13 @@
 -- What can be wrong with the parts of a component.
 use Rattle.std.specs.Prelude.{◌≡◌, ℕ, Err}
-use Rattle.ctype_bin.specs.declared.error.Fault.{Fault}
-use Rattle.ctype_bin.specs.declared.error.Fault.TheVariants.{UnknownOpcode, BadIndex, EmptyType, Limit}
-use Rattle.ctype_bin.specs.declared.error.Stuck.TheVariants.{At}
-use Rattle.ctype_bin.specs.declared.error.BinError.{BinError}
-use Rattle.ctype_bin.specs.declared.error.BinError.TheVariants as errors
-use Rattle.ctype_bin.specs.Raw.{File}
-use Rattle.ctype_bin.specs.File.{file}
-use Rattle.ctype_bin.specs.Writing.{file_bytes}
+use Rattle.ctype_format.specs.declared.error.Fault.{Fault}
+use Rattle.ctype_format.specs.declared.error.Fault.TheVariants.{UnknownOpcode, BadIndex, EmptyType, Limit}
+use Rattle.ctype_format.specs.declared.error.Stuck.TheVariants.{At}
+use Rattle.ctype_format.specs.declared.error.BinError.{BinError}
+use Rattle.ctype_format.specs.declared.error.BinError.TheVariants as errors
+use Rattle.ctype_format.specs.Raw.{File}
+use Rattle.ctype_format.specs.File.{file}
+use Rattle.ctype_format.specs.Writing.{file_bytes}
 use Rattle.ctype_bin.specs.Spellable.{IsSpellable}
 
 -- an import in an instance type, whose byte is 3; an index; a count of 0; a limit

@@ -1,7 +1,7 @@
 -- What bytes can spell.
 use Rattle.std.specs.Prelude.{ℕ, List}
-use Rattle.ctype_bin.specs.Raw.{File}
-use Rattle.ctype_bin.specs.File.{file}
+use Rattle.ctype_format.specs.Raw.{File}
+use Rattle.ctype_format.specs.File.{file}
 
 -- some bytes spell it
 abbrev pub IsSpellable : File → Type 0

@@ -1,17 +1,16 @@
 //! A whole component type binary.
 ghost use Rattle.std.specs.Prelude.{◌≡◌, IfOk, IfErr, MatchResult};
-ghost use Rattle.ctype_bin.specs.Raw.{File};
-ghost use Rattle.ctype_bin.specs.View.{file_of};
-ghost use Rattle.ctype_bin.specs.Writing.{file_bytes};
-ghost use Rattle.ctype_bin.specs.Formed.{FormedFile};
+ghost use Rattle.ctype_format.specs.Raw.{File};
+ghost use Rattle.ctype_format.specs.View.{file_of};
+ghost use Rattle.ctype_format.specs.Writing.{file_bytes};
+ghost use Rattle.ctype_format.specs.Formed.{FormedFile};
 ghost use Rattle.ctype_bin.specs.Spellable.{IsSpellable};
 ghost use Rattle.ctype_bin.specs.Parts.{ComponentRefuses};
 ghost use Rattle.ctype_bin.specs.Accepted.{IsAccepted};
 
 use crate::encoding::spelling;
-use crate::error::{BinError, ItemError, Stuck};
-use crate::raw::{RawExport, RawType};
 use crate::sections::parts_of;
+use ctype_format::{BinError, ItemError, RawExport, RawType, Stuck};
 use std::alloc::Global;
 
 /// A component type binary's type section and export section. Some bytes spell it: its indices are in range at their

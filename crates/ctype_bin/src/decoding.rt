@@ -1,13 +1,13 @@
 //! Decoding a whole input.
 ghost use Rattle.std.specs.Prelude.{◌≡◌, ◌≤◌, ℕ, List, true, false, length, IfOk, IfErr, IfSome, MatchResult, Err};
 ghost use Rattle.atoms.specs.Streams.{ReadsUpTo, ConsumesMany};
-ghost use Rattle.ctype_bin.specs.File.{file, placed, Faulty, Decodes, DecodesOrReads};
-ghost use Rattle.ctype_bin.specs.Raw.{File};
+ghost use Rattle.ctype_format.specs.File.{file, placed, Faulty, Decodes, DecodesOrReads};
+ghost use Rattle.ctype_format.specs.Raw.{File};
 ghost use Rattle.ctype_bin.specs.FileView.{file_view};
 
 use crate::component::RawComponent;
-use crate::error::{BinError, Fault, ItemError, Stuck};
 use crate::sections::{MAX_LENGTH, file_of};
+use ctype_format::{BinError, Fault, ItemError, Stuck};
 use atoms::{ReadUpToError, Source, read_up_to};
 use std::alloc::Global;
 
@@ -23,7 +23,7 @@ fn placed(len: usize, stuck: Stuck) -> BinError
     }
 }
 
-#[tactic(auto, unfolding(crate::specs::File::decoded))]
+#[tactic(auto, unfolding(ctype_format::specs::File::decoded))]
 fn decode_bytes(alloc: Global, bytes: &[u8]) -> Result<RawComponent, BinError>
     ensures { Decodes file_view result bytes.now }
 {

@@ -1,16 +1,11 @@
 //! Reading types without scopes of their own.
 ghost use Rattle.std.specs.Prelude.{◌≡◌, false};
 ghost use Rattle.productions.specs.Production.{times};
-ghost use Rattle.ctype_bin.specs.Bytes.{AnswersRead};
-ghost use Rattle.ctype_bin.specs.Grammar.{valtype, label, field, case, record_type, variant_type, list_type, tuple_type, flags_type, enum_type, option_type, result_type, outcome, function_type, plain, is_nested};
-ghost use Rattle.ctype_bin.specs.View.{type_view};
+ghost use Rattle.ctype_format.specs.Bytes.{AnswersRead};
+ghost use Rattle.ctype_format.specs.Grammar.{valtype, label, field, case, record_type, variant_type, list_type, tuple_type, flags_type, enum_type, option_type, result_type, outcome, function_type, plain, is_nested};
+ghost use Rattle.ctype_format.specs.View.{type_view};
 
-use crate::error::ItemError;
-use crate::items::{
-    count_of, count_upto, flag_of, label_of, optional_of, u32_of, valtype_of, zero_of,
-};
-use crate::opcode::Opcode;
-use crate::raw::{RawCase, RawDefinedType, RawField, RawFunction, RawType, RawValType};
+use ctype_format::{ItemError, Opcode, RawCase, RawDefinedType, RawField, RawFunction, RawType, RawValType, count_of, count_upto, flag_of, label_of, optional_of, u32_of, valtype_of, zero_of};
 use atoms::Label;
 use std::alloc::Global;
 
@@ -20,7 +15,7 @@ const MAX_CASES: u32 = 100_000;
 /// The labels that flags may have.
 const MAX_FLAGS: u32 = 32;
 
-#[tactic(auto, unfolding(crate::specs::Grammar::field))]
+#[tactic(auto, unfolding(ctype_format::specs::Grammar::field))]
 fn field_of(alloc: Global, types: u32, bytes: &[u8]) -> Result<(RawField, &[u8]), ItemError>
     ensures { AnswersRead (λ x. (x.0, x.1.now)) result ((field types).read bytes.now) }
 {
@@ -47,7 +42,7 @@ fn fields_of(
     Ok((fields, rest))
 }
 
-#[tactic(auto, unfolding(crate::specs::Grammar::case))]
+#[tactic(auto, unfolding(ctype_format::specs::Grammar::case))]
 fn case_of(alloc: Global, types: u32, bytes: &[u8]) -> Result<(RawCase, &[u8]), ItemError>
     ensures { AnswersRead (λ x. (x.0, x.1.now)) result ((case types).read bytes.now) }
 {
@@ -106,7 +101,7 @@ fn labels_of(alloc: Global, count: u32, bytes: &[u8]) -> Result<(Vec<Label>, &[u
     Ok((labels, rest))
 }
 
-#[tactic(auto, unfolding(crate::specs::Grammar::record_type, crate::specs::View::type_view))]
+#[tactic(auto, unfolding(ctype_format::specs::Grammar::record_type, ctype_format::specs::View::type_view))]
 fn record_of(alloc: Global, types: u32, bytes: &[u8]) -> Result<(RawType, &[u8]), ItemError>
     ensures { AnswersRead (λ x. (type_view x.0, x.1.now)) result ((record_type types).read bytes.now) }
 {
@@ -115,7 +110,7 @@ fn record_of(alloc: Global, types: u32, bytes: &[u8]) -> Result<(RawType, &[u8])
     Ok((RawType::Defined(RawDefinedType::Record(fields)), rest))
 }
 
-#[tactic(auto, unfolding(crate::specs::Grammar::variant_type, crate::specs::View::type_view))]
+#[tactic(auto, unfolding(ctype_format::specs::Grammar::variant_type, ctype_format::specs::View::type_view))]
 fn variant_of(alloc: Global, types: u32, bytes: &[u8]) -> Result<(RawType, &[u8]), ItemError>
     ensures { AnswersRead (λ x. (type_view x.0, x.1.now)) result ((variant_type types).read bytes.now) }
 {
@@ -124,7 +119,7 @@ fn variant_of(alloc: Global, types: u32, bytes: &[u8]) -> Result<(RawType, &[u8]
     Ok((RawType::Defined(RawDefinedType::Variant(cases)), rest))
 }
 
-#[tactic(auto, unfolding(crate::specs::Grammar::list_type, crate::specs::View::type_view))]
+#[tactic(auto, unfolding(ctype_format::specs::Grammar::list_type, ctype_format::specs::View::type_view))]
 fn list_of(types: u32, bytes: &[u8]) -> Result<(RawType, &[u8]), ItemError>
     ensures { AnswersRead (λ x. (type_view x.0, x.1.now)) result ((list_type types).read bytes.now) }
 {
@@ -132,7 +127,7 @@ fn list_of(types: u32, bytes: &[u8]) -> Result<(RawType, &[u8]), ItemError>
     Ok((RawType::Defined(RawDefinedType::List(element)), rest))
 }
 
-#[tactic(auto, unfolding(crate::specs::Grammar::tuple_type, crate::specs::View::type_view))]
+#[tactic(auto, unfolding(ctype_format::specs::Grammar::tuple_type, ctype_format::specs::View::type_view))]
 fn tuple_of(alloc: Global, types: u32, bytes: &[u8]) -> Result<(RawType, &[u8]), ItemError>
     ensures { AnswersRead (λ x. (type_view x.0, x.1.now)) result ((tuple_type types).read bytes.now) }
 {
@@ -141,7 +136,7 @@ fn tuple_of(alloc: Global, types: u32, bytes: &[u8]) -> Result<(RawType, &[u8]),
     Ok((RawType::Defined(RawDefinedType::Tuple(members)), rest))
 }
 
-#[tactic(auto, unfolding(crate::specs::Grammar::flags_type, crate::specs::View::type_view))]
+#[tactic(auto, unfolding(ctype_format::specs::Grammar::flags_type, ctype_format::specs::View::type_view))]
 fn flags_of(alloc: Global, bytes: &[u8]) -> Result<(RawType, &[u8]), ItemError>
     ensures { AnswersRead (λ x. (type_view x.0, x.1.now)) result (flags_type.read bytes.now) }
 {
@@ -150,7 +145,7 @@ fn flags_of(alloc: Global, bytes: &[u8]) -> Result<(RawType, &[u8]), ItemError>
     Ok((RawType::Defined(RawDefinedType::Flags(labels)), rest))
 }
 
-#[tactic(auto, unfolding(crate::specs::Grammar::enum_type, crate::specs::View::type_view))]
+#[tactic(auto, unfolding(ctype_format::specs::Grammar::enum_type, ctype_format::specs::View::type_view))]
 fn enum_of(alloc: Global, bytes: &[u8]) -> Result<(RawType, &[u8]), ItemError>
     ensures { AnswersRead (λ x. (type_view x.0, x.1.now)) result (enum_type.read bytes.now) }
 {
@@ -159,7 +154,7 @@ fn enum_of(alloc: Global, bytes: &[u8]) -> Result<(RawType, &[u8]), ItemError>
     Ok((RawType::Defined(RawDefinedType::Enum(labels)), rest))
 }
 
-#[tactic(auto, unfolding(crate::specs::Grammar::option_type, crate::specs::View::type_view))]
+#[tactic(auto, unfolding(ctype_format::specs::Grammar::option_type, ctype_format::specs::View::type_view))]
 fn option_of(types: u32, bytes: &[u8]) -> Result<(RawType, &[u8]), ItemError>
     ensures { AnswersRead (λ x. (type_view x.0, x.1.now)) result ((option_type types).read bytes.now) }
 {
@@ -167,7 +162,7 @@ fn option_of(types: u32, bytes: &[u8]) -> Result<(RawType, &[u8]), ItemError>
     Ok((RawType::Defined(RawDefinedType::Option(some)), rest))
 }
 
-#[tactic(auto, unfolding(crate::specs::Grammar::result_type, crate::specs::View::type_view))]
+#[tactic(auto, unfolding(ctype_format::specs::Grammar::result_type, ctype_format::specs::View::type_view))]
 fn result_of(types: u32, bytes: &[u8]) -> Result<(RawType, &[u8]), ItemError>
     ensures { AnswersRead (λ x. (type_view x.0, x.1.now)) result ((result_type types).read bytes.now) }
 {
@@ -177,7 +172,7 @@ fn result_of(types: u32, bytes: &[u8]) -> Result<(RawType, &[u8]), ItemError>
 }
 
 /// 0 and a value type, or 1 and 0.
-#[tactic(auto, unfolding(crate::specs::Grammar::outcome))]
+#[tactic(auto, unfolding(ctype_format::specs::Grammar::outcome))]
 fn outcome_of(types: u32, bytes: &[u8]) -> Result<(Option<RawValType>, &[u8]), ItemError>
     ensures { AnswersRead (λ x. (x.0, x.1.now)) result ((outcome types).read bytes.now) }
 {
@@ -190,7 +185,7 @@ fn outcome_of(types: u32, bytes: &[u8]) -> Result<(Option<RawValType>, &[u8]), I
     Ok((None, rest))
 }
 
-#[tactic(auto, unfolding(crate::specs::Grammar::function_type, crate::specs::View::type_view))]
+#[tactic(auto, unfolding(ctype_format::specs::Grammar::function_type, ctype_format::specs::View::type_view))]
 fn function_of(alloc: Global, types: u32, bytes: &[u8]) -> Result<(RawType, &[u8]), ItemError>
     ensures { AnswersRead (λ x. (type_view x.0, x.1.now)) result ((function_type types).read bytes.now) }
 {
@@ -201,7 +196,7 @@ fn function_of(alloc: Global, types: u32, bytes: &[u8]) -> Result<(RawType, &[u8
 }
 
 /// A type behind its opcode.
-#[tactic(auto, unfolding(crate::specs::Grammar::plain, crate::specs::View::type_view))]
+#[tactic(auto, unfolding(ctype_format::specs::Grammar::plain, ctype_format::specs::View::type_view))]
 pub(crate) fn plain_of(
     alloc: Global,
     types: u32,

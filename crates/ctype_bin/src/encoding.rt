@@ -1,16 +1,14 @@
 //! Encoding a component.
 ghost use Rattle.std.specs.Prelude.{◌≡◌, ◌++◌, IfOk, IfErr, OnOk, OnErr, map};
-ghost use Rattle.ctype_bin.specs.View.{type_view, export_view};
+ghost use Rattle.ctype_format.specs.View.{type_view, export_view};
 ghost use Rattle.ctype_bin.specs.FileView.{file_view};
-ghost use Rattle.ctype_bin.specs.Writing.{file_bytes};
-ghost use Rattle.ctype_bin.specs.Formed.{FormedFile};
+ghost use Rattle.ctype_format.specs.Writing.{file_bytes};
+ghost use Rattle.ctype_format.specs.Formed.{FormedFile};
 ghost use Rattle.ctype_bin.specs.Encoding.{AppendsSpelling};
 
 use crate::component::RawComponent;
-use crate::error::BinError;
-use crate::raw::{RawExport, RawType};
 use crate::sections::{EXPORT_SECTION, PREAMBLE, TYPE_SECTION};
-use crate::writing::{put_exports, put_section, put_types};
+use ctype_format::{BinError, RawExport, RawType, put_exports, put_section, put_types};
 use std::alloc::{AllocError, Global};
 
 /// The shortest spelling of a component of these parts.

@@ -1,16 +1,16 @@
 //! What holds of the format, whatever the bytes.
 ghost use Rattle.std.specs.Prelude.{◌≡◌, ◌≤◌, ℕ, List, length};
-ghost use Rattle.ctype_bin.specs.declared.scope.Scope.{Scope};
+ghost use Rattle.ctype_format.specs.declared.scope.Scope.{Scope};
 ghost use Rattle.ctype_bin.specs.Exactness.{IsBytes, Exact, ExactToEnd, Written};
-ghost use Rattle.ctype_bin.specs.Writing.{type_bytes, file_bytes};
-ghost use Rattle.ctype_bin.specs.Raw.{File};
-ghost use Rattle.ctype_bin.specs.Grammar.{type};
-ghost use Rattle.ctype_bin.specs.File.{file, max_length, Faulty};
+ghost use Rattle.ctype_format.specs.Writing.{type_bytes, file_bytes};
+ghost use Rattle.ctype_format.specs.Raw.{File};
+ghost use Rattle.ctype_format.specs.Grammar.{type};
+ghost use Rattle.ctype_format.specs.File.{file, max_length, Faulty};
 ghost use Rattle.ctype_bin.specs.FileView.{file_view};
 ghost use Rattle.ctype_bin.specs.InRange.{FileInRange};
 
+use ctype_format::{BinError, Fault};
 use crate::component::RawComponent;
-use crate::error::{BinError, Fault};
 
 /// Reading a type finds just what its productions spell, or the first fault, which stands within the bytes.
 pub fn types_are_read_exactly()

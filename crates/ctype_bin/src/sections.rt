@@ -1,19 +1,16 @@
 //! Reading sections and the file.
 ghost use Rattle.std.specs.Prelude.{◌≡◌, ◌≤◌, ◌∷◌, [], map, length, IfOk, Some, None, if◌then◌else◌};
 ghost use Rattle.productions.specs.Production.{run, times, at_end};
-ghost use Rattle.ctype_bin.specs.declared.error.Stuck.TheVariants.{Past, End};
-ghost use Rattle.ctype_bin.specs.Bytes.{AnswersRead, sized, in_section, StaysSmall};
-ghost use Rattle.ctype_bin.specs.Grammar.{new_scope, IsWithin};
-ghost use Rattle.ctype_bin.specs.File.{exactly, preamble, custom_content, custom, head, section, custom_next, trailing, trailing_byte, trailing_fault, max_length, entry, type_section, exported, export_section, file};
-ghost use Rattle.ctype_bin.specs.View.{type_view, export_view, file_of};
+ghost use Rattle.ctype_format.specs.declared.error.Stuck.TheVariants.{Past, End};
+ghost use Rattle.ctype_format.specs.Bytes.{AnswersRead, sized, in_section, StaysSmall};
+ghost use Rattle.ctype_format.specs.Grammar.{new_scope, IsWithin};
+ghost use Rattle.ctype_format.specs.File.{exactly, preamble, custom_content, custom, head, section, custom_next, trailing, trailing_byte, trailing_fault, max_length, entry, type_section, exported, export_section, file};
+ghost use Rattle.ctype_format.specs.View.{type_view, export_view, file_of};
 ghost use Rattle.ctype_bin.specs.FileView.{file_view};
 
 use crate::component::RawComponent;
-use crate::error::{Fault, ItemError, Stuck};
-use crate::items::{at, byte_of, extern_name_of, index_of, u32_of, utf8_of, zero_of};
-use crate::raw::{RawExport, RawType};
-use crate::scope::{Scope, new_scope, with_entries};
 use crate::types::type_of;
+use ctype_format::{Fault, ItemError, RawExport, RawType, Scope, Stuck, at, byte_of, extern_name_of, index_of, new_scope, u32_of, utf8_of, with_entries, zero_of};
 use std::alloc::Global;
 
 /// The bytes of the longest binary, which has fewer custom sections.
@@ -31,7 +28,7 @@ pub(crate) const TYPE_SECTION: u8 = 7;
 /// The number of the export section.
 pub(crate) const EXPORT_SECTION: u8 = 11;
 
-#[tactic(auto, unfolding(crate::specs::File::exactly))]
+#[tactic(auto, unfolding(ctype_format::specs::File::exactly))]
 fn same_of(expected: u8, bytes: &[u8]) -> Result<&[u8], ItemError>
     ensures { AnswersRead (λ x. (0, x.now)) result ((exactly (expected ∷ [])).read bytes.now) }
 {
@@ -42,7 +39,7 @@ fn same_of(expected: u8, bytes: &[u8]) -> Result<&[u8], ItemError>
     Ok(rest)
 }
 
-#[tactic(auto, unfolding(crate::specs::File::exactly))]
+#[tactic(auto, unfolding(ctype_format::specs::File::exactly))]
 fn preamble_of(bytes: &[u8]) -> Result<&[u8], ItemError>
     ensures { AnswersRead (λ x. (0, x.now)) result ((exactly preamble).read bytes.now) }
 {
@@ -67,7 +64,7 @@ fn in_section(stuck: Stuck, left: usize) -> Stuck
     }
 }
 
-#[tactic(auto, unfolding(crate::specs::File::custom_content))]
+#[tactic(auto, unfolding(ctype_format::specs::File::custom_content))]
 fn custom_content_of(bytes: &[u8]) -> Result<(), ItemError>
     ensures { AnswersRead (λ _. (0, [])) result (custom_content.read bytes.now) }
 {
@@ -75,7 +72,7 @@ fn custom_content_of(bytes: &[u8]) -> Result<(), ItemError>
     Ok(())
 }
 
-#[tactic(auto, unfolding(crate::specs::Bytes::sized))]
+#[tactic(auto, unfolding(ctype_format::specs::Bytes::sized))]
 fn custom_within(size: u32, bytes: &[u8]) -> Result<&[u8], ItemError>
     ensures { AnswersRead (λ x. (0, x.now)) result ((sized (λ _. End) size custom_content).read bytes.now) }
 {
@@ -92,7 +89,7 @@ fn custom_within(size: u32, bytes: &[u8]) -> Result<&[u8], ItemError>
 }
 
 /// A custom section behind its number.
-#[tactic(auto, unfolding(crate::specs::File::custom))]
+#[tactic(auto, unfolding(ctype_format::specs::File::custom))]
 fn custom_of(bytes: &[u8]) -> Result<&[u8], ItemError>
     ensures { AnswersRead (λ x. (0, x.now)) result (custom.read bytes.now) }
 {
@@ -101,7 +98,7 @@ fn custom_of(bytes: &[u8]) -> Result<&[u8], ItemError>
 }
 
 /// The size of a section with this number, or nothing where a custom section was read.
-#[tactic(auto, unfolding(crate::specs::File::head))]
+#[tactic(auto, unfolding(ctype_format::specs::File::head))]
 fn head_of(id: u8, bytes: &[u8]) -> Result<(Option<u32>, &[u8]), ItemError>
     ensures { AnswersRead (λ x. (x.0, x.1.now)) result ((head id).read bytes.now) }
 {
@@ -180,7 +177,7 @@ fn trailing_of(bytes: &[u8]) -> Result<(), ItemError>
     Err(ItemError::Stuck(Stuck::End))
 }
 
-#[tactic(auto, unfolding(crate::specs::File::entry))]
+#[tactic(auto, unfolding(ctype_format::specs::File::entry))]
 fn entry_of(alloc: Global, scope: Scope, bytes: &[u8]) -> Result<(RawType, Scope, &[u8]), ItemError>
     requires { IsWithin scope }
     ensures reads { AnswersRead (λ x. ((type_view x.0, x.1), x.2.now)) result ((entry scope).read bytes.now) }
@@ -209,7 +206,7 @@ fn entries_of(
     Ok((types, scope, rest))
 }
 
-#[tactic(auto, unfolding(crate::specs::File::type_section))]
+#[tactic(auto, unfolding(ctype_format::specs::File::type_section))]
 fn type_section_of(alloc: Global, bytes: &[u8]) -> Result<(Vec<RawType>, Scope, &[u8]), ItemError>
     ensures { AnswersRead (λ x. ((map type_view x.0.items, x.1), x.2.now)) result (type_section.read bytes.now) }
 {
@@ -217,7 +214,7 @@ fn type_section_of(alloc: Global, bytes: &[u8]) -> Result<(Vec<RawType>, Scope, 
     entries_of(alloc, count, rest)
 }
 
-#[tactic(auto, unfolding(crate::specs::File::exported))]
+#[tactic(auto, unfolding(ctype_format::specs::File::exported))]
 fn exported_of(alloc: Global, types: u32, bytes: &[u8]) -> Result<(RawExport, &[u8]), ItemError>
     ensures { AnswersRead (λ x. (export_view x.0, x.1.now)) result ((exported types).read bytes.now) }
 {
@@ -249,7 +246,7 @@ fn exports_of(
     Ok((exports, rest))
 }
 
-#[tactic(auto, unfolding(crate::specs::File::export_section))]
+#[tactic(auto, unfolding(ctype_format::specs::File::export_section))]
 fn export_section_of(
     alloc: Global,
     types: u32,
@@ -261,7 +258,7 @@ fn export_section_of(
     exports_of(alloc, types, count, rest)
 }
 
-#[tactic(auto, unfolding(crate::specs::Bytes::sized))]
+#[tactic(auto, unfolding(ctype_format::specs::Bytes::sized))]
 fn types_within(
     alloc: Global,
     size: u32,
@@ -285,7 +282,7 @@ fn types_within(
     }
 }
 
-#[tactic(auto, unfolding(crate::specs::Bytes::sized))]
+#[tactic(auto, unfolding(ctype_format::specs::Bytes::sized))]
 fn exports_within(
     alloc: Global,
     types: u32,
@@ -311,7 +308,7 @@ fn exports_within(
 }
 
 /// The parts of a whole file.
-#[tactic(auto, unfolding(crate::specs::File::file))]
+#[tactic(auto, unfolding(ctype_format::specs::File::file))]
 pub(crate) fn parts_of(
     alloc: Global,
     bytes: &[u8],

@@ -1,19 +1,13 @@
 //! Reading types with scopes of their own, and the declarations in them. They nest at most four deep.
 ghost use Rattle.std.specs.Prelude.{◌≡◌, ◌<◌, ◌≤◌, ◌+◌, map, length, IfOk, OnOk, IsTrue};
 ghost use Rattle.productions.specs.Production.{run};
-ghost use Rattle.ctype_bin.specs.Bytes.{AnswersRead};
-ghost use Rattle.ctype_bin.specs.Raw.{Alias};
-ghost use Rattle.ctype_bin.specs.Grammar.{IsWithin, is_nested, is_component, left_out, opcode, new_scope, entry_fault, instance_export, outer_type, alias, description, external, is_decl, decl, nested, scope_of, type};
-ghost use Rattle.ctype_bin.specs.View.{decl_view, type_view};
+ghost use Rattle.ctype_format.specs.Bytes.{AnswersRead};
+ghost use Rattle.ctype_format.specs.Raw.{Alias};
+ghost use Rattle.ctype_format.specs.Grammar.{IsWithin, is_nested, is_component, left_out, opcode, new_scope, entry_fault, instance_export, outer_type, alias, description, external, is_decl, decl, nested, scope_of, type};
+ghost use Rattle.ctype_format.specs.View.{decl_view, type_view};
 
 use crate::defined::plain_of;
-use crate::error::{Fault, Feature, ItemError};
-use crate::items::{at, byte_of, extern_name_of, index_of, label_of, u32_of, zero_of};
-use crate::opcode::{Opcode, is_nested, opcode_of};
-use crate::raw::{RawAlias, RawDecl, RawDescription, RawType};
-use crate::scope::{
-    MAX_ENTRIES, Scope, new_scope, types_at, with_entries, with_instance, with_type,
-};
+use ctype_format::{Fault, Feature, ItemError, MAX_ENTRIES, Opcode, RawAlias, RawDecl, RawDescription, RawType, Scope, at, byte_of, extern_name_of, index_of, is_nested, label_of, new_scope, opcode_of, types_at, u32_of, with_entries, with_instance, with_type, zero_of};
 use std::alloc::Global;
 
 /// What is wrong with a byte that begins no type.
@@ -28,7 +22,7 @@ fn left_out(byte: u8) -> Fault
 }
 
 /// The first byte of a type.
-#[tactic(auto, unfolding(crate::specs::Grammar::opcode))]
+#[tactic(auto, unfolding(ctype_format::specs::Grammar::opcode))]
 fn type_opcode_of(depth: u32, entries: u32, bytes: &[u8]) -> Result<(Opcode, &[u8]), ItemError>
     ensures reads { AnswersRead (λ x. (x.0, x.1.now)) result ((opcode depth entries).read bytes.now) }
     ensures room { OnOk result (entries < 65535) }
@@ -57,7 +51,7 @@ fn entry_fault(entries: u32, allowed: bool, byte: u8) -> Option<Fault>
     None
 }
 
-#[tactic(auto, unfolding(crate::specs::Grammar::instance_export))]
+#[tactic(auto, unfolding(ctype_format::specs::Grammar::instance_export))]
 fn instance_export_of(
     alloc: Global,
     scope: Scope,
@@ -70,7 +64,7 @@ fn instance_export_of(
     Ok((RawAlias::InstanceExport { instance, name }, rest))
 }
 
-#[tactic(auto, unfolding(crate::specs::Grammar::outer_type))]
+#[tactic(auto, unfolding(ctype_format::specs::Grammar::outer_type))]
 fn outer_of<'a>(
     around: &[u32],
     scope: Scope,
@@ -86,7 +80,7 @@ fn outer_of<'a>(
     Ok((RawAlias::Outer { count, index }, rest))
 }
 
-#[tactic(auto, unfolding(crate::specs::Grammar::alias))]
+#[tactic(auto, unfolding(ctype_format::specs::Grammar::alias))]
 fn alias_of<'a>(
     alloc: Global,
     around: &[u32],
@@ -113,7 +107,7 @@ fn alias_of<'a>(
 }
 
 /// What an import or export is, and the scope with it.
-#[tactic(auto, unfolding(crate::specs::Grammar::description))]
+#[tactic(auto, unfolding(ctype_format::specs::Grammar::description))]
 fn description_of(scope: Scope, bytes: &[u8]) -> Result<(RawDescription, Scope, &[u8]), ItemError>
     requires within { IsWithin scope }
     requires instances { scope.instances < 4294967295 }
@@ -147,7 +141,7 @@ fn description_of(scope: Scope, bytes: &[u8]) -> Result<(RawDescription, Scope, 
 }
 
 /// An import or an export behind its first byte.
-#[tactic(auto, unfolding(crate::specs::Grammar::external, crate::specs::View::decl_view))]
+#[tactic(auto, unfolding(ctype_format::specs::Grammar::external, ctype_format::specs::View::decl_view))]
 fn external_of(
     alloc: Global,
     scope: Scope,
@@ -177,7 +171,7 @@ fn is_decl(component: bool, byte: u8) -> bool
 
 /// A declaration, and the scope with it.
 #[cycle(types)]
-#[tactic(auto, unfolding(crate::specs::Grammar::decl, crate::specs::View::decl_view))]
+#[tactic(auto, unfolding(ctype_format::specs::Grammar::decl, ctype_format::specs::View::decl_view))]
 fn decl_of<'a>(
     alloc: Global,
     depth: u32,
@@ -238,7 +232,7 @@ fn decls_of<'a>(
 }
 
 /// A component type, or an instance type.
-#[tactic(auto, using(crate::proofs::Views::views))]
+#[tactic(auto, using(ctype_format::proofs::Views::views))]
 fn nested(opcode: Opcode, decls: Vec<RawDecl>) -> RawType
     ensures { type_view result ≡ nested opcode (map decl_view decls.items) }
 {
@@ -250,7 +244,7 @@ fn nested(opcode: Opcode, decls: Vec<RawDecl>) -> RawType
 
 /// A component type or an instance type behind its opcode, and the type entries after it.
 #[cycle(types)]
-#[tactic(auto, unfolding(crate::specs::Grammar::scope_of))]
+#[tactic(auto, unfolding(ctype_format::specs::Grammar::scope_of))]
 fn scope_of<'a>(
     alloc: Global,
     depth: u32,

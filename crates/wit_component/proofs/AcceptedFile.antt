@@ -7,12 +7,12 @@ use Rattle.std.proofs.lemmas.List.{length-append, length-map, length-take, lengt
 use Rattle.std.proofs.lemmas.List.Folds.{list_all-append, list_all-map}
 use Rattle.std.proofs.lemmas.List.Sums.{sum_by-cons, sum_by-append}
 use Rattle.std.proofs.lemmas.Slice.Eq.{bytes_eq-Decides}
-use Rattle.ctype_bin.specs.Raw.{Instance, Decl, Entry, Export}
-use Rattle.ctype_bin.specs.View.{decls_of}
-use Rattle.ctype_bin.specs.Formed.{All}
+use Rattle.ctype_format.specs.Raw.{Instance, Decl, Entry, Export}
+use Rattle.ctype_format.specs.View.{decls_of}
+use Rattle.ctype_format.specs.Formed.{All}
 use Rattle.ctype_bin.specs.InRange.{DeclsInRange}
 use Rattle.ctype_bin.specs.Accepted.{AllowedDecls, entries_of_decls, IsAccepted}
-use Rattle.ctype_bin.specs.declared.raw.RawDescription.TheVariants as described
+use Rattle.ctype_format.specs.declared.raw.RawDescription.TheVariants as described
 use Rattle.tables.specs.Tables.{type_of, function_of, is_function_id, is_placed, are_placed, is_standard, are_earlier, is_there}
 use Rattle.tables.specs.Names.{full_name}
 use Rattle.tables.specs.declared.tables.TypeId.{TypeId}

@@ -3,9 +3,9 @@ use Rattle.std.proofs.Common.{◌≡◌, ℕ, ◌+◌, ◌<◌, ◌≤◌, Bool,
 use Rattle.std.proofs.lemmas.Bool.Decides.{nat_tests}
 use Rattle.std.proofs.lemmas.List.{length-map}
 use Rattle.std.specs.Option.{option_map}
-use Rattle.ctype_bin.specs.Raw.{Defined, Decl}
-use Rattle.ctype_bin.specs.View.{decls_of}
-use Rattle.ctype_bin.specs.Formed.{All}
+use Rattle.ctype_format.specs.Raw.{Defined, Decl}
+use Rattle.ctype_format.specs.View.{decls_of}
+use Rattle.ctype_format.specs.Formed.{All}
 use Rattle.ctype_bin.specs.InRange.{ValTypeInRange, OptionInRange, FieldInRange, CaseInRange, DefinedInRange, FunctionInRange, DeclsInRange}
 use Rattle.ctype_bin.specs.Accepted.{Among, AllowedDecls, entries_of_decls}
 use Rattle.tables.specs.Tables.{is_within, is_standard_kind, is_standard}

@@ -2,8 +2,8 @@
 use Rattle.std.proofs.Common.{◌≡◌, ◌⊎◌, ℕ, zero, suc, ◌+◌, ◌-◌, ◌<◌, ◌≤◌, Bool, true, false, cond, not, ◌==◌, List, [], ◌∷◌, ◌++◌, take, drop, length, slice_get, Option, None, Some, is_some, refl, sym, ap, subst, ◌∙◌, arith, inl, inr}
 use Rattle.std.specs.List.{list_all}
 use Rattle.std.proofs.lemmas.List.{length-append}
-use Rattle.ctype_bin.specs.View.{decls_of}
-use Rattle.ctype_bin.specs.Formed.{All}
+use Rattle.ctype_format.specs.View.{decls_of}
+use Rattle.ctype_format.specs.Formed.{All}
 use Rattle.ctype_bin.specs.InRange.{DeclsInRange}
 use Rattle.tables.specs.Tables.{type_of, definition_below, are_earlier}
 use Rattle.tables.specs.declared.tables.TypeDef.{TypeDef}

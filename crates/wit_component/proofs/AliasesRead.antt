@@ -2,8 +2,8 @@
 use Rattle.std.proofs.Common.{◌≡◌, ℕ, suc, true, not, List, [], ◌∷◌, ◌++◌, length, Some, refl, ap, sym, ◌∙◌, append_assoc, append-nil}
 use Rattle.std.specs.List.{list_all}
 use Rattle.std.specs.Option.{option_map}
-use Rattle.ctype_bin.specs.Raw.{Decl}
-use Rattle.ctype_bin.specs.View.{decls_of}
+use Rattle.ctype_format.specs.Raw.{Decl}
+use Rattle.ctype_format.specs.View.{decls_of}
 use Rattle.package_form.specs.Scoped.{Entry as Named}
 use Rattle.tables.specs.declared.tables.TypeId.{TypeId}
 use Rattle.tables.specs.declared.tables.TypeDefKind.{TypeDefKind}

@@ -8,9 +8,9 @@ use Rattle.std.specs.String.{string_bytes}
 use Rattle.std.specs.declared.string.String.{String}
 use Rattle.std.specs.declared.alloc.Global.{Global}
 use Rattle.std.proofs.lemmas.Bool.Decides.{nat_tests}
-use Rattle.ctype_bin.specs.Raw.{Decl, Entry, Instance, Component, Export, File}
-use Rattle.ctype_bin.specs.View.{decls_of}
-use Rattle.ctype_bin.specs.declared.raw.RawDescription.TheVariants as described
+use Rattle.ctype_format.specs.Raw.{Decl, Entry, Instance, Component, Export, File}
+use Rattle.ctype_format.specs.View.{decls_of}
+use Rattle.ctype_format.specs.declared.raw.RawDescription.TheVariants as described
 use Rattle.tables.specs.Tables.{type_of, function_of, is_there, is_type_id, is_function_id, is_type, option_all, kind_all, definition_all, definition_below, are_earlier, name_types, is_standard, are_standard, is_placed, are_placed, are_grouped}
 use Rattle.tables.specs.Parts.{is_package}
 use Rattle.tables.specs.PackageNames.{PackageParts}

@@ -1,7 +1,7 @@
 -- The candidate of a component is the package that it stands for.
 use Rattle.std.proofs.Common.{◌≡◌, ◌≢◌, true, false, cond, ℕ, List, [], ◌∷◌, ◌++◌, append_assoc, None, Some, Ok, Err, refl, ap, sym, subst, ◌∙◌, All, Contains, inl, inr}
-use Rattle.ctype_bin.specs.Raw.{Decl, File}
-use Rattle.ctype_bin.specs.View.{decls_of}
+use Rattle.ctype_format.specs.Raw.{Decl, File}
+use Rattle.ctype_format.specs.View.{decls_of}
 use Rattle.ctype_bin.specs.FileView.{file_view}
 use Rattle.ctype_bin.specs.declared.component.RawComponent.{RawComponent}
 use Rattle.tables.specs.Parts.{is_package}

@@ -4,9 +4,9 @@ use Rattle.std.specs.Option.{option_map}
 use Rattle.std.proofs.lemmas.Bool.Decides.{nat_tests}
 use Rattle.std.proofs.lemmas.List.{length-map}
 use Rattle.atoms.specs.Label.{is_label}
-use Rattle.ctype_bin.specs.Raw.{Decl, Instance, Entry, Export}
-use Rattle.ctype_bin.specs.View.{decls_of}
-use Rattle.ctype_bin.specs.declared.raw.RawDescription.TheVariants as described
+use Rattle.ctype_format.specs.Raw.{Decl, Instance, Entry, Export}
+use Rattle.ctype_format.specs.View.{decls_of}
+use Rattle.ctype_format.specs.declared.raw.RawDescription.TheVariants as described
 use Rattle.package_form.proofs.Lists.{get-front}
 use Rattle.package_form.specs.Ids.{places_where, package_id, type_id, function_id}
 use Rattle.tables.specs.declared.tables.TypeId.{TypeId}

@@ -2,14 +2,14 @@
 use Rattle.std.proofs.Common.{◌≡◌, ℕ, ◌==◌, List, [], ◌∷◌, ◌++◌, map, length, Result, Ok, Err, refl, ap, sym, subst, ◌∙◌, arith}
 use Rattle.std.proofs.lemmas.Bool.Decides.{nat_tests}
 use Rattle.std.specs.Global.{Vec}
-use Rattle.ctype_bin.specs.Raw.{File}
-use Rattle.ctype_bin.specs.File.{file}
+use Rattle.ctype_format.specs.Raw.{File}
+use Rattle.ctype_format.specs.File.{file}
 use Rattle.ctype_bin.specs.Encoding.{AppendsSpelling}
 use Rattle.ctype_bin.specs.Exactness.{ExactToEnd}
-use Rattle.ctype_bin.specs.View.{type_view, decl_view, decls_of}
-use Rattle.ctype_bin.specs.declared.raw.RawDecl.{RawDecl}
-use Rattle.ctype_bin.specs.declared.raw.RawType as t
-use Rattle.ctype_bin.proofs.Views.{view-Component}
+use Rattle.ctype_format.specs.View.{type_view, decl_view, decls_of}
+use Rattle.ctype_format.specs.declared.raw.RawDecl.{RawDecl}
+use Rattle.ctype_format.specs.declared.raw.RawType as t
+use Rattle.ctype_format.proofs.Views.{view-Component}
 use Rattle.wit_component.specs.FromComponent.{is_none, has_no_decls}
 
 abbrev value : {E : Type 0} → File → Result (File × List ℕ) E → File

@@ -1,10 +1,10 @@
 -- Declarations that are appended.
 use Rattle.std.proofs.Common.{◌≡◌, Bool, false, cond, List, [], ◌∷◌, ◌++◌, Option, Some, map, option_map, ap, sym, ◌∙◌}
 use Rattle.std.proofs.lemmas.List.{map-append}
-use Rattle.ctype_bin.specs.Raw.{Decl, Define, Entry}
-use Rattle.ctype_bin.specs.View.{decl_view, defined_view}
-use Rattle.ctype_bin.specs.declared.raw.RawDecl.{RawDecl}
-use Rattle.ctype_bin.specs.declared.raw.RawDefinedType.{RawDefinedType}
+use Rattle.ctype_format.specs.Raw.{Decl, Define, Entry}
+use Rattle.ctype_format.specs.View.{decl_view, defined_view}
+use Rattle.ctype_format.specs.declared.raw.RawDecl.{RawDecl}
+use Rattle.ctype_format.specs.declared.raw.RawDefinedType.{RawDefinedType}
 use Rattle.package_form.specs.Ids.{is_use}
 use Rattle.tables.specs.declared.tables.TypeDefKind.{TypeDefKind}
 use Rattle.wit_component.specs.Rows.{Place, outer_alias, defined_of, definition_if, definition_of}

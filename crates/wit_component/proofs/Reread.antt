@@ -3,9 +3,9 @@ use Rattle.std.proofs.Common.{◌≡◌, ◌≢◌, IsTrue, true, cond, ◌&&◌
 use Rattle.std.specs.List.{list_all}
 use Rattle.std.proofs.lemmas.Bool.{leb-true}
 use Rattle.atoms.specs.Label.{is_label}
-use Rattle.ctype_bin.specs.Raw.{Decl, Instance, Entry, Export}
-use Rattle.ctype_bin.specs.View.{decls_of}
-use Rattle.ctype_bin.specs.declared.raw.RawDescription.TheVariants as described
+use Rattle.ctype_format.specs.Raw.{Decl, Instance, Entry, Export}
+use Rattle.ctype_format.specs.View.{decls_of}
+use Rattle.ctype_format.specs.declared.raw.RawDescription.TheVariants as described
 use Rattle.tables.specs.PackageNames.{PackageParts}
 use Rattle.tables.specs.Names.{full_name}
 use Rattle.tables.specs.Tables.{are_earlier, is_placed, are_grouped}

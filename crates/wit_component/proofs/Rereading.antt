@@ -3,7 +3,7 @@ use Rattle.std.proofs.Common.{◌≡◌, ℕ, Bool, true, false, List, [], ◌�
 use Rattle.std.specs.List.{list_all}
 use Rattle.std.specs.Option.{option_map}
 use Rattle.std.proofs.lemmas.List.Folds.{list_all-append}
-use Rattle.ctype_bin.specs.Raw.{Defined, Prim, Record, Variant, ListOf, Tuple, FlagSet, Enumeration, OptionOf, ResultOf}
+use Rattle.ctype_format.specs.Raw.{Defined, Prim, Record, Variant, ListOf, Tuple, FlagSet, Enumeration, OptionOf, ResultOf}
 use Rattle.tables.specs.declared.tables.Primitive.{Primitive}
 use Rattle.tables.specs.declared.tables.Primitive.TheVariants as primitive
 use Rattle.tables.specs.declared.tables.TypeId.{TypeId}

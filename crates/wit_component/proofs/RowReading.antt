@@ -4,9 +4,9 @@ use Rattle.std.specs.List.{list_all}
 use Rattle.std.specs.Option.{option_map}
 use Rattle.std.proofs.lemmas.List.Folds.{list_all-append}
 use Rattle.atoms.specs.Label.{is_label}
-use Rattle.ctype_bin.specs.Raw.{Defined, Define, Func, Decl, Entry, Export, none}
-use Rattle.ctype_bin.specs.View.{decls_of}
-use Rattle.ctype_bin.specs.declared.raw.RawDescription.TheVariants as described
+use Rattle.ctype_format.specs.Raw.{Defined, Define, Func, Decl, Entry, Export, none}
+use Rattle.ctype_format.specs.View.{decls_of}
+use Rattle.ctype_format.specs.declared.raw.RawDescription.TheVariants as described
 use Rattle.package_form.specs.Postfix.{is_unnamed_row, is_inner, inner_row}
 use Rattle.package_form.specs.Ids.{type_id}
 use Rattle.tables.specs.declared.tables.TypeId.{TypeId}

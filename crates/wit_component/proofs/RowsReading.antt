@@ -1,8 +1,8 @@
 -- The declarations of an interface's rows, read again.
 use Rattle.std.proofs.Common.{◌≡◌, ℕ, ◌+◌, List, [], ◌∷◌, ◌++◌, length, slice_get, true, nat_le, nat_lt, Option, None, Some, refl, ap, sym, subst, ◌∙◌, arith, length-append}
 use Rattle.std.proofs.lemmas.Bool.{ltb-true, leb-true}
-use Rattle.ctype_bin.specs.Raw.{Decl}
-use Rattle.ctype_bin.specs.View.{decls_of}
+use Rattle.ctype_format.specs.Raw.{Decl}
+use Rattle.ctype_format.specs.View.{decls_of}
 use Rattle.tables.specs.declared.tables.TypeId.{TypeId}
 use Rattle.tables.specs.declared.tables.Definition.{Definition}
 use Rattle.component_reader.specs.Instance.{if_found, InstanceRead, settled, nothing_read, decl_read, decls_read, instance_read}

@@ -1,10 +1,10 @@
 -- Binary.md, "Component Definitions" and "Type Definitions": a package as one component type. Each interface is an instance type and an
 -- export of an instance under its full name; before them stands an alias of each type that the interface uses of another.
 use Rattle.std.specs.Prelude.{ℕ, ◌+◌, List, [], ◌∷◌, ◌++◌, flat_map, length, slice_get, Option, None, Some}
-use Rattle.ctype_bin.specs.Raw.{Component, Instance, Decl, Entry, Alias, Export, File}
-use Rattle.ctype_bin.specs.View.{decls_of}
-use Rattle.ctype_bin.specs.declared.raw.RawAlias.TheVariants as alias
-use Rattle.ctype_bin.specs.declared.raw.RawDescription.TheVariants as described
+use Rattle.ctype_format.specs.Raw.{Component, Instance, Decl, Entry, Alias, Export, File}
+use Rattle.ctype_format.specs.View.{decls_of}
+use Rattle.ctype_format.specs.declared.raw.RawAlias.TheVariants as alias
+use Rattle.ctype_format.specs.declared.raw.RawDescription.TheVariants as described
 use Rattle.tables.specs.Tables.{type_of}
 use Rattle.tables.specs.Names.{full_name}
 use Rattle.tables.specs.declared.tables.TypeId.{TypeId}

@@ -1,15 +1,15 @@
 -- Binary.md, "Type Definitions": the declarations of an instance type for the rows of an interface.
 use Rattle.std.specs.Prelude.{ℕ, ◌+◌, List, [], ◌∷◌, ◌++◌, map, slice_index, Option, None, Some, if◌then◌else◌}
 use Rattle.std.specs.Option.{option_map}
-use Rattle.ctype_bin.specs.Raw.{Defined, Prim, Record, Variant, ListOf, Tuple, FlagSet, Enumeration, OptionOf, ResultOf, Function as Signature, Define, Func, Decl, Entry, Alias, Export}
-use Rattle.ctype_bin.specs.declared.raw.Primitive.{Primitive as RawPrimitive}
-use Rattle.ctype_bin.specs.declared.raw.Primitive.TheVariants as raw
-use Rattle.ctype_bin.specs.declared.raw.RawValType.{RawValType}
-use Rattle.ctype_bin.specs.declared.raw.RawValType.TheVariants as valtype
-use Rattle.ctype_bin.specs.declared.raw.RawField.{RawField}
-use Rattle.ctype_bin.specs.declared.raw.RawCase.{RawCase}
-use Rattle.ctype_bin.specs.declared.raw.RawAlias.TheVariants as alias
-use Rattle.ctype_bin.specs.declared.raw.RawDescription.TheVariants as described
+use Rattle.ctype_format.specs.Raw.{Defined, Prim, Record, Variant, ListOf, Tuple, FlagSet, Enumeration, OptionOf, ResultOf, Function as Signature, Define, Func, Decl, Entry, Alias, Export}
+use Rattle.ctype_format.specs.declared.raw.Primitive.{Primitive as RawPrimitive}
+use Rattle.ctype_format.specs.declared.raw.Primitive.TheVariants as raw
+use Rattle.ctype_format.specs.declared.raw.RawValType.{RawValType}
+use Rattle.ctype_format.specs.declared.raw.RawValType.TheVariants as valtype
+use Rattle.ctype_format.specs.declared.raw.RawField.{RawField}
+use Rattle.ctype_format.specs.declared.raw.RawCase.{RawCase}
+use Rattle.ctype_format.specs.declared.raw.RawAlias.TheVariants as alias
+use Rattle.ctype_format.specs.declared.raw.RawDescription.TheVariants as described
 use Rattle.package_form.specs.Ids.{is_use}
 use Rattle.tables.specs.declared.tables.Primitive.{Primitive}
 use Rattle.tables.specs.declared.tables.Primitive.TheVariants as primitive

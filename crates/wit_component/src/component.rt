@@ -2,10 +2,10 @@
 ghost use Rattle.std.specs.Prelude.{◌≡◌, ◌≤◌, ◌<◌, ◌+◌, ◌++◌, ◌∷◌, [], ◌-◌, map, length, IsTrue, IfOk, OnOk};
 ghost use Rattle.std.specs.List.{list_all};
 ghost use Rattle.atoms.specs.Label.{IsLabel};
-ghost use Rattle.ctype_bin.specs.Names.{name_view};
-ghost use Rattle.ctype_bin.specs.View.{decl_view};
-ghost use Rattle.ctype_bin.specs.Raw.{Export};
-ghost use Rattle.ctype_bin.specs.declared.raw.RawDescription.TheVariants.{Instance};
+ghost use Rattle.ctype_format.specs.Names.{name_view};
+ghost use Rattle.ctype_format.specs.View.{decl_view};
+ghost use Rattle.ctype_format.specs.Raw.{Export};
+ghost use Rattle.ctype_format.specs.declared.raw.RawDescription.TheVariants.{Instance};
 ghost use Rattle.tables.specs.Names.{full_name};
 ghost use Rattle.wit_component.specs.Component.{Front, first_place, interface_declarations, front_after, interfaces_declared, no_front};
 ghost use Rattle.package_form.specs.Ends.{is_parted};

@@ -1,9 +1,9 @@
 //! Interfaces as declarations of the component type.
 ghost use Rattle.std.specs.Prelude.{◌≡◌, ◌≤◌, ◌<◌, ◌+◌, ◌++◌, ◌∷◌, [], ◌-◌, None, Some, map, length, take, drop, IsTrue, IfOk, OnOk, MatchOption};
 ghost use Rattle.atoms.specs.FullName.{is_package_label, is_version_or_none};
-ghost use Rattle.ctype_bin.specs.Names.{name_view};
-ghost use Rattle.ctype_bin.specs.View.{decl_view, decls_of};
-ghost use Rattle.ctype_bin.specs.Raw.{Instance, Entry, Alias, Export};
+ghost use Rattle.ctype_format.specs.Names.{name_view};
+ghost use Rattle.ctype_format.specs.View.{decl_view, decls_of};
+ghost use Rattle.ctype_format.specs.Raw.{Instance, Entry, Alias, Export};
 ghost use Rattle.tables.specs.Names.{full_name};
 ghost use Rattle.wit_component.specs.Rows.{Place, declarations_of, places_after};
 ghost use Rattle.wit_component.specs.Component.{used_in, name_at, instance_export, row_alias, aliases_of};

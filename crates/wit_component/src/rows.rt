@@ -2,8 +2,8 @@
 ghost use Rattle.std.specs.Prelude.{◌≡◌, ◌≤◌, ◌<◌, ◌+◌, ◌++◌, map, option_map, length, vec_len, IsTrue, IfOk, OnOk, OnErr};
 ghost use Rattle.std.specs.List.{list_all};
 ghost use Rattle.atoms.specs.Label.{IsLabel};
-ghost use Rattle.ctype_bin.specs.View.{decl_view, decls_of, defined_view};
-ghost use Rattle.ctype_bin.specs.Raw.{Define, Func, Entry, Export};
+ghost use Rattle.ctype_format.specs.View.{decl_view, decls_of, defined_view};
+ghost use Rattle.ctype_format.specs.Raw.{Define, Func, Entry, Export};
 ghost use Rattle.package_form.specs.Ids.{is_use};
 ghost use Rattle.wit_component.specs.Rows.{Place, signature_of, defined_of, definition_of, definition_index, type_export, row_declarations, outer_alias, defined_types, row_types, row_offset, place_after, declarations_of, places_after};
 ghost use Rattle.wit_component.specs.ToComponent.{is_labelled};

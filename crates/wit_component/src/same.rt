@@ -1,10 +1,10 @@
 //! Whether raw components are the same, and whether one is empty.
 ghost use Rattle.std.specs.Prelude.{◌≡◌, true, IfOk, map};
 ghost use Rattle.std.specs.Bool.{OnTrue};
-ghost use Rattle.ctype_bin.specs.View.{type_view};
+ghost use Rattle.ctype_format.specs.View.{type_view};
 ghost use Rattle.ctype_bin.specs.FileView.{file_view};
-ghost use Rattle.ctype_bin.specs.File.{file};
-ghost use Rattle.ctype_bin.specs.Writing.{file_bytes};
+ghost use Rattle.ctype_format.specs.File.{file};
+ghost use Rattle.ctype_format.specs.Writing.{file_bytes};
 ghost use Rattle.wit_component.specs.FromComponent.{has_no_decls, is_empty_package};
 
 use ctype_bin::{RawComponent, RawType, encode, files_are_read_exactly};

@@ -1,6 +1,6 @@
 //! A package as a raw component.
 ghost use Rattle.std.specs.Prelude.{◌≡◌, ◌⊎◌, [], ◌∷◌, IsTrue, true, IfOk, OnOk, IfErr};
-ghost use Rattle.ctype_bin.specs.View.{file_of, export_view};
+ghost use Rattle.ctype_format.specs.View.{file_of, export_view};
 ghost use Rattle.wit_component.specs.Component.{component_of, package_export};
 ghost use Rattle.package_form.specs.Form.{IsInPackageForm};
 ghost use Rattle.wit_component.specs.ToComponent.{ComponentStands, are_labelled};

@@ -3,10 +3,10 @@ use Rattle.std.proofs.Common.{◌≡◌, ◌≤◌, ℕ, Bool, true, false, List
 use Rattle.std.proofs.Math.Logic.{∥∥₁_map₂}
 use Rattle.std.specs.Prelude.{MatchBool, All}
 use Rattle.ctype_bin.specs.Encoding.{AppendsSpelling}
-use Rattle.ctype_bin.specs.File.{decoded}
+use Rattle.ctype_format.specs.File.{decoded}
 use Rattle.ctype_bin.specs.FileView.{file_view}
-use Rattle.ctype_bin.specs.Raw.{File}
-use Rattle.ctype_bin.specs.Writing.{file_bytes}
+use Rattle.ctype_format.specs.Raw.{File}
+use Rattle.ctype_format.specs.Writing.{file_bytes}
 use Rattle.ctype_bin.specs.declared.component.RawComponent.{RawComponent}
 use Rattle.layout.specs.Layout.{AreWithin, RefusesFirst}
 use Rattle.layout.specs.declared.error.LayoutError.{LayoutError}

@@ -1,9 +1,9 @@
 -- What the job of a reader's bytes makes.
 use Rattle.std.proofs.Common.{◌≡◌, ◌⊎◌, ℕ, List, Option, inr, sym, subst}
 use Rattle.atoms.specs.Streams.{ReadsUpTo}
-use Rattle.ctype_bin.specs.Writing.{file_bytes}
-use Rattle.ctype_bin.specs.declared.error.BinError.{BinError}
-use Rattle.ctype_bin.specs.declared.error.BinError.TheVariants as binary
+use Rattle.ctype_format.specs.Writing.{file_bytes}
+use Rattle.ctype_format.specs.declared.error.BinError.{BinError}
+use Rattle.ctype_format.specs.declared.error.BinError.TheVariants as binary
 use Rattle.tables.specs.declared.tables.Resolve.{Resolve}
 use Rattle.wit_component.specs.Component.{component_of}
 use Rattle.words.specs.declared.asked.Job.{Job}

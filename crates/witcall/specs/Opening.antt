@@ -11,15 +11,15 @@ use Rattle.wit_tokens.specs.declared.error.TextError.TheVariants.{Unsupported}
 use Rattle.wit_syntax.specs.Syntax.{File, FileEntry, AnInterface, AWorld}
 use Rattle.wit_text.specs.Reading as text
 use Rattle.wit_text.specs.Reading.{IsRead}
-use Rattle.ctype_bin.specs.File as binary
-use Rattle.ctype_bin.specs.File.{decoded, max_length}
+use Rattle.ctype_format.specs.File as binary
+use Rattle.ctype_format.specs.File.{decoded, max_length}
 use Rattle.ctype_bin.specs.FileView.{file_view}
-use Rattle.ctype_bin.specs.Writing.{file_bytes}
+use Rattle.ctype_format.specs.Writing.{file_bytes}
 use Rattle.ctype_bin.specs.declared.component.RawComponent.{RawComponent}
-use Rattle.ctype_bin.specs.declared.error.BinError.{BinError}
-use Rattle.ctype_bin.specs.declared.error.BinError.TheVariants as binary_error
-use Rattle.ctype_bin.specs.declared.error.BinError.TheVariants.{At}
-use Rattle.ctype_bin.specs.declared.error.Fault.TheVariants.{Limit}
+use Rattle.ctype_format.specs.declared.error.BinError.{BinError}
+use Rattle.ctype_format.specs.declared.error.BinError.TheVariants as binary_error
+use Rattle.ctype_format.specs.declared.error.BinError.TheVariants.{At}
+use Rattle.ctype_format.specs.declared.error.Fault.TheVariants.{Limit}
 use Rattle.package_form.specs.Scope.{AreDistinct}
 use Rattle.resolve.specs.Resolves as tree
 use Rattle.resolve.specs.Resolves.{HasNoFaults, IsPackageOf}

@@ -1,8 +1,8 @@
 -- What a job makes of a whole input, and why it is not done.
 use Rattle.std.specs.Prelude.{◌≡◌, ◌≢◌, ◌⊎◌, ℕ, List, Option}
 use Rattle.atoms.specs.Streams.{ReadsUpTo}
-use Rattle.ctype_bin.specs.Writing.{file_bytes}
-use Rattle.ctype_bin.specs.declared.error.BinError.TheVariants as binary
+use Rattle.ctype_format.specs.Writing.{file_bytes}
+use Rattle.ctype_format.specs.declared.error.BinError.TheVariants as binary
 use Rattle.tables.specs.declared.tables.Resolve.{Resolve}
 use Rattle.wit_component.specs.Component.{component_of}
 use Rattle.witcall.specs.Opening.{IsOpened, IsBinaryOf, IsTooLong, OpenRefuses}

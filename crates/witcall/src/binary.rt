@@ -4,7 +4,7 @@ ghost use Rattle.std.specs.Prelude.{◌≡◌, ◌⊎◌, true, All, IfOk, IfErr
 ghost use Rattle.package_form.specs.Scope.{AreDistinct};
 ghost use Rattle.tables.specs.Same.{IsSamePackage};
 ghost use Rattle.package_form.specs.Naming.{package_scopes};
-ghost use Rattle.ctype_bin.specs.Writing.{file_bytes};
+ghost use Rattle.ctype_format.specs.Writing.{file_bytes};
 ghost use Rattle.wit_component.specs.Component.{component_of};
 ghost use Rattle.package_form.specs.Form.{IsInPackageForm};
 ghost use Rattle.witcall.specs.Opening.{is_binary, IsOfBinary, IsBinaryOf, IsWrittenAs, IsTooLong, IsWantOfMemory, BinaryRefuses};

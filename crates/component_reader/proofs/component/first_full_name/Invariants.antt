@@ -1,5 +1,5 @@
 use Rattle.std.proofs.Common.{◌≡◌, map, drop}
-use Rattle.ctype_bin.specs.View.{decl_view, decls_of}
+use Rattle.ctype_format.specs.View.{decl_view, decls_of}
 use Rattle.component_reader.specs.Component.{first_full_name}
 use Rattle.component_reader.proofs.component.first_full_name.Given as goal
 

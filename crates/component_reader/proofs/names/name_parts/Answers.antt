@@ -1,7 +1,7 @@
 use Rattle.std.proofs.Common.{ap}
 use Rattle.std.specs.Option.{option_map}
 use Rattle.std.specs.String.{string_bytes}
-use Rattle.ctype_bin.specs.Names.{name_view}
+use Rattle.ctype_format.specs.Names.{name_view}
 use Rattle.component_reader.proofs.ExportNames.{name-of-parts}
 use Rattle.component_reader.proofs.names.name_parts.Goals as goal
 

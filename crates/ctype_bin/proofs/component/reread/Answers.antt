@@ -1,7 +1,7 @@
 use Rattle.std.proofs.Common.{refl, arith}
-use Rattle.ctype_bin.specs.declared.error.Stuck.TheVariants.{End, At, Past}
-use Rattle.ctype_bin.specs.File.{file}
-use Rattle.ctype_bin.specs.View.{file_of}
+use Rattle.ctype_format.specs.declared.error.Stuck.TheVariants.{End, At, Past}
+use Rattle.ctype_format.specs.File.{file}
+use Rattle.ctype_format.specs.View.{file_of}
 use Rattle.ctype_bin.proofs.Made.{stopped_at, made, no_end, no_past, wrong}
 use Rattle.ctype_bin.proofs.component.reread.Goals.{in-Ok, in-Err-Memory, in-Err-Stuck-At}
 use Rattle.ctype_bin.proofs.component.reread.Goals as goal

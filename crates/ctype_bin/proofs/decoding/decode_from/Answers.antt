@@ -1,5 +1,5 @@
 use Rattle.std.proofs.Common.{Err}
-use Rattle.ctype_bin.specs.declared.error.BinError.TheVariants.{NoMemory}
+use Rattle.ctype_format.specs.declared.error.BinError.TheVariants.{NoMemory}
 use Rattle.ctype_bin.specs.FileView.{file_view}
 use Rattle.ctype_bin.proofs.Cut.{of_known, of_read, some_read}
 use Rattle.ctype_bin.proofs.decoding.decode_from.Goals as goal

@@ -1,5 +1,5 @@
 use Rattle.std.proofs.lemmas.Result.{err_from_is_err_and}
-use Rattle.ctype_bin.specs.Grammar.{case}
+use Rattle.ctype_format.specs.Grammar.{case}
 use Rattle.ctype_bin.proofs.Loop.{goes_on, ends, is_done}
 use Rattle.ctype_bin.proofs.defined.cases_of.Goals as goal
 

@@ -1,6 +1,6 @@
 use Rattle.std.proofs.Common.{◌≡◌, ◌-◌}
 use Rattle.productions.specs.Production.{times}
-use Rattle.ctype_bin.specs.Grammar.{case}
+use Rattle.ctype_format.specs.Grammar.{case}
 use Rattle.ctype_bin.proofs.Loop.{with_front}
 use Rattle.ctype_bin.proofs.defined.cases_of.Given as goal
 

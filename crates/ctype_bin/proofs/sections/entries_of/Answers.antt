@@ -1,8 +1,8 @@
 use Rattle.std.proofs.Common.{◌≡◌, ◌++◌, ◌∷◌, [], map}
 use Rattle.std.proofs.lemmas.Result.{err_from_is_err_and}
 use Rattle.std.proofs.lemmas.List.{map_push}
-use Rattle.ctype_bin.specs.File.{entry}
-use Rattle.ctype_bin.specs.View.{type_view}
+use Rattle.ctype_format.specs.File.{entry}
+use Rattle.ctype_format.specs.View.{type_view}
 use Rattle.ctype_bin.proofs.Runs.{goes_on, ends, is_done}
 use Rattle.ctype_bin.proofs.sections.entries_of.Goals as goal
 

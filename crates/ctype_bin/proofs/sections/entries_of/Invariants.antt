@@ -1,8 +1,8 @@
 use Rattle.std.proofs.Common.{◌≡◌, ◌-◌, map}
 use Rattle.productions.specs.Production.{run}
-use Rattle.ctype_bin.specs.Grammar.{IsWithin, new_scope}
-use Rattle.ctype_bin.specs.File.{entry}
-use Rattle.ctype_bin.specs.View.{type_view}
+use Rattle.ctype_format.specs.Grammar.{IsWithin, new_scope}
+use Rattle.ctype_format.specs.File.{entry}
+use Rattle.ctype_format.specs.View.{type_view}
 use Rattle.ctype_bin.proofs.Runs.{with_front}
 use Rattle.ctype_bin.proofs.sections.entries_of.Given as goal
 

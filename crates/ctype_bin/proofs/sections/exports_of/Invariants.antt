@@ -1,7 +1,7 @@
 use Rattle.std.proofs.Common.{◌≡◌, ◌-◌, map}
 use Rattle.productions.specs.Production.{times}
-use Rattle.ctype_bin.specs.File.{exported}
-use Rattle.ctype_bin.specs.View.{export_view}
+use Rattle.ctype_format.specs.File.{exported}
+use Rattle.ctype_format.specs.View.{export_view}
 use Rattle.ctype_bin.proofs.Loop.{with_front}
 use Rattle.ctype_bin.proofs.sections.exports_of.Given as goal
 

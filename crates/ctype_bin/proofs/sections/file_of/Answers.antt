@@ -1,5 +1,5 @@
 use Rattle.std.proofs.Common.{arith}
-use Rattle.ctype_bin.specs.View.{file_of}
+use Rattle.ctype_format.specs.View.{file_of}
 use Rattle.ctype_bin.proofs.Decoded.{spellable}
 use Rattle.ctype_bin.proofs.sections.file_of.Goals as goal
 

@@ -1,8 +1,8 @@
 use Rattle.std.proofs.Common.{◌≡◌, ℕ, List, ◌++◌, ◌∷◌, [], ◌∙◌, ap, map, arith, rules}
 use Rattle.std.proofs.lemmas.Result.{err_from_is_err_and}
 use Rattle.std.proofs.lemmas.List.{map_push}
-use Rattle.ctype_bin.specs.Grammar.{decl, type}
-use Rattle.ctype_bin.specs.View.{decl_view, type_view}
+use Rattle.ctype_format.specs.Grammar.{decl, type}
+use Rattle.ctype_format.specs.View.{decl_view, type_view}
 use Rattle.ctype_bin.proofs.Runs.{goes_on, ends, is_done}
 use Rattle.ctype_bin.proofs.ByOpcode.{type_stops, type_plain, type_nested, plain_ok, plain_stops}
 use Rattle.ctype_bin.proofs.types.+types.Goals as goal

@@ -1,7 +1,7 @@
 use Rattle.std.proofs.Common.{◌≡◌, ◌≤◌, ◌+◌, ◌-◌, ◌*◌, map}
 use Rattle.productions.specs.Production.{run}
-use Rattle.ctype_bin.specs.Grammar.{decl, type, IsWithin, new_scope}
-use Rattle.ctype_bin.specs.View.{decl_view}
+use Rattle.ctype_format.specs.Grammar.{decl, type, IsWithin, new_scope}
+use Rattle.ctype_format.specs.View.{decl_view}
 use Rattle.ctype_bin.proofs.Runs.{with_front}
 use Rattle.ctype_bin.proofs.types.+types.Given as goal
 

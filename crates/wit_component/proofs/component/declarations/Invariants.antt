@@ -1,5 +1,5 @@
 use Rattle.std.proofs.Common.{◌≡◌, ◌≤◌, ◌+◌, ◌++◌, IsTrue, map, drop, length}
-use Rattle.ctype_bin.specs.View.{decl_view}
+use Rattle.ctype_format.specs.View.{decl_view}
 use Rattle.package_form.specs.Ends.{is_parted}
 use Rattle.wit_component.specs.Component.{interfaces_declared, no_front}
 use Rattle.wit_component.specs.ToComponent.{are_labelled}

@@ -1,5 +1,5 @@
 use Rattle.std.proofs.Common.{◌≡◌, ◌≤◌, map, take, length}
-use Rattle.ctype_bin.specs.View.{decl_view}
+use Rattle.ctype_format.specs.View.{decl_view}
 use Rattle.wit_component.specs.Component.{aliases_of}
 use Rattle.wit_component.proofs.interfaces.aliases_of.Given as goal
 

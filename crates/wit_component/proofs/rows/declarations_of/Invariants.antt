@@ -1,6 +1,6 @@
 use Rattle.std.proofs.Common.{◌≡◌, ◌≤◌, ◌+◌, ◌*◌, IsTrue, map, take}
 use Rattle.std.specs.List.{list_all}
-use Rattle.ctype_bin.specs.View.{decl_view}
+use Rattle.ctype_format.specs.View.{decl_view}
 use Rattle.wit_component.specs.Rows.{declarations_of, places_after}
 use Rattle.wit_component.specs.ToComponent.{is_labelled}
 use Rattle.wit_component.proofs.rows.declarations_of.Given as goal

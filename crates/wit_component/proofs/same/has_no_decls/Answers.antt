@@ -1,7 +1,7 @@
 use Rattle.std.proofs.Common.{◌==◌, List, length, sym, ap, ◌∙◌}
-use Rattle.ctype_bin.specs.View.{type_view}
-use Rattle.ctype_bin.specs.declared.raw.RawType.{RawType}
-use Rattle.ctype_bin.specs.declared.raw.RawDecl.{RawDecl}
+use Rattle.ctype_format.specs.View.{type_view}
+use Rattle.ctype_format.specs.declared.raw.RawType.{RawType}
+use Rattle.ctype_format.specs.declared.raw.RawDecl.{RawDecl}
 use Rattle.wit_component.specs.FromComponent.{has_no_decls}
 use Rattle.wit_component.proofs.OneReading.{no-decls}
 use Rattle.wit_component.proofs.same.has_no_decls.Goals as goal

@@ -2,7 +2,7 @@ use Rattle.std.proofs.Common.{◌≡◌, List, ℕ, sym, subst, ◌∙◌}
 use Rattle.std.proofs.Math.Logic.{∥∥₁_map₂}
 use Rattle.std.proofs.lemmas.Bool.{OnTrue_from}
 use Rattle.std.proofs.lemmas.Slice.Eq.{bytes_eq-Decides}
-use Rattle.ctype_bin.specs.File.{file}
+use Rattle.ctype_format.specs.File.{file}
 use Rattle.ctype_bin.specs.FileView.{file_view}
 use Rattle.wit_component.proofs.OneReading.{one-reading}
 use Rattle.wit_component.proofs.same.is_same.Goals as goal

@@ -1,10 +1,10 @@
 use Rattle.std.proofs.Common.{◌≡◌, Bool, true, false, refl, ap, sym, subst, ◌∙◌, inr}
 use Rattle.std.specs.Global.{Vec}
-use Rattle.ctype_bin.specs.View.{file_of}
+use Rattle.ctype_format.specs.View.{file_of}
 use Rattle.ctype_bin.specs.Accepted.{IsAccepted}
-use Rattle.ctype_bin.specs.declared.error.BinError.TheVariants as errors
-use Rattle.ctype_bin.specs.declared.raw.RawType.{RawType}
-use Rattle.ctype_bin.specs.declared.raw.RawExport.{RawExport}
+use Rattle.ctype_format.specs.declared.error.BinError.TheVariants as errors
+use Rattle.ctype_format.specs.declared.raw.RawType.{RawType}
+use Rattle.ctype_format.specs.declared.raw.RawExport.{RawExport}
 use Rattle.wit_component.proofs.AcceptedFile.{accepted}
 use Rattle.wit_component.proofs.to_component.to_raw.Goals as goal
 

@@ -3,7 +3,7 @@ use Rattle.std.specs.Option.{option_map}
 use Rattle.std.specs.Map.{lookup}
 use Rattle.std.specs.Str.{bytes_eq}
 use Rattle.std.proofs.lemmas.Option.{slice_get_read}
-use Rattle.ctype_bin.specs.declared.raw.RawAlias.{RawAlias}
+use Rattle.ctype_format.specs.declared.raw.RawAlias.{RawAlias}
 use Rattle.tables.specs.declared.tables.TypeId.{TypeId}
 use Rattle.component_reader.specs.Component.{ComponentRead, alias_read, with_type}
 use Rattle.component_reader.specs.Readers.{component_view}

@@ -1,7 +1,7 @@
 use Rattle.std.proofs.Common.{map, ap, sym, ◌∙◌}
 use Rattle.std.proofs.lemmas.Result.{err_from_is_err_and}
-use Rattle.ctype_bin.specs.Raw.{Decls}
-use Rattle.ctype_bin.specs.View.{decl_view, decls_of}
+use Rattle.ctype_format.specs.Raw.{Decls}
+use Rattle.ctype_format.specs.View.{decl_view, decls_of}
 use Rattle.component_reader.specs.Component.{declarations_read}
 use Rattle.component_reader.specs.Readers.{component_view}
 use Rattle.component_reader.proofs.Instances.{found-first, none-first, next-decl, no-decl}

@@ -1,5 +1,5 @@
 use Rattle.std.proofs.Common.{◌≡◌, map, drop}
-use Rattle.ctype_bin.specs.View.{decl_view, decls_of}
+use Rattle.ctype_format.specs.View.{decl_view, decls_of}
 use Rattle.component_reader.specs.Component.{no_component, declarations_read}
 use Rattle.component_reader.specs.Readers.{component_view}
 use Rattle.component_reader.proofs.component.ComponentReader.read_all.Given as goal

@@ -1,7 +1,7 @@
 use Rattle.std.proofs.Common.{◌≡◌, map, Option, Some, refl, ap, sym, ◌∙◌}
 use Rattle.std.proofs.lemmas.Result.{err_from_is_err_and}
-use Rattle.ctype_bin.specs.Raw.{Decls}
-use Rattle.ctype_bin.specs.View.{decl_view, decls_of}
+use Rattle.ctype_format.specs.Raw.{Decls}
+use Rattle.ctype_format.specs.View.{decl_view, decls_of}
 use Rattle.component_reader.specs.Instance.{InstanceRead, nothing_read, if_found, settled, decls_read}
 use Rattle.component_reader.specs.Readers.{read_with}
 use Rattle.component_reader.proofs.Instances.{found-first, none-first, unread-behind, next-decl, no-decl}

@@ -1,5 +1,5 @@
 use Rattle.std.proofs.Common.{◌≡◌, map, drop}
-use Rattle.ctype_bin.specs.View.{decl_view, decls_of}
+use Rattle.ctype_format.specs.View.{decl_view, decls_of}
 use Rattle.component_reader.specs.Instance.{nothing_read, decls_read}
 use Rattle.component_reader.specs.Readers.{read_with}
 use Rattle.component_reader.proofs.instance.InstanceReader.read.Given as goal

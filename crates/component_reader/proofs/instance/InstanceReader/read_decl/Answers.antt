@@ -1,6 +1,6 @@
 use Rattle.std.proofs.Common.{sym, subst}
-use Rattle.ctype_bin.specs.View.{decl_view, type_view}
-use Rattle.ctype_bin.specs.declared.raw.RawDecl.{RawDecl}
+use Rattle.ctype_format.specs.View.{decl_view, type_view}
+use Rattle.ctype_format.specs.declared.raw.RawDecl.{RawDecl}
 use Rattle.component_reader.specs.Types.{Becomes}
 use Rattle.component_reader.specs.Instance.{use_read, defined, decl_read}
 use Rattle.component_reader.specs.Readers.{read_with}

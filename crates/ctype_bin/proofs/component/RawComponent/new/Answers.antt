@@ -1,9 +1,9 @@
 use Rattle.std.proofs.Common.{◌≡◌, ◌∙◌, arith}
 use Rattle.std.proofs.lemmas.Grind.{common_steps}
 use Rattle.ctype_bin.specs.Parts.{ComponentRefuses}
-use Rattle.ctype_bin.specs.View.{file_of}
-use Rattle.ctype_bin.specs.Writing.{file_bytes}
-use Rattle.ctype_bin.specs.Formed.{FormedFile}
+use Rattle.ctype_format.specs.View.{file_of}
+use Rattle.ctype_format.specs.Writing.{file_bytes}
+use Rattle.ctype_format.specs.Formed.{FormedFile}
 use Rattle.ctype_bin.proofs.Made.{only_memory}
 use Rattle.ctype_bin.proofs.component.RawComponent.new.Goals as goal
 

@@ -1,6 +1,0 @@
-use Rattle.std.proofs.Common.{arith}
-use Rattle.ctype_bin.proofs.Least.{appended}
-use Rattle.ctype_bin.proofs.writing.put_s33.Goals as goal
-
-pub returns-in-Ok : goal.returns-in-Ok
-returns-in-Ok c = appended 64 c.args.out.now.items c.write_s33.new.out.items c.args.value (omega arith) (omega arith) (omega (arith, c.ranges.value.fits)) c.in-Ok.ensures.ok

@@ -1,0 +1,4 @@
+pub mod FullNames
+pub mod Views
+pub mod Least
+pub mod Rows

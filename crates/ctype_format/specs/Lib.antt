@@ -1,0 +1,10 @@
+pub mod Raw
+pub mod Names
+pub mod View
+pub mod Opcodes
+pub mod Bytes
+pub mod Grammar
+pub mod File
+pub mod Shortest
+pub mod Writing
+pub mod Formed
