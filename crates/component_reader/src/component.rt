@@ -73,7 +73,7 @@ impl ComponentReader {
         Ok(())
     }
 
-    #[tactic(auto, using(ctype_bin::proofs::Views::views), unfolding(ctype_bin::specs::View::type_view))]
+    #[tactic(auto, using(ctype_format::proofs::Views::views), unfolding(ctype_format::specs::View::type_view))]
     fn define(&mut self, alloc: Global, ty: &RawType) -> Result<(), Unread>
         ensures { Becomes (type_read (type_view ty.now) (component_view self.old)) (component_view self.new) result }
     {
@@ -120,7 +120,7 @@ impl ComponentReader {
         }
     }
 
-    #[tactic(auto, unfolding(ctype_bin::specs::View::decl_view))]
+    #[tactic(auto, unfolding(ctype_format::specs::View::decl_view))]
     fn read(&mut self, alloc: Global, decl: &RawDecl) -> Result<(), Unread>
         ensures { Becomes (declaration_read (decl_view decl.now) (component_view self.old)) (component_view self.new) result }
     {
@@ -175,7 +175,7 @@ fn package_name(alloc: Global, name: FullNameParts<'_>) -> Result<PackageName, A
 }
 
 /// The full name that a declaration exports.
-#[tactic(auto, unfolding(ctype_bin::specs::View::decl_view))]
+#[tactic(auto, unfolding(ctype_format::specs::View::decl_view))]
 fn full_name_of(decl: &RawDecl) -> Option<FullNameParts<'_>>
     ensures some { IfSome result (λ name. full_name_declared (decl_view decl.now) ≡ Some (full_name_text (parts_view name))) }
     ensures named { IfSome result (λ name. IsFullName (full_name_text (parts_view name)) (parts_view name)) }
@@ -215,7 +215,7 @@ fn candidate_of_decls(alloc: Global, decls: &[RawDecl]) -> Result<Resolve, Unrea
     reader.finish(alloc, name)
 }
 
-#[tactic(auto, using(ctype_bin::proofs::Views::views), unfolding(ctype_bin::specs::View::type_view))]
+#[tactic(auto, using(ctype_format::proofs::Views::views), unfolding(ctype_format::specs::View::type_view))]
 fn candidate_of_type(alloc: Global, ty: &RawType) -> Result<Resolve, Unread>
     ensures { Makes (candidate_of_type (type_view ty.now)) result }
 {

@@ -248,7 +248,7 @@ impl InstanceReader {
         Ok(())
     }
 
-    #[tactic(auto, unfolding(ctype_bin::specs::View::type_view))]
+    #[tactic(auto, unfolding(ctype_format::specs::View::type_view))]
     fn define(&mut self, alloc: Global, ty: &RawType) -> Result<(), Unread>
         ensures { (rows : List Definition) → Becomes (defined (type_view ty.now) (read_with rows self.old)) (read_with rows self.new) result }
     {
@@ -260,7 +260,7 @@ impl InstanceReader {
         Ok(())
     }
 
-    #[tactic(auto, unfolding(ctype_bin::specs::View::decl_view))]
+    #[tactic(auto, unfolding(ctype_format::specs::View::decl_view))]
     fn read_decl(
         &mut self,
         alloc: Global,

@@ -1,24 +1,20 @@
 -- What memory holds and flat values denote is of its type.
-use Rattle.std.proofs.Common.{◌≡◌, inl, inr, ℕ, zero, suc, ◌+◌, ◌-◌, ◌*◌, ◌^◌, ◌<◌, ◌==◌, not, Bool, true, false, cond, min, List, [], ◌∷◌, ◌++◌, map, length, drop, get_or, refl, ap, ◌∙◌, sym, subst, arith}
+use Rattle.std.proofs.Common.{◌≡◌, inl, inr, ℕ, zero, suc, ◌+◌, ◌-◌, ◌^◌, ◌<◌, ◌==◌, not, List, map, length, drop, get_or, ◌∙◌, arith}
 use Rattle.std.specs.Prelude.{FitsSigned, slice_range}
 use Rattle.std.specs.Int.{w8, w16, w32, w64, next_multiple_of, cast_signed}
 use Rattle.std.specs.List.{AllByRecursion}
-use Rattle.std.proofs.lemmas.List.{get_or-drop, get_or-take, length-take}
+use Rattle.std.proofs.lemmas.List.{get_or-drop, get_or-take}
 use Rattle.std.proofs.Math.Nat.{mod-lt}
 use Rattle.std.proofs.Math.Pow.{pow_pos}
 use Rattle.std.proofs.Math.Facts.{sfits_to_z}
 use Rattle.canonical_abi.specs.Types.{IntWidth, int8, int16, int32, int64, width_of, bits, Prim, boolean, unsigned, signed, scalar_value, ClosedType, prim_type, string_type, list_type, record_type, variant_type, flags_type, Fields, no_field, field, Cases, no_case, plain_case, case_with}
-use Rattle.canonical_abi.specs.Values.{Value, values_of, HasPrimType, HasType, HaveTypes, IsOfCase}
-use Rattle.canonical_abi.specs.Layout.{align, size, prim_width, payload_place, flat_kinds, fits_flat}
+use Rattle.canonical_abi.specs.Values.{Value, HasPrimType, HasType, HaveTypes, IsOfCase}
+use Rattle.canonical_abi.specs.Layout.{align, size, prim_width, payload_place, flat_kinds}
 use Rattle.canonical_abi.specs.Reading.{number_at, number_of, low_bits, flat_bits, case_number}
 use Rattle.canonical_abi.specs.Memory.{PrimIs, TextHolds, EachHolds, ListHolds, Holds, FieldsHold, CaseHolds}
 use Rattle.canonical_abi.specs.Flat.{Denotes, Lifts, FieldsLift, CaseLifts}
-use Rattle.canonical_abi.specs.Requests.{items_of, members_of, text_of, case_of, payload_of, request, each_request, requests, fields_requests, case_requests, params_requests}
-use Rattle.canonical_abi.specs.Trace.{Request}
 use Rattle.canonical_abi.specs.declared.flat.Flat.{Flat}
-use Rattle.canonical_abi.proofs.Asked.{items-of}
 use Rattle.lift_lower.specs.Loading.{AreBytes}
-use Rattle.lift_lower.specs.Passing.{AreAddressable}
 
 -- ---- numbers
 

@@ -1,5 +1,5 @@
 -- The caller's side of a typed call: a function's row, a return area that was granted, and what stands in it.
-use Rattle.std.proofs.Common.{◌≡◌, inl, inr, ℕ, ◌+◌, ◌%◌, ◌≤◌, true, false, List, [], ◌∷◌, get_or, length, map, Result, Option, Some, Ok, Err, refl, sym, ap, ◌∙◌, subst, arith}
+use Rattle.std.proofs.Common.{◌≡◌, inl, inr, ℕ, ◌+◌, ◌%◌, ◌≤◌, false, List, [], ◌∷◌, get_or, length, Some, Err, refl, sym, ap, ◌∙◌, subst, arith}
 use Rattle.std.specs.Int.{next_multiple_of}
 use Rattle.std.specs.Option.{option_map}
 use Rattle.std.proofs.lemmas.Bool.{leb-true}

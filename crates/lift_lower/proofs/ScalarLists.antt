@@ -4,7 +4,7 @@ use Rattle.std.proofs.lemmas.List.{length-map}
 use Rattle.std.specs.List.{list_all}
 use Rattle.std.proofs.lemmas.Bool.{le-leb}
 use borrow.Author.Gap.{read_sfits}
-use Rattle.canonical_abi.specs.Types.{Prim, boolean, unsigned, signed, scalar_value, IntWidth, int8, int16, int32, int64, width_of, bits, ClosedType, Fields}
+use Rattle.canonical_abi.specs.Types.{Prim, boolean, unsigned, signed, scalar_value, IntWidth, int8, int16, int32, int64, width_of, bits, ClosedType}
 use Rattle.canonical_abi.specs.Values.{Value, unsigned_value, signed_value, char_value, HasPrimType, HaveTypes}
 use Rattle.canonical_abi.specs.Layout.{prim_kind, field_kinds, fits_flat, passed_kinds}
 use Rattle.canonical_abi.specs.Reading.{kind_of, number_of, flat_bits, low_bits}

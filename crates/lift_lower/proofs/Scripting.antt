@@ -2,7 +2,7 @@
 use Rattle.std.proofs.Common.{◌≡◌, ℕ, ◌+◌, ◌%◌, ◌≤◌, List, [], ◌∷◌, Some, Result, Ok, Err, IfOk, IfErr, OnOk, inl, ◌++◌, length, refl, sym, ap, ◌∙◌, subst, inr, append_assoc, append-nil, arith}
 use Rattle.canonical_abi.specs.Guest.{Memory, Allocation}
 use Rattle.std.specs.Prelude.{slice_range}
-use Rattle.canonical_abi.specs.Trace.{Grant, Event, node, grant, write, EventLeads, TraceLeads, LeavesOutWrites, AreWithin, RequestEnds}
+use Rattle.canonical_abi.specs.Trace.{Grant, Event, node, grant, write, EventLeads, LeavesOutWrites, AreWithin, RequestEnds}
 use Rattle.canonical_abi.specs.declared.trap.TrapKind.{TrapKind}
 use Rattle.canonical_abi.proofs.Fine.{leads-both}
 use Rattle.lift_lower.specs.Scripts.{IsDone, HasEnded, IsBegun, AsksBlock, GrantsBlock, PutsText, PutsTextAt}

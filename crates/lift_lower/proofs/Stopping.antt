@@ -3,7 +3,7 @@ use Rattle.std.proofs.Common.{inl, inr, ℕ, zero, suc, ◌+◌, ◌*◌, ◌^�
 use Rattle.std.specs.Int.{w32, next_multiple_of, to_le_bytes}
 use Rattle.canonical_abi.specs.Types.{ClosedType, prim_type, string_type, list_type, record_type, variant_type, flags_type, Fields, no_field, field, Cases, no_case, plain_case, case_with, case_count}
 use Rattle.canonical_abi.specs.Layout.{align, size, discriminant_size, payload_place, flat_kinds}
-use Rattle.canonical_abi.specs.Reading.{number_at, number_of, low_bits, byte_width, case_number}
+use Rattle.canonical_abi.specs.Reading.{number_at, low_bits, byte_width, case_number}
 use Rattle.canonical_abi.specs.Memory.{EachFaulty, ListFaulty, Holds, Faulty, FieldsFaulty, CaseFaulty}
 use Rattle.canonical_abi.specs.Flat.{LiftFaulty, FieldsLiftFaulty, CaseLiftFaulty}
 use Rattle.canonical_abi.specs.Script.{EachStops, ListStops, StoresUntil, FieldsStoreUntil, CaseStoresUntil, LowersUntil, FieldsLowerUntil, CaseLowersUntil}

@@ -1,6 +1,5 @@
 -- Sizes, alignments and places of closed types, and the rows of a layout table.
-use Rattle.std.proofs.Common.{◌≡◌, inl, inr, ℕ, zero, suc, ◌+◌, ◌<◌, ◌≤◌, max, Bool, true, false, IsTrue, nat_le, if◌then◌else◌, slice_index_or, [], ◌∷◌, length, fold, Some, None, refl, ap, ◌∙◌, subst, arith}
-use Rattle.std.proofs.lemmas.Bool.{cases_lt}
+use Rattle.std.proofs.Common.{◌≡◌, inl, inr, ℕ, zero, suc, ◌+◌, ◌<◌, ◌≤◌, max, Bool, true, false, IsTrue, nat_le, if◌then◌else◌, slice_index_or, [], ◌∷◌, length, fold, Some, None, refl, ap, ◌∙◌, arith}
 use Rattle.std.proofs.lemmas.List.{length-map}
 use Rattle.std.specs.Int.{next_multiple_of}
 use Rattle.canonical_abi.specs.Guest.{IsAlignment}

@@ -1,7 +1,7 @@
 -- The shape that layouts tell of a type, and what follows of its closed type.
-use Rattle.std.proofs.Common.{◌≡◌, ℕ, zero, suc, ◌<◌, ◌≤◌, true, IsTrue, List, [], ◌∷◌, length, get_or, slice_get, Option, Some, None, IfSome, option_map, refl, ap, subst, arith}
+use Rattle.std.proofs.Common.{◌≡◌, ℕ, zero, suc, ◌<◌, ◌≤◌, true, IsTrue, List, [], ◌∷◌, length, get_or, slice_get, Option, Some, None, IfSome, option_map, refl, subst, arith}
 use Rattle.std.proofs.lemmas.Bool.{and_parts, ltb-true}
-use Rattle.canonical_abi.specs.Types.{ClosedType, flags_type, fields_of, field_count, IsStandard, record_fields, nth_field}
+use Rattle.canonical_abi.specs.Types.{ClosedType, flags_type, IsStandard, record_fields, nth_field}
 use Rattle.std.specs.List.{list_all}
 use Rattle.tables.specs.Tables.{is_below, option_below}
 use Rattle.tables.specs.declared.tables.TypeDefKind.TheVariants as kind
@@ -12,7 +12,7 @@ use Rattle.tables.specs.declared.tables.Resolve.{Resolve}
 use Rattle.tables.specs.declared.tables.ValType.{ValType}
 use Rattle.tables.specs.declared.tables.ValType.TheVariants as val
 use Rattle.tables.proofs.Rows.{closed-at}
-use Rattle.tables.proofs.Standards.{type-standard, fields-count}
+use Rattle.tables.proofs.Standards.{type-standard}
 use Rattle.layout.specs.Layout.{Table, layouts_of}
 use Rattle.layout.specs.Queries as queries
 use Rattle.layout.specs.declared.queries.Shape.{Shape}

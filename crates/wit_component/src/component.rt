@@ -59,7 +59,7 @@ fn full_name(
 }
 
 /// The declaration of an interface's instance.
-#[tactic(auto, unfolding(ctype_bin::specs::View::decl_view))]
+#[tactic(auto, unfolding(ctype_format::specs::View::decl_view))]
 fn instance_export(
     alloc: Global,
     resolve: &Resolve,

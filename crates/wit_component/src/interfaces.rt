@@ -38,7 +38,7 @@ fn used_name<'a>(rows: &'a [Definition], row: &Definition) -> Option<&'a TypeNam
     }
 }
 
-#[tactic(auto, unfolding(ctype_bin::specs::View::decl_view))]
+#[tactic(auto, unfolding(ctype_format::specs::View::decl_view))]
 fn instance_export(alloc: Global, name: &TypeName) -> Result<RawDecl, AllocError>
     ensures { IfOk result (λ d. decl_view d ∷ [] ≡ instance_export (Some name.now)) }
 {
@@ -67,7 +67,7 @@ pub fn aliases_of(
 }
 
 /// The declaration of an instance type.
-#[tactic(auto, unfolding(ctype_bin::specs::View::decl_view), using(ctype_bin::proofs::Views::views))]
+#[tactic(auto, unfolding(ctype_format::specs::View::decl_view), using(ctype_format::proofs::Views::views))]
 pub fn instance_decl(decls: Vec<RawDecl>) -> RawDecl
     ensures { decl_view result ≡ Entry (Instance (decls_of (map decl_view decls.items))) }
 {

@@ -83,21 +83,21 @@ fn defined_of(
 }
 
 /// A declaration of a type with this definition.
-#[tactic(auto, unfolding(ctype_bin::specs::View::decl_view, ctype_bin::specs::View::type_view))]
+#[tactic(auto, unfolding(ctype_format::specs::View::decl_view, ctype_format::specs::View::type_view))]
 fn definition_decl(defined: RawDefinedType) -> RawDecl
     ensures { decl_view result ≡ Entry (Define (defined_view defined)) }
 {
     RawDecl::Type(RawType::Defined(defined))
 }
 
-#[tactic(auto, unfolding(ctype_bin::specs::View::decl_view))]
+#[tactic(auto, unfolding(ctype_format::specs::View::decl_view))]
 fn outer_alias(index: u32) -> RawDecl
     ensures { decl_view result ≡ outer_alias index }
 {
     RawDecl::Alias(RawAlias::Outer { count: 1, index })
 }
 
-#[tactic(auto, unfolding(ctype_bin::specs::View::decl_view))]
+#[tactic(auto, unfolding(ctype_format::specs::View::decl_view))]
 fn export_decl(
     alloc: Global,
     name: &Label,
@@ -110,7 +110,7 @@ fn export_decl(
     Ok(RawDecl::Export(ExternName::Label(name), description))
 }
 
-#[tactic(auto, unfolding(ctype_bin::specs::View::decl_view, ctype_bin::specs::View::type_view))]
+#[tactic(auto, unfolding(ctype_format::specs::View::decl_view, ctype_format::specs::View::type_view))]
 fn signature_decl(
     alloc: Global,
     indices: &[u32],

@@ -33,7 +33,7 @@ pub fn is_same(alloc: Global, a: &RawComponent, b: &RawComponent) -> Result<bool
     Ok(first.as_slice() == second.as_slice())
 }
 
-#[tactic(auto, using(ctype_bin::proofs::Views::views), unfolding(ctype_bin::specs::View::type_view))]
+#[tactic(auto, using(ctype_format::proofs::Views::views), unfolding(ctype_format::specs::View::type_view))]
 fn has_no_decls(ty: &RawType) -> bool
     ensures { result ≡ has_no_decls (type_view ty.now) }
 {

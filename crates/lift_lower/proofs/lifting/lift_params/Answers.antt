@@ -1,4 +1,4 @@
-use Rattle.std.proofs.Common.{map, ℕ, ◌<◌, ◌^◌, length, get_or, arith}
+use Rattle.std.proofs.Common.{map, ℕ, ◌<◌, ◌^◌, length, get_or}
 use Rattle.canonical_abi.specs.Layout.{max_flat_params}
 use Rattle.canonical_abi.proofs.Tells.{denoting-tells}
 use Rattle.lift_lower.specs.Crossing.{fields_of_types}

@@ -1,7 +1,6 @@
-use Rattle.std.proofs.Common.{get_or, map, sym, ap, subst}
-use Rattle.canonical_abi.specs.Types.{Fields, string_type, record_fields, AreStandardFields}
+use Rattle.std.proofs.Common.{map, sym, ap, subst}
+use Rattle.canonical_abi.specs.Types.{record_fields, AreStandardFields}
 use Rattle.canonical_abi.specs.Values.{HaveTypes}
-use Rattle.tables.specs.Closed.{closed_types, function_type}
 use Rattle.tables.proofs.Standards.{function-standard}
 use Rattle.lift_lower.specs.Val.{value_of}
 use Rattle.lift_lower.proofs.Placings.{closed-row, is-record, passes-few, is-lowered, lower-fails}
