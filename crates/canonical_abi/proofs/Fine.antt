@@ -112,7 +112,7 @@ request-own allocates releases honest old alignment n trap.Body new al r = absur
 request-own allocates releases honest old alignment n trap.CoreSignature new al r = absurd r
 
 -- and changes nothing
-request-failed : (allocates : Allocation) (releases : Release) → IsHonest allocates releases → (old : Memory) (alignment n : ℕ) (k : TrapKind) (new : Memory) → IsAlignment alignment → RequestFails allocates old alignment n k new → new ≡ old
+pub request-failed : (allocates : Allocation) (releases : Release) → IsHonest allocates releases → (old : Memory) (alignment n : ℕ) (k : TrapKind) (new : Memory) → IsAlignment alignment → RequestFails allocates old alignment n k new → new ≡ old
 request-failed allocates releases honest old alignment n k new al r =
     honest.full old alignment n new (subst (λ j. RequestFails allocates old alignment n j new) (request-own allocates releases honest old alignment n k new al r) r)
 

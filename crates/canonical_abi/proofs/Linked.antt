@@ -39,7 +39,7 @@ passes-result-confined results area vs es back (inl s) = confined-more Nowhere (
 passes-result-confined results area vs es back (inr s) =
     confined-more (λ x. IsWithin x area (size (record_type results))) (InArea results area) es (λ x i. (s.0, i)) (stores-confined (record_type results) area _ (node ∷ es) (vs, es, refl, refl, s.1))
 
-passes-result-aligned : (results : Fields) (area : ℕ) (vs : List Value) (es : List Event) (back : List Flat) → PassesResult max_flat_results results area vs es back → AreAligned es
+pub passes-result-aligned : (results : Fields) (area : ℕ) (vs : List Value) (es : List Event) (back : List Flat) → PassesResult max_flat_results results area vs es back → AreAligned es
 passes-result-aligned results area vs es back (inl s) = fields-lower-aligned results vs es back s.1
 passes-result-aligned results area vs es back (inr s) = fields-aligned results area 0 vs es s.1
 
@@ -51,7 +51,7 @@ until-result-confined results m answer area k es (stands, inl s) = confined-more
 until-result-confined results m answer area k es (stands, inr s) =
     confined-more (InFields results area 0) (InArea results area) es (λ x i. (s.0, in-whole-area results area x i)) (fields-until-confined results m _ area 0 k es s.1)
 
-until-result-aligned : (results : Fields) (m : List ℕ) (answer : List Flat) (area : ℕ) (k : TrapKind) (es : List Event) → ResultUntil max_flat_results results m answer area k es → AreAligned es
+pub until-result-aligned : (results : Fields) (m : List ℕ) (answer : List Flat) (area : ℕ) (k : TrapKind) (es : List Event) → ResultUntil max_flat_results results m answer area k es → AreAligned es
 until-result-aligned results m answer area k es (stands, inl s) = fields-lower-until-aligned results m _ k es s.1
 until-result-aligned results m answer area k es (stands, inr s) = fields-until-aligned results m _ area 0 k es s.1
 
@@ -59,11 +59,11 @@ script-confined : (results : Fields) (m : List ℕ) (answer : List Flat) (area :
 script-confined results m answer area es (inl s) = passes-result-confined results area s.0 es s.1 s.3
 script-confined results m answer area es (inr s) = until-result-confined results m answer area s.0 es s.1
 
-script-aligned : (results : Fields) (m : List ℕ) (answer : List Flat) (area : ℕ) (es : List Event) → ResultScript max_flat_results results m answer area es → AreAligned es
+pub script-aligned : (results : Fields) (m : List ℕ) (answer : List Flat) (area : ℕ) (es : List Event) → ResultScript max_flat_results results m answer area es → AreAligned es
 script-aligned results m answer area es (inl s) = passes-result-aligned results area s.0 es s.1 s.3
 script-aligned results m answer area es (inr s) = until-result-aligned results m answer area s.0 es s.1
 
-until-params-fine : (ts : Fields) (m : List ℕ) (flats : List Flat) (k : TrapKind) (es : List Event) → ParamsUntil max_flat_params ts m flats k es → AreAligned es × Confined Nowhere es
+pub until-params-fine : (ts : Fields) (m : List ℕ) (flats : List Flat) (k : TrapKind) (es : List Event) → ParamsUntil max_flat_params ts m flats k es → AreAligned es × Confined Nowhere es
 until-params-fine ts m flats k es (stands, inl s) = (fields-lower-until-aligned ts m _ k es s.1, fields-lower-until-confined ts m _ k es s.1)
 until-params-fine ts m flats k es (stands, inr (spills, g, rest, block, is, until)) =
     let al : AreAligned (grant g ∷ rest) = (subst IsAlignment (sym block.0) (is-alignment (record_type ts)), fields-until-aligned ts m _ g.at 0 k rest until) in
@@ -71,7 +71,7 @@ until-params-fine ts m flats k es (stands, inr (spills, g, rest, block, is, unti
     (λ x i. inr (subst (λ n. IsWithin x g.at n) (sym block.1) (in-whole-area ts g.at x i))) (fields-until-confined ts m _ g.at 0 k rest until) in
     (subst AreAligned (sym is) al, subst (Confined Nowhere) (sym is) c)
 
-script-params-fine : (ts : Fields) (m : List ℕ) (flats : List Flat) (es : List Event) → ParamsScript max_flat_params ts m flats es → AreAligned es × Confined Nowhere es
+pub script-params-fine : (ts : Fields) (m : List ℕ) (flats : List Flat) (es : List Event) → ParamsScript max_flat_params ts m flats es → AreAligned es × Confined Nowhere es
 script-params-fine ts m flats es (inl s) = (passes-aligned max_flat_params ts s.0 es s.1 s.3, passes-confined max_flat_params ts s.0 es s.1 s.3)
 script-params-fine ts m flats es (inr s) = until-params-fine ts m flats s.0 es s.1
 

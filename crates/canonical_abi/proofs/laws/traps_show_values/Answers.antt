@@ -1,0 +1,5 @@
+use Rattle.canonical_abi.proofs.OnlyValues.{traps-show-values}
+use Rattle.canonical_abi.proofs.laws.traps_show_values.Goals as goal
+
+pub returns : goal.returns
+returns g c = traps-show-values _ _ _

@@ -1,0 +1,32 @@
+-- How many nodes of values a call visits, against the bytes that the allocators grant for them. (CanonicalABI.md has no such section: these
+-- follow from "Storing" and "Flat Lowering", where each node has a byte of a block, or a core value, of its own or of a node in it.)
+use Rattle.std.specs.Prelude.{ℕ, ◌+◌, ◌*◌, ◌≤◌, List, [], ◌∷◌, Result}
+use Rattle.canonical_abi.specs.Types.{FunctionType, fields_depth, result_fields}
+use Rattle.canonical_abi.specs.Trace.{Event, node, grant, write, nodes_of}
+use Rattle.canonical_abi.specs.Call.{Parties, World, Ways, exact, Calls}
+use Rattle.canonical_abi.specs.Headline.{IsStandardFunction, area_size}
+use Rattle.canonical_abi.specs.declared.flat.Flat.{Flat}
+use Rattle.canonical_abi.specs.declared.trap.Fault.{Fault}
+
+-- the bytes of all blocks that were granted
+abbrev pub granted_size : List Event → ℕ
+granted_size [] = 0
+granted_size (node ∷ es) = granted_size es
+granted_size (grant g ∷ es) = g.size + granted_size es
+granted_size (write at part ∷ es) = granted_size es
+
+-- at most so many nodes for each byte that was granted on a way, and for sixteen more; the return area counts as granted
+pub record AreFewNodes (f : FunctionType) (ways : Ways) : Type 0 where
+  pub there : nodes_of ways.there ≤ 64 * (granted_size ways.there + 16)
+  pub back : nodes_of ways.back ≤ 64 * (granted_size ways.back + area_size f + 16)
+
+-- no type of the function nests more than 64 deep
+pub record IsShallowFunction (f : FunctionType) : Type 0 where
+  pub params : fields_depth f.params ≤ 64
+  pub result : fields_depth (result_fields f.result) ≤ 64
+
+-- each call of such a function visits few nodes, whatever it answers
+abbrev pub VisitsFewNodes : Parties → Type 0
+VisitsFewNodes parties =
+    (f : FunctionType) (flats : List Flat) (old : World) (result : Result (List Flat) Fault) (ways : Ways) (new : World)
+    → IsStandardFunction f → IsShallowFunction f → Calls parties exact f flats old result ways new → AreFewNodes f ways
