@@ -1,12 +1,13 @@
 #!/usr/bin/env python3
 """Tries the must-fail edits of crates, and tells of each which goal stayed open.
 
-    tools/try_edits.py [NAME ..]
+    tools/try_edits.py [NAME ..] [--only EDIT]
 
 Of each crate named, or of all, the edits of crates/NAME/must-fail/ (which the gate tries too) and of edits/NAME/ are tried
-on a copy of the repository. Each line has the edit, and the goal that the prover was left with: a clause of a contract
-(`returns-clause-..`), the condition of a callee, an invariant. Where an edit is let through, can't be applied, or is refused
-only in the text of a proof, the line begins with `!` and the exit status is 1. `rt all check` beforehand saves most of the time.
+on a copy of the repository, over what the crate's checks have kept, or that edit alone. Each line has the edit, and the goal that
+the prover was left with: a clause of a contract (`returns-clause-..`), the condition of a callee, an invariant. Where an edit is
+let through, can't be applied or read, or is refused only in the text of a proof, the line begins with `!` and the exit status
+is 1. `rt all check` beforehand saves most of the time.
 """
 import pathlib
 import re
@@ -17,6 +18,8 @@ import tempfile
 
 ROOT = pathlib.Path(__file__).resolve().parent.parent
 GOAL = re.compile(r"note: (\S+?):\d+:\d+: (.*)")
+# what is told of a proof that names what the edit took away
+NAMES = re.compile(r"(\./)?proofs/.*(has no field|is not in scope|has no `|was not admitted)")
 
 
 def crates_below():
@@ -34,62 +37,96 @@ def crates_below():
     return {name: all_below(name) for name in own}
 
 
-def edits_of(name):
+def edits_of(name, only):
     """The crate's edits, those of the gate first."""
-    return [*sorted((ROOT / "crates" / name / "must-fail").glob("*.edit")), *sorted((ROOT / "edits" / name).glob("*.edit"))]
+    all_edits = [*sorted((ROOT / "crates" / name / "must-fail").glob("*.edit")), *sorted((ROOT / "edits" / name).glob("*.edit"))]
+    return [it for it in all_edits if only in (None, it.stem)]
 
 
-def copied(room, names):
-    """Copies the crates, with what was proved of them, into the room."""
+def copied(room, crate, names):
+    """Copies the crates, with what was proved of them, into the room: of the crate itself all that its checks have kept."""
     (room / "crates").mkdir()
     lines = (ROOT / "crates.txt").read_text().splitlines()
     (room / "crates.txt").write_text("".join(f"{it}\n" for it in lines if it.split(":")[0].split()[:1] and it.split(":")[0].split()[0] in names))
     shutil.copy(ROOT / "HANDLES", room)
     for name in names:
-        for part in ("src", "specs", "proofs", "out/rlib"):
+        for part in ("src", "specs", "proofs", "out" if name == crate else "out/rlib"):
             if (ROOT / "crates" / name / part).is_dir():
                 shutil.copytree(ROOT / "crates" / name / part, room / "crates" / name / part)
 
 
-def told(line):
+def edited(edit, folder):
+    """The texts of the files that the edit changes, by their path, or None where it can't be applied."""
+    texts, path, old = {}, None, None
+    for line in edit.read_text().splitlines():
+        word, _, rest = line.partition(": ")
+        if word == "file":
+            path = folder / rest.strip()
+            texts.setdefault(path, path.read_text() if path.is_file() else "")
+        elif word == "old":
+            old = rest
+        elif word == "new":
+            if texts[path].count(old) != 1:
+                return None
+            texts[path] = texts[path].replace(old, rest)
+    return texts
+
+
+def told(output, status):
     """Whether the edit shows something, and what its refusal is told as."""
-    if ": refused, as it must be" not in line:
-        return False, line
-    goal = GOAL.search(line)
-    if not goal or "only because a proof file" in line:
-        return False, line.partition("refused, as it must be")[2].strip(" :")
+    if not status:
+        return False, "let through"
+    lines = output.splitlines()
+    unread = [it for it in lines if re.match(r"(\./)?src/.*: error: (?!`)", it)]
+    if unread or not any(it.startswith("logic=not-proved") for it in lines):
+        return False, (unread or lines[-1:] or ["nothing said"])[0]
+    notes = [it for it in lines if GOAL.search(it)]
+    goals = [it for it in notes if not NAMES.match(it)]
+    if not goals:
+        return False, (notes or lines)[0]
+    goal = GOAL.search(goals[0])
     label = re.search(r"\(`([^`]*)`", goal[2])
     return True, f"{goal[1]}: {label[1] if label else goal[2]}"
 
 
-def tried(name, names):
+def check(folder):
+    """Checks the crate, and answers what it said and its status."""
+    ran = subprocess.run(["rt", "check", "--jobs", "1"], cwd=folder, capture_output=True, text=True, check=False)
+    return ran.stdout + ran.stderr, ran.returncode
+
+
+def tried(name, names, only):
     """Tries the crate's edits, and answers whether each shows something."""
-    edits = edits_of(name)
+    edits = edits_of(name, only)
     if not edits:
         return True
-    with tempfile.TemporaryDirectory(prefix="edits-") as folder:
-        room = pathlib.Path(folder)
-        copied(room, names)
-        (room / "crates" / name / "must-fail").mkdir()
-        for edit in edits:
-            shutil.copy(edit, room / "crates" / name / "must-fail")
-        ran = subprocess.run(["rt", "must-fail", name], cwd=room, capture_output=True, text=True, check=False)
-    answers = dict(re.findall(r"^(?:rt: )?must-fail \S+?/(\S+?)\.edit(: .*)", ran.stdout + ran.stderr, re.M))
     well = True
-    for edit in edits:
-        shows, text = told(answers.get(edit.stem, "not tried"))
-        well &= shows
-        print(f"{' ' if shows else '!'} {name}/{edit.stem}: {text}", flush=True)
+    with tempfile.TemporaryDirectory(prefix="edits-") as room:
+        copied(pathlib.Path(room), name, names)
+        folder = pathlib.Path(room) / "crates" / name
+        for edit in edits:
+            texts = edited(edit, folder)
+            before = {path: path.read_text() for path in texts or {}}
+            for path, text in (texts or {}).items():
+                path.write_text(text)
+            shows, text = told(*check(folder)) if texts else (False, "can't be applied")
+            for path, whole in before.items():
+                path.write_text(whole)
+            well &= shows
+            print(f"{' ' if shows else '!'} {name}/{edit.stem}: {text}", flush=True)
     return well
 
 
 def main():
     below = crates_below()
-    unknown = [it for it in sys.argv[1:] if it not in below]
+    names, only = sys.argv[1:], None
+    if "--only" in names[:-1]:
+        only = names[names.index("--only") + 1]
+        names = [it for it in names if it not in ("--only", only)]
+    unknown = [it for it in names if it not in below]
     if unknown:
         sys.exit(f"no crate {unknown[0]}")
-    names = sys.argv[1:] or list(below)
-    sys.exit(0 if all([tried(name, below[name]) for name in names]) else 1)
+    sys.exit(0 if all([tried(name, below[name], only) for name in names or list(below)]) else 1)
 
 
 if __name__ == "__main__":
