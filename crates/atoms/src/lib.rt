@@ -3,6 +3,7 @@
 
 mod error;
 mod full_name;
+mod key;
 mod label;
 mod leb128;
 mod reading;
@@ -12,6 +13,7 @@ mod writing;
 
 pub use error::AtomError;
 pub use full_name::{FullName, is_package_label, is_version};
+pub use key::{KeyedState, NameKey};
 pub use label::{Label, is_label};
 pub use leb128::{read_s33, read_u32, write_s33, write_u32};
 pub use reading::{ReadUpToError, read_up_to};

@@ -10,9 +10,10 @@ ghost use Rattle.component_reader.specs.Names.{parts_view};
 ghost use Rattle.component_reader.specs.Readers.{component_view};
 
 use crate::instance::InstanceReader;
+use crate::keys::keyed_by_exports;
 use crate::names::{FullNameParts, NameParts, name_parts};
 use crate::unread::Unread;
-use atoms::Label;
+use atoms::{KeyedState, Label};
 use ctype_bin::{ExternName, RawAlias, RawComponent, RawDecl, RawDescription, RawType};
 use indexmap::IndexMap;
 use std::alloc::{AllocError, Global};
@@ -26,11 +27,12 @@ pub struct ComponentReader {
     rows: Vec<Definition>,
     interfaces: Vec<Interface>,
     /// The types that each interface exports, by their names.
-    exports: Vec<IndexMap<Vec<u8>, TypeId>>,
+    exports: Vec<IndexMap<Vec<u8>, TypeId, KeyedState>>,
     /// The row of each type index.
     indices: Vec<Option<TypeId>>,
     /// An instance type whose export hasn't come yet.
     awaited: Option<InstanceReader>,
+    keyed: KeyedState,
 }
 
 /// The place of the next interface. No memory where an id can't tell it.
@@ -45,7 +47,7 @@ fn next_interface(interfaces: &[Interface]) -> Result<InterfaceId, AllocError>
 
 impl ComponentReader {
     /// Nothing was read.
-    fn new(alloc: Global) -> Self
+    fn new(alloc: Global, keyed: KeyedState) -> Self
         ensures { component_view result ≡ no_component }
     {
         ComponentReader {
@@ -54,6 +56,7 @@ impl ComponentReader {
             exports: Vec::new(alloc),
             indices: Vec::new(alloc),
             awaited: None,
+            keyed,
         }
     }
 
@@ -84,7 +87,14 @@ impl ComponentReader {
             }
         };
         let place = next_interface(&self.interfaces)?;
-        let reader = InstanceReader::read(alloc, &mut self.rows, place, &self.indices, decls)?;
+        let reader = InstanceReader::read(
+            alloc,
+            self.keyed,
+            &mut self.rows,
+            place,
+            &self.indices,
+            decls,
+        )?;
         self.awaited = Some(reader);
         self.indices.push(None)?;
         Ok(())
@@ -136,7 +146,7 @@ impl ComponentReader {
     fn read_all(alloc: Global, decls: &[RawDecl]) -> Result<Self, Unread>
         ensures { ReadsAs component_view (declarations_read (decls_of (map decl_view decls.now)) no_component) result }
     {
-        let mut reader = ComponentReader::new(alloc);
+        let mut reader = ComponentReader::new(alloc, keyed_by_exports(decls));
         for decl in decls {
             reader.read(alloc, decl)?;
         }

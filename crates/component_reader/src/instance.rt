@@ -11,7 +11,7 @@ ghost use Rattle.component_reader.specs.Readers.{awaited_view, read_with};
 use crate::names::{NameParts, name_parts};
 use crate::types::{kind_of, optional_type, parameters, row_at};
 use crate::unread::Unread;
-use atoms::Label;
+use atoms::{KeyedState, Label};
 use ctype_bin::{RawAlias, RawDecl, RawDescription, RawFunction, RawType};
 use indexmap::IndexMap;
 use std::alloc::{AllocError, Global};
@@ -34,7 +34,7 @@ pub struct InstanceReader {
     /// The row of each type index.
     indices: Vec<Option<TypeId>>,
     awaited: Awaited,
-    names: IndexMap<Vec<u8>, TypeId>,
+    names: IndexMap<Vec<u8>, TypeId, KeyedState>,
     uses: Vec<TypeId>,
     types: Vec<TypeId>,
     functions: Vec<FunctionId>,
@@ -65,13 +65,13 @@ fn signature(
 
 impl InstanceReader {
     /// Nothing was read.
-    fn new(alloc: Global) -> Self
+    fn new(alloc: Global, keyed: KeyedState) -> Self
         ensures { (rows : List Definition) → read_with rows result ≡ nothing_read rows }
     {
         InstanceReader {
             indices: Vec::new(alloc),
             awaited: Awaited::Nothing,
-            names: IndexMap::new(alloc),
+            names: IndexMap::with_hasher(alloc, keyed),
             uses: Vec::new(alloc),
             types: Vec::new(alloc),
             functions: Vec::new(alloc),
@@ -293,6 +293,7 @@ impl InstanceReader {
     /// What the declarations of this interface's instance type are, behind these rows.
     pub fn read(
         alloc: Global,
+        keyed: KeyedState,
         rows: &mut Vec<Definition>,
         place: InterfaceId,
         around: &[Option<TypeId>],
@@ -300,7 +301,7 @@ impl InstanceReader {
     ) -> Result<Self, Unread>
         ensures { ReadsAs (read_with rows.new.items) (instance_read around.now place.0 (decls_of (map decl_view decls.now)) rows.old.items) result }
     {
-        let mut reader = InstanceReader::new(alloc);
+        let mut reader = InstanceReader::new(alloc, keyed);
         for decl in decls {
             reader.read_decl(alloc, rows, place, around, decl)?;
         }
@@ -309,7 +310,7 @@ impl InstanceReader {
     }
 
     /// The interface of this name in the first package, and the types that it exports by their names.
-    pub fn into_interface(self, name: Label) -> (Interface, IndexMap<Vec<u8>, TypeId>)
+    pub fn into_interface(self, name: Label) -> (Interface, IndexMap<Vec<u8>, TypeId, KeyedState>)
         ensures interface { result.0 ≡ record { «package» = package_id 0; name = name; uses = self.uses.items; types = self.types.items; functions = self.functions.items } }
         ensures names { result.1 ≡ self.names }
     {

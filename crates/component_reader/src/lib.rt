@@ -7,6 +7,7 @@
 
 mod component;
 mod instance;
+mod keys;
 mod names;
 mod types;
 mod unread;

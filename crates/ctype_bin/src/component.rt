@@ -1,8 +1,9 @@
 //! A whole component type binary.
-ghost use Rattle.std.specs.Prelude.{◌≡◌, IfOk, IfErr, MatchResult};
+ghost use Rattle.std.specs.Prelude.{◌≡◌, [], IfOk, IfErr, MatchResult};
 ghost use Rattle.ctype_format.specs.Raw.{File};
 ghost use Rattle.ctype_format.specs.View.{file_of};
 ghost use Rattle.ctype_format.specs.Writing.{file_bytes};
+ghost use Rattle.ctype_bin.specs.Encoding.{AppendsSpelling};
 ghost use Rattle.ctype_format.specs.Formed.{FormedFile};
 ghost use Rattle.ctype_bin.specs.Spellable.{IsSpellable};
 ghost use Rattle.ctype_bin.specs.Parts.{ComponentRefuses};
@@ -11,7 +12,7 @@ ghost use Rattle.ctype_bin.specs.Accepted.{IsAccepted};
 use crate::encoding::spelling;
 use crate::sections::parts_of;
 use ctype_format::{BinError, ItemError, RawExport, RawType, Stuck};
-use std::alloc::Global;
+use std::alloc::{AllocError, Global};
 
 /// A component type binary's type section and export section. Some bytes spell it: its indices are in range at their
 /// places, its names are well formed, and its counts and nesting keep the limits.
@@ -42,6 +43,23 @@ impl RawComponent {
         };
         reread(alloc, bytes.as_slice())?;
         Ok(RawComponent::of(types, exports))
+    }
+
+    /// A component of parts that validation accepts, and the shortest bytes that spell it, which `decode` reads as it where
+    /// there are no more than 1,048,576. No memory, too, where a section would have 2^32 bytes or more. (Binary.md)
+    pub fn with_bytes(
+        alloc: Global,
+        types: Vec<RawType>,
+        exports: Vec<RawExport>,
+    ) -> Result<(RawComponent, Vec<u8>), AllocError>
+        requires { IsAccepted (file_of types exports) }
+        ensures types { IfOk result (λ x. x.0.types ≡ types) }
+        ensures exports { IfOk result (λ x. x.0.exports ≡ exports) }
+        ensures spelling { IfOk result (λ x. ∥ AppendsSpelling [] x.1.items (file_of types exports) ∥₁) }
+        ensures exact { IfOk result (λ x. x.1.items ≡ file_bytes (file_of types exports)) }
+    {
+        let bytes = spelling(alloc, types.as_slice(), exports.as_slice())?;
+        Ok((RawComponent::of(types, exports), bytes))
     }
 
     /// A component that is spelled.

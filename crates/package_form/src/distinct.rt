@@ -6,64 +6,69 @@ ghost use Rattle.package_form.specs.Ends.{is_parted};
 ghost use Rattle.package_form.specs.Naming.{field_name, case_name, parameter_name, kind_members, row_members, row_names, rows_scopes, table_scopes, package_scopes};
 
 use crate::ends::end_of;
+use crate::keys::keyed_by_table;
 use crate::scope::Scope;
-use atoms::Label;
+use atoms::{KeyedState, Label};
 use std::alloc::Global;
 use tables::{Case, Definition, Field, Interface, Parameter, Resolve, ResolveError, TypeDefKind};
 
-fn distinct_labels(alloc: Global, labels: &[Label]) -> Result<(), ResolveError>
+fn distinct_labels(alloc: Global, keyed: KeyedState, labels: &[Label]) -> Result<(), ResolveError>
     ensures ok { OnOk result (AreDistinct labels.now) }
     ensures err { IfErr result (RefusesNames labels.now) }
 {
-    let mut scope = Scope::new(alloc);
+    let mut scope = Scope::new(alloc, keyed);
     for label in labels {
         scope.meet(alloc, label)?;
     }
     Ok(())
 }
 
-fn distinct_fields(alloc: Global, fields: &[Field]) -> Result<(), ResolveError>
+fn distinct_fields(alloc: Global, keyed: KeyedState, fields: &[Field]) -> Result<(), ResolveError>
     ensures ok { OnOk result (AreDistinct (map field_name fields.now)) }
     ensures err { IfErr result (RefusesNames (map field_name fields.now)) }
 {
-    let mut scope = Scope::new(alloc);
+    let mut scope = Scope::new(alloc, keyed);
     for field in fields {
         scope.meet(alloc, &field.name)?;
     }
     Ok(())
 }
 
-fn distinct_cases(alloc: Global, cases: &[Case]) -> Result<(), ResolveError>
+fn distinct_cases(alloc: Global, keyed: KeyedState, cases: &[Case]) -> Result<(), ResolveError>
     ensures ok { OnOk result (AreDistinct (map case_name cases.now)) }
     ensures err { IfErr result (RefusesNames (map case_name cases.now)) }
 {
-    let mut scope = Scope::new(alloc);
+    let mut scope = Scope::new(alloc, keyed);
     for case in cases {
         scope.meet(alloc, &case.name)?;
     }
     Ok(())
 }
 
-fn distinct_parameters(alloc: Global, params: &[Parameter]) -> Result<(), ResolveError>
+fn distinct_parameters(
+    alloc: Global,
+    keyed: KeyedState,
+    params: &[Parameter],
+) -> Result<(), ResolveError>
     ensures ok { OnOk result (AreDistinct (map parameter_name params.now)) }
     ensures err { IfErr result (RefusesNames (map parameter_name params.now)) }
 {
-    let mut scope = Scope::new(alloc);
+    let mut scope = Scope::new(alloc, keyed);
     for param in params {
         scope.meet(alloc, &param.name)?;
     }
     Ok(())
 }
 
-fn distinct_parts(alloc: Global, kind: &TypeDefKind) -> Result<(), ResolveError>
+fn distinct_parts(alloc: Global, keyed: KeyedState, kind: &TypeDefKind) -> Result<(), ResolveError>
     ensures ok { OnOk result (AreDistinct (kind_members kind.now)) }
     ensures err { IfErr result (RefusesNames (kind_members kind.now)) }
 {
     match kind {
-        TypeDefKind::Record(fields) => distinct_fields(alloc, fields.as_slice()),
-        TypeDefKind::Variant(cases) => distinct_cases(alloc, cases.as_slice()),
+        TypeDefKind::Record(fields) => distinct_fields(alloc, keyed, fields.as_slice()),
+        TypeDefKind::Variant(cases) => distinct_cases(alloc, keyed, cases.as_slice()),
         TypeDefKind::Enum(labels) | TypeDefKind::Flags(labels) => {
-            distinct_labels(alloc, labels.as_slice())
+            distinct_labels(alloc, keyed, labels.as_slice())
         }
         TypeDefKind::Use(_)
         | TypeDefKind::Alias(_)
@@ -75,13 +80,17 @@ fn distinct_parts(alloc: Global, kind: &TypeDefKind) -> Result<(), ResolveError>
 }
 
 /// Whether the fields, cases, labels or parameters of a row differ.
-fn distinct_members(alloc: Global, row: &Definition) -> Result<(), ResolveError>
+fn distinct_members(alloc: Global, keyed: KeyedState, row: &Definition) -> Result<(), ResolveError>
     ensures ok { OnOk result (AreDistinct (row_members row.now)) }
     ensures err { IfErr result (RefusesNames (row_members row.now)) }
 {
     match row {
-        Definition::Type(definition) => distinct_parts(alloc, &definition.kind),
-        Definition::Function(function) => distinct_parameters(alloc, function.params.as_slice()),
+        Definition::Type(definition) => distinct_parts(alloc, keyed, &definition.kind),
+        Definition::Function(function) => distinct_parameters(
+            alloc,
+            keyed,
+            function.params.as_slice(),
+        ),
     }
 }
 
@@ -100,13 +109,13 @@ fn meet_row(alloc: Global, scope: &mut Scope, row: &Definition) -> Result<(), Re
 }
 
 /// 40 for the first name of an interface's rows that its scope has before, a row's members before its name.
-fn distinct_rows(alloc: Global, rows: &[Definition]) -> Result<(), ResolveError>
+fn distinct_rows(alloc: Global, keyed: KeyedState, rows: &[Definition]) -> Result<(), ResolveError>
     ensures ok { OnOk result (All AreDistinct (rows_scopes rows.now)) }
     ensures err { IfErr result (RefusesScopes (rows_scopes rows.now)) }
 {
-    let mut scope = Scope::new(alloc);
+    let mut scope = Scope::new(alloc, keyed);
     for row in rows {
-        distinct_members(alloc, row)?;
+        distinct_members(alloc, keyed, row)?;
         meet_row(alloc, &mut scope, row)?;
     }
     Ok(())
@@ -115,6 +124,7 @@ fn distinct_rows(alloc: Global, rows: &[Definition]) -> Result<(), ResolveError>
 /// 40 for the first name of these interfaces that its scope has before, an interface's rows before its name.
 fn distinct_interfaces(
     alloc: Global,
+    keyed: KeyedState,
     rows: &[Definition],
     interfaces: &[Interface],
 ) -> Result<(), ResolveError>
@@ -122,11 +132,11 @@ fn distinct_interfaces(
     ensures ok { OnOk result (All AreDistinct (table_scopes rows.now interfaces.now)) }
     ensures err { IfErr result (RefusesScopes (table_scopes rows.now interfaces.now)) }
 {
-    let mut scope = Scope::new(alloc);
+    let mut scope = Scope::new(alloc, keyed);
     let mut start = 0;
     for interface in interfaces {
         let end = end_of(start, interface);
-        distinct_rows(alloc, &rows[start..end])?;
+        distinct_rows(alloc, keyed, &rows[start..end])?;
         scope.meet(alloc, &interface.name)?;
         start = end;
     }
@@ -140,5 +150,6 @@ pub fn distinct_names(alloc: Global, resolve: &Resolve) -> Result<(), ResolveErr
     ensures err { IfErr result (RefusesScopes (package_scopes resolve.now)) }
 {
     let rows = resolve.definitions.as_slice();
-    distinct_interfaces(alloc, rows, resolve.interfaces.as_slice())
+    let keyed = keyed_by_table(resolve);
+    distinct_interfaces(alloc, keyed, rows, resolve.interfaces.as_slice())
 }

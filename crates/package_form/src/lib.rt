@@ -9,6 +9,7 @@ mod distinct;
 mod ends;
 mod entries;
 mod form;
+mod keys;
 pub mod laws;
 mod references;
 mod scope;

@@ -2,7 +2,7 @@
 ghost use Rattle.std.specs.Prelude.{◌≡◌, ◌++◌, ◌∷◌, [], ◌⊎◌, true, false, OnOk, IfOk, IfErr, Contains};
 ghost use Rattle.package_form.specs.Scope.{lowered};
 
-use atoms::Label;
+use atoms::{KeyedState, Label};
 use indexmap::IndexSet;
 use std::alloc::Global;
 use std::marker::Model;
@@ -11,7 +11,7 @@ use tables::ResolveError;
 /// The names that were met in a scope, in lower case.
 #[derive(Drop)]
 pub struct Scope {
-    met: IndexSet<Vec<u8>>,
+    met: IndexSet<Vec<u8>, KeyedState>,
 }
 
 impl Model for Scope {
@@ -23,11 +23,12 @@ impl Model for Scope {
 }
 
 impl Scope {
-    pub fn new(alloc: Global) -> Scope
+    /// No names; those that are met are told apart by hashers with this key.
+    pub fn new(alloc: Global, keyed: KeyedState) -> Scope
         ensures { result ≡ [] }
     {
         Scope {
-            met: IndexSet::new(alloc),
+            met: IndexSet::with_hasher(alloc, keyed),
         }
     }
 

@@ -11,7 +11,7 @@ use crate::builder::Builder;
 use crate::declared::Declarations;
 use crate::define::define_interface;
 use crate::names::Names;
-use atoms::Label;
+use atoms::{KeyedState, Label};
 use std::alloc::{AllocError, Global};
 use tables::{InterfaceId, Sequence};
 
@@ -34,6 +34,7 @@ fn ordered_names(
 /// The same names, each found at its place.
 fn ordered_index<'a>(
     alloc: Global,
+    keyed: KeyedState,
     all: &[Declarations<'a>],
     order: &[usize],
 ) -> Result<Names<'a>, AllocError>
@@ -44,7 +45,7 @@ fn ordered_index<'a>(
     for place in order {
         names.push(all[*place].name)?;
     }
-    Names::of(alloc, names)
+    Names::of(alloc, keyed, names)
 }
 
 /// The id of this place. No memory where an id can't tell it.
@@ -60,6 +61,7 @@ fn interface_id(place: usize) -> Result<InterfaceId, AllocError>
 /// Defines all interfaces in package order, the types of each in their order.
 pub fn define_package(
     alloc: Global,
+    keyed: KeyedState,
     all: &[Declarations],
     order: &[usize],
     type_orders: &[Sequence<usize>],
@@ -71,7 +73,7 @@ pub fn define_package(
     requires distinct { AreDistinct (interface_names (map declared_tree all.now)) }
     ensures { IfOk result (DefinesPackage (map declared_tree all.now) order.now type_orders.now) }
 {
-    let names = ordered_index(alloc, all, order)?;
+    let names = ordered_index(alloc, keyed, all, order)?;
     let mut builder = Builder::new(alloc, ordered_names(alloc, all, order)?);
     let mut scopes = Vec::new(alloc);
     for (place, index) in order.iter().enumerate() {
@@ -79,6 +81,7 @@ pub fn define_package(
         let types = type_orders[*index].as_slice();
         let scope = define_interface(
             alloc,
+            keyed,
             &mut builder,
             &names,
             &scopes,

@@ -8,7 +8,7 @@ ghost use Rattle.resolve.specs.Sources.{declared_tree};
 
 use crate::declared::{Declarations, UsedType};
 use crate::names::Names;
-use atoms::Label;
+use atoms::{KeyedState, Label};
 use std::alloc::{AllocError, Global};
 use wit_syntax::{Interface, InterfaceItem, TypeDef, Use, UsedName};
 
@@ -66,18 +66,26 @@ fn push_names<'a>(names: &mut Vec<&'a Label>, all: &[Declarations<'a>]) -> Resul
 }
 
 /// The names of the interfaces.
-pub fn interface_names<'a>(alloc: Global, all: &[Declarations<'a>]) -> Result<Names<'a>, AllocError>
+pub fn interface_names<'a>(
+    alloc: Global,
+    keyed: KeyedState,
+    all: &[Declarations<'a>],
+) -> Result<Names<'a>, AllocError>
     ensures names { IfOk result (λ ns. ns ≡ interface_names (map declared_tree all.now)) }
     ensures labels { IfOk result (λ ns. All IsLabel ns) }
 {
     let mut names = Vec::new(alloc);
     push_names(&mut names, all)?;
-    Names::of(alloc, names)
+    Names::of(alloc, keyed, names)
 }
 
 impl<'a> Declarations<'a> {
     /// What an interface declares.
-    pub fn of(alloc: Global, interface: &'a Interface) -> Result<Declarations<'a>, AllocError>
+    pub fn of(
+        alloc: Global,
+        keyed: KeyedState,
+        interface: &'a Interface,
+    ) -> Result<Declarations<'a>, AllocError>
         ensures { IfOk result (λ d. declared_tree d ≡ interface_tree interface.now.name (map entry_view interface.now.items.items)) }
     {
         let mut uses = Vec::new(alloc);
@@ -98,7 +106,7 @@ impl<'a> Declarations<'a> {
             uses,
             types,
             functions,
-            names: Names::of(alloc, names)?,
+            names: Names::of(alloc, keyed, names)?,
         })
     }
 }

@@ -16,7 +16,7 @@ use crate::declared::{Declarations, UsedType};
 use crate::known::{KnownTypes, TypeIds};
 use crate::lower::lower_optional;
 use crate::names::Names;
-use atoms::Label;
+use atoms::{KeyedState, Label};
 use std::alloc::{AllocError, Global};
 use tables::{Definition, Function, InterfaceId, Owner, TypeDef, TypeDefKind, TypeId, TypeName};
 use wit_syntax::Func;
@@ -172,6 +172,7 @@ fn define_uses(
 /// Defines all of an interface, its types in this order; its scope is then complete.
 pub fn define_interface(
     alloc: Global,
+    keyed: KeyedState,
     builder: &mut Builder,
     names: &Names,
     scopes: &[KnownTypes],
@@ -192,7 +193,7 @@ pub fn define_interface(
 {
     let mut scope = KnownTypes {
         interface: place,
-        entries: TypeIds::new(alloc),
+        entries: TypeIds::new(alloc, keyed),
     };
     define_uses(alloc, builder, names, scopes, &mut scope, &interface.uses)?;
     define_types(alloc, builder, &mut scope, &interface.types, order)?;

@@ -11,7 +11,7 @@ use crate::declared::{Declarations, UsedType};
 use crate::named::definition_names;
 use crate::names::Names;
 use crate::order::{OrderError, placement};
-use atoms::Label;
+use atoms::{KeyedState, Label};
 use std::alloc::{AllocError, Global};
 use tables::{ResolveError, Sequence};
 
@@ -38,10 +38,14 @@ fn push_interfaces<'a>(names: &mut Vec<&'a Label>, uses: &[UsedType<'a>]) -> Res
 }
 
 /// Which interfaces each interface uses.
-fn interface_graph(alloc: Global, all: &[Declarations]) -> Result<Vec<Sequence<usize>>, AllocError>
+fn interface_graph(
+    alloc: Global,
+    keyed: KeyedState,
+    all: &[Declarations],
+) -> Result<Vec<Sequence<usize>>, AllocError>
     ensures { IfOk result (λ g. g.items ≡ interface_uses (map declared_tree all.now)) }
 {
-    let names = interface_names(alloc, all)?;
+    let names = interface_names(alloc, keyed, all)?;
     let mut graph = Vec::new(alloc);
     for declared in all {
         let mut used = Vec::new(alloc);
@@ -52,12 +56,16 @@ fn interface_graph(alloc: Global, all: &[Declarations]) -> Result<Vec<Sequence<u
 }
 
 /// Which types of the interface each of its types names.
-fn type_graph(alloc: Global, declared: &Declarations) -> Result<Vec<Sequence<usize>>, AllocError>
+fn type_graph(
+    alloc: Global,
+    keyed: KeyedState,
+    declared: &Declarations,
+) -> Result<Vec<Sequence<usize>>, AllocError>
     ensures { IfOk result (λ g. g.items ≡ type_uses (declared_tree declared.now)) }
 {
     let mut own = Vec::new(alloc);
     push_types(&mut own, &declared.types)?;
-    let own = Names::of(alloc, own)?;
+    let own = Names::of(alloc, keyed, own)?;
     let mut graph = Vec::new(alloc);
     for definition in &declared.types {
         let names = definition_names(alloc, &definition.kind)?;
@@ -79,26 +87,35 @@ fn ordered(alloc: Global, graph: &[Sequence<usize>]) -> Result<Sequence<usize>, 
 }
 
 /// The package order. 42 where interfaces use each other.
-pub fn interface_order(alloc: Global, all: &[Declarations]) -> Result<Sequence<usize>, ResolveError>
+pub fn interface_order(
+    alloc: Global,
+    keyed: KeyedState,
+    all: &[Declarations],
+) -> Result<Sequence<usize>, ResolveError>
     ensures ok { IfOk result (IsPlacement (interface_uses (map declared_tree all.now))) }
     ensures err { IfErr result (λ e. (e ≡ ResolveError.NoMemory) ⊎ ((e ≡ ResolveError.Cycle) × ((group : ℕ → Bool) × IsCycle (interface_uses (map declared_tree all.now)) group))) }
 {
-    let graph = interface_graph(alloc, all)?;
+    let graph = interface_graph(alloc, keyed, all)?;
     ordered(alloc, &graph)
 }
 
 /// The order of an interface's types. 42 where they name each other.
-fn type_order(alloc: Global, declared: &Declarations) -> Result<Sequence<usize>, ResolveError>
+fn type_order(
+    alloc: Global,
+    keyed: KeyedState,
+    declared: &Declarations,
+) -> Result<Sequence<usize>, ResolveError>
     ensures ok { IfOk result (IsPlacement (type_uses (declared_tree declared.now))) }
     ensures err { IfErr result (λ e. (e ≡ ResolveError.NoMemory) ⊎ ((e ≡ ResolveError.Cycle) × ((group : ℕ → Bool) × IsCycle (type_uses (declared_tree declared.now)) group))) }
 {
-    let graph = type_graph(alloc, declared)?;
+    let graph = type_graph(alloc, keyed, declared)?;
     ordered(alloc, &graph)
 }
 
 /// The order of each interface's types.
 pub fn type_orders(
     alloc: Global,
+    keyed: KeyedState,
     all: &[Declarations],
 ) -> Result<Vec<Sequence<usize>>, ResolveError>
     ensures count { IfOk result (λ os. length os.items ≡ length all.now) }
@@ -109,7 +126,7 @@ pub fn type_orders(
 {
     let mut orders = Vec::new(alloc);
     for declared in all {
-        orders.push(type_order(alloc, declared)?)?;
+        orders.push(type_order(alloc, keyed, declared)?)?;
     }
     Ok(orders)
 }

@@ -1,7 +1,7 @@
 //! The types that an interface's names stand for while its table is made.
 ghost use Rattle.std.specs.Prelude.{◌≡◌, ◌++◌, ◌∷◌, [], map, Contains, OnOk};
 
-use atoms::Label;
+use atoms::{KeyedState, Label};
 use indexmap::IndexMap;
 use std::alloc::{AllocError, Global};
 use std::marker::Model;
@@ -10,7 +10,7 @@ use tables::{InterfaceId, TypeId};
 /// Types by their names, in the order in which they were defined.
 #[derive(Drop)]
 pub struct TypeIds {
-    ids: IndexMap<Vec<u8>, TypeId>,
+    ids: IndexMap<Vec<u8>, TypeId, KeyedState>,
 }
 
 impl Model for TypeIds {
@@ -23,12 +23,12 @@ impl Model for TypeIds {
 }
 
 impl TypeIds {
-    /// No types.
-    pub fn new(alloc: Global) -> Self
+    /// No types; their names are told apart by hashers with this key.
+    pub fn new(alloc: Global, keyed: KeyedState) -> Self
         ensures { result ≡ [] }
     {
         TypeIds {
-            ids: IndexMap::new(alloc),
+            ids: IndexMap::with_hasher(alloc, keyed),
         }
     }
 

@@ -14,6 +14,7 @@ mod define;
 mod duplicates;
 mod finish;
 mod graphs;
+mod keys;
 mod known;
 mod lower;
 mod named;

@@ -4,7 +4,7 @@ ghost use Rattle.atoms.specs.Label.{IsLabel};
 ghost use Rattle.resolve.specs.Lent.{lent};
 ghost use Rattle.resolve.specs.Resolves.{place_of};
 
-use atoms::Label;
+use atoms::{KeyedState, Label};
 use indexmap::IndexMap;
 use std::alloc::{AllocError, Global};
 use std::marker::Model;
@@ -13,7 +13,7 @@ use std::marker::Model;
 #[derive(Drop)]
 pub struct Names<'a> {
     names: Vec<&'a Label>,
-    places: IndexMap<Vec<u8>, usize>,
+    places: IndexMap<Vec<u8>, usize, KeyedState>,
 }
 
 impl<'a> Model for Names<'a> {
@@ -29,11 +29,16 @@ impl<'a> Model for Names<'a> {
 }
 
 impl<'a> Names<'a> {
-    pub fn of(alloc: Global, names: Vec<&'a Label>) -> Result<Names<'a>, AllocError>
+    /// The places of these names, which are told apart by hashers with this key.
+    pub fn of(
+        alloc: Global,
+        keyed: KeyedState,
+        names: Vec<&'a Label>,
+    ) -> Result<Names<'a>, AllocError>
         ensures names { IfOk result (λ n. n ≡ lent names.entry.items) }
         ensures labels { IfOk result (λ n. All IsLabel n) }
     {
-        let mut places = IndexMap::new(alloc);
+        let mut places = IndexMap::with_hasher(alloc, keyed);
         for (place, name) in names.iter().enumerate() {
             if !places.contains_key(name.as_bytes()) {
                 places.insert(Vec::from_slice(alloc, name.as_bytes())?, place)?;

@@ -17,8 +17,10 @@ use crate::declared::Declarations;
 use crate::duplicates::distinct_names;
 use crate::finish::finish;
 use crate::graphs::{interface_order, type_orders};
+use crate::keys::keyed_by_tree;
 use crate::nested::are_items_nested;
 use crate::unknown::known_names;
+use atoms::KeyedState;
 use std::alloc::{AllocError, Global};
 use tables::{Resolve, ResolveError};
 use wit_syntax::{Ast, Interface, Item};
@@ -54,19 +56,24 @@ fn are_nested(interfaces: &[&Interface]) -> bool
 
 fn all_declarations<'a>(
     alloc: Global,
+    keyed: KeyedState,
     interfaces: &[&'a Interface],
 ) -> Result<Vec<Declarations<'a>>, AllocError>
     ensures { IfOk result (λ ds. map declared_tree ds.items ≡ map interface_syntax interfaces.now) }
 {
     let mut all = Vec::new(alloc);
     for interface in interfaces {
-        all.push(Declarations::of(alloc, interface)?)?;
+        all.push(Declarations::of(alloc, keyed, interface)?)?;
     }
     Ok(all)
 }
 
 /// What the interfaces of a tree declare, where each name stands for something.
-fn declarations(alloc: Global, ast: &Ast) -> Result<Vec<Declarations>, ResolveError>
+fn declarations(
+    alloc: Global,
+    keyed: KeyedState,
+    ast: &Ast,
+) -> Result<Vec<Declarations>, ResolveError>
     ensures faults { IfOk result (λ _. HasNoFaults (file_view ast.now)) }
     ensures ok { IfOk result (λ ds. map declared_tree ds.items ≡ interfaces (file_view ast.now)) }
     ensures labels { IfOk result (λ _. All IsLabel (interface_names (interfaces (file_view ast.now)))) }
@@ -76,9 +83,9 @@ fn declarations(alloc: Global, ast: &Ast) -> Result<Vec<Declarations>, ResolveEr
     if !are_nested(&interfaces) {
         return Err(ResolveError::Limit);
     }
-    distinct_names(alloc, &interfaces)?;
-    let all = all_declarations(alloc, &interfaces)?;
-    known_names(alloc, &all, &interfaces)?;
+    distinct_names(alloc, keyed, &interfaces)?;
+    let all = all_declarations(alloc, keyed, &interfaces)?;
+    known_names(alloc, keyed, &all, &interfaces)?;
     Ok(all)
 }
 
@@ -88,10 +95,11 @@ fn resolved_package(alloc: Global, ast: &Ast) -> Result<Resolve, ResolveError>
     ensures faults { IfOk result (λ _. HasNoFaults (file_view ast.now)) }
     ensures err { IfErr result (ResolveRefuses (file_view ast.now)) }
 {
-    let all = declarations(alloc, ast)?;
-    let order = interface_order(alloc, &all)?;
-    let orders = type_orders(alloc, &all)?;
-    let builder = define_package(alloc, &all, order.as_slice(), &orders)?;
+    let keyed = keyed_by_tree(ast);
+    let all = declarations(alloc, keyed, ast)?;
+    let order = interface_order(alloc, keyed, &all)?;
+    let orders = type_orders(alloc, keyed, &all)?;
+    let builder = define_package(alloc, keyed, &all, order.as_slice(), &orders)?;
     finish(alloc, builder, &ast.package)
 }
 

@@ -12,7 +12,7 @@ use crate::declare::interface_names;
 use crate::declared::Declarations;
 use crate::named::{definition_names, function_names};
 use crate::names::Names;
-use atoms::Label;
+use atoms::{KeyedState, Label};
 use std::alloc::{AllocError, Global};
 use tables::ResolveError;
 use wit_syntax::{Interface, InterfaceItem, Use};
@@ -125,6 +125,7 @@ fn unknown_in_items<'a>(
 /// 41 for the first name in the source that stands for nothing.
 pub fn known_names(
     alloc: Global,
+    keyed: KeyedState,
     all: &[Declarations],
     interfaces: &[&Interface],
 ) -> Result<(), ResolveError>
@@ -133,7 +134,7 @@ pub fn known_names(
     ensures labels { OnOk result (All IsLabel (interface_names (map declared_tree all.now))) }
     ensures err { IfErr result (RefusesUnknown (map declared_tree all.now)) }
 {
-    let names = interface_names(alloc, all)?;
+    let names = interface_names(alloc, keyed, all)?;
     for (place, interface) in interfaces.iter().enumerate() {
         if let Some(name) = unknown_in_items(alloc, all, &names, &all[place], &interface.items)? {
             return Err(ResolveError::Unknown(name.copy(alloc)?));

@@ -1,12 +1,8 @@
 -- Tables whose rows are alike are in package form together, and have the same component.
 use Rattle.std.proofs.Common.{◌≡◌, ℕ, zero, suc, ◌+◌, ◌-◌, ◌≤◌, Bool, true, cond, not, ◌&&◌, IsTrue, List, [], ◌∷◌, ◌++◌, map, flat_map, sum, take, drop, length, slice_get, Option, None, Some, refl, ap, sym, subst, ◌∙◌, arith}
-use Rattle.std.specs.Option.{option_map}
 use Rattle.std.specs.List.{list_all}
 use Rattle.std.specs.Str.{bytes_eq}
 use Rattle.atoms.specs.Label.{is_label}
-use Rattle.std.specs.String.{string_bytes}
-use Rattle.std.specs.declared.string.String.{String}
-use Rattle.std.specs.declared.alloc.Global.{Global}
 use Rattle.std.proofs.lemmas.Bool.Decides.{nat_tests}
 use Rattle.ctype_format.specs.Raw.{Decl, Entry, Instance, Component, Export, File}
 use Rattle.ctype_format.specs.View.{decls_of}

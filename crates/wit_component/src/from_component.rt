@@ -8,7 +8,7 @@ ghost use Rattle.wit_component.specs.ToComponent.{ComponentStands};
 ghost use Rattle.wit_component.specs.FromComponent.{FromComponentRefuses};
 
 use crate::same::{is_empty_package, is_same};
-use crate::to_component::to_raw;
+use crate::to_component::to_written;
 use component_reader::{Unread, candidate};
 use ctype_bin::RawComponent;
 use package_form::distinct_names;
@@ -28,8 +28,8 @@ fn standing(alloc: Global, raw: &RawComponent) -> Result<Resolve, ResolveError>
         Err(Unread::NotThisShape) => return Err(ResolveError::NotThisShape),
         Err(Unread::NoMemory) => return Err(ResolveError::NoMemory),
     };
-    let written = to_raw(alloc, &package)?;
-    if is_same(alloc, raw, &written)? {
+    let (written, bytes) = to_written(alloc, &package)?;
+    if is_same(alloc, raw, &written, &bytes)? {
         Ok(package)
     } else {
         Err(ResolveError::NotThisShape)

@@ -1,7 +1,7 @@
 //! A package as a component type binary: its tables to a raw component, and back.
 //!
 //! Each interface of a package is an instance type in one component type, as `wit-component` writes them. `to_raw`
-//! writes a package, and `from_raw` answers the one that a component stands for. It stands on `package_form`,
+//! writes a package, `to_written` with its bytes, and `from_raw` answers the one that a component stands for. It stands on `package_form`,
 //! `component_reader`, `tables`, `ctype_bin` and `atoms`.
 #![tactic(auto)]
 
@@ -15,4 +15,4 @@ mod to_component;
 mod valtypes;
 
 pub use from_component::from_raw;
-pub use to_component::to_raw;
+pub use to_component::{to_raw, to_written};

@@ -1,8 +1,9 @@
 //! Whether raw components are the same, and whether one is empty.
-ghost use Rattle.std.specs.Prelude.{◌≡◌, true, IfOk, map};
+ghost use Rattle.std.specs.Prelude.{◌≡◌, [], true, IfOk, map};
 ghost use Rattle.std.specs.Bool.{OnTrue};
 ghost use Rattle.ctype_format.specs.View.{type_view};
 ghost use Rattle.ctype_bin.specs.FileView.{file_view};
+ghost use Rattle.ctype_bin.specs.Encoding.{AppendsSpelling};
 ghost use Rattle.ctype_format.specs.File.{file};
 ghost use Rattle.ctype_format.specs.Writing.{file_bytes};
 ghost use Rattle.wit_component.specs.FromComponent.{has_no_decls, is_empty_package};
@@ -22,15 +23,21 @@ fn spelling(alloc: Global, raw: &RawComponent) -> Result<Vec<u8>, AllocError>
     }
 }
 
-/// Whether two components are the same.
-pub fn is_same(alloc: Global, a: &RawComponent, b: &RawComponent) -> Result<bool, AllocError>
+/// Whether a component is the same as another, of which these are the shortest bytes.
+pub fn is_same(
+    alloc: Global,
+    a: &RawComponent,
+    b: &RawComponent,
+    bytes: &[u8],
+) -> Result<bool, AllocError>
+    requires spelt { ∥ AppendsSpelling [] bytes.now (file_view b.now) ∥₁ }
+    requires exact { bytes.now ≡ file_bytes (file_view b.now) }
     ensures same { IfOk result (λ s. OnTrue s ∥ file_view a.now ≡ file_view b.now ∥₁) }
     ensures all { IfOk result (λ s. file_view a.now ≡ file_view b.now → s ≡ true) }
 {
     files_are_read_exactly();
     let first = spelling(alloc, a)?;
-    let second = spelling(alloc, b)?;
-    Ok(first.as_slice() == second.as_slice())
+    Ok(first.as_slice() == bytes)
 }
 
 #[tactic(auto, using(ctype_format::proofs::Views::views), unfolding(ctype_format::specs::View::type_view))]

@@ -1,13 +1,16 @@
 //! A package as a raw component.
 ghost use Rattle.std.specs.Prelude.{◌≡◌, ◌⊎◌, [], ◌∷◌, IsTrue, true, IfOk, OnOk, IfErr};
 ghost use Rattle.ctype_format.specs.View.{file_of, export_view};
+ghost use Rattle.ctype_bin.specs.FileView.{file_view};
+ghost use Rattle.ctype_bin.specs.Encoding.{AppendsSpelling};
+ghost use Rattle.ctype_format.specs.Writing.{file_bytes};
 ghost use Rattle.wit_component.specs.Component.{component_of, package_export};
 ghost use Rattle.package_form.specs.Form.{IsInPackageForm};
 ghost use Rattle.wit_component.specs.ToComponent.{ComponentStands, are_labelled};
 
 use crate::component::declarations;
 use atoms::Label;
-use ctype_bin::{BinError, ExternName, RawComponent, RawExport, RawType};
+use ctype_bin::{ExternName, RawComponent, RawExport, RawType};
 use package_form::is_in_form;
 use std::alloc::{AllocError, Global};
 use tables::{Resolve, ResolveError};
@@ -38,10 +41,12 @@ fn parts_of(alloc: Global, resolve: &Resolve) -> Result<(Vec<RawType>, Vec<RawEx
     Ok((types, exports))
 }
 
-/// The component type that a package is, in the layout of packages. 44 `NotThisShape` exactly where the table isn't one
+/// The component type that a package is, in the layout of packages, and its shortest bytes. 44 `NotThisShape` exactly where the table isn't one
 /// that packages have, unless memory is wanting before that is known. (Binary.md)
-pub fn to_raw(alloc: Global, resolve: &Resolve) -> Result<RawComponent, ResolveError>
-    ensures ok { IfOk result (λ raw. ComponentStands raw resolve.now) }
+pub fn to_written(alloc: Global, resolve: &Resolve) -> Result<(RawComponent, Vec<u8>), ResolveError>
+    ensures ok { IfOk result (λ x. ComponentStands x.0 resolve.now) }
+    ensures spelling { IfOk result (λ x. ∥ AppendsSpelling [] x.1.items (file_view x.0) ∥₁) }
+    ensures exact { IfOk result (λ x. x.1.items ≡ file_bytes (component_of resolve.now)) }
     ensures err { IfErr result (λ e. (e ≡ ResolveError.NoMemory)
         ⊎ ((e ≡ ResolveError.NotThisShape) × (IsInPackageForm resolve.now → ⊥))) }
 {
@@ -49,10 +54,16 @@ pub fn to_raw(alloc: Global, resolve: &Resolve) -> Result<RawComponent, ResolveE
         return Err(ResolveError::NotThisShape);
     }
     let (types, exports) = parts_of(alloc, resolve)?;
-    match RawComponent::new(alloc, types, exports) {
-        Ok(raw) => Ok(raw),
-        Err(BinError::NoMemory) => Err(ResolveError::NoMemory),
-        Err(BinError::At(_, _)) => unreachable!(),
-        Err(BinError::Read(_)) => unreachable!(),
-    }
+    Ok(RawComponent::with_bytes(alloc, types, exports)?)
+}
+
+/// The component type that a package is, in the layout of packages. 44 `NotThisShape` exactly where the table isn't one
+/// that packages have, unless memory is wanting before that is known. (Binary.md)
+pub fn to_raw(alloc: Global, resolve: &Resolve) -> Result<RawComponent, ResolveError>
+    ensures ok { IfOk result (λ raw. ComponentStands raw resolve.now) }
+    ensures err { IfErr result (λ e. (e ≡ ResolveError.NoMemory)
+        ⊎ ((e ≡ ResolveError.NotThisShape) × (IsInPackageForm resolve.now → ⊥))) }
+{
+    let (raw, _) = to_written(alloc, resolve)?;
+    Ok(raw)
 }

@@ -1,9 +1,11 @@
-use Rattle.std.proofs.Common.{List, ℕ, All, ◌∷◌, [], subst, sym, arith}
+use Rattle.std.proofs.Common.{List, ℕ, All, ◌∷◌, [], map, flat_map, subst, sym, arith}
 use Rattle.std.proofs.lemmas.Result.{err_from_is_err_and}
 use Rattle.package_form.specs.Scope.{AreDistinct}
 use Rattle.package_form.specs.Distinct.{AreMet}
 use Rattle.package_form.proofs.Lists.{map-more, all-append, all-cons, all-none}
-use Rattle.package_form.specs.Naming.{row_members}
+use Rattle.tables.specs.declared.tables.Definition.{Definition}
+use Rattle.package_form.specs.Naming.{row_names, row_members}
+use Rattle.package_form.proofs.Meeting.{all-taken}
 use Rattle.package_form.proofs.Naming.{names-more, refuses-row-name, refuses-row-members}
 use Rattle.package_form.proofs.distinct.distinct_rows.Goals as goal
 
@@ -28,3 +30,11 @@ loop-row-preserved c =
       parts = subst (λ (ss : List (List (List ℕ))). All AreDistinct ss) (sym (map-more row_members xs k x (omega arith) c.row-item.is))
           (all-append AreDistinct _ (row_members x ∷ []) c.loop-row.invariant.parts (all-cons AreDistinct (row_members x) [] c.in_ok-distinct_members.ensures.ok (all-none AreDistinct)));
     }
+
+pub returns-clause-ok : goal.returns-clause-ok
+returns-clause-ok c =
+    let rows = c.args.rows.now in
+    let k = c.loop-row.row-index in
+    all-cons AreDistinct (flat_map row_names rows) (map row_members rows)
+    (all-taken (λ (ds : List Definition). AreDistinct (flat_map row_names ds)) rows k (omega arith) c.loop-row.invariant.names.distinct)
+    (all-taken (λ (ds : List Definition). All AreDistinct (map row_members ds)) rows k (omega arith) c.loop-row.invariant.parts)

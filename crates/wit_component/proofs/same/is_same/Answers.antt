@@ -1,17 +1,17 @@
-use Rattle.std.proofs.Common.{◌≡◌, List, ℕ, sym, subst, ◌∙◌}
+use Rattle.std.proofs.Common.{◌≡◌, List, ℕ, [], refl, sym, subst, ◌∙◌}
 use Rattle.std.proofs.Math.Logic.{∥∥₁_map₂}
 use Rattle.std.proofs.lemmas.Bool.{OnTrue_from}
 use Rattle.std.proofs.lemmas.Slice.Eq.{bytes_eq-Decides}
 use Rattle.ctype_format.specs.File.{file}
 use Rattle.ctype_bin.specs.FileView.{file_view}
-use Rattle.wit_component.proofs.OneReading.{one-reading}
+use Rattle.wit_component.proofs.OneReading.{one-reading, spelt-alone}
 use Rattle.wit_component.proofs.same.is_same.Goals as goal
 
 pub returns-clause-same : goal.returns-clause-same
 returns-clause-same c =
     OnTrue_from c.eq.result _ (λ yes.
-    let same = (bytes_eq-Decides c.as_slice.result.now c.as_slice-2.result.now).0 (sym c.eq.ensures ∙ yes) in
-    let bytes : c.in_ok-second.second.items ≡ c.in_ok-first.first.items = sym c.as_slice-2.ensures.value ∙ sym same ∙ c.as_slice.ensures.value in
-    ∥∥₁_map₂ c.in_ok-first.ensures.spelt c.in_ok-second.ensures.spelt
+    let same = (bytes_eq-Decides c.as_slice.result.now c.args.bytes.now).0 (sym c.eq.ensures ∙ yes) in
+    let bytes : c.args.bytes.now ≡ c.in_ok-first.first.items = sym same ∙ c.as_slice.ensures.value in
+    ∥∥₁_map₂ c.in_ok-first.ensures.spelt c.requires.spelt
     (λ a b. one-reading c.files_are_read_exactly.ensures c.in_ok-first.first.items (file_view c.args.a.now) (file_view c.args.b.now) a
-    (subst (λ (bs : List ℕ). file.spells bs (file_view c.args.b.now)) bytes b)))
+    (subst (λ (bs : List ℕ). file.spells bs (file_view c.args.b.now)) bytes (spelt-alone [] c.args.bytes.now (file_view c.args.b.now) refl b))))

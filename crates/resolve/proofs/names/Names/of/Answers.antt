@@ -13,7 +13,7 @@ use Rattle.resolve.proofs.names.Names.of.Goals as goal
 use Rattle.resolve.proofs.names.Names.of.Goals.{then-not-contains_key+in_ok-from_slice+in_ok-insert, else-not-contains_key}
 
 pub loop-place-init : goal.loop-place-init
-loop-place-init c = (tells-none (λ v. v.items) c.new-places.result.entries c.new-places.ensures.empty, all-none IsLabel)
+loop-place-init c = (tells-none (λ v. v.items) c.with_hasher-places.result.entries c.with_hasher-places.ensures.empty, all-none IsLabel)
 
 pub loop-place-preserved : goal.loop-place-preserved
 loop-place-preserved c =

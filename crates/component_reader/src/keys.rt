@@ -1,0 +1,22 @@
+//! The key of the names that a component type exports.
+use atoms::{KeyedState, NameKey};
+use ctype_bin::{ExternName, RawDecl, RawType};
+
+fn write_exports(key: &mut NameKey, decls: &[RawDecl]) {
+    for decl in decls {
+        if let RawDecl::Export(ExternName::Label(name), _) = decl {
+            key.write(name.as_bytes());
+        }
+    }
+}
+
+/// Hashers of names, with a key made of all labels that the instance types among these declarations export.
+pub fn keyed_by_exports(decls: &[RawDecl]) -> KeyedState {
+    let mut key = NameKey::new();
+    for decl in decls {
+        if let RawDecl::Type(RawType::Instance(own)) = decl {
+            write_exports(&mut key, own);
+        }
+    }
+    key.state()
+}

@@ -1,0 +1,75 @@
+//! The key of a table's names.
+use atoms::{KeyedState, Label, NameKey};
+use tables::{Case, Definition, Field, Interface, Parameter, Resolve, TypeDefKind};
+
+fn write_labels(key: &mut NameKey, labels: &[Label]) {
+    for label in labels {
+        key.write(label.as_bytes());
+    }
+}
+
+fn write_fields(key: &mut NameKey, fields: &[Field]) {
+    for field in fields {
+        key.write(field.name.as_bytes());
+    }
+}
+
+fn write_cases(key: &mut NameKey, cases: &[Case]) {
+    for case in cases {
+        key.write(case.name.as_bytes());
+    }
+}
+
+fn write_parameters(key: &mut NameKey, params: &[Parameter]) {
+    for param in params {
+        key.write(param.name.as_bytes());
+    }
+}
+
+fn write_parts(key: &mut NameKey, kind: &TypeDefKind) {
+    match kind {
+        TypeDefKind::Record(fields) => write_fields(key, fields.as_slice()),
+        TypeDefKind::Variant(cases) => write_cases(key, cases.as_slice()),
+        TypeDefKind::Enum(labels) | TypeDefKind::Flags(labels) => {
+            write_labels(key, labels.as_slice());
+        }
+        TypeDefKind::Use(_)
+        | TypeDefKind::Alias(_)
+        | TypeDefKind::List(_)
+        | TypeDefKind::Option(_)
+        | TypeDefKind::Result(_, _)
+        | TypeDefKind::Tuple(_) => {}
+    }
+}
+
+/// Writes the name of a row, if it has one, and those of its members.
+fn write_row(key: &mut NameKey, row: &Definition) {
+    match row {
+        Definition::Type(definition) => {
+            if let Some(name) = &definition.name {
+                key.write(name.name.as_bytes());
+            }
+            write_parts(key, &definition.kind);
+        }
+        Definition::Function(function) => {
+            key.write(function.name.as_bytes());
+            write_parameters(key, function.params.as_slice());
+        }
+    }
+}
+
+fn write_interfaces(key: &mut NameKey, interfaces: &[Interface]) {
+    for interface in interfaces {
+        key.write(interface.name.as_bytes());
+    }
+}
+
+/// Hashers of names, with a key made of all names in the scopes of a table.
+pub fn keyed_by_table(resolve: &Resolve) -> KeyedState {
+    let mut key = NameKey::new();
+    write_interfaces(&mut key, resolve.interfaces.as_slice());
+    for row in resolve.definitions.as_slice() {
+        write_row(&mut key, row);
+    }
+    key.state()
+}

@@ -1,0 +1,70 @@
+//! The key of a syntax tree's names.
+use crate::declare::local_name;
+use atoms::{KeyedState, Label, NameKey};
+use wit_syntax::{Ast, Case, Field, InterfaceItem, Item, TypeDefKind, UsedName};
+
+fn write_labels(key: &mut NameKey, labels: &[Label]) {
+    for label in labels {
+        key.write(label.as_bytes());
+    }
+}
+
+fn write_fields(key: &mut NameKey, fields: &[Field]) {
+    for field in fields {
+        key.write(field.name.as_bytes());
+    }
+}
+
+fn write_cases(key: &mut NameKey, cases: &[Case]) {
+    for case in cases {
+        key.write(case.name.as_bytes());
+    }
+}
+
+fn write_used(key: &mut NameKey, names: &[UsedName]) {
+    for name in names {
+        key.write(local_name(name).as_bytes());
+    }
+}
+
+fn write_parts(key: &mut NameKey, kind: &TypeDefKind) {
+    match kind {
+        TypeDefKind::Alias(_) => {}
+        TypeDefKind::Record(fields) => write_fields(key, fields),
+        TypeDefKind::Variant(cases) => write_cases(key, cases),
+        TypeDefKind::Enum(labels) | TypeDefKind::Flags(labels) => write_labels(key, labels),
+    }
+}
+
+/// Writes the names that an item defines, and those of its members.
+fn write_item(key: &mut NameKey, item: &InterfaceItem) {
+    match item {
+        InterfaceItem::Use(used) => write_used(key, &used.names),
+        InterfaceItem::TypeDef(definition) => {
+            key.write(definition.name.as_bytes());
+            write_parts(key, &definition.kind);
+        }
+        InterfaceItem::Func(function) => {
+            key.write(function.name.as_bytes());
+            write_fields(key, &function.ty.params);
+        }
+    }
+}
+
+fn write_items(key: &mut NameKey, items: &[InterfaceItem]) {
+    for item in items {
+        write_item(key, item);
+    }
+}
+
+/// Hashers of names, with a key made of all names in the scopes of a tree.
+pub fn keyed_by_tree(ast: &Ast) -> KeyedState {
+    let mut key = NameKey::new();
+    for item in &ast.items {
+        if let Item::Interface(interface) = item {
+            key.write(interface.name.as_bytes());
+            write_items(&mut key, &interface.items);
+        }
+    }
+    key.state()
+}
