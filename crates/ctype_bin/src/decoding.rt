@@ -7,8 +7,8 @@ ghost use Rattle.ctype_bin.specs.FileView.{file_view};
 
 use crate::component::RawComponent;
 use crate::sections::{MAX_LENGTH, file_of};
-use ctype_format::{BinError, Fault, ItemError, Stuck};
 use atoms::{ReadUpToError, Source, read_up_to};
+use ctype_format::{BinError, Fault, ItemError, Stuck};
 use std::alloc::Global;
 
 /// A fault with its place.

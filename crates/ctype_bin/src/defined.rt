@@ -5,8 +5,11 @@ ghost use Rattle.ctype_format.specs.Bytes.{AnswersRead};
 ghost use Rattle.ctype_format.specs.Grammar.{valtype, label, field, case, record_type, variant_type, list_type, tuple_type, flags_type, enum_type, option_type, result_type, outcome, function_type, plain, is_nested};
 ghost use Rattle.ctype_format.specs.View.{type_view};
 
-use ctype_format::{ItemError, Opcode, RawCase, RawDefinedType, RawField, RawFunction, RawType, RawValType, count_of, count_upto, flag_of, label_of, optional_of, u32_of, valtype_of, zero_of};
 use atoms::Label;
+use ctype_format::{
+    ItemError, Opcode, RawCase, RawDefinedType, RawField, RawFunction, RawType, RawValType,
+    count_of, count_upto, flag_of, label_of, optional_of, u32_of, valtype_of, zero_of,
+};
 use std::alloc::Global;
 
 /// The cases that a variant or an enum may have.

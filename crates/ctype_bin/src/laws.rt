@@ -9,8 +9,8 @@ ghost use Rattle.ctype_format.specs.File.{file, max_length, Faulty};
 ghost use Rattle.ctype_bin.specs.FileView.{file_view};
 ghost use Rattle.ctype_bin.specs.InRange.{FileInRange};
 
-use ctype_format::{BinError, Fault};
 use crate::component::RawComponent;
+use ctype_format::{BinError, Fault};
 
 /// Reading a type finds just what its productions spell, or the first fault, which stands within the bytes.
 pub fn types_are_read_exactly()

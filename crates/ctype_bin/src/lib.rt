@@ -12,13 +12,13 @@ mod sections;
 mod types;
 
 pub use component::RawComponent;
+pub use ctype_format::{
+    BinError, ExternName, Fault, Feature, Primitive, RawAlias, RawCase, RawDecl, RawDefinedType,
+    RawDescription, RawExport, RawField, RawFunction, RawType, RawValType,
+};
 pub use decoding::{decode, decode_from};
 pub use encoding::encode;
 pub use laws::{
     faults_are_first, files_are_read_exactly, indices_are_in_range, spellings_are_rewritten,
     types_are_read_exactly,
-};
-pub use ctype_format::{
-    BinError, ExternName, Fault, Feature, Primitive, RawAlias, RawCase, RawDecl, RawDefinedType,
-    RawDescription, RawExport, RawField, RawFunction, RawType, RawValType,
 };

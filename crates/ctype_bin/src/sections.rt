@@ -10,7 +10,10 @@ ghost use Rattle.ctype_bin.specs.FileView.{file_view};
 
 use crate::component::RawComponent;
 use crate::types::type_of;
-use ctype_format::{Fault, ItemError, RawExport, RawType, Scope, Stuck, at, byte_of, extern_name_of, index_of, new_scope, u32_of, utf8_of, with_entries, zero_of};
+use ctype_format::{
+    Fault, ItemError, RawExport, RawType, Scope, Stuck, at, byte_of, extern_name_of, index_of,
+    new_scope, u32_of, utf8_of, with_entries, zero_of,
+};
 use std::alloc::Global;
 
 /// The bytes of the longest binary, which has fewer custom sections.

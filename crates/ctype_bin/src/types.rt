@@ -7,7 +7,11 @@ ghost use Rattle.ctype_format.specs.Grammar.{IsWithin, is_nested, is_component, 
 ghost use Rattle.ctype_format.specs.View.{decl_view, type_view};
 
 use crate::defined::plain_of;
-use ctype_format::{Fault, Feature, ItemError, MAX_ENTRIES, Opcode, RawAlias, RawDecl, RawDescription, RawType, Scope, at, byte_of, extern_name_of, index_of, is_nested, label_of, new_scope, opcode_of, types_at, u32_of, with_entries, with_instance, with_type, zero_of};
+use ctype_format::{
+    Fault, Feature, ItemError, MAX_ENTRIES, Opcode, RawAlias, RawDecl, RawDescription, RawType,
+    Scope, at, byte_of, extern_name_of, index_of, is_nested, label_of, new_scope, opcode_of,
+    types_at, u32_of, with_entries, with_instance, with_type, zero_of,
+};
 use std::alloc::Global;
 
 /// What is wrong with a byte that begins no type.
