@@ -3,7 +3,7 @@ use Rattle.std.proofs.Common.{◌≡◌, inl, inr, List, [], ℕ, Some, None, Re
 use Rattle.canonical_abi.specs.Types.{FunctionType}
 use Rattle.canonical_abi.specs.Guest.{Memory}
 use Rattle.canonical_abi.specs.Trace.{Event}
-use Rattle.canonical_abi.specs.Call.{either, Parties, World, Ways, Enters, Answered, Returned, ArgumentsFaulty, ResultFaulty, ResultFails, Traps, Calls}
+use Rattle.canonical_abi.specs.Call.{exact, Parties, World, Ways, Enters, Answered, Returned, ArgumentsFaulty, ResultFaulty, ResultFails, Traps, Calls}
 use Rattle.canonical_abi.specs.declared.flat.Flat.{Flat}
 use Rattle.canonical_abi.specs.declared.trap.Fault.{Fault}
 use Rattle.canonical_abi.specs.declared.trap.Fault.TheVariants as ended
@@ -11,6 +11,7 @@ use Rattle.canonical_abi.specs.declared.trap.Step.{Step}
 use Rattle.canonical_abi.specs.declared.trap.Step.TheVariants as step
 use Rattle.canonical_abi.specs.declared.trap.TrapKind.{TrapKind}
 use Rattle.canonical_abi.specs.declared.trap.TrapKind.TheVariants as trap
+use Rattle.adapter.specs.Counting.{counted_nodes}
 use Rattle.adapter.specs.Crossing.{guests, memories, HasEntered, EntryFails, HasReturned, ReturnFails}
 
 abbrev pub world : Memory → Memory → List ℕ → World
@@ -23,32 +24,33 @@ module _ (parties : Parties) (f : FunctionType) (flats : List Flat) (caller call
   abbrev before : World
   before = world caller callee body
 
-  -- the call ends so, by some ways
-  abbrev Ends : Result (List Flat) Fault → World → Type 0
-  Ends result new = (ways : Ways) × Calls parties either f flats before result ways new
+  -- the call ends so, by some ways of so many nodes
+  abbrev Ends : Result (List Flat) Fault → World → ℕ → ℕ → Type 0
+  Ends result new there back =
+      (ways : Ways) × Calls parties exact f flats before result ways new × ((there ≡ counted_nodes ways.there) × (back ≡ counted_nodes ways.back))
 
   abbrev ways_of : List Event → List Event → Ways
   ways_of there back = record { there = there; back = back }
 
   -- ---- the arguments
 
-  args_faulty : (k : TrapKind) (done : List Event) (callee' : Memory) → ArgumentsFaulty alone either f flats (memories caller callee) k done (memories caller callee')
-      → ArgumentsFaulty parties either f flats before k done (world caller callee' body)
+  args_faulty : (k : TrapKind) (done : List Event) (callee' : Memory) → ArgumentsFaulty alone exact f flats (memories caller callee) k done (memories caller callee')
+      → ArgumentsFaulty parties exact f flats before k done (world caller callee' body)
   args_faulty k done callee' (inl (other, is, none, same)) = inl (other, is, none, ap (λ w. world caller w.callee body) same)
   args_faulty k done callee' (inr (inl (kinds, address, none, same))) = inr (inl (kinds, address, none, ap (λ w. world caller w.callee body) same))
   args_faulty k done callee' (inr (inr (kinds, es, until, front, begun, same, kept))) = inr (inr (kinds, es, until, front, begun, refl, refl))
 
-  pub entry-fails : (fault : Fault) (callee' : Memory) → EntryFails alone f flats (memories caller callee) fault (memories caller callee')
-      → Ends (Err fault) (world caller callee' body)
-  entry-fails ended.NoMemory callee' same = (ways_of [] [], inl (refl, refl, ap (λ w. world caller w.callee body) same))
-  entry-fails (ended.Trap t) callee' (inl (is, done, faulty)) =
-      let P : Step → Type 0 = λ s. Traps parties either f flats before s t.kind (ways_of done []) (world caller callee' body) in
-      (ways_of done [], subst P (sym is) (args_faulty t.kind done callee' faulty, refl))
-  entry-fails (ended.Trap t) callee' (inr (is, done, (kinds, es, script, breaks, is_done, same, kept))) =
-      let P : Step → Type 0 = λ s. Traps parties either f flats before s t.kind (ways_of done []) (world caller callee' body) in
-      (ways_of done [], subst P (sym is) ((kinds, es, script, breaks, is_done, refl, refl), refl))
+  pub entry-fails : (fault : Fault) (callee' : Memory) (there : ℕ) → EntryFails alone f flats (memories caller callee) fault (memories caller callee') there
+      → Ends (Err fault) (world caller callee' body) there 0
+  entry-fails ended.NoMemory callee' there never = absurd never
+  entry-fails (ended.Trap t) callee' there (inl (is, done, faulty, counts)) =
+      let P : Step → Type 0 = λ s. Traps parties exact f flats before s t.kind (ways_of done []) (world caller callee' body) in
+      (ways_of done [], subst P (sym is) (args_faulty t.kind done callee' faulty, refl), (counts, refl))
+  entry-fails (ended.Trap t) callee' there (inr (is, done, (kinds, es, script, breaks, is_done, same, kept), counts)) =
+      let P : Step → Type 0 = λ s. Traps parties exact f flats before s t.kind (ways_of done []) (world caller callee' body) in
+      (ways_of done [], subst P (sym is) ((kinds, es, script, breaks, is_done, refl, refl), refl), (counts, refl))
 
-  module _ (handed : List Flat) (callee' : Memory) (entered : HasEntered alone f flats (memories caller callee) handed (memories caller callee')) where
+  module _ (handed : List Flat) (callee' : Memory) (there : ℕ) (entered : HasEntered alone f flats (memories caller callee) handed (memories caller callee') there) where
     enters : Enters parties f flats before entered.0 handed entered.1 (world caller callee' body)
     enters =
         let e = entered.2 in
@@ -58,9 +60,9 @@ module _ (parties : Parties) (f : FunctionType) (flats : List Flat) (caller call
 
     module _ (callee'' : Memory) (body' : List ℕ) where
       pub body-stops : parties.runs body callee' handed body' callee'' None → (fault : Fault) → fault ≡ ended.Trap (record { kind = trap.Body; step = step.Body })
-          → Ends (Err fault) (world caller callee'' body')
+          → Ends (Err fault) (world caller callee'' body') there 0
       body-stops run fault is =
-          rw is (ways_of entered.1 [], (entered.0, handed, world caller callee' body, refl, enters, record { run = run; same_caller = refl }, refl))
+          rw is (ways_of entered.1 [], (entered.0, handed, world caller callee' body, refl, enters, record { run = run; same_caller = refl }, refl), (entered.3, refl))
 
       module _ (answer : List Flat) (run : parties.runs body callee' handed body' callee'' (Some answer)) where
         abbrev after : World
@@ -77,29 +79,27 @@ module _ (parties : Parties) (f : FunctionType) (flats : List Flat) (caller call
 
         -- ---- the result
 
-        result_faulty : (k : TrapKind) (done : List Event) (caller' : Memory) → ResultFaulty alone either f flats (memories caller callee'') answer k done (memories caller' callee'')
-            → ResultFaulty parties either f flats after answer k done (world caller' callee'' body')
+        result_faulty : (k : TrapKind) (done : List Event) (caller' : Memory) → ResultFaulty alone exact f flats (memories caller callee'') answer k done (memories caller' callee'')
+            → ResultFaulty parties exact f flats after answer k done (world caller' callee'' body')
         result_faulty k done caller' (inl (address, none, same)) = inl (address, none, ap (λ w. world w.caller callee'' body') same)
         result_faulty k done caller' (inr (u, es, until, front, begun, same, kept)) = inr (u, es, until, front, begun, refl, refl)
 
-        result_fails : (k : TrapKind) (done : List Event) (caller' : Memory) → ResultFails alone either f flats (memories caller callee'') answer k done (memories caller' callee'')
-            → ResultFails parties either f flats after answer k done (world caller' callee'' body')
+        result_fails : (k : TrapKind) (done : List Event) (caller' : Memory) → ResultFails alone exact f flats (memories caller callee'') answer k done (memories caller' callee'')
+            → ResultFails parties exact f flats after answer k done (world caller' callee'' body')
         result_fails k done caller' (inl (u, bad, none, same)) = inl (u, bad, none, ap (λ w. world w.caller callee'' body') same)
         result_fails k done caller' (inr (stands, es, script, breaks, is_done, same, kept)) = inr (stands, es, script, breaks, is_done, refl, refl)
 
-        pub return-fails : (fault : Fault) (caller' : Memory) → ReturnFails alone f flats (memories caller callee'') answer fault (memories caller' callee'')
-            → Ends (Err fault) (world caller' callee'' body')
-        return-fails ended.NoMemory caller' same =
-            let P : World → Type 0 = λ w. Answered parties f flats before answer entered.1 (world w.caller callee'' body') in
-            (ways_of entered.1 [], inr (answer, subst P (sym same) answered, refl))
-        return-fails (ended.Trap t) caller' (inl (is, done, faulty)) =
-            let P : Step → Type 0 = λ s. Traps parties either f flats before s t.kind (ways_of entered.1 done) (world caller' callee'' body') in
-            (ways_of entered.1 done, subst P (sym is) (answer, after, answered, result_faulty t.kind done caller' faulty))
-        return-fails (ended.Trap t) caller' (inr (is, done, failed)) =
-            let P : Step → Type 0 = λ s. Traps parties either f flats before s t.kind (ways_of entered.1 done) (world caller' callee'' body') in
-            (ways_of entered.1 done, subst P (sym is) (answer, after, answered, result_fails t.kind done caller' failed))
+        pub return-fails : (fault : Fault) (caller' : Memory) (back : ℕ) → ReturnFails alone f flats (memories caller callee'') answer fault (memories caller' callee'') back
+            → Ends (Err fault) (world caller' callee'' body') there back
+        return-fails ended.NoMemory caller' back never = absurd never
+        return-fails (ended.Trap t) caller' back (inl (is, done, faulty, counts)) =
+            let P : Step → Type 0 = λ s. Traps parties exact f flats before s t.kind (ways_of entered.1 done) (world caller' callee'' body') in
+            (ways_of entered.1 done, subst P (sym is) (answer, after, answered, result_faulty t.kind done caller' faulty), (entered.3, counts))
+        return-fails (ended.Trap t) caller' back (inr (is, done, failed, counts)) =
+            let P : Step → Type 0 = λ s. Traps parties exact f flats before s t.kind (ways_of entered.1 done) (world caller' callee'' body') in
+            (ways_of entered.1 done, subst P (sym is) (answer, after, answered, result_fails t.kind done caller' failed), (entered.3, counts))
 
-        module _ (back : List Flat) (caller' : Memory) (has : HasReturned alone f flats (memories caller callee'') answer back (memories caller' callee'')) (callee''' : Memory) (body'' : List ℕ) where
+        module _ (back : List Flat) (caller' : Memory) (counted : ℕ) (has : HasReturned alone f flats (memories caller callee'') answer back (memories caller' callee'') counted) (callee''' : Memory) (body'' : List ℕ) where
           returned : Returned parties f flats before answer back (ways_of entered.1 has.1) (world caller' callee'' body')
           returned =
               let e = has.2 in
@@ -111,11 +111,11 @@ module _ (parties : Parties) (f : FunctionType) (flats : List Flat) (caller call
               }
 
           pub post-stops : parties.posts body' callee'' answer body'' callee''' None → (fault : Fault) → fault ≡ ended.Trap (record { kind = trap.Body; step = step.Post })
-              → Ends (Err fault) (world caller' callee''' body'')
+              → Ends (Err fault) (world caller' callee''' body'') there counted
           post-stops post fault is =
-              rw is (ways_of entered.1 has.1, (answer, back, world caller' callee'' body', refl, returned, record { run = post; same_caller = refl }))
+              rw is (ways_of entered.1 has.1, (answer, back, world caller' callee'' body', refl, returned, record { run = post; same_caller = refl }), (entered.3, has.3))
 
-          pub completes : parties.posts body' callee'' answer body'' callee''' (Some tt) → Ends (Ok back) (world caller' callee''' body'')
+          pub completes : parties.posts body' callee'' answer body'' callee''' (Some tt) → Ends (Ok back) (world caller' callee''' body'') there counted
           completes post = (
             ways_of entered.1 has.1,
             record {
@@ -124,4 +124,5 @@ module _ (parties : Parties) (f : FunctionType) (flats : List Flat) (caller call
               returns = returned;
               finishes = record { run = post; same_caller = refl };
             },
+            (entered.3, has.3),
           )

@@ -1,5 +1,5 @@
 -- A function of a package: where it stands in the layouts, and what is known of the types that it names.
-use Rattle.std.proofs.Common.{◌≡◌, ◌<◌, ◌≤◌, Bool, true, false, List, [], Option, Some, None, IfSome, length, map, get_or, refl, sym, ap, ◌∙◌, subst, arith}
+use Rattle.std.proofs.Common.{◌≡◌, ◌<◌, ◌≤◌, Bool, true, false, List, [], ◌∷◌, Option, Some, None, IfSome, length, map, get_or, refl, sym, ap, ◌∙◌, subst, arith}
 use Rattle.std.specs.List.{list_all}
 use Rattle.std.specs.Option.{option_map}
 use Rattle.std.proofs.Math.Bridge.{le_prop}
@@ -7,7 +7,8 @@ use Rattle.std.proofs.Math.Logic.{∥∥₁_elim}
 use Rattle.std.proofs.lemmas.Bool.{and_parts, and_from, lt-ltb}
 use Rattle.std.proofs.lemmas.List.{length-map}
 use Rattle.std.proofs.lemmas.List.Folds.{list_all-map, list_all_at}
-use Rattle.canonical_abi.specs.Types.{ClosedType, string_type, record_type, fields_of, result_fields}
+use Rattle.canonical_abi.specs.Types.{ClosedType, Fields, string_type, record_type, fields_of, result_fields, fields_depth}
+use Rattle.canonical_abi.specs.Few.{IsShallowFunction}
 use Rattle.canonical_abi.specs.Layout.{size}
 use Rattle.layout.specs.Layout.{Table, row_of, layouts_of, AreWithin, IsWithin}
 use Rattle.tables.specs.Tables.{option_all, definition_all, is_type}
@@ -29,7 +30,7 @@ use Rattle.lift_lower.proofs.Alone.{alone-size}
 use Rattle.lift_lower.proofs.Known.{known-inside}
 use Rattle.adapter.specs.Carrying.{types_in}
 use Rattle.adapter.proofs.Functions.{params_in}
-use Rattle.adapter.proofs.Within.{type-small}
+use Rattle.adapter.proofs.Within.{type-shallow, type-small}
 
 -- a function has a row
 pub function-stands : (r : Resolve) (table : Table) (f : FunctionId) → table ≡ layouts_of r → IsFunction r f → f.0 < length table.rows
@@ -111,3 +112,26 @@ module _ (r : Resolve) (f : FunctionId) (h : IsFunction r f) (s : Function) (fou
 
   pub params-small : ∥ AreWithin r ∥₁ → size (record_type (fields_of_types r (map (λ p. p.ty) s.params))) ≤ 16777216
   params-small within = ∥∥₁_elim within le_prop small-within
+
+-- ---- how deep the types of a function nest
+
+types-shallow : (r : Resolve) → ∥ AreWithin r ∥₁ → (ts : List ValType) → AreTypesOf r ts → fields_depth (fields_of_types r ts) ≤ 64
+types-shallow r within [] known = omega arith
+types-shallow r within (t ∷ ts) known =
+    let parts = and_parts (is_type r.definitions t) (list_all (is_type r.definitions) ts) known in
+    omega (arith, type-shallow r within t parts.0, types-shallow r within ts parts.1)
+
+result-shallow : (r : Resolve) → ∥ AreWithin r ∥₁ → (o : Option ValType) → IfSome o (IsTypeOf r) → fields_depth (result_fields (option_map (closed_type r) o)) ≤ 64
+result-shallow r within None known = omega arith
+result-shallow r within (Some t) known = let h = type-shallow r within t known in omega (arith, h)
+
+pub function-shallow : (r : Resolve) → ∥ AreWithin r ∥₁ → (f : FunctionId) → IsFunction r f → IsShallowFunction (function_type r f)
+function-shallow r within f h =
+    let st = stands r f h in
+    let s = st.function in
+    let P : Fields → Type 0 = λ ts. fields_depth ts ≤ 64 in
+    let Q : Option ClosedType → Type 0 = λ o. fields_depth (result_fields o) ≤ 64 in
+    record {
+      params = subst P (sym (params-are r f h s st.at)) (types-shallow r within (map (λ p. p.ty) s.params) (params-known r f h s st.at));
+      result = subst Q (sym (result-is r f h s st.at)) (result-shallow r within s.result (result-known r f h s st.at));
+    }

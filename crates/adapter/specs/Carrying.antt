@@ -5,11 +5,9 @@ use Rattle.canonical_abi.specs.Types.{ClosedType}
 use Rattle.canonical_abi.specs.Values.{Value}
 use Rattle.canonical_abi.specs.declared.flat.Flat.{Flat}
 use Rattle.canonical_abi.specs.declared.trap.Fault.{Fault}
-use Rattle.canonical_abi.specs.declared.trap.Fault.TheVariants.{Trap, NoMemory}
-use Rattle.canonical_abi.specs.declared.trap.Step.{Step}
 use Rattle.tables.specs.declared.tables.Function.{Function}
 use Rattle.tables.specs.declared.tables.ValType.{ValType}
-use Rattle.lift_lower.specs.Scalars.{fields_in, StandFor, FailAs, AreCarried}
+use Rattle.lift_lower.specs.Scalars.{fields_in, StandFor, AreCarried}
 
 -- the types of a function's parameters, and of its result as a list of at most one
 abbrev pub params_of : Option Function → List ValType
@@ -28,11 +26,6 @@ results_of (Some s) = types_in s.result
 abbrev pub CarriesOn : List ValType → List Flat → List Flat → Type 0
 CarriesOn types flats handed =
     (vs : List Value) × StandFor types flats vs × ((rows : List ClosedType) → AreCarried (fields_in rows types) vs handed)
-
--- a trap in this step, whose kind is the flat values' first fault
-abbrev pub IsFaultAt : Step → List ValType → List Flat → Fault → Type 0
-IsFaultAt step types flats (Trap t) = (t.step ≡ step) × FailAs types flats t.kind
-IsFaultAt step types flats NoMemory = ⊥
 
 -- a call's answer, with the flat values as a list
 abbrev pub answer_of : Result (ArrayVec Flat) Fault → Result (List Flat) Fault

@@ -1,8 +1,17 @@
 -- What contracts see of a link.
+use Rattle.std.specs.Prelude.{◌≡◌, ℕ}
+use Rattle.canonical_abi.specs.Call.{Ways}
 use Rattle.layout.specs.Layout.{Table}
 use Rattle.tables.specs.declared.tables.Resolve.{Resolve}
+use Rattle.adapter.specs.Counting.{counted_nodes}
 
--- the package whose functions are called, and its layouts
+-- the package whose functions are called, its layouts, and the nodes of the last call's two ways
 pub record Linked : Type 0 where
   pub resolve : Resolve
   pub layouts : Table
+  pub there : ℕ
+  pub back : ℕ
+
+-- these are the nodes of these two ways
+abbrev pub TellsNodes : Ways → Linked → Type 0
+TellsNodes ways link = (link.there ≡ counted_nodes ways.there) × (link.back ≡ counted_nodes ways.back)

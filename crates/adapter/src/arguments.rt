@@ -1,36 +1,41 @@
 //! The first way of a call: the arguments, from the caller into the callee.
-ghost use Rattle.std.specs.Prelude.{◌≡◌, ◌≢◌, Err, IfOk, IfErr};
+ghost use Rattle.std.specs.Prelude.{◌≡◌, IfOk, IfErr};
 ghost use Rattle.tables.specs.Closed.{IsFunction, function_type};
 ghost use Rattle.adapter.specs.Crossing.{guests, memories, HasEntered, EntryFails};
 
-use crate::fault::trap;
+use crate::fault::{fault_of, trap};
 use crate::scalars::carry_arguments;
 use canonical_abi::{Fault, Flat, Guest, Step, TrapKind};
-use crossing::{Stopped, cross_params};
+use crossing::cross_params;
 use lift_lower::{Flats, Types, are_kinds};
 use tables::{FunctionId, TypeId, ValType};
 
-/// Puts the arguments, as the caller holds them, into the callee: the flat values that carry them there. Takes no
-/// memory of the host.
+/// Puts the arguments, as the caller holds them, into the callee: the flat values that carry them there, and in `nodes` how
+/// many nodes were visited, those up to the fault where there was one. Takes no memory of the host.
 pub(crate) fn pass_arguments<C: Guest, E: Guest>(
     table: &Types,
     func: FunctionId,
     flats: &[Flat],
     caller: &C,
     callee: &mut E,
+    nodes: &mut u64,
 ) -> Result<Flats, Fault>
     requires function { IsFunction table.now func }
+    requires fresh { nodes.old ≡ 0 }
     ensures entered { IfOk result (λ handed. HasEntered (guests C.allocates E.allocates) (function_type table.now func) flats.now
-        (memories (C.memory caller.now) (E.memory callee.old)) handed.items (memories (C.memory caller.now) (E.memory callee.new))) }
+        (memories (C.memory caller.now) (E.memory callee.old)) handed.items (memories (C.memory caller.now) (E.memory callee.new)) nodes.new) }
     ensures fault { IfErr result (λ fault. EntryFails (guests C.allocates E.allocates) (function_type table.now func) flats.now
-        (memories (C.memory caller.now) (E.memory callee.old)) fault (memories (C.memory caller.now) (E.memory callee.new))) }
-    ensures no_memory { result ≢ Err Fault.NoMemory }
+        (memories (C.memory caller.now) (E.memory callee.old)) fault (memories (C.memory caller.now) (E.memory callee.new)) nodes.new) }
 {
     let resolve = table.resolve();
     if resolve.is_scalar(func) {
-        return carry_arguments(resolve, func, flats);
+        if let Some(handed) = carry_arguments(resolve, func, flats) {
+            // Each of these carries a value of one node.
+            *nodes = handed.len() as u64;
+            return Ok(handed);
+        }
     }
-    pass_values(table, func, flats, caller, callee)
+    pass_values(table, func, flats, caller, callee, nodes)
 }
 
 /// Puts arguments of any types into the callee. The kinds of all flat values come first.
@@ -40,13 +45,14 @@ fn pass_values<C: Guest, E: Guest>(
     flats: &[Flat],
     caller: &C,
     callee: &mut E,
+    nodes: &mut u64,
 ) -> Result<Flats, Fault>
     requires function { IsFunction table.now func }
+    requires fresh { nodes.old ≡ 0 }
     ensures entered { IfOk result (λ handed. HasEntered (guests C.allocates E.allocates) (function_type table.now func) flats.now
-        (memories (C.memory caller.now) (E.memory callee.old)) handed.items (memories (C.memory caller.now) (E.memory callee.new))) }
+        (memories (C.memory caller.now) (E.memory callee.old)) handed.items (memories (C.memory caller.now) (E.memory callee.new)) nodes.new) }
     ensures fault { IfErr result (λ fault. EntryFails (guests C.allocates E.allocates) (function_type table.now func) flats.now
-        (memories (C.memory caller.now) (E.memory callee.old)) fault (memories (C.memory caller.now) (E.memory callee.new))) }
-    ensures no_memory { result ≢ Err Fault.NoMemory }
+        (memories (C.memory caller.now) (E.memory callee.old)) fault (memories (C.memory caller.now) (E.memory callee.new)) nodes.new) }
 {
     let layouts = table.layouts();
     if !are_kinds(layouts.lowered(func).params.as_slice(), flats) {
@@ -57,17 +63,18 @@ fn pass_values<C: Guest, E: Guest>(
     let _len = caller.len();
     // A function's row is the record of its parameters.
     let params = ValType::Id(TypeId(func.0));
-    let mut nodes = 0;
-    match cross_params(
+    let crossed = cross_params(
         table,
         params,
         caller.bytes(),
         &flats[..count],
         callee,
-        &mut nodes,
-    ) {
+        nodes,
+    );
+    // A count is a number of 64 bits.
+    let _count = *nodes;
+    match crossed {
         Ok(handed) => Ok(handed),
-        Err(Stopped::Source(kind)) => Err(trap(kind, Step::LiftArgs)),
-        Err(Stopped::Target(kind)) => Err(trap(kind, Step::LowerArgs)),
+        Err(stopped) => Err(fault_of(stopped, Step::LiftArgs, Step::LowerArgs)),
     }
 }

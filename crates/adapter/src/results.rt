@@ -1,19 +1,19 @@
 //! The second way of a call: the result, from the callee into the caller.
-ghost use Rattle.std.specs.Prelude.{◌≡◌, ◌≢◌, ◌≤◌, Err, length, map, IfOk, IfErr};
+ghost use Rattle.std.specs.Prelude.{◌≡◌, ◌≤◌, length, map, IfOk, IfErr};
 ghost use Rattle.canonical_abi.specs.Reading.{low_bits, number_of};
 ghost use Rattle.layout.specs.Layout.{AreWithin};
 ghost use Rattle.tables.specs.Closed.{IsFunction, function_type};
 ghost use Rattle.adapter.specs.Crossing.{guests, memories, HasReturned, ReturnFails};
 
-use crate::fault::trap;
+use crate::fault::{fault_of, trap};
 use crate::scalars::carry_answer;
 use canonical_abi::{Fault, Flat, Guest, Step, TrapKind};
-use crossing::{Stopped, cross_result};
+use crossing::cross_result;
 use lift_lower::{Flats, Types, are_kinds, low_word};
 use tables::FunctionId;
 
-/// Puts the body's answer, as the callee holds it, into the caller: the flat values that carry it there. Takes no memory
-/// of the host.
+/// Puts the body's answer, as the callee holds it, into the caller: the flat values that carry it there, and in `nodes` how
+/// many nodes were visited, those up to the fault where there was one. Takes no memory of the host.
 pub(crate) fn pass_answer<C: Guest, E: Guest>(
     table: &Types,
     func: FunctionId,
@@ -21,21 +21,26 @@ pub(crate) fn pass_answer<C: Guest, E: Guest>(
     answer: &[Flat],
     caller: &mut C,
     callee: &E,
+    nodes: &mut u64,
 ) -> Result<Flats, Fault>
     requires within { ∥ AreWithin table.now ∥₁ }
     requires function { IsFunction table.now func }
+    requires fresh { nodes.old ≡ 0 }
     ensures returned { IfOk result (λ back. HasReturned (guests C.allocates E.allocates) (function_type table.now func) flats.now
-        (memories (C.memory caller.old) (E.memory callee.now)) answer.now back.items (memories (C.memory caller.new) (E.memory callee.now))) }
+        (memories (C.memory caller.old) (E.memory callee.now)) answer.now back.items (memories (C.memory caller.new) (E.memory callee.now)) nodes.new) }
     ensures fault { IfErr result (λ fault. ReturnFails (guests C.allocates E.allocates) (function_type table.now func) flats.now
-        (memories (C.memory caller.old) (E.memory callee.now)) answer.now fault (memories (C.memory caller.new) (E.memory callee.now))) }
+        (memories (C.memory caller.old) (E.memory callee.now)) answer.now fault (memories (C.memory caller.new) (E.memory callee.now)) nodes.new) }
     ensures no_shorter { IfOk result (λ _. length (C.memory caller.old).bytes ≤ length (C.memory caller.new).bytes) }
-    ensures no_memory { result ≢ Err Fault.NoMemory }
 {
     let resolve = table.resolve();
     if resolve.is_scalar(func) {
-        return carry_answer(resolve, func, answer);
+        if let Some(back) = carry_answer(resolve, func, answer) {
+            // Each of these carries a value of one node.
+            *nodes = back.len() as u64;
+            return Ok(back);
+        }
     }
-    pass_value(table, func, flats, answer, caller, callee)
+    pass_value(table, func, flats, answer, caller, callee, nodes)
 }
 
 /// Puts an answer of any type into the caller. The kinds of its flat values come first.
@@ -46,15 +51,16 @@ fn pass_value<C: Guest, E: Guest>(
     answer: &[Flat],
     caller: &mut C,
     callee: &E,
+    nodes: &mut u64,
 ) -> Result<Flats, Fault>
     requires within { ∥ AreWithin table.now ∥₁ }
     requires function { IsFunction table.now func }
+    requires fresh { nodes.old ≡ 0 }
     ensures returned { IfOk result (λ back. HasReturned (guests C.allocates E.allocates) (function_type table.now func) flats.now
-        (memories (C.memory caller.old) (E.memory callee.now)) answer.now back.items (memories (C.memory caller.new) (E.memory callee.now))) }
+        (memories (C.memory caller.old) (E.memory callee.now)) answer.now back.items (memories (C.memory caller.new) (E.memory callee.now)) nodes.new) }
     ensures fault { IfErr result (λ fault. ReturnFails (guests C.allocates E.allocates) (function_type table.now func) flats.now
-        (memories (C.memory caller.old) (E.memory callee.now)) answer.now fault (memories (C.memory caller.new) (E.memory callee.now))) }
+        (memories (C.memory caller.old) (E.memory callee.now)) answer.now fault (memories (C.memory caller.new) (E.memory callee.now)) nodes.new) }
     ensures no_shorter { IfOk result (λ _. length (C.memory caller.old).bytes ≤ length (C.memory caller.new).bytes) }
-    ensures no_memory { result ≢ Err Fault.NoMemory }
 {
     let signature = table.layouts().lifted(func);
     if !are_kinds(signature.result.as_slice(), answer) {
@@ -64,19 +70,12 @@ fn pass_value<C: Guest, E: Guest>(
     // A memory's length is a number of 32 bits.
     let _len = callee.len();
     let types = table.resolve().signature(func).result.as_slice();
-    let mut nodes = 0;
-    match cross_result(
-        table,
-        types,
-        callee.bytes(),
-        answer,
-        caller,
-        area,
-        &mut nodes,
-    ) {
+    let crossed = cross_result(table, types, callee.bytes(), answer, caller, area, nodes);
+    // A count is a number of 64 bits.
+    let _count = *nodes;
+    match crossed {
         Ok(back) => Ok(back),
-        Err(Stopped::Source(kind)) => Err(trap(kind, Step::LiftResult)),
-        Err(Stopped::Target(kind)) => Err(trap(kind, Step::LowerResult)),
+        Err(stopped) => Err(fault_of(stopped, Step::LiftResult, Step::LowerResult)),
     }
 }
 

@@ -28,7 +28,7 @@ use Rattle.lift_lower.proofs.Lowerings.{plain-lowered, payload-lowered}
 use Rattle.lift_lower.proofs.Scripted.{fields-lower-script}
 use Rattle.lift_lower.proofs.Steps.{fields_from, fields-next, fields-last}
 use Rattle.lift_lower.proofs.Stopping.{fields-lower-until}
-use Rattle.crossing.specs.Outcome.{FlatScript, FlatWalks, FieldsFlatWalk, FlatBehind, FlatEnds, EachWalks, Behind, Ends, IsDone, MetFault, WasRefused, HasStopped}
+use Rattle.crossing.specs.Outcome.{FlatScript, FlatWalks, FieldsFlatWalk, FlatBehind, FlatEnds, EachWalks, Behind, Counts, Ends, IsDone, MetFault, WasRefused, HasStopped}
 use Rattle.crossing.specs.declared.stopped.Stopped.{Stopped}
 use Rattle.crossing.specs.declared.stopped.Stopped.TheVariants as stopped
 use Rattle.crossing.proofs.ByShape.{each-some, each-length}
@@ -141,11 +141,11 @@ module _ (allocates : Allocation) where
   flat-ends S T old mid (Err s) new n c d final b u = (u.0, begun-stopped allocates (S u.0) (T u.0) old mid s new n c d (b u.0) u.1)
 
   -- a value is its own node and what is behind it
-  pub flat-node : (S : FlatScript) (old : Memory) (r : Result (Unit {0}) Stopped) (new : Memory) (n d c : ℕ) (final : List Flat) → (n + 1 < 2 ^ 64 → d ≡ n + 1)
+  pub flat-node : (S : FlatScript) (old : Memory) (r : Result (Unit {0}) Stopped) (new : Memory) (n d c : ℕ) (final : List Flat) → Counts n (node ∷ []) d
       → FlatEnds allocates (FlatBehind S) old d r new c final → FlatEnds allocates S old n r new c final
   flat-node S old r new n d c final counted u = flat-ends S (FlatBehind S) old old r new n d c final (λ f. begun-node allocates (S f) old n d counted) u
 
-  pub flat-record : (ts : Fields) (m ns : List ℕ) (front : List Flat) (old : Memory) (r : Result (Unit {0}) Stopped) (new : Memory) (n d c : ℕ) (final : List Flat) → (n + 1 < 2 ^ 64 → d ≡ n + 1)
+  pub flat-record : (ts : Fields) (m ns : List ℕ) (front : List Flat) (old : Memory) (r : Result (Unit {0}) Stopped) (new : Memory) (n d c : ℕ) (final : List Flat) → Counts n (node ∷ []) d
       → FlatEnds allocates (FieldsFlatWalk ts m ns front) old d r new c final → FlatEnds allocates (FlatWalks (record_type ts) m ns front) old n r new c final
   flat-record ts m ns front old r new n d c final counted u =
       let S = FlatWalks (record_type ts) m ns front in
@@ -153,13 +153,13 @@ module _ (allocates : Allocation) where
       flat-ends S T old old r new n d c final (λ f. begun-as allocates (S f) (Behind (S f)) (T f) old old n d (record-flat ts m ns front f) (begun-node allocates (S f) old n d counted)) u
 
   -- a node without parts
-  pub leaf-done : (S : FlatScript) (m : Memory) (n d : ℕ) (final : List Flat) → (n + 1 < 2 ^ 64 → d ≡ n + 1) → S final None (node ∷ []) → IsDone allocates (S final) m n m d
+  pub leaf-done : (S : FlatScript) (m : Memory) (n d : ℕ) (final : List Flat) → Counts n (node ∷ []) d → S final None (node ∷ []) → IsDone allocates (S final) m n m d
   leaf-done S m n d final counted s = begun-done allocates (S final) (Behind (S final)) m m n d (begun-node allocates (S final) m n d counted) s
 
-  pub leaf-fault : (S : FlatScript) (m : Memory) (n d : ℕ) (final : List Flat) (k : TrapKind) → (n + 1 < 2 ^ 64 → d ≡ n + 1) → S final (Some k) (node ∷ []) → MetFault allocates (S final) m n k m d
-  leaf-fault S m n d final k counted s = record { events = node ∷ []; scripted = s; leads = (m, refl, refl); counted = λ few. omega (arith, counted, few) }
+  pub leaf-fault : (S : FlatScript) (m : Memory) (n d : ℕ) (final : List Flat) (k : TrapKind) → Counts n (node ∷ []) d → S final (Some k) (node ∷ []) → MetFault allocates (S final) m n k m d
+  leaf-fault S m n d final k counted s = record { events = node ∷ []; scripted = s; leads = (m, refl, refl); counted = omega (arith, counted) }
 
-  pub primitive-ends : (p : Prim) (m ns : List ℕ) (front : List Flat) (old : Memory) (r : Result (Unit {0}) Stopped) (n d : ℕ) (final : List Flat) → (n + 1 < 2 ^ 64 → d ≡ n + 1)
+  pub primitive-ends : (p : Prim) (m ns : List ℕ) (front : List Flat) (old : Memory) (r : Result (Unit {0}) Stopped) (n d : ℕ) (final : List Flat) → Counts n (node ∷ []) d
       → OnOk r ((m : List ℕ) → FlatWalks (prim_type p) m ns front final None (node ∷ []))
       → IfErr r (λ s. (k : TrapKind) × (s ≡ stopped.Source k) × ((m : List ℕ) → FlatWalks (prim_type p) m ns front [] (Some k) (node ∷ [])))
       → FlatEnds allocates (FlatWalks (prim_type p) m ns front) old n r old d final
@@ -265,14 +265,14 @@ module _ (allocates : Allocation) where
       scripted = text-flat g block;
       leads = (mid, granted, (new, led, refl));
       no_shorter = omega (arith, longer, same);
-      counted = λ few. omega arith;
+      counted = omega arith;
     }
 
   -- ---- a variant
 
   module _ (cs : Cases) (m ns : List ℕ) (front : List Flat) (i : ℕ) (is : i ≡ low_bits ns 0 32) where
     pub missing-fault : nth_case cs i ≡ None → (old : Memory) (n : ℕ) → (final : List Flat) × MetFault allocates (CaseScript cs m ns front i is final) old n trap.Case old n
-    missing-fault found old n = ([], record { events = []; scripted = missing-flat cs m ns front i is found []; leads = refl; counted = λ few. omega arith })
+    missing-fault found old n = ([], record { events = []; scripted = missing-flat cs m ns front i is found []; leads = refl; counted = omega arith })
 
     pub plain-done : nth_case cs i ≡ Some None → (final : List Flat) → final ≡ case_behind cs m ns front i is [] → (old : Memory) (n : ℕ) → IsDone allocates (CaseScript cs m ns front i is final) old n old n
     plain-done found final ends old n =

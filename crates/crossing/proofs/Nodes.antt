@@ -10,14 +10,14 @@ use Rattle.canonical_abi.specs.Memory.{BlockHolds, TextHolds}
 use Rattle.canonical_abi.specs.Reading.{number_at, case_number}
 use Rattle.canonical_abi.specs.Requests.{text_of}
 use Rattle.canonical_abi.specs.Storing.{header, IsBlock}
-use Rattle.canonical_abi.specs.Trace.{Grant, Event, grant, write, EventLeads, TraceLeads, RequestFails}
+use Rattle.canonical_abi.specs.Trace.{Grant, Event, node, grant, write, EventLeads, TraceLeads, RequestFails}
 use Rattle.canonical_abi.specs.Laws.{ReadsExactly}
 use Rattle.canonical_abi.specs.declared.trap.TrapKind.{TrapKind}
 use Rattle.lift_lower.specs.Loading.{AreBytes}
 use Rattle.lift_lower.specs.Scripts.{GrantsBlock}
 use Rattle.lift_lower.specs.Scripts as low
 use Rattle.lift_lower.proofs.Steps.{fields_from, fields-next, fields-last}
-use Rattle.crossing.specs.Outcome.{Walks, EachWalks, FieldsWalk, Behind, IsDone, WasRefused, HasStopped, Ends}
+use Rattle.crossing.specs.Outcome.{Walks, EachWalks, FieldsWalk, Behind, Counts, IsDone, WasRefused, HasStopped, Ends}
 use Rattle.crossing.specs.declared.stopped.Stopped.{Stopped}
 use Rattle.crossing.proofs.Parts.{IsBegun, begun, begun-as, begun-then, begun-done, begun-stopped, begun-ends, begun-node, begun-write, begun-grant, part-stopped, refused}
 use Rattle.crossing.proofs.ByShape.{field-stops, field-joins, fields-none, fields-some, each-stops, each-joins, each-none, each-some, record-walks, list-walks, told_case, variant-walks}
@@ -31,11 +31,11 @@ granted-led limit allocates align size at old new d =
 
 module _ (allocates : Allocation) where
   -- a value is its own node and what is behind it
-  pub at-node : (S : Option TrapKind → List Event → Type 0) (old : Memory) (r : Result (Unit {0}) Stopped) (new : Memory) (n d c : ℕ) → (n + 1 < 2 ^ 64 → d ≡ n + 1)
+  pub at-node : (S : Option TrapKind → List Event → Type 0) (old : Memory) (r : Result (Unit {0}) Stopped) (new : Memory) (n d c : ℕ) → Counts n (node ∷ []) d
       → Ends allocates (Behind S) old d r new c → Ends allocates S old n r new c
   at-node S old r new n d c counted u = begun-ends allocates S (Behind S) old old r new n d c (begun-node allocates S old n d counted) u
 
-  pub at-record : (fs : Fields) (m : List ℕ) (a at : ℕ) (old : Memory) (r : Result (Unit {0}) Stopped) (new : Memory) (n d c : ℕ) → (n + 1 < 2 ^ 64 → d ≡ n + 1)
+  pub at-record : (fs : Fields) (m : List ℕ) (a at : ℕ) (old : Memory) (r : Result (Unit {0}) Stopped) (new : Memory) (n d c : ℕ) → Counts n (node ∷ []) d
       → Ends allocates (FieldsWalk fs m a at 0) old d r new c → Ends allocates (Walks (record_type fs) m a at) old n r new c
   at-record fs m a at old r new n d c counted u =
       let S = Walks (record_type fs) m a at in
@@ -171,7 +171,7 @@ module _ (allocates : Allocation) where
       scripted = text-walks g block;
       leads = (mid, granted, (next, led, (new, told, refl)));
       no_shorter = omega (arith, longer, same, alike);
-      counted = λ few. omega arith;
+      counted = omega arith;
     }
 
   -- ---- a variant

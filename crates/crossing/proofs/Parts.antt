@@ -25,15 +25,11 @@ nodes-both (grant g ∷ es) fs = nodes-both es fs
 nodes-both (write a bs ∷ es) fs = nodes-both es fs
 
 counts-both : (es fs : List Event) (n c d : ℕ) → Counts n es c → Counts c fs d → Counts n (es ++ fs) d
-counts-both es fs n c d p q few =
-    let both = nodes-both es fs in
-    let here : c ≡ n + nodes_of es = p (omega (arith, both, few)) in
-    let there : d ≡ c + nodes_of fs = q (omega (arith, both, few, here)) in
-    omega (arith, both, here, there)
+counts-both es fs n c d p q = omega (arith, nodes-both es fs, p, q)
 
 module _ (allocates : Allocation) where
   pub begun : (S : Option TrapKind → List Event → Type 0) (m : Memory) (n : ℕ) → IsBegun allocates S S m n m n
-  begun S m n = record { events = []; completed = λ o rest t. t; leads = refl; no_shorter = omega arith; counted = λ few. omega arith }
+  begun S m n = record { events = []; completed = λ o rest t. t; leads = refl; no_shorter = omega arith; counted = omega arith }
 
   pub begun-as : (S T V : Option TrapKind → List Event → Type 0) (old new : Memory) (n c : ℕ) → ((o : Option TrapKind) (es : List Event) → V o es → T o es)
       → IsBegun allocates S T old n new c → IsBegun allocates S V old n new c
@@ -116,24 +112,24 @@ module _ (allocates : Allocation) where
 
   -- ---- one event
 
-  pub begun-node : (S : Option TrapKind → List Event → Type 0) (m : Memory) (n c : ℕ) → (n + 1 < 2 ^ 64 → c ≡ n + 1) → IsBegun allocates S (Behind S) m n m c
+  pub begun-node : (S : Option TrapKind → List Event → Type 0) (m : Memory) (n c : ℕ) → Counts n (node ∷ []) c → IsBegun allocates S (Behind S) m n m c
   begun-node S m n c counted = record { events = node ∷ []; completed = λ o rest t. t; leads = (m, refl, refl); no_shorter = omega arith; counted = counted }
 
   pub begun-write : (S T : Option TrapKind → List Event → Type 0) (at : ℕ) (part : List ℕ) (old mid new : Memory) (n c : ℕ) → IsBegun allocates S T old n mid c
       → EventLeads allocates mid (write at part) new → length new.bytes ≡ length mid.bytes → IsBegun allocates S (λ o rest. T o (write at part ∷ rest)) old n new c
   begun-write S T at part old mid new n c b led same =
       begun-then S T (λ o es. es ≡ write at part ∷ []) (λ o rest. T o (write at part ∷ rest)) old mid new n c c b
-      (record { events = write at part ∷ []; scripted = refl; leads = (new, led, refl); no_shorter = omega (arith, same); counted = λ few. omega arith })
+      (record { events = write at part ∷ []; scripted = refl; leads = (new, led, refl); no_shorter = omega (arith, same); counted = omega arith })
       (λ first o rest is t. subst (λ es. T o (es ++ rest)) (sym is) t)
 
   pub begun-grant : (S T : Option TrapKind → List Event → Type 0) (g : Grant) (old mid new : Memory) (n c : ℕ) → IsBegun allocates S T old n mid c
       → EventLeads allocates mid (grant g) new → length mid.bytes ≤ length new.bytes → IsBegun allocates S (λ o rest. T o (grant g ∷ rest)) old n new c
   begun-grant S T g old mid new n c b led more =
       begun-then S T (λ o es. es ≡ grant g ∷ []) (λ o rest. T o (grant g ∷ rest)) old mid new n c c b
-      (record { events = grant g ∷ []; scripted = refl; leads = (new, led, refl); no_shorter = more; counted = λ few. omega arith })
+      (record { events = grant g ∷ []; scripted = refl; leads = (new, led, refl); no_shorter = more; counted = omega arith })
       (λ first o rest is t. subst (λ es. T o (es ++ rest)) (sym is) t)
 
   -- the next request failed
   pub refused : (T : Option TrapKind → List Event → Type 0) (o : Option TrapKind) (g : Grant) (rest : List Event) (old : Memory) (k : TrapKind) (new : Memory) (c : ℕ) → T o (grant g ∷ rest)
       → RequestFails allocates old g.align g.size k new → WasRefused allocates T old c k new c
-  refused T o g rest old k new c t fails = record { outcome = o; done = []; next = g; rest = rest; asked = old; scripted = t; leads = refl; fails = fails; counted = λ few. omega arith }
+  refused T o g rest old k new c t fails = record { outcome = o; done = []; next = g; rest = rest; asked = old; scripted = t; leads = refl; fails = fails; counted = omega arith }

@@ -1,5 +1,5 @@
 -- How far a way from memory to memory came: its whole script was done, or its source was at fault, or a request failed.
-use Rattle.std.specs.Prelude.{◌≡◌, ℕ, ◌+◌, ◌^◌, ◌<◌, ◌≤◌, List, ◌∷◌, ◌++◌, length, Option, Some, None, Result, Ok, Err}
+use Rattle.std.specs.Prelude.{◌≡◌, ℕ, ◌+◌, ◌-◌, ◌^◌, ◌≤◌, min, List, ◌∷◌, ◌++◌, length, Option, Some, None, Result, Ok, Err}
 use Rattle.canonical_abi.specs.Types.{ClosedType, Fields}
 use Rattle.canonical_abi.specs.Values.{Value}
 use Rattle.canonical_abi.specs.Layout.{size}
@@ -38,9 +38,9 @@ FieldsWalk fs m a at from (Some k) es = FieldsStoreUntil fs m a at from k es
 abbrev pub Behind : (Option TrapKind → List Event → Type 0) → Option TrapKind → List Event → Type 0
 Behind S o es = S o (node ∷ es)
 
--- a count of 64 bits grew by the nodes that these events visit, where it has room for them
+-- a count grew by the nodes that these events visit, as far as 64 bits count
 abbrev pub Counts : ℕ → List Event → ℕ → Type 0
-Counts n es c = n + nodes_of es < 2 ^ 64 → c ≡ n + nodes_of es
+Counts n es c = min c (2 ^ 64 - 1) ≡ min (n + nodes_of es) (2 ^ 64 - 1)
 
 -- the whole script was done
 pub record IsDone (allocates : Allocation) (S : Option TrapKind → List Event → Type 0) (old : Memory) (n : ℕ) (new : Memory) (c : ℕ) : Type 0 where

@@ -96,7 +96,7 @@ fn carried(
     body: Telling,
 ) -> Result<Result<Flats, Fault>, Fail>
     requires { IsScalarFunction link.old.resolve func }
-    ensures { link.new ≡ link.old }
+    ensures { link.new.resolve ≡ link.old.resolve }
 {
     let mut body = BoxedBody::new(Box::new(alloc, body)?);
     Ok(link.call(func, flats, caller, callee, &mut body))

@@ -5,6 +5,8 @@
 #[cfg(test)]
 mod acting;
 #[cfg(test)]
+mod crossings;
+#[cfg(test)]
 mod links;
 #[cfg(test)]
 mod sessions;

@@ -13,6 +13,8 @@ use witcall::Package;
 #[derive(Drop)]
 struct Told {
     answer: Result<Flats, Fault>,
+    /// The nodes of the two ways.
+    nodes: (u64, u64),
     caller: Vec<u8>,
     callee: Vec<u8>,
     body: Acting,
@@ -36,30 +38,33 @@ impl Told {
     }
 }
 
-/// What the link of the package answers for a call of `f`.
+/// What the link of the package answers for a call of `f`, and the nodes of its ways.
 fn answered<C: Guest, E: Guest>(
     package: &Package,
     flats: &[Flat],
     caller: &mut C,
     callee: &mut E,
     body: &mut Acting,
-) -> Result<Result<Flats, Fault>, Fail> {
+) -> Result<(Result<Flats, Fault>, (u64, u64)), Fail> {
     let f = function(package)?;
     let mut link = Link::new(package.resolve(), package.layouts());
-    Ok(link.call(f, flats, caller, callee, body))
+    let answer = link.call(f, flats, caller, callee, body);
+    Ok((answer, link.nodes()))
 }
 
 fn told_of(
     alloc: Global,
-    answer: Result<Flats, Fault>,
+    answered: (Result<Flats, Fault>, (u64, u64)),
     caller: &[u8],
     callee: &[u8],
     body: Acting,
 ) -> Result<Told, Fail> {
+    let (answer, nodes) = answered;
     let caller = caller.to_vec(alloc)?;
     let callee = callee.to_vec(alloc)?;
     Ok(Told {
         answer,
+        nodes,
         caller,
         callee,
         body,
@@ -152,6 +157,7 @@ fn equal_texts_have_two_blocks(rt: HostRuntime) -> Result<(), Fail> {
     assert!(rt; told.answer.is_ok());
     assert!(rt; told.callee.get(..5) == Some(b"hihi\0".as_slice()));
     assert!(rt; told.is_given(&given));
+    assert!(rt; told.nodes == (2, 0));
     Ok(())
 }
 
@@ -162,6 +168,7 @@ fn second_request_is_refused(rt: HostRuntime) -> Result<(), Fail> {
     assert!(rt; told.is_trap(TrapKind::Full, Step::LowerArgs));
     assert!(rt; told.callee.as_slice() == b"abcdefghij\0\0\0\0\0\0".as_slice());
     assert!(rt; told.has_run(0, 0));
+    assert!(rt; told.nodes == (2, 0));
     Ok(())
 }
 

@@ -2,7 +2,7 @@
 use Rattle.std.proofs.Common.{List, Option, Result}
 use Rattle.canonical_abi.specs.Values.{Value}
 use Rattle.canonical_abi.specs.Guest.{Release}
-use Rattle.canonical_abi.specs.Call.{Parties, World, either}
+use Rattle.canonical_abi.specs.Call.{Parties, World, exact}
 use Rattle.canonical_abi.specs.Session.{TypedCall}
 use Rattle.canonical_abi.specs.Headline.{IsPromised}
 use Rattle.canonical_abi.specs.declared.trap.Fault.{Fault}
@@ -13,7 +13,7 @@ use Rattle.tables.specs.declared.tables.Resolve.{Resolve}
 use Rattle.tables.proofs.Standards.{function-standard}
 
 pub promised : (parties : Parties) (caller_releases callee_releases : Release) (r : Resolve) (f : FunctionId) (arguments : List Value) (old : World)
-    (result : Result (Option Value) Fault) (new : World) → IsFunction r f → TypedCall parties either (function_type r f) arguments old result new
-    → IsPromised parties caller_releases callee_releases either (function_type r f) arguments old result new
+    (result : Result (Option Value) Fault) (new : World) → IsFunction r f → TypedCall parties exact (function_type r f) arguments old result new
+    → IsPromised parties caller_releases callee_releases exact (function_type r f) arguments old result new
 promised parties caller_releases callee_releases r f arguments old result new is called =
-    keeps-promise parties caller_releases callee_releases either (function_type r f) arguments old result new (function-standard r f is) called
+    keeps-promise parties caller_releases callee_releases exact (function_type r f) arguments old result new (function-standard r f is) called

@@ -4,7 +4,7 @@ use Rattle.std.specs.List.{All}
 use Rattle.std.proofs.Math.Seq.{drop-append_seam, take-length}
 use Rattle.std.proofs.lemmas.List.{append-nil, map-append, take_all, take_more}
 use Rattle.std.proofs.lemmas.List.Elements.{All-nil, All-push}
-use Rattle.canonical_abi.specs.Call.{Parties, World, either}
+use Rattle.canonical_abi.specs.Call.{Parties, World, exact}
 use Rattle.canonical_abi.specs.Guest.{Release}
 use Rattle.canonical_abi.specs.Session.{TakesStep, RunsSession}
 use Rattle.canonical_abi.proofs.Longer.{runs-longer}
@@ -32,22 +32,22 @@ module _ (parties : Parties) (caller_releases : Release) (r : Resolve) (steps : 
 
   pub one_more : (n : ℕ) (items : List Answer) (now : World) (s : Step) (a : Answer) (new : World) → n < length steps → s ≡ get_or steps n s
       → Runs parties caller_releases r (take n steps) before old items now
-      → TakesStep parties caller_releases either (map (answer_of r) (drop (length before) items)) now (step_of r s) (answer_of r a) new → IsKnownAnswer r a
+      → TakesStep parties caller_releases exact (map (answer_of r) (drop (length before) items)) now (step_of r s) (answer_of r a) new → IsKnownAnswer r a
       → Runs parties caller_releases r (take (n + 1) steps) before old (items ++ a ∷ []) new
   one_more n items now s a new less is ran taken known =
       let first = take n steps in
       let more : take (n + 1) steps ≡ first ++ s ∷ [] = take_more steps n s less ∙ ap (λ x. first ++ x ∷ []) (sym is) in
-      let here : TakesStep parties caller_releases either (map (answer_of r) ran.made) now (step_of r s) (answer_of r a) new =
-      subst (λ xs. TakesStep parties caller_releases either (map (answer_of r) xs) now (step_of r s) (answer_of r a) new) (made_is n items now ran) taken in
-      let longer = runs-longer parties caller_releases either [] old now (map (step_of r) first) (map (answer_of r) ran.made) (step_of r s) (answer_of r a) new ran.run here in
+      let here : TakesStep parties caller_releases exact (map (answer_of r) ran.made) now (step_of r s) (answer_of r a) new =
+      subst (λ xs. TakesStep parties caller_releases exact (map (answer_of r) xs) now (step_of r s) (answer_of r a) new) (made_is n items now ran) taken in
+      let longer = runs-longer parties caller_releases exact [] old now (map (step_of r) first) (map (answer_of r) ran.made) (step_of r s) (answer_of r a) new ran.run here in
       let answers : map (answer_of r) (ran.made ++ a ∷ []) ≡ map (answer_of r) ran.made ++ answer_of r a ∷ [] = map-append (answer_of r) ran.made (a ∷ []) in
       let moves : map (step_of r) (take (n + 1) steps) ≡ map (step_of r) first ++ step_of r s ∷ [] = ap (map (step_of r)) more ∙ map-append (step_of r) first (s ∷ []) in
       record {
         made = ran.made ++ a ∷ [];
         appended = ap (λ xs. xs ++ a ∷ []) ran.appended ∙ append_assoc before ran.made (a ∷ []);
         known = All-push (IsKnownAnswer r) ran.made a ran.known known;
-        run = subst (λ ss. RunsSession parties caller_releases either [] old ss (map (answer_of r) (ran.made ++ a ∷ [])) new) (sym moves)
-            (subst (λ xs. RunsSession parties caller_releases either [] old (map (step_of r) first ++ step_of r s ∷ []) xs new) (sym answers) longer);
+        run = subst (λ ss. RunsSession parties caller_releases exact [] old ss (map (answer_of r) (ran.made ++ a ∷ [])) new) (sym moves)
+            (subst (λ xs. RunsSession parties caller_releases exact [] old (map (step_of r) first ++ step_of r s ∷ []) xs new) (sym answers) longer);
       }
 
   pub all_ran : (n : ℕ) (items : List Answer) (now : World) → n ≡ length steps → Runs parties caller_releases r (take n steps) before old items now

@@ -2,7 +2,7 @@
 use Rattle.std.proofs.Common.{List, [], ◌∷◌, map}
 use Rattle.std.specs.List.{All}
 use Rattle.std.proofs.lemmas.List.Elements.{All-head, All-tail}
-use Rattle.canonical_abi.specs.Call.{Parties, either}
+use Rattle.canonical_abi.specs.Call.{Parties, exact}
 use Rattle.canonical_abi.specs.Guest.{Allocation, Release}
 use Rattle.canonical_abi.specs.Keeping.{AreStandardSteps}
 use Rattle.canonical_abi.proofs.Keeping.{held-stays-held}
@@ -27,16 +27,16 @@ are_standard r (step.Release at size ∷ steps) all = are_standard r steps (All-
 module _ (parties : Parties) (caller_releases callee_releases : Release) (r : Resolve) where
   pub keep_held : StepsKeepHeld parties caller_releases callee_releases r
   keep_held t a v before old steps answers new ran honest limited all stays =
-      held-stays-held parties caller_releases callee_releases either t a v before old (map (step_of r) steps) answers new ran honest limited (are_standard r steps all) stays
+      held-stays-held parties caller_releases callee_releases exact t a v before old (map (step_of r) steps) answers new ran honest limited (are_standard r steps all) stays
 
   pub read_placed : StepsReadPlaced parties caller_releases callee_releases r
   read_placed ty v held before old placed steps answers new answer honest limited is all places ran misses reads =
-      placed-is-read parties caller_releases callee_releases either (closed_type r ty) v held before old placed (map (step_of r) steps) answers new answer honest limited
+      placed-is-read parties caller_releases callee_releases exact (closed_type r ty) v held before old placed (map (step_of r) steps) answers new answer honest limited
       (type-standard r ty is) (are_standard r steps all) places ran misses reads
 
 pub tell_callee : (parties : Parties) (other : Allocation) (caller_releases other_releases callee_releases : Release) (r : Resolve)
     → StepsTellCallee parties other caller_releases other_releases callee_releases r
 tell_callee parties other caller_releases other_releases callee_releases r before earlier old past steps moves answers replies new last honest too limited small one_way ignores runs all every ran went
     answered replied same begun =
-    callee-is-told parties other caller_releases other_releases callee_releases either before earlier old past (map (step_of r) steps) (map (step_of r) moves) answers replies new last honest too limited
+    callee-is-told parties other caller_releases other_releases callee_releases exact before earlier old past (map (step_of r) steps) (map (step_of r) moves) answers replies new last honest too limited
     small one_way ignores runs (are_standard r steps all) (are_standard r moves every) ran went answered replied same begun

@@ -2,7 +2,7 @@
 use Rattle.std.specs.Prelude.{◌≡◌, ◌*◌, ◌/◌, ℕ, List, [], ◌∷◌, ◌++◌, Option, Some, None, Result, Ok, Err, replicate}
 use Rattle.canonical_abi.specs.Values.{Value}
 use Rattle.canonical_abi.specs.Guest.{Memory}
-use Rattle.canonical_abi.specs.Call.{Run, PostRun, Parties, World, either}
+use Rattle.canonical_abi.specs.Call.{Run, PostRun, Parties, World, exact}
 use Rattle.canonical_abi.specs.Session.{TypedCall}
 use Rattle.memory.specs.Holes.{first_fit, whole}
 use Rattle.memory.specs.Space.{of_kind, SpaceAllocates}
@@ -47,7 +47,7 @@ pub record Asks (r : Resolve) (iface func args : List ℕ) (f : FunctionId) (vs 
 -- a call of the function over two fresh memories, on a body that may make these runs, has this answer
 abbrev pub CallAnswers : Resolve → FunctionId → List Value → Run → PostRun → List ℕ → Result (Option Value) Fault → Type 0
 CallAnswers r f vs runs posts state answer =
-    (new : World) × TypedCall (program_parties runs posts) either (function_type r f) vs (program_world state) answer new
+    (new : World) × TypedCall (program_parties runs posts) exact (function_type r f) vs (program_world state) answer new
 
 -- the call that the words ask for is made on a body that may make these runs, and this is its output
 pub record Prints (r : Resolve) (iface func args : List ℕ) (runs : Run) (posts : PostRun) (state output : List ℕ) : Type 0 where

@@ -3,7 +3,7 @@ use Rattle.std.specs.Prelude.{◌≡◌, ℕ, List, map, Some, Ok}
 use Rattle.std.specs.List.{All}
 use Rattle.canonical_abi.specs.Types.{ClosedType}
 use Rattle.canonical_abi.specs.Values.{Value}
-use Rattle.canonical_abi.specs.Call.{Parties, World, either}
+use Rattle.canonical_abi.specs.Call.{Parties, World, exact}
 use Rattle.canonical_abi.specs.Footprint.{Reads}
 use Rattle.canonical_abi.specs.Guest.{Allocation, Release}
 use Rattle.canonical_abi.specs.Headline.{AreHonest, AreLimited}
@@ -20,7 +20,7 @@ use Rattle.witcall.specs.declared.steps.Step.{Step}
 module _ (parties : Parties) (caller_releases callee_releases : Release) (r : Resolve) where
   -- a run of these steps of the package's, after some answers
   abbrev pub Ran : List SessionAnswer → World → List Step → List SessionAnswer → World → Type 0
-  Ran before old steps answers new = RunsSession parties caller_releases either before old (map (step_of r) steps) answers new
+  Ran before old steps answers new = RunsSession parties caller_releases exact before old (map (step_of r) steps) answers new
 
   -- over every list of steps, traps among them: a value that the caller holds at some moment, its footprint live then and after each
   -- step since, is held with the same footprint
@@ -29,7 +29,7 @@ module _ (parties : Parties) (caller_releases callee_releases : Release) (r : Re
       (t : ClosedType) (a : ℕ) (v : Value) (before : List SessionAnswer) (old : World) (steps : List Step) (answers : List SessionAnswer) (new : World)
       (ran : Ran before old steps answers new)
       → AreHonest parties caller_releases callee_releases → AreLimited parties old → All (IsStep r) steps
-      → StaysLive parties caller_releases either t a v before old (map (step_of r) steps) answers new ran → IsKept t a v old.caller new.caller
+      → StaysLive parties caller_releases exact t a v before old (map (step_of r) steps) answers new ran → IsKept t a v old.caller new.caller
 
   -- so what was placed is read, or the host has no memory, until a release ends life in what it stands in
   abbrev pub StepsReadPlaced : Type 0
@@ -43,7 +43,7 @@ module _ (parties : Parties) (caller_releases callee_releases : Release) (r : Re
 module _ (parties : Parties) (other : Allocation) (caller_releases other_releases callee_releases : Release) (r : Resolve) where
   -- the same callee and body, called from another caller
   abbrev pub second : Parties
-  second = otherwise parties other caller_releases other_releases callee_releases either
+  second = otherwise parties other caller_releases other_releases callee_releases exact
 
   -- what two lists of steps whose calls all answer Ok leave of the callee and the body is told by their beginning, the functions and the
   -- arguments in turn: nothing else of a caller is in them

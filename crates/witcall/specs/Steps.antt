@@ -2,7 +2,7 @@
 use Rattle.std.specs.Prelude.{◌≡◌, List, [], ◌++◌, Result, Ok, Err, map, is_ok}
 use Rattle.std.specs.List.{All}
 use Rattle.canonical_abi.specs.Session.{Held as HeldValue, SessionStep, call, place, read, release, SessionAnswer, called, placed, was_read, released, missing, RunsSession}
-use Rattle.canonical_abi.specs.Call.{Parties, World, either}
+use Rattle.canonical_abi.specs.Call.{Parties, World, exact}
 use Rattle.canonical_abi.specs.Guest.{Release}
 use Rattle.canonical_abi.specs.Values.{Value, HasType, HaveTypes}
 use Rattle.canonical_abi.specs.declared.trap.Fault.{Fault}
@@ -59,4 +59,4 @@ pub record Runs (parties : Parties) (caller_releases : Release) (r : Resolve) (s
   pub made : List Answer
   pub appended : after ≡ before ++ made
   pub known : All (IsKnownAnswer r) made
-  pub run : RunsSession parties caller_releases either [] old (map (step_of r) steps) (map (answer_of r) made) new
+  pub run : RunsSession parties caller_releases exact [] old (map (step_of r) steps) (map (answer_of r) made) new

@@ -1,6 +1,6 @@
 //! Laws of packages that were opened, and of their sessions.
 
-ghost use Rattle.canonical_abi.specs.Call.{either};
+ghost use Rattle.canonical_abi.specs.Call.{exact};
 ghost use Rattle.canonical_abi.specs.Keeping.{CalleeKeepsHeld};
 ghost use Rattle.tables.specs.Package.{IsClosedByNames};
 ghost use Rattle.tables.specs.Labelled.{labelled_type};
@@ -57,7 +57,7 @@ pub fn keeps_held<C: Guest, E: Guest, B: Body<E>>(_session: &Session<'_, C, E, B
     ensures callee { CalleeKeepsHeld
         (record { caller_allocates = C.allocates; callee_allocates = E.allocates; runs = B.runs _session.now.body; posts = B.posts _session.now.body })
         C.releases
-        either
+        exact
         E.releases }
 {}
 

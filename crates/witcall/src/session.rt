@@ -9,7 +9,7 @@ ghost use Rattle.tables.specs.Closed.{IsFunction, closed_type, function_type};
 ghost use Rattle.tables.specs.Standard.{IsTypeOf};
 ghost use Rattle.canonical_abi.specs.Layout.{max_flat_results};
 ghost use Rattle.canonical_abi.specs.Flat.{Denotes};
-ghost use Rattle.canonical_abi.specs.Call.{either, AllowsSameRuns, AllowsSamePosts};
+ghost use Rattle.canonical_abi.specs.Call.{exact, AllowsSameRuns, AllowsSamePosts};
 ghost use Rattle.canonical_abi.specs.Session.{PlacesValue, ReadsValue, TakesStep, TypedCall, as_list};
 ghost use Rattle.canonical_abi.specs.Headline.{IsPromised};
 ghost use Rattle.lift_lower.specs.Val.{value_of};
@@ -84,7 +84,7 @@ impl<'a, C: Guest, E: Guest, B: Body<E>> Session<'a, C, E, B> {
             (function_type self.old.package.now.resolve func).params }
         ensures call { TypedCall
             (record { caller_allocates = C.allocates; callee_allocates = E.allocates; runs = B.runs self.old.body; posts = B.posts self.old.body })
-            either
+            exact
             (function_type self.old.package.now.resolve func)
             (map value_of arguments.now)
             (record { caller = C.memory self.old.caller; callee = E.memory self.old.callee; body = B.state self.old.body })
@@ -94,7 +94,7 @@ impl<'a, C: Guest, E: Guest, B: Body<E>> Session<'a, C, E, B> {
             (record { caller_allocates = C.allocates; callee_allocates = E.allocates; runs = B.runs self.old.body; posts = B.posts self.old.body })
             C.releases
             E.releases
-            either
+            exact
             (function_type self.old.package.now.resolve func)
             (map value_of arguments.now)
             (record { caller = C.memory self.old.caller; callee = E.memory self.old.callee; body = B.state self.old.body })
@@ -215,7 +215,7 @@ impl<'a, C: Guest, E: Guest, B: Body<E>> Session<'a, C, E, B> {
         ensures taken { let r = self.old.package.now.resolve in TakesStep
             (record { caller_allocates = C.allocates; callee_allocates = E.allocates; runs = B.runs self.old.body; posts = B.posts self.old.body })
             C.releases
-            either
+            exact
             (map (answer_of r) before.now)
             (record { caller = C.memory self.old.caller; callee = E.memory self.old.callee; body = B.state self.old.body })
             (step_of r step.now)

@@ -1,4 +1,4 @@
-use Rattle.std.proofs.Common.{◌≡◌, inl, inr, Ok, Err, List, map, refl, sym, ap, ◌∙◌, subst, rules}
+use Rattle.std.proofs.Common.{◌≡◌, inl, inr, Ok, Err, List, map, refl, sym, ap, ◌∙◌, subst, arith, rules}
 use Rattle.canonical_abi.specs.Types.{ClosedType, Fields, record_type, record_fields}
 use Rattle.canonical_abi.specs.Layout.{max_flat_params, passed_kinds}
 use Rattle.canonical_abi.specs.Reading.{kind_of}
@@ -18,16 +18,16 @@ lowered-requires g c = function-stands c.args.table.now c.layouts-layouts.result
 pub lifted-requires : goal.lifted-requires
 lifted-requires g c = function-stands c.args.table.now c.layouts-layouts.result.now c.args.func c.layouts-layouts.ensures c.requires.function
 
-pub cross_params-requires-clause-inside : goal.cross_params-requires-clause-inside
-cross_params-requires-clause-inside g c = params-inside c.args.table.now c.args.func c.requires.function _ refl
+pub cross_params-crossed-requires-clause-inside : goal.cross_params-crossed-requires-clause-inside
+cross_params-crossed-requires-clause-inside g c = params-inside c.args.table.now c.args.func c.requires.function _ refl
 
-pub cross_params-requires-clause-is_record : goal.cross_params-requires-clause-is_record
-cross_params-requires-clause-is_record g c =
+pub cross_params-crossed-requires-clause-is_record : goal.cross_params-crossed-requires-clause-is_record
+cross_params-crossed-requires-clause-is_record g c =
     let row = params-row c.args.table.now c.args.func c.requires.function _ refl in
     row ∙ sym (ap (λ t. record_type (record_fields t)) row)
 
-pub cross_params-requires-clause-kinds : goal.cross_params-requires-clause-kinds
-cross_params-requires-clause-kinds g c =
+pub cross_params-crossed-requires-clause-kinds : goal.cross_params-crossed-requires-clause-kinds
+cross_params-crossed-requires-clause-kinds g c =
     let r = c.args.table.now in
     let f = function_type r c.args.func in
     let flats = c.args.flats.now in
@@ -45,16 +45,16 @@ returns-in-Ok-clause-entered g c =
     let EA = g.E.Guest.allocates in
     let caller = g.C.Guest.memory c.args.caller.now in
     let callee = g.E.Guest.memory c.args.callee.now in
-    let callee' = g.E.Guest.memory c.cross_params.new.guest in
+    let callee' = g.E.Guest.memory c.cross_params-crossed.new.guest in
     let row = params-row r c.args.func c.requires.function _ refl in
     let kinds : KindsFit f flats = search rules in
     let same = same-arguments f flats _ c.len-count.result (signature_of c.lifted.result) refl c.len-count.ensures.value (c.lifted.ensures r c.layouts-layouts.ensures c.requires.function) in
-    let ends = rw (row, same, c.bytes.ensures) at c.cross_params.ensures in
-    let told = arguments-end CA EA f flats caller callee kinds _ c.cross_params.result callee' _ ends in
-    subst (EndsArguments CA EA f flats caller callee callee') c.in-Ok.is told
+    let ends = rw (row, same, c.bytes.ensures) at c.cross_params-crossed.ensures in
+    let told = arguments-end CA EA f flats caller callee kinds _ c.cross_params-crossed.result callee' _ c.requires.fresh (omega arith) ends in
+    subst (EndsArguments CA EA f flats caller callee callee' c.cross_params-crossed.new.nodes) c.in-Ok.is told
 
-pub returns-in-Err-Source-clause-fault : goal.returns-in-Err-Source-clause-fault
-returns-in-Err-Source-clause-fault g c =
+pub returns-in-Err-clause-fault : goal.returns-in-Err-clause-fault
+returns-in-Err-clause-fault g c =
     let r = c.args.table.now in
     let f = function_type r c.args.func in
     let flats = c.args.flats.now in
@@ -62,27 +62,10 @@ returns-in-Err-Source-clause-fault g c =
     let EA = g.E.Guest.allocates in
     let caller = g.C.Guest.memory c.args.caller.now in
     let callee = g.E.Guest.memory c.args.callee.now in
-    let callee' = g.E.Guest.memory c.cross_params.new.guest in
+    let callee' = g.E.Guest.memory c.cross_params-crossed.new.guest in
     let row = params-row r c.args.func c.requires.function _ refl in
     let kinds : KindsFit f flats = search rules in
     let same = same-arguments f flats _ c.len-count.result (signature_of c.lifted.result) refl c.len-count.ensures.value (c.lifted.ensures r c.layouts-layouts.ensures c.requires.function) in
-    let ends = rw (row, same, c.bytes.ensures) at c.cross_params.ensures in
-    let told = arguments-end CA EA f flats caller callee kinds _ c.cross_params.result callee' _ ends in
-    rw c.trap-in-Err-Source.ensures (subst (EndsArguments CA EA f flats caller callee callee') (c.in-Err-Source.is ∙ ap Err c.in-Err-Source.field-0-is) told)
-
-pub returns-in-Err-Target-clause-fault : goal.returns-in-Err-Target-clause-fault
-returns-in-Err-Target-clause-fault g c =
-    let r = c.args.table.now in
-    let f = function_type r c.args.func in
-    let flats = c.args.flats.now in
-    let CA = g.C.Guest.allocates in
-    let EA = g.E.Guest.allocates in
-    let caller = g.C.Guest.memory c.args.caller.now in
-    let callee = g.E.Guest.memory c.args.callee.now in
-    let callee' = g.E.Guest.memory c.cross_params.new.guest in
-    let row = params-row r c.args.func c.requires.function _ refl in
-    let kinds : KindsFit f flats = search rules in
-    let same = same-arguments f flats _ c.len-count.result (signature_of c.lifted.result) refl c.len-count.ensures.value (c.lifted.ensures r c.layouts-layouts.ensures c.requires.function) in
-    let ends = rw (row, same, c.bytes.ensures) at c.cross_params.ensures in
-    let told = arguments-end CA EA f flats caller callee kinds _ c.cross_params.result callee' _ ends in
-    rw c.trap-in-Err-Target.ensures (subst (EndsArguments CA EA f flats caller callee callee') (c.in-Err-Target.is ∙ ap Err c.in-Err-Target.field-0-is) told)
+    let ends = rw (row, same, c.bytes.ensures) at c.cross_params-crossed.ensures in
+    let told = arguments-end CA EA f flats caller callee kinds _ c.cross_params-crossed.result callee' _ c.requires.fresh (omega arith) ends in
+    rw c.fault_of.ensures (subst (EndsArguments CA EA f flats caller callee callee' c.cross_params-crossed.new.nodes) c.in-Err.is told)

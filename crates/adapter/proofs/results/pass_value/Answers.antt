@@ -1,4 +1,4 @@
-use Rattle.std.proofs.Common.{◌≡◌, ◌≤◌, ℕ, Ok, Err, List, map, refl, sym, ap, ◌∙◌, subst, rules}
+use Rattle.std.proofs.Common.{◌≡◌, ◌≤◌, ℕ, Ok, Err, List, map, refl, sym, ap, ◌∙◌, subst, arith, rules}
 use Rattle.canonical_abi.specs.Types.{Fields, record_type, result_fields}
 use Rattle.canonical_abi.specs.Layout.{size, max_flat_results, passed_kinds}
 use Rattle.canonical_abi.specs.Reading.{kind_of}
@@ -15,15 +15,15 @@ use Rattle.adapter.proofs.results.pass_value.Goals as goal
 pub lifted-signature-requires : goal.lifted-signature-requires
 lifted-signature-requires g c = function-stands c.args.table.now c.layouts.result.now c.args.func c.layouts.ensures c.requires.function
 
-pub cross_result-requires-clause-inside : goal.cross_result-requires-clause-inside
-cross_result-requires-clause-inside g c =
+pub cross_result-crossed-requires-clause-inside : goal.cross_result-crossed-requires-clause-inside
+cross_result-crossed-requires-clause-inside g c =
     let r = c.args.table.now in
     let s = c.signature.result.now in
     let known = result-inside r c.args.func c.requires.function s (rw c.resolve.ensures at c.signature.ensures) in
     subst (AreAllInside r) (sym (same_types s.result _ c.as_slice-types.ensures)) (all-inside r s.result known)
 
-pub cross_result-requires-clause-small : goal.cross_result-requires-clause-small
-cross_result-requires-clause-small g c =
+pub cross_result-crossed-requires-clause-small : goal.cross_result-crossed-requires-clause-small
+cross_result-crossed-requires-clause-small g c =
     let r = c.args.table.now in
     let s = c.signature.result.now in
     let known = result-known r c.args.func c.requires.function s (rw c.resolve.ensures at c.signature.ensures) in
@@ -37,48 +37,30 @@ returns-in-Ok-clause-returned g c =
     let CA = g.C.Guest.allocates in
     let EA = g.E.Guest.allocates in
     let caller = g.C.Guest.memory c.args.caller.now in
-    let caller' = g.C.Guest.memory c.cross_result.new.guest in
+    let caller' = g.C.Guest.memory c.cross_result-crossed.new.guest in
     let callee = g.E.Guest.memory c.args.callee.now in
     let s = c.signature.result.now in
     let is = result-is r c.args.func c.requires.function s (rw c.resolve.ensures at c.signature.ensures) in
     let own : fields_of_types r c.as_slice-types.result.now ≡ result_fields f.result = ap (fields_of_types r) (same_types s.result _ c.as_slice-types.ensures) ∙ result-fields r s.result ∙ ap result_fields (sym is) in
     let area = area-is f flats c.area_in-area.result c.len.result (signature_of c.lifted-signature.result) c.area_in-area.ensures c.len.ensures.value (c.lifted-signature.ensures r c.layouts.ensures c.requires.function) in
-    let ends = rw (own, area, c.bytes.ensures) at c.cross_result.ensures in
-    let told = result-ends CA EA f flats caller callee c.args.answer.now _ c.cross_result.result caller' _ ends in
-    subst (EndsResult CA EA f flats caller callee c.args.answer.now caller') c.in-Ok.is told
+    let ends = rw (own, area, c.bytes.ensures) at c.cross_result-crossed.ensures in
+    let told = result-ends CA EA f flats caller callee c.args.answer.now _ c.cross_result-crossed.result caller' _ c.requires.fresh (omega arith) ends in
+    subst (EndsResult CA EA f flats caller callee c.args.answer.now caller' c.cross_result-crossed.new.nodes) c.in-Ok.is told
 
-pub returns-in-Err-Source-clause-fault : goal.returns-in-Err-Source-clause-fault
-returns-in-Err-Source-clause-fault g c =
+pub returns-in-Err-clause-fault : goal.returns-in-Err-clause-fault
+returns-in-Err-clause-fault g c =
     let r = c.args.table.now in
     let f = function_type r c.args.func in
     let flats = c.args.flats.now in
     let CA = g.C.Guest.allocates in
     let EA = g.E.Guest.allocates in
     let caller = g.C.Guest.memory c.args.caller.now in
-    let caller' = g.C.Guest.memory c.cross_result.new.guest in
+    let caller' = g.C.Guest.memory c.cross_result-crossed.new.guest in
     let callee = g.E.Guest.memory c.args.callee.now in
     let s = c.signature.result.now in
     let is = result-is r c.args.func c.requires.function s (rw c.resolve.ensures at c.signature.ensures) in
     let own : fields_of_types r c.as_slice-types.result.now ≡ result_fields f.result = ap (fields_of_types r) (same_types s.result _ c.as_slice-types.ensures) ∙ result-fields r s.result ∙ ap result_fields (sym is) in
     let area = area-is f flats c.area_in-area.result c.len.result (signature_of c.lifted-signature.result) c.area_in-area.ensures c.len.ensures.value (c.lifted-signature.ensures r c.layouts.ensures c.requires.function) in
-    let ends = rw (own, area, c.bytes.ensures) at c.cross_result.ensures in
-    let told = result-ends CA EA f flats caller callee c.args.answer.now _ c.cross_result.result caller' _ ends in
-    rw c.trap-in-Err-Source.ensures (subst (EndsResult CA EA f flats caller callee c.args.answer.now caller') (c.in-Err-Source.is ∙ ap Err c.in-Err-Source.field-0-is) told)
-
-pub returns-in-Err-Target-clause-fault : goal.returns-in-Err-Target-clause-fault
-returns-in-Err-Target-clause-fault g c =
-    let r = c.args.table.now in
-    let f = function_type r c.args.func in
-    let flats = c.args.flats.now in
-    let CA = g.C.Guest.allocates in
-    let EA = g.E.Guest.allocates in
-    let caller = g.C.Guest.memory c.args.caller.now in
-    let caller' = g.C.Guest.memory c.cross_result.new.guest in
-    let callee = g.E.Guest.memory c.args.callee.now in
-    let s = c.signature.result.now in
-    let is = result-is r c.args.func c.requires.function s (rw c.resolve.ensures at c.signature.ensures) in
-    let own : fields_of_types r c.as_slice-types.result.now ≡ result_fields f.result = ap (fields_of_types r) (same_types s.result _ c.as_slice-types.ensures) ∙ result-fields r s.result ∙ ap result_fields (sym is) in
-    let area = area-is f flats c.area_in-area.result c.len.result (signature_of c.lifted-signature.result) c.area_in-area.ensures c.len.ensures.value (c.lifted-signature.ensures r c.layouts.ensures c.requires.function) in
-    let ends = rw (own, area, c.bytes.ensures) at c.cross_result.ensures in
-    let told = result-ends CA EA f flats caller callee c.args.answer.now _ c.cross_result.result caller' _ ends in
-    rw c.trap-in-Err-Target.ensures (subst (EndsResult CA EA f flats caller callee c.args.answer.now caller') (c.in-Err-Target.is ∙ ap Err c.in-Err-Target.field-0-is) told)
+    let ends = rw (own, area, c.bytes.ensures) at c.cross_result-crossed.ensures in
+    let told = result-ends CA EA f flats caller callee c.args.answer.now _ c.cross_result-crossed.result caller' _ c.requires.fresh (omega arith) ends in
+    rw c.fault_of.ensures (subst (EndsResult CA EA f flats caller callee c.args.answer.now caller' c.cross_result-crossed.new.nodes) c.in-Err.is told)

@@ -1,8 +1,7 @@
-use Rattle.std.proofs.Common.{◌≡◌, List, IfOk, IfErr, sym, ap, ◌∙◌, subst}
-use Rattle.canonical_abi.specs.declared.trap.Step.TheVariants as step
+use Rattle.std.proofs.Common.{◌≡◌, List, IfSome, sym, ap, ◌∙◌, subst}
 use Rattle.tables.specs.Closed.{closed_types, function_at}
 use Rattle.tables.specs.declared.tables.ValType.{ValType}
-use Rattle.adapter.specs.Carrying.{CarriesOn, IsFaultAt, results_of}
+use Rattle.adapter.specs.Carrying.{CarriesOn, results_of}
 use Rattle.adapter.proofs.Functions.{types_fit, same_types}
 use Rattle.lift_lower.specs.Scalars.{AreScalar}
 use Rattle.adapter.proofs.scalars.carry_answer.Goals as goal
@@ -14,18 +13,10 @@ carry-requires c =
     same_types c.signature.result.now.result c.as_slice-results.result.now c.as_slice-results.ensures ∙ ap results_of (sym c.signature.ensures) in
     subst AreScalar (sym same) (types_fit (closed_types c.args.resolve.now) o c.requires.scalar).scalar_results
 
-pub returns-clause-carried : goal.returns-clause-carried
-returns-clause-carried c =
+pub returns : goal.returns
+returns c =
     let o = function_at c.args.resolve.now c.args.func in
     let same : c.as_slice-results.result.now ≡ results_of o =
     same_types c.signature.result.now.result c.as_slice-results.result.now c.as_slice-results.ensures ∙ ap results_of (sym c.signature.ensures) in
-    let P : List ValType → Type 0 = λ ts. IfOk c.carry.result (λ back. CarriesOn ts c.args.answer.now back.items) in
-    subst P same c.carry.ensures.carried
-
-pub returns-clause-fault : goal.returns-clause-fault
-returns-clause-fault c =
-    let o = function_at c.args.resolve.now c.args.func in
-    let same : c.as_slice-results.result.now ≡ results_of o =
-    same_types c.signature.result.now.result c.as_slice-results.result.now c.as_slice-results.ensures ∙ ap results_of (sym c.signature.ensures) in
-    let P : List ValType → Type 0 = λ ts. IfErr c.carry.result (IsFaultAt step.LiftResult ts c.args.answer.now) in
-    subst P same c.carry.ensures.fault
+    let P : List ValType → Type 0 = λ ts. IfSome c.carry.result (λ back. CarriesOn ts c.args.answer.now back.items) in
+    subst P same c.carry.ensures

@@ -1,8 +1,7 @@
-use Rattle.std.proofs.Common.{◌≡◌, List, IfOk, IfErr, length, map, take, sym, ap, ◌∙◌, subst}
-use Rattle.canonical_abi.specs.declared.trap.Step.TheVariants as step
+use Rattle.std.proofs.Common.{◌≡◌, List, IfSome, length, map, take, sym, ap, ◌∙◌, subst}
 use Rattle.tables.specs.Closed.{closed_types, function_at}
 use Rattle.tables.specs.declared.tables.ValType.{ValType}
-use Rattle.adapter.specs.Carrying.{CarriesOn, IsFaultAt, params_of}
+use Rattle.adapter.specs.Carrying.{CarriesOn, params_of}
 use Rattle.adapter.proofs.Functions.{types_fit}
 use Rattle.lift_lower.specs.Scalars.{AreScalar}
 use Rattle.adapter.proofs.scalars.carry_arguments.Goals as goal
@@ -14,18 +13,10 @@ carry-requires c =
     c.types_of-types.ensures ∙ ap (λ ps. map (λ p. p.ty) ps) c.as_slice-params.ensures ∙ ap params_of (sym c.signature.ensures) in
     subst AreScalar (sym same) (types_fit (closed_types c.args.resolve.now) o c.requires.scalar).scalar_params
 
-pub returns-clause-carried : goal.returns-clause-carried
-returns-clause-carried c =
+pub returns : goal.returns
+returns c =
     let o = function_at c.args.resolve.now c.args.func in
     let same : take (length c.as_slice-params.result.now) c.types_of-types.result ≡ params_of o =
     c.types_of-types.ensures ∙ ap (λ ps. map (λ p. p.ty) ps) c.as_slice-params.ensures ∙ ap params_of (sym c.signature.ensures) in
-    let P : List ValType → Type 0 = λ ts. IfOk c.carry.result (λ handed. CarriesOn ts c.args.flats.now handed.items) in
-    subst P same c.carry.ensures.carried
-
-pub returns-clause-fault : goal.returns-clause-fault
-returns-clause-fault c =
-    let o = function_at c.args.resolve.now c.args.func in
-    let same : take (length c.as_slice-params.result.now) c.types_of-types.result ≡ params_of o =
-    c.types_of-types.ensures ∙ ap (λ ps. map (λ p. p.ty) ps) c.as_slice-params.ensures ∙ ap params_of (sym c.signature.ensures) in
-    let P : List ValType → Type 0 = λ ts. IfErr c.carry.result (IsFaultAt step.LiftArgs ts c.args.flats.now) in
-    subst P same c.carry.ensures.fault
+    let P : List ValType → Type 0 = λ ts. IfSome c.carry.result (λ handed. CarriesOn ts c.args.flats.now handed.items) in
+    subst P same c.carry.ensures

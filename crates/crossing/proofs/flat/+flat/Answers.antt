@@ -24,17 +24,17 @@ use Rattle.crossing.proofs.flat.+flat.Goals as goal
 pub cross_flat-returns-in-Primitive : goal.cross_flat-returns-in-Primitive
 cross_flat-returns-in-Primitive g t c =
     rw c.in-Primitive.ensures.shape.0 (primitive-ends g.G.Guest.allocates (prim_of c.in-Primitive.primitive) c.args.source.now (map number_of c.args.flats.now) c.args.out.now.items (g.G.Guest.memory c.args.guest.now) c.carry_primitive.result c.args.nodes.now c.saturating_add.result c.carry_primitive.new.out.items
-    (λ few. omega (arith, few, c.saturating_add.ensures)) c.carry_primitive.ensures.ok c.carry_primitive.ensures.fault)
+    (omega (arith, c.saturating_add.ensures)) c.carry_primitive.ensures.ok c.carry_primitive.ensures.fault)
 
 pub cross_flat-returns-in-String : goal.cross_flat-returns-in-String
 cross_flat-returns-in-String g t c =
     rw c.in-String.ensures.shape.0 (flat-node g.G.Guest.allocates _ (g.G.Guest.memory c.args.guest.now) c.carry_text.result (g.G.Guest.memory c.carry_text.new.guest) c.args.nodes.now c.saturating_add.result c.saturating_add.result c.carry_text.new.out.items
-    (λ few. omega (arith, few, c.saturating_add.ensures)) (c.carry_text.ensures c.saturating_add.result))
+    (omega (arith, c.saturating_add.ensures)) (c.carry_text.ensures c.saturating_add.result))
 
 pub cross_flat-returns-in-List : goal.cross_flat-returns-in-List
 cross_flat-returns-in-List g t c =
     rw c.in-List.ensures.shape.0 (flat-node g.G.Guest.allocates _ (g.G.Guest.memory c.args.guest.now) c.carry_list.result (g.G.Guest.memory c.carry_list.new.guest) c.args.nodes.now c.saturating_add.result c.carry_list.new.nodes c.carry_list.new.out.items
-    (λ few. omega (arith, few, c.saturating_add.ensures)) c.carry_list.ensures)
+    (omega (arith, c.saturating_add.ensures)) c.carry_list.ensures)
 
 pub cross_flat-returns-in-Record : goal.cross_flat-returns-in-Record
 cross_flat-returns-in-Record g t c =
@@ -49,7 +49,7 @@ cross_flat-returns-in-Record g t c =
     let only : record_type (record_fields T) ≡ T = ap (λ x. record_type (record_fields x)) shaped.1 ∙ sym shaped.1 in
     let P : ClosedType → Type 0 = λ x. FlatEnds A (FlatWalks x m ns front) old c.args.nodes.now c.carry_fields.result new c.carry_fields.new.nodes c.carry_fields.new.out.items in
     subst P only (flat-record A (record_fields T) m ns front old c.carry_fields.result new c.args.nodes.now c.saturating_add.result c.carry_fields.new.nodes c.carry_fields.new.out.items
-    (λ few. omega (arith, few, c.saturating_add.ensures)) c.carry_fields.ensures)
+    (omega (arith, c.saturating_add.ensures)) c.carry_fields.ensures)
 
 pub cross_flat-returns-in-Variant : goal.cross_flat-returns-in-Variant
 cross_flat-returns-in-Variant g t c =
@@ -64,7 +64,7 @@ cross_flat-returns-in-Variant g t c =
     let only : variant_type (variant_cases T) ≡ T = ap (λ x. variant_type (variant_cases x)) shaped.1 ∙ sym shaped.1 in
     let P : ClosedType → Type 0 = λ x. FlatEnds A (FlatWalks x m ns front) old c.args.nodes.now c.carry_variant.result new c.carry_variant.new.nodes c.carry_variant.new.out.items in
     subst P only (flat-node A (FlatWalks (variant_type (variant_cases T)) m ns front) old c.carry_variant.result new c.args.nodes.now c.saturating_add.result c.carry_variant.new.nodes c.carry_variant.new.out.items
-    (λ few. omega (arith, few, c.saturating_add.ensures)) c.carry_variant.ensures)
+    (omega (arith, c.saturating_add.ensures)) c.carry_variant.ensures)
 
 pub cross_flat-returns-in-Flags : goal.cross_flat-returns-in-Flags
 cross_flat-returns-in-Flags g t c =
@@ -72,7 +72,7 @@ cross_flat-returns-in-Flags g t c =
     let n = c.in-Flags.labels in
     let told = rw c.flags_in.ensures at c.push.ensures.items in
     rw c.in-Flags.ensures.shape.0 (leaf-done g.G.Guest.allocates (FlatWalks (flags_type n) c.args.source.now ns c.args.out.now.items) (g.G.Guest.memory c.args.guest.now) c.args.nodes.now c.saturating_add.result c.push.new.self.items
-    (λ few. omega (arith, few, c.saturating_add.ensures)) (flags_value (low_bits ns 0 n), flat.I32 (low_bits ns 0 n) ∷ [], refl, (low_bits ns 0 n, refl, low-small ns 0 n, refl, refl), told))
+    (omega (arith, c.saturating_add.ensures)) (flags_value (low_bits ns 0 n), flat.I32 (low_bits ns 0 n) ∷ [], refl, (low_bits ns 0 n, refl, low-small ns 0 n, refl, refl), told))
 
 -- ---- fields
 

@@ -20,5 +20,5 @@ returns g c =
       scripted = (flags_value (bits % 2 ^ c.args.labels), refl, (bits % 2 ^ c.args.labels, refl, mod-lt _ (pow_pos c.args.labels), refl));
       leads = (g.G.Guest.memory c.write_number.new.guest, led, refl);
       no_shorter = omega (arith, c.write_number.ensures.same_length);
-      counted = λ few. omega arith;
+      counted = omega arith;
     }

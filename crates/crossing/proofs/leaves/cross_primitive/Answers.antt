@@ -25,5 +25,5 @@ returns-in-Ok g c =
       scripted = (v, c.in-Ok.ensures.value, (holds-typed m bytes c.requires.short (prim_type p) c.args.from v c.in-Ok.ensures.value, refl));
       leads = (g.G.Guest.memory c.write_scalar.new.guest, led, refl);
       no_shorter = omega (arith, c.write_scalar.ensures.same_length);
-      counted = λ few. omega arith;
+      counted = omega arith;
     }

@@ -24,22 +24,22 @@ use Rattle.crossing.proofs.walk.+cross.Goals as goal
 pub cross_at-returns-in-Primitive : goal.cross_at-returns-in-Primitive
 cross_at-returns-in-Primitive g t c =
     rw c.in-Primitive.ensures.shape.0 (at-node g.G.Guest.allocates _ (g.G.Guest.memory c.args.guest.now) c.cross_primitive.result (g.G.Guest.memory c.cross_primitive.new.guest) c.args.nodes.now c.saturating_add.result c.saturating_add.result
-    (λ few. omega (arith, few, c.saturating_add.ensures)) (c.cross_primitive.ensures c.saturating_add.result))
+    (omega (arith, c.saturating_add.ensures)) (c.cross_primitive.ensures c.saturating_add.result))
 
 pub cross_at-returns-in-String : goal.cross_at-returns-in-String
 cross_at-returns-in-String g t c =
     rw c.in-String.ensures.shape.0 (at-node g.G.Guest.allocates _ (g.G.Guest.memory c.args.guest.now) c.cross_text.result (g.G.Guest.memory c.cross_text.new.guest) c.args.nodes.now c.saturating_add.result c.saturating_add.result
-    (λ few. omega (arith, few, c.saturating_add.ensures)) (c.cross_text.ensures c.saturating_add.result))
+    (omega (arith, c.saturating_add.ensures)) (c.cross_text.ensures c.saturating_add.result))
 
 pub cross_at-returns-in-Flags : goal.cross_at-returns-in-Flags
 cross_at-returns-in-Flags g t c =
     rw c.in-Flags.ensures.shape.0 (at-node g.G.Guest.allocates _ (g.G.Guest.memory c.args.guest.now) c.cross_flags.result (g.G.Guest.memory c.cross_flags.new.guest) c.args.nodes.now c.saturating_add.result c.saturating_add.result
-    (λ few. omega (arith, few, c.saturating_add.ensures)) (c.cross_flags.ensures c.saturating_add.result))
+    (omega (arith, c.saturating_add.ensures)) (c.cross_flags.ensures c.saturating_add.result))
 
 pub cross_at-returns-in-List : goal.cross_at-returns-in-List
 cross_at-returns-in-List g t c =
     rw c.in-List.ensures.shape.0 (at-node g.G.Guest.allocates _ (g.G.Guest.memory c.args.guest.now) c.cross_list.result (g.G.Guest.memory c.cross_list.new.guest) c.args.nodes.now c.saturating_add.result c.cross_list.new.nodes
-    (λ few. omega (arith, few, c.saturating_add.ensures)) c.cross_list.ensures)
+    (omega (arith, c.saturating_add.ensures)) c.cross_list.ensures)
 
 pub cross_at-returns-in-Record : goal.cross_at-returns-in-Record
 cross_at-returns-in-Record g t c =
@@ -52,7 +52,7 @@ cross_at-returns-in-Record g t c =
     let only : record_type (record_fields T) ≡ T = ap (λ x. record_type (record_fields x)) shaped.1 ∙ sym shaped.1 in
     let P : ClosedType → Type 0 = λ x. Ends A (Walks x m c.args.from c.args.to) old c.args.nodes.now c.cross_fields.result new c.cross_fields.new.nodes in
     subst P only (at-record A (record_fields T) m c.args.from c.args.to old c.cross_fields.result new c.args.nodes.now c.saturating_add.result c.cross_fields.new.nodes
-    (λ few. omega (arith, few, c.saturating_add.ensures)) c.cross_fields.ensures)
+    (omega (arith, c.saturating_add.ensures)) c.cross_fields.ensures)
 
 pub cross_at-returns-in-Variant : goal.cross_at-returns-in-Variant
 cross_at-returns-in-Variant g t c =
@@ -65,7 +65,7 @@ cross_at-returns-in-Variant g t c =
     let only : variant_type (variant_cases T) ≡ T = ap (λ x. variant_type (variant_cases x)) shaped.1 ∙ sym shaped.1 in
     let P : ClosedType → Type 0 = λ x. Ends A (Walks x m c.args.from c.args.to) old c.args.nodes.now c.cross_variant.result new c.cross_variant.new.nodes in
     subst P only (at-node A (Walks (variant_type (variant_cases T)) m c.args.from c.args.to) old c.cross_variant.result new c.args.nodes.now c.saturating_add.result c.cross_variant.new.nodes
-    (λ few. omega (arith, few, c.saturating_add.ensures)) c.cross_variant.ensures)
+    (omega (arith, c.saturating_add.ensures)) c.cross_variant.ensures)
 
 -- ---- elements
 
@@ -223,7 +223,7 @@ cross_variant-returns-in_default g t c =
       events = [];
       scripted = missing-walks cs m c.args.from c.args.to i num (sym c.in_default.ensures.found);
       leads = refl;
-      counted = λ few. omega arith;
+      counted = omega arith;
     }
 
 pub cross_variant-returns-in_default-known : goal.cross_variant-returns-in_default-known
@@ -240,7 +240,7 @@ cross_variant-returns-in_default-known g t c =
       scripted = plain-walks cs m c.args.from c.args.to i num found;
       leads = (g.G.Guest.memory c.write_number.new.guest, led, refl);
       no_shorter = omega (arith, c.write_number.ensures.same_length);
-      counted = λ few. omega arith;
+      counted = omega arith;
     }
 
 pub cross_variant-cross_at-requires : goal.cross_variant-cross_at-requires

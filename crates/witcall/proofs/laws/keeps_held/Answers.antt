@@ -1,4 +1,4 @@
-use Rattle.canonical_abi.specs.Call.{either}
+use Rattle.canonical_abi.specs.Call.{exact}
 use Rattle.canonical_abi.proofs.CalleeKeeping.{callee-keeps-held}
 use Rattle.witcall.proofs.StandardSteps.{keep_held, read_placed}
 use Rattle.witcall.proofs.laws.keeps_held.Goals as goal
@@ -10,4 +10,4 @@ pub returns-clause-read : goal.returns-clause-read
 returns-clause-read g c = read_placed _ _ _ c.args._session.now.package.now.resolve
 
 pub returns-clause-callee : goal.returns-clause-callee
-returns-clause-callee g c = callee-keeps-held _ _ _ either
+returns-clause-callee g c = callee-keeps-held _ _ _ exact

@@ -4,7 +4,7 @@ use Rattle.std.specs.Option.{option_map}
 use Rattle.std.specs.Prelude.{IfOk, IfSome}
 use Rattle.canonical_abi.specs.Session.{as_list, HasResult, HasResultFault}
 use Rattle.canonical_abi.specs.Types.{ClosedType, Fields, IsPlain, result_fields}
-use Rattle.canonical_abi.specs.Call.{either, Parties, Ways, Calls}
+use Rattle.canonical_abi.specs.Call.{exact, Parties, Calls}
 use Rattle.canonical_abi.specs.Values.{HaveTypes}
 use Rattle.canonical_abi.specs.declared.flat.Flat.{Flat}
 use Rattle.canonical_abi.specs.declared.trap.Step.TheVariants.{Take}
@@ -50,10 +50,11 @@ returns-in_err-back-clause-call g c =
     let handed = subst (λ fs. IsReady g.C.Guest.allocates f arguments caller fs area caller') (sym c.as_slice.ensures.value) ready in
     let places = placed parties f arguments caller caller' callee body flats area handed in
     let new = world (g.C.Guest.memory c.call.new.caller) (g.E.Guest.memory c.call.new.callee) (g.B.Body.state c.call.new.body) in
-    let calls = subst (λ q. (ways : Ways) × Calls parties either (function_type q c.args.func) flats (world caller' callee body) (Err c.in_err-back.field-0.0) ways new)
-    (c.new-link.ensures.package ∙ c.resolve-resolve.ensures ∙ c.types-table.ensures.types) c.in_err-back.ensures.call in
+    let told = c.in_err-back.ensures.call in
+    let calls = subst (λ q. Calls parties exact (function_type q c.args.func) flats (world caller' callee body) (Err c.in_err-back.field-0.0) told.0 new)
+    (c.new-link.ensures.package ∙ c.resolve-resolve.ensures ∙ c.types-table.ensures.types) told.1 in
     let p = err_from_is_err_and c.from_residual-in_err-back.result c.from_residual-in_err-back.ensures.1 in
-    rw (p.1, p.2) (link_fails parties f arguments (area_at area) (world caller callee body) (world caller' callee body) new flats c.in_err-back.field-0.0 places calls)
+    rw (p.1, p.2) (link_fails parties f arguments (area_at area) (world caller callee body) (world caller' callee body) new flats c.in_err-back.field-0.0 places (told.0, calls))
 
 pub take_result-requires-clause-inside : goal.take_result-requires-clause-inside
 take_result-requires-clause-inside g c =
@@ -88,9 +89,10 @@ returns-clause-call g c =
     let places = placed parties f arguments caller caller' callee body flats area handed in
     let new = world (g.C.Guest.memory c.call.new.caller) (g.E.Guest.memory c.call.new.callee) (g.B.Body.state c.call.new.body) in
     let back = c.in_ok-back.back.items in
-    let calls = subst (λ q. (ways : Ways) × Calls parties either (function_type q c.args.func) flats (world caller' callee body) (Ok back) ways new)
-    (c.new-link.ensures.package ∙ c.resolve-resolve.ensures ∙ c.types-table.ensures.types) c.in_ok-back.ensures.call in
-    let came = came_back parties f arguments (area_at area) (world caller callee body) (world caller' callee body) new flats back places calls in
+    let told = c.in_ok-back.ensures.call in
+    let calls = subst (λ q. Calls parties exact (function_type q c.args.func) flats (world caller' callee body) (Ok back) told.0 new)
+    (c.new-link.ensures.package ∙ c.resolve-resolve.ensures ∙ c.types-table.ensures.types) told.1 in
+    let came = came_back parties f arguments (area_at area) (world caller callee body) (world caller' callee body) new flats back places (told.0, calls) in
     let own = c.types-table.result in
     let is = subst (λ q. IsFunction q c.args.func) (sym c.types-table.ensures.types) c.requires.function in
     let same = ap result_fields (sym (result-is own c.args.func is c.signature.result.now (rw c.resolve-resolve.ensures at c.signature.ensures))) ∙ ap (λ q. result_fields (function_type q c.args.func).result) c.types-table.ensures.types in

@@ -1,5 +1,5 @@
 use Rattle.std.proofs.Common.{◌≡◌, ◌+◌, ◌-◌, ◌<◌, length, map, take, drop, ap, ◌∙◌, subst, arith}
-use Rattle.canonical_abi.specs.Call.{Parties, World, either}
+use Rattle.canonical_abi.specs.Call.{Parties, World, exact}
 use Rattle.canonical_abi.specs.Session.{TakesStep}
 use Rattle.witcall.specs.Steps.{IsKnownAnswer, Runs, answer_of, step_of}
 use Rattle.witcall.proofs.SameRuns.{step_alike, same_runs_on, same_posts_on}
@@ -29,10 +29,10 @@ loop-step-preserved g c =
     let start : c.len-start.result ≡ length before = c.len-start.ensures ∙ c.reserve.new.self.ok.0 in
     let same : given ≡ drop (length before) items =
     to_the_end c.len-start.result c.as_slice.result.now ∙ ap (drop c.len-start.result) c.as_slice.ensures.value ∙ ap (λ k. drop k items) start in
-    let told : TakesStep later g.C.Guest.releases either (map (answer_of r) given) now (step_of r s) (answer_of r a) new =
-    subst (λ p. TakesStep later g.C.Guest.releases either (map (answer_of p.resolve) given) now (step_of p.resolve s) (answer_of p.resolve a) new) i.3 c.take_step-answer.ensures.taken in
-    let taken = subst (λ xs. TakesStep first g.C.Guest.releases either (map (answer_of r) xs) now (step_of r s) (answer_of r a) new) same
-    (step_alike g.C.Guest.allocates g.E.Guest.allocates runs runs_now posts posts_now i.1 i.2 g.C.Guest.releases either (map (answer_of r) given) now (step_of r s) (answer_of r a) new told) in
+    let told : TakesStep later g.C.Guest.releases exact (map (answer_of r) given) now (step_of r s) (answer_of r a) new =
+    subst (λ p. TakesStep later g.C.Guest.releases exact (map (answer_of p.resolve) given) now (step_of p.resolve s) (answer_of p.resolve a) new) i.3 c.take_step-answer.ensures.taken in
+    let taken = subst (λ xs. TakesStep first g.C.Guest.releases exact (map (answer_of r) xs) now (step_of r s) (answer_of r a) new) same
+    (step_alike g.C.Guest.allocates g.E.Guest.allocates runs runs_now posts posts_now i.1 i.2 g.C.Guest.releases exact (map (answer_of r) given) now (step_of r s) (answer_of r a) new told) in
     let known : IsKnownAnswer r a = subst (λ p. IsKnownAnswer p.resolve a) i.3 c.take_step-answer.ensures.known in
     let less : n < length steps = c.loop-step-test.true in
     let more : Runs first g.C.Guest.releases r (take (n + 1) steps) before old c.push_reserved.new.self.items new =
