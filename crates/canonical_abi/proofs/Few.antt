@@ -24,6 +24,7 @@ use Rattle.canonical_abi.specs.declared.trap.Step.{Step}
 use Rattle.canonical_abi.specs.declared.trap.Step.TheVariants as step
 use Rattle.canonical_abi.specs.declared.trap.TrapKind.{TrapKind}
 use Rattle.canonical_abi.proofs.Sizes.{one-size, greatest-le}
+use Rattle.canonical_abi.proofs.Visited.{visited-both}
 
 -- each beginning of these events visits at most d nodes for each of s bytes and of those that were granted
 abbrev pub IsFew : ℕ → ℕ → List Event → Type 0
@@ -50,12 +51,6 @@ split-front (x ∷ first) more (y ∷ done) rest e = go (split-front first more 
         → ((over : List Event) × (x ∷ first ≡ (y ∷ done) ++ over)) ⊎ ((behind : List Event) × (y ∷ done ≡ (x ∷ first) ++ behind) × (more ≡ behind ++ rest))
     go (inl (over, is)) = inl (over, rw (same, is) refl)
     go (inr (behind, is, left)) = inr (behind, rw (same, is) refl, left)
-
-nodes-both : (es fs : List Event) → nodes_of (es ++ fs) ≡ nodes_of es + nodes_of fs
-nodes-both [] fs = omega arith
-nodes-both (node ∷ es) fs = let h = nodes-both es fs in omega arith
-nodes-both (grant g ∷ es) fs = nodes-both es fs
-nodes-both (write a bs ∷ es) fs = nodes-both es fs
 
 granted_size-both : (es fs : List Event) → granted_size (es ++ fs) ≡ granted_size es + granted_size fs
 granted_size-both [] fs = omega arith
@@ -86,7 +81,7 @@ few-both d s t first more p q done rest e = by (split-front first more done rest
     by (inr (behind, is, left)) =
         let h = p first [] (sym (append-nil first)) in
         let k = q behind rest left in
-        let n = nodes-both first behind in
+        let n = visited-both first behind in
         let g = granted_size-both first behind in
         let sum = times-both d (s + granted_size first) (t + granted_size behind) in
         let all : s + granted_size first + (t + granted_size behind) ≡ s + t + (granted_size first + granted_size behind) = omega arith in

@@ -4,6 +4,7 @@ use Rattle.canonical_abi.specs.Guest.{Memory, Allocation}
 use Rattle.canonical_abi.specs.Trace.{Grant, Event, node, grant, write, nodes_of, EventLeads, TraceLeads, RequestFails}
 use Rattle.canonical_abi.specs.declared.trap.TrapKind.{TrapKind}
 use Rattle.canonical_abi.proofs.Fine.{leads-both}
+use Rattle.canonical_abi.proofs.Visited.{visited-both}
 use Rattle.crossing.specs.Outcome.{Behind, Counts, IsDone, WasRefused, HasStopped, Ends}
 use Rattle.crossing.specs.declared.stopped.Stopped.{Stopped}
 use Rattle.crossing.specs.declared.stopped.Stopped.TheVariants as stopped
@@ -18,14 +19,8 @@ pub record IsBegun (allocates : Allocation) (S T : Option TrapKind → List Even
 
 -- ---- counts
 
-nodes-both : (es fs : List Event) → nodes_of (es ++ fs) ≡ nodes_of es + nodes_of fs
-nodes-both [] fs = omega arith
-nodes-both (node ∷ es) fs = let h = nodes-both es fs in omega arith
-nodes-both (grant g ∷ es) fs = nodes-both es fs
-nodes-both (write a bs ∷ es) fs = nodes-both es fs
-
 counts-both : (es fs : List Event) (n c d : ℕ) → Counts n es c → Counts c fs d → Counts n (es ++ fs) d
-counts-both es fs n c d p q = omega (arith, nodes-both es fs, p, q)
+counts-both es fs n c d p q = omega (arith, visited-both es fs, p, q)
 
 module _ (allocates : Allocation) where
   pub begun : (S : Option TrapKind → List Event → Type 0) (m : Memory) (n : ℕ) → IsBegun allocates S S m n m n
