@@ -1,10 +1,10 @@
 #!/usr/bin/env python3
 """Tries the must-fail edits of crates, and tells of each which goal stayed open.
 
-    tools/try_edits.py [NAME ..] [--only EDIT]
+    tools/try_edits.py [NAME ..] [--only EDIT,..]
 
 Of each crate named, or of all, the edits of crates/NAME/must-fail/ (which the gate tries too) and of edits/NAME/ are tried
-on a copy of the repository, over what the crate's checks have kept, or that edit alone. Each line has the edit, and the goal that
+on a copy of the repository, over what the crate's checks have kept, or those edits alone. Each line has the edit, and the goal that
 the prover was left with: a clause of a contract (`returns-clause-..`), the condition of a callee, an invariant. Where an edit is
 let through, can't be applied or read, or is refused only in the text of a proof, the line begins with `!` and the exit status
 is 1. `rt all check` beforehand saves most of the time.
@@ -40,7 +40,7 @@ def crates_below():
 def edits_of(name, only):
     """The crate's edits, those of the gate first."""
     all_edits = [*sorted((ROOT / "crates" / name / "must-fail").glob("*.edit")), *sorted((ROOT / "edits" / name).glob("*.edit"))]
-    return [it for it in all_edits if only in (None, it.stem)]
+    return [it for it in all_edits if only is None or it.stem in only.split(",")]
 
 
 def copied(room, crate, names):

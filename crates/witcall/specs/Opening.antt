@@ -110,7 +110,7 @@ abbrev pub TextRefuses : List ℕ → OpenError → Type 0
 TextRefuses bytes (error.Text e) =
     IsUtf8Behind36 bytes e × (text.Faulty bytes e ⊎ ((s : Span) × (e ≡ Unsupported LaterStage s) × HasWorldAt bytes s))
 TextRefuses bytes (error.NotUtf8 place) = (length bytes ≤ limit) × ¬ (IsUtf8 bytes) × IsValidUpTo bytes place
-TextRefuses bytes (error.Resolve e) = IsUtf8 bytes × (f : File) × IsRead bytes f × (first_world f.entries ≡ None) × tree.Refuses f e
+TextRefuses bytes (error.Resolve e) = IsUtf8 bytes × (f : File) × IsRead bytes f × (first_world f.entries ≡ None) × tree.ResolveRefuses f e
 TextRefuses bytes (error.Layout e) = (r : Resolve) × IsOfText bytes r × RefusesFirst e r
 TextRefuses bytes (error.Binary e) = ⊥
 TextRefuses bytes (error.Read place) = ⊥
@@ -119,7 +119,7 @@ TextRefuses bytes error.NoMemory = ⊥
 -- A binary's own refusals come first, then 43, 44, 40, then those of its layouts.
 abbrev pub BinaryRefuses : List ℕ → OpenError → Type 0
 BinaryRefuses bytes (error.Binary e) = binary.Decodes file_view (Err e) bytes
-BinaryRefuses bytes (error.Resolve e) = (raw : RawComponent) × (decoded bytes ≡ Ok (file_view raw)) × component.Refuses raw e
+BinaryRefuses bytes (error.Resolve e) = (raw : RawComponent) × (decoded bytes ≡ Ok (file_view raw)) × component.FromComponentRefuses raw e
 BinaryRefuses bytes (error.Layout e) = (r : Resolve) × IsOfBinary bytes r × RefusesFirst e r
 BinaryRefuses bytes (error.Text e) = ⊥
 BinaryRefuses bytes (error.NotUtf8 place) = ⊥
