@@ -10,10 +10,10 @@ ghost use Rattle.package_form.specs.Form.{IsInPackageForm};
 ghost use Rattle.witcall.specs.Opening.{is_binary, IsOfBinary, IsBinaryOf, IsWrittenAs, IsTooLong, IsWantOfMemory, BinaryRefuses};
 
 use crate::package::{MAX_INPUT, OpenError, Package};
-use ctype_bin::{BinError, Fault, decode, encode};
+use ctype_bin::{BinError, Fault, decode};
 use resolve::{Resolve, ResolveError};
 use std::alloc::Global;
-use wit_component::{from_raw, to_raw};
+use wit_component::{from_raw, to_written};
 
 /// The bytes that a binary begins with.
 static FRONT: [u8; 4] = [0x00, 0x61, 0x73, 0x6d];
@@ -49,14 +49,12 @@ impl Package {
         ensures exact { IfOk result (λ bytes. bytes.items ≡ file_bytes (component_of self.now.resolve)) }
         ensures err { IfErr result (λ e. (e ≡ BinError.NoMemory) ⊎ IsTooLong self.now.resolve e) }
     {
-        let raw = match to_raw(alloc, self.resolve()) {
-            Ok(raw) => raw,
+        let (_, bytes) = match to_written(alloc, self.resolve()) {
+            Ok(written) => written,
             Err(ResolveError::NoMemory) => return Err(BinError::NoMemory),
             // The tables of a package are in the form of packages.
             Err(_) => unreachable!(),
         };
-        let mut bytes = Vec::new(alloc);
-        encode(alloc, &raw, &mut bytes)?;
         if bytes.len() > MAX_INPUT {
             return Err(BinError::At(Fault::Limit, MAX_INPUT));
         }
