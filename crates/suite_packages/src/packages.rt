@@ -6,7 +6,7 @@ use std::alloc::Global;
 use std::process::Abort;
 use std::test::*;
 use tables::Resolve;
-use wit_component::{from_raw, to_raw};
+use wit_component::{from_raw, to_raw, to_written};
 use wit_text::parse;
 
 /// `package a:b; interface c { f: func(x: u32) -> u32; }`
@@ -92,6 +92,16 @@ fn a_package_is_its_bytes(rt: HostRuntime) -> Result<(), Fail> {
         let (text, bytes) = *row;
         assert_bytes(&rt, rt.alloc(), text, bytes)?;
     }
+    Ok(())
+}
+
+#[test]
+fn a_package_is_written_with_its_bytes(rt: HostRuntime) -> Result<(), Fail> {
+    let alloc = rt.alloc();
+    let tree = parse(alloc, TEXTS[0].0)?;
+    let package = from_ast(alloc, &tree)?;
+    let (_, bytes) = to_written(alloc, &package)?;
+    assert_same(&rt, bytes.as_slice(), &SMALLEST);
     Ok(())
 }
 
