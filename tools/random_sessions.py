@@ -93,4 +93,5 @@ def main():
     (CRATE / "stdout").write_text("".join(f"{answer}\n" for _, answer in lines))
 
 
-main()
+if __name__ == "__main__":
+    main()
