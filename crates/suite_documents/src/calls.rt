@@ -40,7 +40,7 @@ fn first_fault(alloc: Global, calls: &[(&str, &str, &str, &str)]) -> Result<Stri
 }
 
 /// Calls, by the items of their interface, their arguments, their reply and what comes of it.
-static ACCEPTED: [(&str, &str, &str, &str); 18] = [
+static ACCEPTED: [(&str, &str, &str, &str); 19] = [
     (
         "f: func(o: option<option<u8>>) -> option<option<u8>>;",
         "[{\"some\":\"none\"}]",
@@ -109,6 +109,13 @@ static ACCEPTED: [(&str, &str, &str, &str); 18] = [
         "[[\"a\",\"\",\"b\"]]",
         "[\"a\",\"\",\"b\"]\n",
     ),
+    // a list of records, flags and a variant
+    (
+        "record l { item: string, count: u16 } flags w { rush, gift } variant p { cash, card(string) } record t { number: u32, total: tuple<u32, u8> } f: func(a: list<l>, b: w, c: p) -> result<t, string>;",
+        "[[{\"item\":\"tea\",\"count\":2}],[\"rush\"],{\"card\":\"4711\"}]",
+        "[{\"ok\":{\"number\":12,\"total\":[1,50]}}]",
+        "{\"ok\":{\"number\":12,\"total\":[1,50]}}\n",
+    ),
     ("f: func() -> char;", "[]", "[\"😀\"]", "\"😀\"\n"),
     (
         "f: func() -> list<u64>;",
@@ -153,7 +160,7 @@ static ACCEPTED: [(&str, &str, &str, &str); 18] = [
 ];
 
 /// Values of another type than the parameter's.
-static REFUSED: [(&str, &str, &str, &str); 21] = [
+static REFUSED: [(&str, &str, &str, &str); 22] = [
     (
         "record r { a: u8, b: u32 } f: func(x: r);",
         "[{\"a\":1,\"b\":2,\"c\":3}]",
@@ -229,6 +236,12 @@ static REFUSED: [(&str, &str, &str, &str); 21] = [
         NOT_THIS_TYPE,
     ),
     ("f: func(x: list<u8>);", "[[1],[2]]", "[]", NOT_THIS_TYPE),
+    (
+        "record l { item: string, count: u16 } flags w { rush, gift } variant p { cash, card(string) } record t { number: u32, total: tuple<u32, u8> } f: func(a: list<l>, b: w, c: p) -> result<t, string>;",
+        "[[{\"item\":\"tea\"}],[],\"cash\"]",
+        "[{\"error\":\"sold-out\"}]",
+        NOT_THIS_TYPE,
+    ),
     ("f: func(x: list<u8>);", "[[1]", "[]", BAD_JSON),
 ];
 
