@@ -1,4 +1,4 @@
-use Rattle.std.proofs.Common.{◌≤◌, [], refl, subst}
+use Rattle.std.proofs.Common.{◌≤◌, [], ◌∙◌, refl, subst}
 use Rattle.std.proofs.Math.Logic.{∥∥₁_map}
 use Rattle.witcall.proofs.Binaries.{begins, is_binary_of, written_as}
 use Rattle.witcall.proofs.package.Package.to_binary.Goals as goal
@@ -6,7 +6,7 @@ use Rattle.witcall.proofs.package.Package.to_binary.Goals as goal
 pub returns-clause-ok : goal.returns-clause-ok
 returns-clause-ok c =
     ∥∥₁_map c.in-Ok.ensures.spelling
-    (is_binary_of [] c.in-Ok.written.1.items c.in-Ok.written.0 c.args.self.now.resolve _ refl c.resolve.ensures (subst (λ n. n ≤ 1048576) c.len.ensures c.if-len-gt-MAX_INPUT.false) c.in-Ok.ensures.ok)
+    (is_binary_of [] c.in-Ok.written.1.items c.in-Ok.written.0 c.args.self.now.resolve _ refl c.resolve.ensures (subst (λ n. n ≤ 1048576) (c.len.ensures ∙ c.in-Ok.written.1.ok.0) c.if-len-gt-MAX_INPUT.false) c.in-Ok.ensures.ok)
 
 pub returns-clause-begins : goal.returns-clause-begins
 returns-clause-begins c = begins [] _ _ refl c.in-Ok.ensures.exact
