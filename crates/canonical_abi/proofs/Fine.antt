@@ -98,6 +98,10 @@ module _ (allocates : Allocation) (releases : Release) (honest : IsHonest alloca
       apart x (inl l) p = let w = inside x p in let h = w.0 in omega arith
       apart x (inr l) p = let w = inside x p in let h = w.1 in omega arith
 
+  pub outside-events : (lent size : ℕ) (inside : (x : ℕ) → P x → IsWithin x lent size) → (keeps-outside lent size inside).events ≡ es
+  unfolding keeps-outside
+  outside-events lent size inside = refl
+
 -- ---- requests that fail over an honest guest
 
 -- such a request was refused

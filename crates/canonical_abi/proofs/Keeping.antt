@@ -99,12 +99,22 @@ kept-fine allocates releases honest old new es fine =
     }
 
 -- a value in a block of its own is confined to its own blocks
-block-aligned : (t : ClosedType) (v : Value) (g : Grant) (rest : List Event) → IsBlock (align t) (size t) g → Stores t g.at v rest → AreAligned (grant g ∷ rest)
+pub block-aligned : (t : ClosedType) (v : Value) (g : Grant) (rest : List Event) → IsBlock (align t) (size t) g → Stores t g.at v rest → AreAligned (grant g ∷ rest)
 block-aligned t v g rest block stores = (rw block.0 (is-alignment t), stores-aligned t g.at v rest stores)
 
-block-confined : (t : ClosedType) (v : Value) (g : Grant) (rest : List Event) → IsBlock (align t) (size t) g → Stores t g.at v rest → Confined Nowhere (grant g ∷ rest)
+pub block-confined : (t : ClosedType) (v : Value) (g : Grant) (rest : List Event) → IsBlock (align t) (size t) g → Stores t g.at v rest → Confined Nowhere (grant g ∷ rest)
 block-confined t v g rest block stores =
     confined-more (λ x. IsWithin x g.at (size t)) (λ x. Nowhere x ⊎ IsWithin x g.at g.size) rest (λ x w. inr (subst (λ n. IsWithin x g.at n) (sym block.1) w)) (stores-confined t g.at v rest stores)
+
+-- a value that is placed, or for which there is no room, is a trace confined to its own blocks
+pub place-went-fine : (allocates : Allocation) (releases : Release) → IsHonest allocates releases → (t : ClosedType) (v : Value) (old new : Memory) (result : Result Held Fault)
+    → PlacesValue allocates t v old result new → (es : List Event) × Fine allocates Nowhere old es new
+place-went-fine allocates releases honest t v old new (Ok held) (g, rest, block, stores, within, leads, is) =
+    (grant g ∷ rest, record { aligned = block-aligned t v g rest block stores; confined = block-confined t v g rest block stores; leads = leads })
+place-went-fine allocates releases honest t v old new (Err (Trap fault)) (g, rest, block, stores, is, breaks) =
+    let broke = typed-broken allocates releases honest Nowhere old (grant g ∷ rest) fault.kind new (block-aligned t v g rest block stores) (block-confined t v g rest block stores) breaks in
+    (broke.0, broke.1)
+place-went-fine allocates releases honest t v old new (Err NoMemory) p = absurd p
 
 module _ (parties : Parties) (caller_releases callee_releases : Release) (order : Order) (honest : AreHonest parties caller_releases callee_releases) (keeps : KeepsLimit parties.caller_allocates) where
   pub record StepKeeps (old new : Memory) : Type 0 where
@@ -123,17 +133,8 @@ module _ (parties : Parties) (caller_releases callee_releases : Release) (order 
     limited = let l : length new.bytes ≡ length old.bytes = ap (λ bs. length bs) is in omega arith;
   }
 
-  -- a value that is placed, or for which there is no room, is a trace confined to its own blocks
-  pub place-went-fine : (t : ClosedType) (v : Value) (old new : Memory) (result : Result Held Fault) → PlacesValue parties.caller_allocates t v old result new → (es : List Event) × Fine parties.caller_allocates Nowhere old es new
-  place-went-fine t v old new (Ok held) (g, rest, block, stores, within, leads, is) =
-      (grant g ∷ rest, record { aligned = block-aligned t v g rest block stores; confined = block-confined t v g rest block stores; leads = leads })
-  place-went-fine t v old new (Err (Trap fault)) (g, rest, block, stores, is, breaks) =
-      let broke = typed-broken parties.caller_allocates caller_releases honest.caller Nowhere old (grant g ∷ rest) fault.kind new (block-aligned t v g rest block stores) (block-confined t v g rest block stores) breaks in
-      (broke.0, broke.1)
-  place-went-fine t v old new (Err NoMemory) p = absurd p
-
   place-keeps : (t : ClosedType) (v : Value) (old new : Memory) (result : Result Held Fault) → IsLimited old → PlacesValue parties.caller_allocates t v old result new → StepKeeps old new
-  place-keeps t v old new result few places = let went = place-went-fine t v old new result places in by-fine old new went.0 few went.1
+  place-keeps t v old new result few places = let went = place-went-fine parties.caller_allocates caller_releases honest.caller t v old new result places in by-fine old new went.0 few went.1
 
   release-keeps : (at n : ℕ) (old new : Memory) (taken : Bool) → IsLimited old → caller_releases old at n taken new → StepKeeps old new
   release-keeps at n old new true few r = by-same old new few (honest.caller.taken old at n new r).same_bytes

@@ -1,5 +1,5 @@
 -- A value that was placed is held in live addresses, and read until a release ends life in them.
-use Rattle.std.proofs.Common.{◌≡◌, ◌⊎◌, inl, inr, ℕ, zero, suc, ◌+◌, ◌*◌, ◌%◌, ◌^◌, ◌<◌, ◌≤◌, max, Bool, true, false, List, [], ◌∷◌, ◌++◌, length, Some, Ok, refl, sym, ap, ◌∙◌, subst, arith}
+use Rattle.std.proofs.Common.{◌≡◌, ◌⊎◌, inl, inr, ℕ, zero, suc, ◌+◌, ◌*◌, ◌%◌, ◌^◌, ◌<◌, ◌≤◌, max, Bool, true, false, List, [], ◌∷◌, ◌++◌, length, Some, Result, Ok, Err, refl, sym, ap, ◌∙◌, subst, arith}
 use Rattle.std.specs.Int.{w32, next_multiple_of}
 use Rattle.canonical_abi.specs.Types.{ClosedType, prim_type, string_type, list_type, record_type, variant_type, flags_type, Fields, no_field, field, Cases, no_case, plain_case, case_with, case_count, IsStandard, AreStandardFields, AreStandardCases}
 use Rattle.canonical_abi.specs.Values.{Value}
@@ -8,13 +8,15 @@ use Rattle.canonical_abi.specs.Reading.{number_at, byte_width}
 use Rattle.canonical_abi.specs.Memory.{HoldsInBlock}
 use Rattle.canonical_abi.specs.Guest.{Memory, Allocation, Release, IsHonest, IsLimited, KeepsLimit, IsWithin, IsOutside, rounded_to_eight}
 use Rattle.canonical_abi.specs.Footprint.{Reads, FieldsRead, CaseReads}
-use Rattle.canonical_abi.specs.Trace.{Event}
+use Rattle.canonical_abi.specs.Trace.{Event, grant, requests_of}
+use Rattle.canonical_abi.specs.Requests.{requests}
 use Rattle.canonical_abi.specs.Storing.{EachStores, Stores, FieldsStore, CaseStores}
-use Rattle.canonical_abi.specs.Stands.{IsGranted, Carries, IsStored}
+use Rattle.canonical_abi.specs.Stands.{IsGranted, Carries, Keeps, IsStored}
 use Rattle.canonical_abi.specs.Call.{Parties, World, Order}
+use Rattle.canonical_abi.specs.declared.trap.Fault.{Fault}
 use Rattle.canonical_abi.specs.Session.{Held, SessionStep, call, place, read, release, SessionAnswer, PlacesValue, ReadsStep, TakesStep, RunsSession}
 use Rattle.canonical_abi.specs.Headline.{AreHonest, IsLentLive}
-use Rattle.canonical_abi.specs.Keeping.{Footprint, IsLive, AreStandardSteps, Throughout, ReleasesMiss, PlacedIsRead}
+use Rattle.canonical_abi.specs.Keeping.{Footprint, IsLive, AreStandardSteps, Throughout, ReleasesMiss, IsPlaced, PlacedIsHeld, PlacedIsRead}
 use Rattle.canonical_abi.proofs.Bytes.{number-there}
 use Rattle.canonical_abi.proofs.Sizes.{is-alignment, end-le, greatest-le, one-size, case-fits}
 use Rattle.canonical_abi.proofs.Runs.{runs-keep, granted-first, granted-second, carries-first, carries-second}
@@ -22,9 +24,10 @@ use Rattle.canonical_abi.proofs.Own.{InFields, InPayload}
 use Rattle.canonical_abi.proofs.Held.{header-address, header-number, small-address, small-length, case-below}
 use Rattle.canonical_abi.proofs.Stored.{stored-is-held}
 use Rattle.canonical_abi.proofs.Crossed.{Nowhere}
-use Rattle.canonical_abi.proofs.Fine.{Fine, trace-limited}
+use Rattle.canonical_abi.proofs.Fine.{Fine, trace-limited, keeps-outside, outside-events}
 use Rattle.canonical_abi.proofs.Promise.{call-went-fine}
-use Rattle.canonical_abi.proofs.Keeping.{step-keeps, first-standard, place-went-fine, read-again}
+use Rattle.canonical_abi.proofs.Asked.{own-block, stores-asked}
+use Rattle.canonical_abi.proofs.Keeping.{block-aligned, block-confined, place-went-fine, step-keeps, first-standard, read-again}
 
 -- ---- what is read of a stored value stands in its place or in its own blocks
 
@@ -116,23 +119,50 @@ module _ (m : List ℕ) (small : length m < 2 ^ 32) where
 
 -- ---- a value in a block of its own
 
-pub record IsPlacedLive (t : ClosedType) (v : Value) (at : ℕ) (new : Memory) : Type 0 where
-  pub holds : HoldsInBlock t new.bytes at v
-  pub live : IsLive (Reads t new.bytes at) new
-
-placed-live : (allocates : Allocation) (releases : Release) → IsHonest allocates releases → (t : ClosedType) (v : Value) (old new : Memory) (held : Held) → IsStandard t → length new.bytes < 2 ^ 32
-    → PlacesValue allocates t v old (Ok held) new → IsPlacedLive t v held.at new
-placed-live allocates releases honest t v old new held standard small (g, rest, block, stores, within, (mid, granted, leads), is) =
+placed-held : (allocates : Allocation) (releases : Release) → IsHonest allocates releases → (t : ClosedType) (v : Value) (old new : Memory) (held : Held) → IsStandard t → length new.bytes < 2 ^ 32
+    → PlacesValue allocates t v old (Ok held) new → IsPlaced allocates t held.at v old new
+placed-held allocates releases honest t v old new held standard small (g, rest, block, stores, within, (mid, granted, leads), is) =
     rw (ap (λ (h : Held). h.at) is) (record {
       holds = ((subst (λ k. g.at % k ≡ 0) block.0 granted.1.aligned, let i = granted.1.inside in let l = stored.keeps.no_shorter in let n = block.1 in omega arith), stored.holds);
-      live = λ x r. elim (reads-own new.bytes small t standard g.at v rest stores stored.carries x r) [ inl w ↦ stored.keeps.stays_live x (lent x w) | inr h ↦ stored.keeps.is_live x h ];
+      live = λ x r. keeps.is_live x (own x r);
+      kept = keeps-outside allocates releases honest Nowhere old new (grant g ∷ rest) fine 0 0 (λ x n. absurd n);
+      asked = ap requests_of events ∙ own-block g.align g.size (align t) (size t) (requests_of rest) (requests t v) block.0 block.1 (stores-asked t g.at v rest stores);
+      own = λ x r. subst (λ es. IsGranted es x) (sym events) (own x r);
+      was_free = λ x h. keeps.was_free x (subst (λ es. IsGranted es x) events h);
     })
   where
+    fine : Fine allocates Nowhere old (grant g ∷ rest) new
+    fine = record { aligned = block-aligned t v g rest block stores; confined = block-confined t v g rest block stores; leads = (mid, granted, leads) }
+
+    events : (keeps-outside allocates releases honest Nowhere old new (grant g ∷ rest) fine 0 0 (λ x n. absurd n)).events ≡ grant g ∷ rest
+    events = outside-events allocates releases honest Nowhere old new (grant g ∷ rest) fine 0 0 (λ x n. absurd n)
+
+    keeps : Keeps old (grant g ∷ rest) new
+    keeps = runs-keep allocates releases honest (grant g ∷ rest) old new fine.aligned fine.leads
+
     lent : IsLentLive mid g.at (size t)
     lent x w = (honest.granted old g.align g.size g.at mid (subst (λ k. k) refl (rw block.0 (is-alignment t))) granted.0).is_live x (subst (λ n. IsWithin x g.at n) (sym block.1) w)
 
     stored : IsStored t g.at v mid rest new
     stored = stored-is-held allocates releases honest t v g.at rest mid new standard small lent stores leads
+
+    own : (x : ℕ) → Reads t new.bytes g.at x → IsGranted (grant g ∷ rest) x
+    own x r = elim (reads-own new.bytes small t standard g.at v rest stores stored.carries x r) [ inl w ↦ inl (subst (λ n. IsWithin x g.at n) (sym block.1) w) | inr h ↦ inr h ]
+
+pub placed-is-held : (allocates : Allocation) (releases : Release) → IsHonest allocates releases → PlacedIsHeld allocates
+placed-is-held allocates releases honest = record {
+  placed = placed-held allocates releases honest;
+  failed = λ t v old new fault places.
+      let went = place-went-fine allocates releases honest t v old new (Err fault) places in
+      keeps-outside allocates releases honest Nowhere old new went.0 went.1 0 0 (λ x n. absurd n);
+}
+
+-- placing takes no memory past the limit
+pub placed-limited : (allocates : Allocation) (releases : Release) → IsHonest allocates releases → KeepsLimit allocates → (t : ClosedType) (v : Value) (old new : Memory) (result : Result Held Fault)
+    → IsLimited old → PlacesValue allocates t v old result new → IsLimited new
+placed-limited allocates releases honest keeps t v old new result few places =
+    let went = place-went-fine allocates releases honest t v old new result places in
+    trace-limited allocates keeps went.0 old new went.1.leads few
 
 -- ---- and live, until a release ends life in it
 
@@ -150,7 +180,7 @@ module _ (parties : Parties) (caller_releases callee_releases : Release) (order 
       let went = call-went-fine parties caller_releases callee_releases order f arguments honest standard.0 old few keeps result new typed in
       fine-lives old.caller new.caller went.0 went.1 live
   step-lives (place t v) before old answer new standard miss few (result, is, places, callee, body) live =
-      let went = place-went-fine parties caller_releases callee_releases order honest keeps t v old.caller new.caller result places in
+      let went = place-went-fine parties.caller_allocates caller_releases honest.caller t v old.caller new.caller result places in
       fine-lives old.caller new.caller went.0 went.1 live
   step-lives (read k) before old answer new standard miss few (same, reads) live = λ x f. ap (λ w. w.caller.live x) same ∙ live x f
   step-lives (release at n) before old answer new standard miss few (taken, is, releases, callee, body) live = release-lives at n taken old.caller new.caller releases miss.0 live
@@ -173,9 +203,8 @@ module _ (parties : Parties) (caller_releases callee_releases : Release) (order 
 
 pub placed-is-read : (parties : Parties) (caller_releases callee_releases : Release) (order : Order) → PlacedIsRead parties caller_releases order callee_releases
 placed-is-read parties caller_releases callee_releases order t v held before old placed steps answers new answer honest limited standard usual places run miss reads =
-    let went = place-went-fine parties caller_releases callee_releases order honest limited.caller_keeps t v old.caller placed.caller (Ok held) places in
-    let few = trace-limited parties.caller_allocates limited.caller_keeps went.0 old.caller placed.caller went.1.leads limited.caller in
-    let there = placed-live parties.caller_allocates caller_releases honest.caller t v old.caller placed.caller held standard (omega arith) places in
+    let few = placed-limited parties.caller_allocates caller_releases honest.caller limited.caller_keeps t v old.caller placed.caller (Ok held) limited.caller places in
+    let there = placed-held parties.caller_allocates caller_releases honest.caller t v old.caller placed.caller held standard (omega arith) places in
     let live = lives-throughout parties caller_releases callee_releases order honest limited.caller_keeps (Reads t placed.caller.bytes held.at) before placed steps answers new run few usual miss there.live in
     let is : held ≡ record { ty = t; at = held.at } = told places in
     read-again parties caller_releases callee_releases order t held.at v before placed steps answers new run answer honest limited.caller_keeps few usual (record { holds = there.holds; live = live })

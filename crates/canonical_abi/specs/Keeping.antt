@@ -1,16 +1,19 @@
 -- CanonicalABI.md, "Loading", over a whole session: a value that is held in live addresses stays held.
-use Rattle.std.specs.Prelude.{◌≡◌, ◌⊎◌, ℕ, ◌≤◌, true, List, [], ◌∷◌, ◌++◌, Option, Some, Result, Ok, Err, length, slice_get}
+use Rattle.std.specs.Prelude.{◌≡◌, ◌⊎◌, ℕ, ◌^◌, ◌<◌, ◌≤◌, true, false, List, [], ◌∷◌, ◌++◌, Option, Some, Result, Ok, Err, length, slice_get}
 use Rattle.std.proofs.Common.{inl, inr}
 use Rattle.std.specs.List.{AllByRecursion}
 use Rattle.canonical_abi.specs.Types.{ClosedType, FunctionType, IsStandard}
 use Rattle.canonical_abi.specs.Values.{Value}
+use Rattle.canonical_abi.specs.Layout.{align, size}
 use Rattle.canonical_abi.specs.Memory.{HoldsInBlock}
-use Rattle.canonical_abi.specs.Guest.{Memory, Release, IsOutside, rounded_to_eight}
+use Rattle.canonical_abi.specs.Guest.{Memory, Allocation, Release, IsOutside, rounded_to_eight}
 use Rattle.canonical_abi.specs.Footprint.{Reads, SameFootprint}
-use Rattle.canonical_abi.specs.Trace.{Event}
+use Rattle.canonical_abi.specs.Trace.{Event, requests_of}
+use Rattle.canonical_abi.specs.Requests.{request, requests}
+use Rattle.canonical_abi.specs.Stands.{IsGranted}
 use Rattle.canonical_abi.specs.Call.{Parties, World, Order, either, exact, Ways, Answered, Returned, Completes, GivesUp}
 use Rattle.canonical_abi.specs.Session.{Held, SessionStep, call, place, read, release, SessionAnswer, was_read, TypedTraps, TypedCall, PlacesValue, TakesStep, RunsSession, ReadsStep}
-use Rattle.canonical_abi.specs.Headline.{AreHonest, AreLimited, IsStandardFunction}
+use Rattle.canonical_abi.specs.Headline.{AreHonest, AreLimited, IsStandardFunction, KeepsOutside}
 use Rattle.canonical_abi.specs.declared.flat.Flat.{Flat}
 use Rattle.canonical_abi.specs.declared.trap.Fault.{Fault}
 use Rattle.canonical_abi.specs.declared.trap.Fault.TheVariants.{Trap, NoMemory}
@@ -25,6 +28,22 @@ Footprint = ℕ → Type 0
 -- all of it is live
 abbrev pub IsLive : Footprint → Memory → Type 0
 IsLive F memory = (x : ℕ) → F x → memory.live x ≡ true
+
+-- a value that was placed is held, and its footprint is live: it stands in the blocks that it asked for, which were free, and nothing
+-- else was changed
+pub record IsPlaced (allocates : Allocation) (t : ClosedType) (a : ℕ) (v : Value) (old new : Memory) : Type 0 where
+  pub holds : HoldsInBlock t new.bytes a v
+  pub live : IsLive (Reads t new.bytes a) new
+  pub kept : KeepsOutside allocates 0 0 old new
+  pub asked : requests_of kept.events ≡ request (align t) (size t) ∷ requests t v
+  pub own : (x : ℕ) → Reads t new.bytes a x → IsGranted kept.events x
+  pub was_free : (x : ℕ) → IsGranted kept.events x → old.live x ≡ false
+
+-- so it is over an honest guest, and where there was no room, nothing was changed but what was free
+pub record PlacedIsHeld (allocates : Allocation) : Type 0 where
+  pub placed : (t : ClosedType) (v : Value) (old new : Memory) (held : Held) → IsStandard t → length new.bytes < 2 ^ 32
+      → PlacesValue allocates t v old (Ok held) new → IsPlaced allocates t held.at v old new
+  pub failed : (t : ClosedType) (v : Value) (old new : Memory) (fault : Fault) → PlacesValue allocates t v old (Err fault) new → KeepsOutside allocates 0 0 old new
 
 -- the functions that the steps call have types that a package can have
 abbrev pub AreStandardSteps : List SessionStep → Type 0
