@@ -1,9 +1,9 @@
 -- Lists of which each element is read, or none is.
-use Rattle.std.proofs.Common.{◌≡◌, ◌⊎◌, inl, inr, ℕ, zero, suc, ◌+◌, ◌<◌, List, [], ◌∷◌, ◌++◌, length, take, get_or, Option, None, Some, Err, refl, ap, sym, ◌∙◌, arith}
+use Rattle.std.proofs.Common.{◌≡◌, ◌⊎◌, inl, inr, ℕ, zero, suc, ◌+◌, ◌<◌, List, [], ◌∷◌, ◌++◌, length, take, get_or, Option, None, Some, Result, Ok, Err, refl, ap, sym, ◌∙◌, arith}
 use Rattle.std.specs.Option.{option_map}
 use Rattle.component_reader.specs.declared.unread.Unread.{Unread}
 use Rattle.component_reader.specs.declared.unread.Unread.TheVariants as unread
-use Rattle.component_reader.specs.Types.{Reads, both_found, all_found}
+use Rattle.component_reader.specs.Types.{Reads, Becomes, both_found, all_found}
 use Rattle.package_form.proofs.Meeting.{take-more}
 
 module _ {A B : Type 0} (f : A → Option B) where
@@ -58,3 +58,8 @@ pub refused-part : {A B : Type 0} (g : A → B) (part : Option A) (e : Unread) �
     → (e ≡ unread.NoMemory) ⊎ ((e ≡ unread.NotThisShape) × (option_map g part ≡ None))
 refused-part g part e (inl q) = inl q
 refused-part g part e (inr q) = inr (q.0, ap (option_map g) q.1)
+
+-- a part has become this, and so has the whole
+pub becomes-within : {A B T : Type 0} (g : A → B) (o : Option A) (new : A) (r : Result T Unread) → Becomes o new r → Becomes (option_map g o) (g new) r
+becomes-within g o new (Ok x) h = ap (option_map g) h
+becomes-within g o new (Err e) h = refused-part g o e h

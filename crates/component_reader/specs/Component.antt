@@ -15,41 +15,77 @@ use Rattle.tables.specs.Parts.{is_package}
 use Rattle.tables.specs.declared.tables.TypeId.{TypeId}
 use Rattle.tables.specs.declared.tables.Definition.{Definition}
 use Rattle.tables.specs.declared.tables.Interface.{Interface}
+use Rattle.tables.specs.declared.tables.InterfaceId.{InterfaceId}
+use Rattle.tables.specs.declared.tables.World.{World}
 use Rattle.tables.specs.declared.tables.Resolve.{Resolve}
 use Rattle.component_reader.specs.declared.unread.Unread.{Unread}
 use Rattle.component_reader.specs.declared.unread.Unread.TheVariants as unread
 use Rattle.component_reader.specs.Instance.{if_found, InstanceRead, type_named, instance_read}
+use Rattle.component_reader.specs.World.{WorldRead, world_read}
 
 -- ---- the component type
 
--- What was read of the component type: the table, the interfaces, the types that each exports, the row of each type index, and an
--- instance type whose export hasn't come yet.
+-- What was read of the component type: the table, the interfaces, the types that each exports, the worlds, of each type index the row or the
+-- interface whose instance type it is, and an instance type or a component type whose export hasn't come yet.
 pub record ComponentRead : Type 0 where
   pub rows : List Definition
   pub interfaces : List Interface
   pub exports : List (List Named)
+  pub worlds : List World
   pub indices : List (Option TypeId)
+  pub instances : List (Option InterfaceId)
   pub awaited : Option InstanceRead
+  pub awaited_world : Option WorldRead
 
 abbrev pub no_component : ComponentRead
-no_component = record { rows = []; interfaces = []; exports = []; indices = []; awaited = None }
+no_component = record { rows = []; interfaces = []; exports = []; worlds = []; indices = []; instances = []; awaited = None; awaited_world = None }
 
 abbrev pub exported_type : List (List Named) → ℕ → List ℕ → Option TypeId
 exported_type exports i n = if_found (slice_get exports i) (λ es. type_named es n)
 
 abbrev pub with_type : ComponentRead → TypeId → ComponentRead
-with_type s t = record { rows = s.rows; interfaces = s.interfaces; exports = s.exports; indices = s.indices ++ Some t ∷ []; awaited = s.awaited }
+with_type s t = record {
+  rows = s.rows;
+  interfaces = s.interfaces;
+  exports = s.exports;
+  worlds = s.worlds;
+  indices = s.indices ++ Some t ∷ [];
+  instances = s.instances ++ None ∷ [];
+  awaited = s.awaited;
+  awaited_world = s.awaited_world;
+}
 
 abbrev pub alias_read : RawAlias → ComponentRead → Option ComponentRead
 alias_read (alias.InstanceExport i n) s = option_map (with_type s) (exported_type s.exports i n)
 alias_read (alias.Outer count i) s = None
 
 abbrev pub with_instance : ComponentRead → InstanceRead → ComponentRead
-with_instance s i = record { rows = i.rows; interfaces = s.interfaces; exports = s.exports; indices = s.indices ++ None ∷ []; awaited = Some i }
+with_instance s i = record {
+  rows = i.rows;
+  interfaces = s.interfaces;
+  exports = s.exports;
+  worlds = s.worlds;
+  indices = s.indices ++ None ∷ [];
+  instances = s.instances ++ Some (record { 0 = length s.interfaces }) ∷ [];
+  awaited = Some i;
+  awaited_world = None;
+}
+
+abbrev pub with_component : ComponentRead → WorldRead → ComponentRead
+with_component s w = record {
+  rows = w.inside.rows;
+  interfaces = s.interfaces;
+  exports = s.exports;
+  worlds = s.worlds;
+  indices = s.indices ++ None ∷ [];
+  instances = s.instances ++ None ∷ [];
+  awaited = None;
+  awaited_world = Some w;
+}
 
 abbrev pub type_read : AnyType → ComponentRead → Option ComponentRead
 type_read (Instance ds) s = option_map (with_instance s) (instance_read s.indices (length s.interfaces) ds s.rows)
-type_read (Component ds) s = None
+type_read (Component ds) s = option_map (with_component s) (world_read s.instances (length s.worlds) ds s.rows)
 type_read (Define d) s = None
 type_read (Func f) s = None
 
@@ -66,7 +102,7 @@ abbrev pub second : Option (List ℕ × List ℕ) → Option (List ℕ)
 second None = None
 second (Some x) = Some x.1
 
--- the parts of a full name, `namespace:package/interface@version`
+-- the parts of a full name, `namespace:package/name@version`
 abbrev pub namespace_in : List ℕ → List ℕ
 namespace_in text = before text (cut_at 58 text)
 
@@ -94,18 +130,40 @@ with_interface text s i = record {
   rows = s.rows;
   interfaces = s.interfaces ++ interface_named text i ∷ [];
   exports = s.exports ++ i.names ∷ [];
+  worlds = s.worlds;
   indices = s.indices;
+  instances = s.instances;
   awaited = None;
+  awaited_world = s.awaited_world;
 }
 
 abbrev pub instance_exported : List ℕ → ComponentRead → Option ComponentRead
 instance_exported text s = option_map (with_interface text s) s.awaited
 
+abbrev pub world_named : List ℕ → WorldRead → World
+world_named text w = record { «package» = package_id 0; name = interface_in text; items = w.items }
+
+-- the component type read last is exported as a world of this full name
+abbrev pub with_world : List ℕ → ComponentRead → WorldRead → ComponentRead
+with_world text s w = record {
+  rows = s.rows;
+  interfaces = s.interfaces;
+  exports = s.exports;
+  worlds = s.worlds ++ world_named text w ∷ [];
+  indices = s.indices;
+  instances = s.instances;
+  awaited = s.awaited;
+  awaited_world = None;
+}
+
+abbrev pub component_exported : List ℕ → ComponentRead → Option ComponentRead
+component_exported text s = option_map (with_world text s) s.awaited_world
+
 abbrev pub export_read : List ℕ → RawDescription → ComponentRead → Option ComponentRead
 export_read text (described.Instance i) s = if is_label text then None else instance_exported text s
 export_read text (described.Function i) s = None
 export_read text (described.TypeEqual i) s = None
-export_read text (described.Component i) s = None
+export_read text (described.Component i) s = if is_label text then None else component_exported text s
 
 abbrev pub declaration_read : Decl → ComponentRead → Option ComponentRead
 declaration_read (Alias a) s = alias_read a s
@@ -135,10 +193,11 @@ first_full_name (more d ds) = first_of (full_name_declared d) (first_full_name d
 
 -- ---- the package
 
--- the parts of a package without worlds
+-- the parts of a package
 pub record Candidate : Type 0 where
   pub packages : List PackageParts
   pub interfaces : List Interface
+  pub worlds : List World
   pub definitions : List Definition
 
 -- the name of the package in a full name
@@ -147,8 +206,8 @@ package_named text = record { namespace = namespace_in text; name = package_in t
 
 abbrev pub candidate_named : List ℕ → ComponentRead → Option Candidate
 candidate_named text s =
-    if is_package 1 s.rows s.interfaces
-    then Some (record { packages = package_named text ∷ []; interfaces = s.interfaces; definitions = s.rows })
+    if is_package 1 s.rows s.interfaces s.worlds
+    then Some (record { packages = package_named text ∷ []; interfaces = s.interfaces; worlds = s.worlds; definitions = s.rows })
     else None
 
 abbrev pub candidate_of_decls : Decls → Option Candidate
@@ -173,7 +232,7 @@ candidate_of f = candidate_of_types f.types
 pub record IsMadeOf (c : Candidate) (r : Resolve) : Type 0 where
   pub packages : r.packages ≡ c.packages
   pub interfaces : r.interfaces ≡ c.interfaces
-  pub worlds : r.worlds ≡ []
+  pub worlds : r.worlds ≡ c.worlds
   pub definitions : r.definitions ≡ c.definitions
 
 -- what was read is a package of these parts; where they are none, the component isn't of a package's shape

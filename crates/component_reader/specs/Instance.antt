@@ -124,6 +124,18 @@ type_exported k n i s (AFunction ps result) = None
 abbrev pub function_row : ℕ → List ℕ → List Parameter → Option ValType → Definition
 function_row k n ps result = row.Function (record { owner = owner.Interface (record { 0 = k }); name = n; params = ps; result = result })
 
+-- a function at the end of the table
+abbrev pub with_row : Definition → InstanceRead → InstanceRead
+with_row d s = record {
+  rows = s.rows ++ d ∷ [];
+  indices = s.indices ++ None ∷ [];
+  awaited = Nothing;
+  names = s.names;
+  uses = s.uses;
+  types = s.types;
+  functions = s.functions;
+}
+
 abbrev pub function_exported : ℕ → List ℕ → InstanceRead → Awaited → Option InstanceRead
 function_exported k n s (AFunction ps result) = Some (record {
   rows = s.rows ++ function_row k n ps result ∷ [];

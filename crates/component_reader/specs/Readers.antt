@@ -6,10 +6,12 @@ use Rattle.package_form.specs.Scoped.{Entry as Named, entry_of}
 use Rattle.tables.specs.declared.tables.TypeId.{TypeId}
 use Rattle.tables.specs.declared.tables.Definition.{Definition}
 use Rattle.component_reader.specs.Instance.{Awaited, Nothing, AType, AFunction, InstanceRead}
+use Rattle.component_reader.specs.World.{WorldRead}
 use Rattle.component_reader.specs.Component.{ComponentRead}
 use Rattle.component_reader.specs.declared.instance.Awaited.{Awaited as Defined}
 use Rattle.component_reader.specs.declared.instance.Awaited.TheVariants as defined
 use Rattle.component_reader.specs.declared.instance.InstanceReader.{InstanceReader}
+use Rattle.component_reader.specs.declared.world.WorldReader.{WorldReader}
 use Rattle.component_reader.specs.declared.component.ComponentReader.{ComponentReader}
 
 abbrev pub awaited_view : Defined → Awaited
@@ -32,11 +34,17 @@ read_with rows r = record {
   functions = r.functions.items;
 }
 
+abbrev pub world_with : List Definition → WorldReader → WorldRead
+world_with rows w = record { inside = read_with rows w.inside; items = w.items.items; interface = w.interface }
+
 abbrev pub component_view : ComponentReader → ComponentRead
 component_view c = record {
   rows = c.rows.items;
   interfaces = c.interfaces.items;
   exports = map (λ m. names_view m.entries) c.exports.items;
+  worlds = c.worlds.items;
   indices = c.indices.items;
+  instances = c.instances.items;
   awaited = option_map (read_with c.rows.items) c.awaited;
+  awaited_world = option_map (world_with c.rows.items) c.awaited_world;
 }

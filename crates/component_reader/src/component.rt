@@ -4,8 +4,9 @@ ghost use Rattle.atoms.specs.FullName.{IsFullName, full_name_text};
 ghost use Rattle.ctype_format.specs.Names.{name_view};
 ghost use Rattle.ctype_bin.specs.FileView.{file_view};
 ghost use Rattle.ctype_format.specs.View.{decl_view, decls_of, type_view};
+ghost use Rattle.ctype_format.specs.Raw.{Component, Instance};
 ghost use Rattle.component_reader.specs.Types.{ReadsAs, Becomes};
-ghost use Rattle.component_reader.specs.Component.{Makes, no_component, alias_read, type_read, instance_exported, export_read, declaration_read, declarations_read, full_name_declared, first_full_name, package_named, candidate_named, candidate_of_decls, candidate_of_type, candidate_of};
+ghost use Rattle.component_reader.specs.Component.{Makes, no_component, alias_read, type_read, instance_exported, component_exported, export_read, declaration_read, declarations_read, full_name_declared, first_full_name, package_named, candidate_named, candidate_of_decls, candidate_of_type, candidate_of};
 ghost use Rattle.component_reader.specs.Names.{parts_view};
 ghost use Rattle.component_reader.specs.Readers.{component_view};
 
@@ -13,12 +14,14 @@ use crate::instance::InstanceReader;
 use crate::keys::keyed_by_exports;
 use crate::names::{FullNameParts, NameParts, name_parts};
 use crate::unread::Unread;
+use crate::world::WorldReader;
 use atoms::{KeyedState, Label};
 use ctype_bin::{ExternName, RawAlias, RawComponent, RawDecl, RawDescription, RawType};
 use indexmap::IndexMap;
 use std::alloc::{AllocError, Global};
 use tables::{
-    Definition, Interface, InterfaceId, PackageName, Resolve, Sequence, TypeId, copy_version,
+    Definition, Interface, InterfaceId, PackageName, Resolve, Sequence, TypeId, World, WorldId,
+    copy_version,
 };
 
 /// What was read of a component type.
@@ -28,10 +31,15 @@ pub struct ComponentReader {
     interfaces: Vec<Interface>,
     /// The types that each interface exports, by their names.
     exports: Vec<IndexMap<Vec<u8>, TypeId, KeyedState>>,
+    worlds: Vec<World>,
     /// The row of each type index.
     indices: Vec<Option<TypeId>>,
+    /// The interface whose instance type has each type index.
+    instances: Vec<Option<InterfaceId>>,
     /// An instance type whose export hasn't come yet.
     awaited: Option<InstanceReader>,
+    /// A component type whose export hasn't come yet.
+    awaited_world: Option<WorldReader>,
     keyed: KeyedState,
 }
 
@@ -45,6 +53,16 @@ fn next_interface(interfaces: &[Interface]) -> Result<InterfaceId, AllocError>
     }
 }
 
+/// The place of the next world. No memory where an id can't tell it.
+fn next_world(worlds: &[World]) -> Result<WorldId, AllocError>
+    ensures { IfOk result (λ id. id.0 ≡ length worlds.now) }
+{
+    match u32::try_from(worlds.len()) {
+        Ok(place) => Ok(WorldId(place)),
+        Err(_) => Err(AllocError),
+    }
+}
+
 impl ComponentReader {
     /// Nothing was read.
     fn new(alloc: Global, keyed: KeyedState) -> Self
@@ -54,8 +72,11 @@ impl ComponentReader {
             rows: Vec::new(alloc),
             interfaces: Vec::new(alloc),
             exports: Vec::new(alloc),
+            worlds: Vec::new(alloc),
             indices: Vec::new(alloc),
+            instances: Vec::new(alloc),
             awaited: None,
+            awaited_world: None,
             keyed,
         }
     }
@@ -73,19 +94,14 @@ impl ComponentReader {
             return Err(Unread::NotThisShape);
         };
         self.indices.push(Some(*id))?;
+        self.instances.push(None)?;
         Ok(())
     }
 
-    #[tactic(auto, using(ctype_format::proofs::Views::views), unfolding(ctype_format::specs::View::type_view))]
-    fn define(&mut self, alloc: Global, ty: &RawType) -> Result<(), Unread>
-        ensures { Becomes (type_read (type_view ty.now) (component_view self.old)) (component_view self.new) result }
+    /// Awaits the export of an instance type with these declarations.
+    fn read_instance(&mut self, alloc: Global, decls: &[RawDecl]) -> Result<(), Unread>
+        ensures { Becomes (type_read (Instance (decls_of (map decl_view decls.now))) (component_view self.old)) (component_view self.new) result }
     {
-        let decls = match ty {
-            RawType::Instance(decls) => decls,
-            RawType::Defined(_) | RawType::Function(_) | RawType::Component(_) => {
-                return Err(Unread::NotThisShape);
-            }
-        };
         let place = next_interface(&self.interfaces)?;
         let reader = InstanceReader::read(
             alloc,
@@ -96,8 +112,41 @@ impl ComponentReader {
             decls,
         )?;
         self.awaited = Some(reader);
+        self.awaited_world = None;
         self.indices.push(None)?;
+        self.instances.push(Some(place))?;
         Ok(())
+    }
+
+    /// Awaits the export of a component type with these declarations.
+    fn read_component(&mut self, alloc: Global, decls: &[RawDecl]) -> Result<(), Unread>
+        ensures { Becomes (type_read (Component (decls_of (map decl_view decls.now))) (component_view self.old)) (component_view self.new) result }
+    {
+        let place = next_world(&self.worlds)?;
+        let reader = WorldReader::read(
+            alloc,
+            self.keyed,
+            &mut self.rows,
+            place,
+            &self.instances,
+            decls,
+        )?;
+        self.awaited = None;
+        self.awaited_world = Some(reader);
+        self.indices.push(None)?;
+        self.instances.push(None)?;
+        Ok(())
+    }
+
+    #[tactic(auto, using(ctype_format::proofs::Views::views), unfolding(ctype_format::specs::View::type_view))]
+    fn define(&mut self, alloc: Global, ty: &RawType) -> Result<(), Unread>
+        ensures { Becomes (type_read (type_view ty.now) (component_view self.old)) (component_view self.new) result }
+    {
+        match ty {
+            RawType::Instance(decls) => self.read_instance(alloc, decls),
+            RawType::Component(decls) => self.read_component(alloc, decls),
+            RawType::Defined(_) | RawType::Function(_) => Err(Unread::NotThisShape),
+        }
     }
 
     /// Exports the instance type that is awaited, as an interface of this full name.
@@ -114,6 +163,19 @@ impl ComponentReader {
         Ok(())
     }
 
+    /// Exports the component type that is awaited, as a world of this full name.
+    fn export_component(&mut self, alloc: Global, name: FullNameParts<'_>) -> Result<(), Unread>
+        requires { IsFullName (full_name_text (parts_view name)) (parts_view name) }
+        ensures { Becomes (component_exported (full_name_text (parts_view name.entry)) (component_view self.old)) (component_view self.new) result }
+    {
+        let Some(reader) = self.awaited_world.take() else {
+            return Err(Unread::NotThisShape);
+        };
+        let world = reader.into_world(Label::from_bytes(alloc, name.name)?);
+        self.worlds.push(world)?;
+        Ok(())
+    }
+
     fn export(
         &mut self,
         alloc: Global,
@@ -125,6 +187,9 @@ impl ComponentReader {
         match (name_parts(name), description) {
             (NameParts::FullName(name), RawDescription::Instance(_)) => {
                 self.export_instance(alloc, name)
+            }
+            (NameParts::FullName(name), RawDescription::Component(_)) => {
+                self.export_component(alloc, name)
             }
             _ => Err(Unread::NotThisShape),
         }
@@ -162,7 +227,7 @@ impl ComponentReader {
         let resolve = Resolve::from_parts(
             Sequence::new(vec![in alloc; package]?),
             Sequence::new(self.interfaces),
-            Sequence::new(Vec::new(alloc)),
+            Sequence::new(self.worlds),
             Sequence::new(self.rows),
         );
         match resolve {

@@ -5,7 +5,7 @@ ghost use Rattle.ctype_format.specs.View.{decl_view, decls_of, type_view};
 ghost use Rattle.tables.specs.declared.tables.Definition.{Definition};
 ghost use Rattle.package_form.specs.Ids.{package_id};
 ghost use Rattle.component_reader.specs.Types.{ReadsAs, Becomes, both_found, all_found, parameter_read, optional_type};
-ghost use Rattle.component_reader.specs.Instance.{AFunction, nothing_read, settled, with_unnamed, with_named, uses_with, types_with, renamed, type_exported, function_exported, exported, use_read, defined, decl_read, instance_read};
+ghost use Rattle.component_reader.specs.Instance.{AFunction, nothing_read, settled, with_unnamed, with_index, with_row, with_named, uses_with, types_with, renamed, type_exported, function_exported, exported, use_read, defined, decl_read, instance_read};
 ghost use Rattle.component_reader.specs.Readers.{awaited_view, read_with};
 
 use crate::names::{NameParts, name_parts};
@@ -33,7 +33,7 @@ pub enum Awaited {
 pub struct InstanceReader {
     /// The row of each type index.
     indices: Vec<Option<TypeId>>,
-    awaited: Awaited,
+    pub awaited: Awaited,
     names: IndexMap<Vec<u8>, TypeId, KeyedState>,
     uses: Vec<TypeId>,
     types: Vec<TypeId>,
@@ -65,7 +65,7 @@ fn signature(
 
 impl InstanceReader {
     /// Nothing was read.
-    fn new(alloc: Global, keyed: KeyedState) -> Self
+    pub fn new(alloc: Global, keyed: KeyedState) -> Self
         ensures { (rows : List Definition) → read_with rows result ≡ nothing_read rows }
     {
         InstanceReader {
@@ -94,7 +94,7 @@ impl InstanceReader {
     }
 
     /// A definition that no export follows is a type without a name.
-    fn settle(&mut self, rows: &mut Vec<Definition>) -> Result<(), Unread>
+    pub fn settle(&mut self, rows: &mut Vec<Definition>) -> Result<(), Unread>
         ensures { Becomes (settled (read_with rows.old.items self.old)) (read_with rows.new.items self.new) result }
     {
         match std::mem::replace(&mut self.awaited, Awaited::Nothing) {
@@ -189,6 +189,42 @@ impl InstanceReader {
         }
     }
 
+    /// Passes a type index that stands for no row.
+    pub fn push_index(&mut self) -> Result<(), AllocError>
+        ensures { (rows : List Definition) → OnOk result (read_with rows self.new ≡ with_index (read_with rows self.old)) }
+    {
+        self.indices.push(None)?;
+        Ok(())
+    }
+
+    /// Appends a function under its name.
+    pub fn push_function(
+        &mut self,
+        alloc: Global,
+        rows: &mut Vec<Definition>,
+        owner: Owner,
+        name: &[u8],
+        params: Sequence<Parameter>,
+        returned: Option<ValType>,
+    ) -> Result<FunctionId, AllocError>
+        requires awaited { self.old.awaited ≡ Awaited.Nothing }
+        requires label { IsLabel name.now }
+        ensures row { OnOk result (read_with rows.new.items self.new
+            ≡ with_row (Definition.Function (record { owner = owner; name = name.now; params = params; result = returned })) (read_with rows.old.items self.old)) }
+        ensures id { IfOk result (λ id. id.0 ≡ length rows.old.items) }
+    {
+        let id = FunctionId(next_place(rows)?);
+        let name = Label::from_bytes(alloc, name)?;
+        rows.push(Definition::Function(Function {
+            owner,
+            name,
+            params,
+            result: returned,
+        }))?;
+        self.indices.push(None)?;
+        Ok(id)
+    }
+
     /// Appends the function that is awaited.
     fn export_function(
         &mut self,
@@ -204,15 +240,8 @@ impl InstanceReader {
         let Awaited::Function(params, result) = awaited else {
             return Err(Unread::NotThisShape);
         };
-        let id = FunctionId(next_place(rows)?);
-        let name = Label::from_bytes(alloc, name)?;
-        rows.push(Definition::Function(Function {
-            owner: Owner::Interface(place),
-            name,
-            params,
-            result,
-        }))?;
-        self.indices.push(None)?;
+        let owner = Owner::Interface(place);
+        let id = self.push_function(alloc, rows, owner, name, params, result)?;
         self.functions.push(id)?;
         Ok(())
     }
@@ -249,7 +278,7 @@ impl InstanceReader {
     }
 
     #[tactic(auto, unfolding(ctype_format::specs::View::type_view))]
-    fn define(&mut self, alloc: Global, ty: &RawType) -> Result<(), Unread>
+    pub fn define(&mut self, alloc: Global, ty: &RawType) -> Result<(), Unread>
         ensures { (rows : List Definition) → Becomes (defined (type_view ty.now) (read_with rows self.old)) (read_with rows self.new) result }
     {
         self.awaited = match ty {

@@ -11,6 +11,7 @@ mod keys;
 mod names;
 mod types;
 mod unread;
+mod world;
 
 pub use component::candidate;
 pub use unread::Unread;

@@ -2,7 +2,6 @@
 use Rattle.std.proofs.Common.{◌≡◌, ℕ, suc, ◌+◌, ◌<◌, ◌≤◌, Bool, true, false, ◌||◌, nat_lt, List, [], ◌∷◌, ◌++◌, map, length, get_or, slice_get, Option, None, Some, refl, ap, sym, subst, ◌∙◌, arith, append_assoc, All}
 use Rattle.std.proofs.lemmas.Bool.Decides.{nat_tests}
 use Rattle.std.proofs.lemmas.List.{length-map, append-nil, get_or-map, get_or_default}
-use Rattle.std.proofs.lemmas.Option.{slice_get_past}
 use Rattle.std.proofs.lemmas.Slice.Eq.{bytes_eq-Decides}
 use Rattle.std.specs.Str.{bytes_eq}
 use Rattle.tables.specs.Package.{Key, key_of, is_same_key, is_known, interface_names, IsDistinctName, HasDistinctTypes}
@@ -14,14 +13,15 @@ use Rattle.tables.specs.declared.tables.Interface.{Interface}
 use Rattle.tables.specs.declared.tables.Resolve.{Resolve}
 use Rattle.tables.proofs.Rows.{split}
 use Rattle.package_form.specs.Scope.{AreDistinct}
-use Rattle.package_form.specs.Ends.{end_of, is_parted}
+use Rattle.package_form.specs.Ends.{end_of, interfaces_end}
 use Rattle.package_form.specs.Form.{are_interfaces, IsInPackageForm}
 use Rattle.package_form.specs.Naming.{interface_name, interfaces_scopes}
 use Rattle.package_form.specs.Laws.{NamesTypesApart}
 use Rattle.tables.specs.Names.{full_name}
 use Rattle.package_form.proofs.OnePackage.{single, one-full-name, first-place, own-full-name}
-use Rattle.package_form.proofs.Lists.{all-head, all-tail, get-front}
-use Rattle.package_form.proofs.OneRow.{named, IsNamedAt, same-place, parted-on, forms-on, locals-in, is-own, unique}
+use Rattle.package_form.proofs.Lists.{get-front}
+use Rattle.package_form.proofs.Scopes.{interfaces-distinct, names-distinct}
+use Rattle.package_form.proofs.OneRow.{named, IsNamedAt, same-place, NoneFrom, none-named, worlds-parted, forms-on, locals-in, is-own, unique}
 
 -- ---- the keys of the types of these rows
 
@@ -75,12 +75,11 @@ stands-as ns (row.Type d ∷ ds) key h = by d.name refl (λ k. one-later ns (row
 -- ---- the interface of a type is one of the package's
 
 module _ (rows : List Definition) where
-  in-range : (k start : ℕ) (is : List Interface) → is_parted (length rows) start is ≡ true → are_interfaces rows k start is ≡ true → (a : ℕ) (y : TypeName) → start ≤ a
+  in-range : (k start : ℕ) (is : List Interface) → NoneFrom rows (interfaces_end start is) → are_interfaces rows k start is ≡ true → (a : ℕ) (y : TypeName) → start ≤ a
       → IsNamedAt rows a y → y.interface.0 < k + length is
-  in-range k start [] p f a y l h =
-      absurd (let e : slice_get rows a ≡ None = slice_get_past rows a (let q : start ≡ length rows = grind (arith, nat_tests) in omega (arith, q, l)) in let x = h.1 in cc)
+  in-range k start [] p f a y l h = absurd (p a y l h)
   in-range k start (i ∷ is) p f a y l h =
-      by (nat_lt a (end_of start i)) refl (λ m. in-range (k + 1) (end_of start i) is (parted-on rows start i is p) (forms-on rows k start i is f) a y m h)
+      by (nat_lt a (end_of start i)) refl (λ m. in-range (k + 1) (end_of start i) is p (forms-on rows k start i is f) a y m h)
     where
       by : (b : Bool) → nat_lt a (end_of start i) ≡ b → (end_of start i ≤ a → y.interface.0 < k + 1 + length is) → y.interface.0 < k + length (i ∷ is)
       by true e later =
@@ -96,8 +95,11 @@ module _ (r : Resolve) (form : IsInPackageForm r) (distinct : All AreDistinct (i
   abbrev ns : List (List ℕ)
   ns = interface_names r
 
+  none-behind : NoneFrom r.definitions (interfaces_end 0 r.interfaces)
+  none-behind = none-named r.definitions 0 (interfaces_end 0 r.interfaces) r.worlds (worlds-parted r.definitions 0 r.interfaces r.worlds form.parted) form.worlds
+
   in-names : (a : ℕ) (y : TypeName) → IsNamedAt r.definitions a y → y.interface.0 < length r.interfaces
-  in-names a y h = omega (arith, in-range r.definitions 0 0 r.interfaces form.parted form.interfaces a y (omega arith) h)
+  in-names a y h = omega (arith, in-range r.definitions 0 0 r.interfaces none-behind form.interfaces a y (omega arith) h)
 
   -- full names differ where names do
   same-interface : (m n : ℕ) → m < length r.interfaces → n < length r.interfaces → get_or ns m [] ≡ get_or ns n [] → m ≡ n
@@ -120,7 +122,7 @@ module _ (r : Resolve) (form : IsInPackageForm r) (distinct : All AreDistinct (i
       let s = same-key (key_of ns m) (key_of ns n) h in
       let at = same-interface m.interface.0 n.interface.0 (in-names a m x) (in-names b n y) s.0 in
       let same : m ≡ n = rw (at, s.1) refl in
-      unique r.definitions 0 0 r.interfaces form.parted form.interfaces distinct a b n (omega arith) (omega arith) (subst (IsNamedAt r.definitions a) same x) y
+      unique r.definitions 0 0 r.interfaces none-behind form.interfaces distinct a b n (omega arith) (omega arith) (subst (IsNamedAt r.definitions a) same x) y
 
   new-key : (pre : List Definition) (k : TypeDefKind) (n : TypeName) (ds : List Definition) → r.definitions ≡ pre ++ named n k ∷ ds → is_known (row_keys ns pre) (key_of ns n) ≡ false
   new-key pre k n ds e = by (is_known (row_keys ns pre) (key_of ns n)) refl
@@ -154,4 +156,5 @@ module _ (r : Resolve) (form : IsInPackageForm r) (distinct : All AreDistinct (i
           (new-key pre k n ds q, subst (HasDistinctTypes ns ds) (keys-end ns pre (row.Type (record { name = Some n; kind = k }))) rest)
 
 pub types-apart : (r : Resolve) → NamesTypesApart r
-types-apart r form distinct = apart r form (all-tail AreDistinct _ _ distinct) (all-head AreDistinct _ _ distinct) [] r.definitions refl
+types-apart r form distinct =
+    apart r form (interfaces-distinct r distinct) (names-distinct r distinct) [] r.definitions refl

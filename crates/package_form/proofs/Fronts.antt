@@ -1,8 +1,7 @@
 -- Rows in postfix order: a row refers to earlier rows, so later ones change nothing.
-use Rattle.std.proofs.Common.{◌≡◌, ℕ, ◌<◌, Bool, true, nat_lt, List, [], ◌∷◌, ◌++◌, flat_map, length, Option, None, Some, refl, ap, ◌∙◌, arith}
+use Rattle.std.proofs.Common.{◌≡◌, ℕ, Bool, true, nat_lt, List, [], ◌∷◌, ◌++◌, flat_map, length, Option, None, Some, refl, ap, ◌∙◌}
 use Rattle.std.specs.List.{list_all}
 use Rattle.std.proofs.lemmas.List.Folds.{list_all-append}
-use Rattle.std.proofs.lemmas.Bool.Decides.{nat_tests}
 use Rattle.std.proofs.lemmas.Bool.{ltb-true}
 use Rattle.tables.specs.Tables.{is_below, option_all, kind_all, definition_all, definition_below}
 use Rattle.tables.specs.declared.tables.TypeId.{TypeId}

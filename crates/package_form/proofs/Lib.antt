@@ -10,5 +10,7 @@ pub mod Postfix
 pub mod Forms
 pub mod OnePackage
 pub mod OneRow
+pub mod Scopes
+pub mod Sides
 pub mod OneFunction
 pub mod DistinctTypes

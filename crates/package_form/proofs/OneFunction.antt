@@ -14,14 +14,15 @@ use Rattle.tables.specs.declared.tables.Interface.{Interface}
 use Rattle.tables.specs.declared.tables.Resolve.{Resolve}
 use Rattle.tables.proofs.Rows.{split}
 use Rattle.package_form.specs.Scope.{AreDistinct}
-use Rattle.package_form.specs.Ends.{end_of, rows_of, is_parted}
+use Rattle.package_form.specs.Ends.{end_of, rows_of}
 use Rattle.package_form.specs.Ids.{places_where, function_id}
 use Rattle.package_form.specs.Form.{is_named, ids_of, is_local, has_ids, are_interfaces}
 use Rattle.package_form.specs.Naming.{interface_name, row_names, rows_scopes, interfaces_scopes}
 use Rattle.package_form.specs.Laws.{NamesOneFunction}
-use Rattle.package_form.proofs.Lists.{all-head, all-tail, all-left, all-right, contains-here, contains-right, contains-map, compared}
+use Rattle.package_form.proofs.Lists.{all-head, all-left, all-right, contains-here, contains-right, contains-map, compared}
 use Rattle.package_form.proofs.OnePackage.{single, one-full-name, first-place, own-full-name}
-use Rattle.package_form.proofs.OneRow.{distinct-apart, distinct-back, twice, in-rows, parted-on, forms-on}
+use Rattle.package_form.proofs.Scopes.{interfaces-distinct, names-distinct}
+use Rattle.package_form.proofs.OneRow.{distinct-apart, distinct-back, twice, in-rows, forms-on}
 
 -- ---- the place of a function
 
@@ -74,24 +75,24 @@ module _ (rows : List Definition) where
         ]
       ]
 
-  one-of : (k start : ℕ) (is : List Interface) → is_parted (length rows) start is ≡ true → are_interfaces rows k start is ≡ true → AreDistinct (map interface_name is)
+  one-of : (k start : ℕ) (is : List Interface) → are_interfaces rows k start is ≡ true → AreDistinct (map interface_name is)
       → All AreDistinct (interfaces_scopes rows start is) → (i j : Interface) → Contains is i → Contains is j → i.name ≡ j.name
       → (f g : FunctionId) (n : List ℕ) → Contains i.functions f → Contains j.functions g → IsFunctionAt rows f n → IsFunctionAt rows g n → f.0 ≡ g.0
-  one-of k start [] p a ns d i j ci cj e f g n cf cg x y = absurd (omega (arith, ci.1))
-  one-of k start (h ∷ is) p a ns d i j (zero, l, hi) (zero, m, hj) e f g n cf cg x y =
+  one-of k start [] a ns d i j ci cj e f g n cf cg x y = absurd (omega (arith, ci.1))
+  one-of k start (h ∷ is) a ns d i j (zero, l, hi) (zero, m, hj) e f g n cf cg x y =
       let ids = (split (has_ids rows start h) _ (split (has_ids rows start h && list_all (is_local rows k) (rows_of rows start h)) _ a).0).0 in
       let scope = all-head AreDistinct _ _ (all-left AreDistinct (rows_scopes (rows_of rows start h)) (interfaces_scopes rows (end_of start h) is) d) in
       one-here start h f g n ids scope (subst (λ (z : Interface). Contains z.functions f) (sym hi) cf) (subst (λ (z : Interface). Contains z.functions g) (sym hj) cg) x y
-  one-of k start (h ∷ is) p a ns d i j (zero, l, hi) (suc b, m, hj) e f g n cf cg x y =
+  one-of k start (h ∷ is) a ns d i j (zero, l, hi) (suc b, m, hj) e f g n cf cg x y =
       absurd (distinct-apart (h.name ∷ []) (map interface_name is) j.name ns
       (subst (Contains (h.name ∷ [])) (ap interface_name hi ∙ e) (contains-here h.name []))
       (contains-map interface_name is j (b, omega (arith, m), hj)))
-  one-of k start (h ∷ is) p a ns d i j (suc b, l, hi) (zero, m, hj) e f g n cf cg x y =
+  one-of k start (h ∷ is) a ns d i j (suc b, l, hi) (zero, m, hj) e f g n cf cg x y =
       absurd (distinct-apart (h.name ∷ []) (map interface_name is) i.name ns
       (subst (Contains (h.name ∷ [])) (ap interface_name hj ∙ sym e) (contains-here h.name []))
       (contains-map interface_name is i (b, omega (arith, l), hi)))
-  one-of k start (h ∷ is) p a ns d i j (suc b, l, hi) (suc c, m, hj) e f g n cf cg x y =
-      one-of (k + 1) (end_of start h) is (parted-on rows start h is p) (forms-on rows k start h is a) (distinct-back (h.name ∷ []) (map interface_name is) ns)
+  one-of k start (h ∷ is) a ns d i j (suc b, l, hi) (suc c, m, hj) e f g n cf cg x y =
+      one-of (k + 1) (end_of start h) is (forms-on rows k start h is a) (distinct-back (h.name ∷ []) (map interface_name is) ns)
       (all-right AreDistinct (rows_scopes (rows_of rows start h)) (interfaces_scopes rows (end_of start h) is) d) i j (b, omega (arith, l), hi) (c, omega (arith, m), hj) e f g n cf cg x y
 
 -- ---- full names
@@ -105,8 +106,8 @@ same-name r alone i j ci cj e =
 
 pub one-function : (r : Resolve) → NamesOneFunction r
 one-function r form distinct iface name f g x y =
-    let scopes = all-tail AreDistinct _ _ distinct in
-    let names = all-head AreDistinct _ _ distinct in
+    let scopes = interfaces-distinct r distinct in
+    let names = names-distinct r distinct in
     let same = same-name r form.alone x.0 y.0 x.1 y.1 (sym x.2 ∙ y.2) in
-    ap function_id (one-of r.definitions 0 0 r.interfaces form.parted form.interfaces names scopes x.0 y.0 x.1 y.1 same f g name x.3.0 y.3.0
+    ap function_id (one-of r.definitions 0 0 r.interfaces form.interfaces names scopes x.0 y.0 x.1 y.1 same f g name x.3.0 y.3.0
     (function-at r.definitions f name x.3.1) (function-at r.definitions g name y.3.1))

@@ -2,7 +2,7 @@
 use Rattle.std.proofs.Common.{◌≡◌, ℕ, zero, suc, ◌+◌, ◌-◌, ◌<◌, ◌≤◌, Bool, true, false, ◌&&◌, ◌==◌, nat_lt, nat_le, List, [], ◌∷◌, ◌++◌, map, flat_map, take, drop, length, get_or, slice_get, None, Some, refl, ap, sym, subst, ◌∙◌, arith, length-append, All, Contains, inl, inr}
 use Rattle.std.specs.List.{list_all}
 use Rattle.std.proofs.lemmas.Bool.Decides.{nat_tests}
-use Rattle.std.proofs.lemmas.List.{get_or-append-add, map-append, length-take, get_or-take, get_or_default}
+use Rattle.std.proofs.lemmas.List.{get_or_append_left, take-append-le, get_or-append-add, map-append, length-take, get_or-take, get_or_default}
 use Rattle.std.proofs.lemmas.Option.{slice_get_past}
 use Rattle.std.proofs.Math.Seq.{take-append-add}
 use Rattle.tables.specs.declared.tables.TypeDefKind.{TypeDefKind}
@@ -10,10 +10,11 @@ use Rattle.tables.specs.declared.tables.TypeName.{TypeName}
 use Rattle.tables.specs.declared.tables.Definition.{Definition}
 use Rattle.tables.specs.declared.tables.Definition.TheVariants as row
 use Rattle.tables.specs.declared.tables.Interface.{Interface}
+use Rattle.tables.specs.declared.tables.World.{World}
 use Rattle.package_form.specs.Scope.{lowered, AreDistinct}
 use Rattle.package_form.proofs.Lists.{all-head, all-left, all-right, contains-left, contains-right, contains-map, contains-flat, contains-here, compared, all-get}
-use Rattle.package_form.specs.Ends.{end_of, rows_of, is_parted}
-use Rattle.package_form.specs.Form.{uses_earlier, is_owned, is_own, is_local, has_ids, are_interfaces}
+use Rattle.package_form.specs.Ends.{end_of, rows_of, interfaces_end, world_end, world_rows, are_worlds_parted, is_parted}
+use Rattle.package_form.specs.Form.{uses_earlier, is_owned, is_own, is_local, has_ids, are_interfaces, is_world_row, has_items, have_items}
 use Rattle.package_form.specs.References.{row_references}
 use Rattle.package_form.specs.Naming.{row_names, rows_scopes, interfaces_scopes}
 use Rattle.tables.proofs.Rows.{split}
@@ -29,6 +30,15 @@ distinct-back xs ys h = record {
       subst (λ ns. Contains ns (lowered (get_or ys k []))) (sym (map-append lowered xs (take k ys))) (contains-right (map lowered xs) (map lowered (take k ys)) _ met) in
       h.each (length xs + k) (omega (arith, l, length-append xs ys))
       (subst (λ ns. Contains (map lowered ns) (lowered (get_or (xs ++ ys) (length xs + k) []))) (sym front) (subst (λ n. Contains (map lowered (xs ++ take k ys)) (lowered n)) (sym at) before));
+}
+
+pub distinct-front : (xs ys : List (List ℕ)) → AreDistinct (xs ++ ys) → AreDistinct xs
+distinct-front xs ys h = record {
+  each = λ k l met.
+      let at : get_or (xs ++ ys) k [] ≡ get_or xs k [] = get_or_append_left xs ys [] k l in
+      let front : take k (xs ++ ys) ≡ take k xs = take-append-le k xs ys (omega (arith, l)) in
+      h.each k (omega (arith, l, length-append xs ys))
+      (subst (λ ns. Contains (map lowered ns) (lowered (get_or (xs ++ ys) k []))) (sym front) (subst (λ n. Contains (map lowered (take k xs)) (lowered n)) (sym at) met));
 }
 
 pub distinct-apart : (xs ys : List (List ℕ)) (n : List ℕ) → AreDistinct (xs ++ ys) → Contains xs n → Contains ys n → ⊥
@@ -115,8 +125,8 @@ module _ (rows : List Definition) where
   unfolding named
   names-of y k = contains-here y.name []
 
-  pub parted-on : (start : ℕ) (i : Interface) (is : List Interface) → is_parted (length rows) start (i ∷ is) ≡ true → is_parted (length rows) (end_of start i) is ≡ true
-  parted-on start i is p = (split (nat_le (end_of start i) (length rows)) (is_parted (length rows) (end_of start i) is) (split (nat_le start (end_of start i)) _ p).1).1
+  pub parted-on : (start : ℕ) (i : Interface) (is : List Interface) (ws : List World) → is_parted (length rows) start (i ∷ is) ws ≡ true → is_parted (length rows) (end_of start i) is ws ≡ true
+  parted-on start i is ws p = (split (nat_le (end_of start i) (length rows)) (is_parted (length rows) (end_of start i) is ws) (split (nat_le start (end_of start i)) _ p).1).1
 
   pub forms-on : (k start : ℕ) (i : Interface) (is : List Interface) → are_interfaces rows k start (i ∷ is) ≡ true → are_interfaces rows (k + 1) (end_of start i) is ≡ true
   forms-on k start i is f = (split (has_ids rows start i && list_all (is_local rows k) (rows_of rows start i)) (are_interfaces rows (k + 1) (end_of start i) is) f).1
@@ -128,11 +138,51 @@ module _ (rows : List Definition) where
   pub is-own : (k start : ℕ) (i : Interface) → list_all (is_local rows k) (rows_of rows start i) ≡ true → (a : ℕ) (y : TypeName) → start ≤ a → a < end_of start i → IsNamedAt rows a y → y.interface.0 ≡ k
   is-own k start i all a y l m h = local-name k y h.0 (all-get (is_local rows k) (rows_of rows start i) (a - start) (named y h.0) all (in-rows start i a l m ∙ h.1))
 
+  -- no row from this place on is a type with a name
+  abbrev pub NoneFrom : ℕ → Type 0
+  NoneFrom n = (a : ℕ) (y : TypeName) → n ≤ a → IsNamedAt rows a y → ⊥
+
+  in-world : (start : ℕ) (w : World) (a : ℕ) → start ≤ a → a < world_end start w → slice_get (world_rows rows start w) (a - start) ≡ slice_get rows a
+  in-world start w a l m =
+      get-take (drop start rows) (world_end start w - start) (a - start) (omega (arith, l, m)) ∙ get-drop rows start (a - start) ∙ ap (slice_get rows) (omega (arith, l))
+
+  not-named : (k : ℕ) (y : TypeName) (c : TypeDefKind) → is_world_row rows k (named y c) ≡ true → ⊥
+  unfolding named
+  not-named k y c q = absurd (cc)
+
+  -- the rows of worlds have no types with names
+  pub none-named : (k start : ℕ) (ws : List World) → are_worlds_parted (length rows) start ws ≡ true → have_items rows k start ws ≡ true → NoneFrom start
+  none-named k start [] p f a y l h =
+      let e : slice_get rows a ≡ None = slice_get_past rows a (let q : start ≡ length rows = grind (arith, nat_tests) in omega (arith, q, l)) in let x = h.1 in cc
+  none-named k start (w ∷ ws) p f a y l h =
+      by (nat_lt a (world_end start w)) refl (λ q g m. none-named (k + 1) (world_end start w) ws q g a y m h)
+    where
+      end : ℕ
+      end = world_end start w
+
+      parted : are_worlds_parted (length rows) end ws ≡ true
+      parted = (split (nat_le end (length rows)) (are_worlds_parted (length rows) end ws) (split (nat_le start end) _ p).1).1
+
+      parts : (((has_items rows start w && list_all (is_world_row rows k) (world_rows rows start w)) ≡ true) × (have_items rows (k + 1) end ws ≡ true))
+      parts = split (has_items rows start w && list_all (is_world_row rows k) (world_rows rows start w)) (have_items rows (k + 1) end ws) f
+
+      by : (b : Bool) → nat_lt a end ≡ b → (are_worlds_parted (length rows) end ws ≡ true → have_items rows (k + 1) end ws ≡ true → end ≤ a → ⊥) → ⊥
+      by true e later =
+          let m : a < end = grind (arith, nat_tests) in
+          not-named k y h.0 (all-get (is_world_row rows k) (world_rows rows start w) (a - start) (named y h.0) ((split (has_items rows start w) _ parts.0).1) (in-world start w a l m ∙ h.1))
+      by false e later =
+          let m : end ≤ a = grind (arith, nat_tests) in
+          later parted parts.1 m
+
+  -- behind the interfaces stand the rows of worlds
+  pub worlds-parted : (start : ℕ) (is : List Interface) (ws : List World) → is_parted (length rows) start is ws ≡ true → are_worlds_parted (length rows) (interfaces_end start is) ws ≡ true
+  worlds-parted start [] ws p = p
+  worlds-parted start (i ∷ is) ws p = worlds-parted (end_of start i) is ws (parted-on start i is ws p)
+
   -- a row from here on is of this interface or of a later one
-  home : (k start : ℕ) (is : List Interface) → is_parted (length rows) start is ≡ true → are_interfaces rows k start is ≡ true → (a : ℕ) (y : TypeName) → start ≤ a → IsNamedAt rows a y → k ≤ y.interface.0
-  home k start [] p f a y l h =
-      absurd (let e : slice_get rows a ≡ None = slice_get_past rows a (let q : start ≡ length rows = grind (arith, nat_tests) in omega (arith, q, l)) in let x = h.1 in cc)
-  home k start (i ∷ is) p f a y l h = by (nat_lt a (end_of start i)) refl (λ m. home (k + 1) (end_of start i) is (parted-on start i is p) (forms-on k start i is f) a y m h)
+  home : (k start : ℕ) (is : List Interface) → NoneFrom (interfaces_end start is) → are_interfaces rows k start is ≡ true → (a : ℕ) (y : TypeName) → start ≤ a → IsNamedAt rows a y → k ≤ y.interface.0
+  home k start [] p f a y l h = absurd (p a y l h)
+  home k start (i ∷ is) p f a y l h = by (nat_lt a (end_of start i)) refl (λ m. home (k + 1) (end_of start i) is p (forms-on k start i is f) a y m h)
     where
       by : (b : Bool) → nat_lt a (end_of start i) ≡ b → (end_of start i ≤ a → k + 1 ≤ y.interface.0) → k ≤ y.interface.0
       by true e later =
@@ -150,13 +200,12 @@ module _ (rows : List Definition) where
     ]
   ]
 
-  pub unique : (k start : ℕ) (is : List Interface) → is_parted (length rows) start is ≡ true → are_interfaces rows k start is ≡ true → All AreDistinct (interfaces_scopes rows start is)
+  pub unique : (k start : ℕ) (is : List Interface) → NoneFrom (interfaces_end start is) → are_interfaces rows k start is ≡ true → All AreDistinct (interfaces_scopes rows start is)
       → (a b : ℕ) (y : TypeName) → start ≤ a → start ≤ b → IsNamedAt rows a y → IsNamedAt rows b y → a ≡ b
-  unique k start [] p f d a b y l m x z =
-      absurd (let e : slice_get rows a ≡ None = slice_get_past rows a (let q : start ≡ length rows = grind (arith, nat_tests) in omega (arith, q, l)) in let w = x.1 in cc)
+  unique k start [] p f d a b y l m x z = absurd (p a y l x)
   unique k start (i ∷ is) p f d a b y l m x z =
       by (nat_lt a (end_of start i)) refl (nat_lt b (end_of start i)) refl
-      (λ u v. unique (k + 1) (end_of start i) is (parted-on start i is p) (forms-on k start i is f) (all-right AreDistinct (rows_scopes (rows_of rows start i)) (interfaces_scopes rows (end_of start i) is) d) a b y u v x z)
+      (λ u v. unique (k + 1) (end_of start i) is p (forms-on k start i is f) (all-right AreDistinct (rows_scopes (rows_of rows start i)) (interfaces_scopes rows (end_of start i) is) d) a b y u v x z)
     where
       by : (c : Bool) → nat_lt a (end_of start i) ≡ c → (e : Bool) → nat_lt b (end_of start i) ≡ e → (end_of start i ≤ a → end_of start i ≤ b → a ≡ b) → a ≡ b
       by true q true r later =
@@ -168,11 +217,11 @@ module _ (rows : List Definition) where
       by true q false r later =
           let u : a < end_of start i = grind (arith, nat_tests) in
           let v : end_of start i ≤ b = grind (arith, nat_tests) in
-          absurd (omega (arith, is-own k start i (locals-in k start i is f) a y l u x, home (k + 1) (end_of start i) is (parted-on start i is p) (forms-on k start i is f) b y v z))
+          absurd (omega (arith, is-own k start i (locals-in k start i is f) a y l u x, home (k + 1) (end_of start i) is p (forms-on k start i is f) b y v z))
       by false q true r later =
           let u : end_of start i ≤ a = grind (arith, nat_tests) in
           let v : b < end_of start i = grind (arith, nat_tests) in
-          absurd (omega (arith, is-own k start i (locals-in k start i is f) b y m v z, home (k + 1) (end_of start i) is (parted-on start i is p) (forms-on k start i is f) a y u x))
+          absurd (omega (arith, is-own k start i (locals-in k start i is f) b y m v z, home (k + 1) (end_of start i) is p (forms-on k start i is f) a y u x))
       by false q false r later =
           let u : end_of start i ≤ a = grind (arith, nat_tests) in
           let v : end_of start i ≤ b = grind (arith, nat_tests) in

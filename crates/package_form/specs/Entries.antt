@@ -7,18 +7,23 @@ use Rattle.tables.specs.declared.tables.TypeDefKind.TheVariants as kind
 use Rattle.tables.specs.declared.tables.TypeName.{TypeName}
 use Rattle.tables.specs.declared.tables.Definition.{Definition}
 use Rattle.tables.specs.declared.tables.Definition.TheVariants as row
+use Rattle.tables.specs.declared.tables.WorldItemKind.{WorldItemKind}
+use Rattle.tables.specs.declared.tables.WorldItemKind.TheVariants as item
+use Rattle.tables.specs.declared.tables.WorldItem.{WorldItem}
+use Rattle.tables.specs.declared.tables.World.{World}
 use Rattle.tables.specs.declared.tables.Resolve.{Resolve}
 
--- the labels of interfaces and the definitions of a package without worlds
+-- the labels of interfaces, the worlds and the definitions of a package
 pub record Table : Type 0 where
   pub interfaces : List (List ℕ)
+  pub worlds : List World
   pub rows : List Definition
 
 abbrev pub labels_of : List Interface → List (List ℕ)
 labels_of is = map (λ i. i.name) is
 
 abbrev pub table_of : Resolve → Table
-table_of r = record { interfaces = labels_of r.interfaces; rows = r.definitions }
+table_of r = record { interfaces = labels_of r.interfaces; worlds = r.worlds; rows = r.definitions }
 
 -- a used name has an alias in the component type, an outer alias and an export; a new name of a named type its export alone
 abbrev pub entries_under : Option TypeName → TypeDefKind → ℕ
@@ -31,6 +36,17 @@ abbrev pub entries_of : Definition → ℕ
 entries_of (row.Type d) = entries_under d.name d.kind
 entries_of (row.Function f) = 1
 
--- the component type, an instance type for each interface, and what each row takes
+-- an interface among a world's items has an outer alias; a function's entries are those of its rows
+abbrev pub item_entries : WorldItemKind → ℕ
+item_entries (item.Interface i) = 1
+item_entries (item.Function f) = 0
+
+abbrev pub entries_at : WorldItem → ℕ
+entries_at i = item_entries i.kind
+
+abbrev pub world_entries : World → ℕ
+world_entries w = 1 + sum (map entries_at w.items)
+
+-- the component type, an instance type for each interface, a component type for each world with its aliases, and what each row takes
 abbrev pub type_entries : Table → ℕ
-type_entries t = 1 + length t.interfaces + sum (map entries_of t.rows)
+type_entries t = 1 + length t.interfaces + (sum (map world_entries t.worlds) + sum (map entries_of t.rows))

@@ -1,10 +1,10 @@
 -- The tables that packages have: what from_ast makes, and what a component type spells.
-use Rattle.std.specs.Prelude.{◌≡◌, ◌≢◌, ◌≤◌, ℕ, ◌+◌, Bool, true, false, ◌&&◌, not, ◌==◌, nat_lt, List, [], ◌∷◌, ◌++◌, map, sum, length, IsTrue, Option, None, Some, slice_get}
+use Rattle.std.specs.Prelude.{◌≡◌, ◌<◌, ◌≤◌, ℕ, ◌+◌, Bool, true, false, ◌&&◌, not, ◌==◌, nat_lt, List, [], ◌∷◌, ◌++◌, map, flat_map, sum, length, IsTrue, Option, None, Some, is_some, slice_get}
 use Rattle.std.specs.List.{list_all}
 use Rattle.std.specs.Str.{bytes_eq}
 use Rattle.atoms.specs.FullName.{is_package_label, is_version_or_none}
 use Rattle.tables.specs.PackageNames.{PackageParts}
-use Rattle.tables.specs.Tables.{type_of}
+use Rattle.tables.specs.Tables.{type_of, is_owner_world}
 use Rattle.tables.specs.declared.tables.TypeId.{TypeId}
 use Rattle.tables.specs.declared.tables.TypeDef.{TypeDef}
 use Rattle.tables.specs.declared.tables.TypeDefKind.{TypeDefKind}
@@ -13,13 +13,17 @@ use Rattle.tables.specs.declared.tables.TypeName.{TypeName}
 use Rattle.tables.specs.declared.tables.Definition.{Definition}
 use Rattle.tables.specs.declared.tables.Definition.TheVariants as row
 use Rattle.tables.specs.declared.tables.Interface.{Interface}
+use Rattle.tables.specs.declared.tables.WorldItemKind.{WorldItemKind}
+use Rattle.tables.specs.declared.tables.WorldItemKind.TheVariants as item
+use Rattle.tables.specs.declared.tables.WorldItem.{WorldItem}
+use Rattle.tables.specs.declared.tables.World.{World}
 use Rattle.tables.specs.declared.tables.Resolve.{Resolve}
 use Rattle.package_form.specs.Postfix.{is_unnamed, IsPostfix}
 use Rattle.package_form.specs.Ids.{is_owned_by, is_use, places_where}
-use Rattle.package_form.specs.Entries.{entries_of, type_entries, table_of}
+use Rattle.package_form.specs.Entries.{entries_of, world_entries, type_entries, table_of}
 use Rattle.package_form.specs.Unused.{are_used}
 use Rattle.package_form.specs.References.{row_references}
-use Rattle.package_form.specs.Ends.{end_of, rows_of, is_parted}
+use Rattle.package_form.specs.Ends.{end_of, rows_of, interfaces_end, world_end, world_rows, is_parted}
 
 -- the names of packages are those of full names: the namespace and the package in lower case, and a version of SemVer
 abbrev pub is_package_name : PackageParts → Bool
@@ -88,6 +92,44 @@ has_ids rows start i =
     bytes_eq (ids_of i) (places_where is_named start (rows_of rows start i))
     && (list_all (is_use_at rows) i.uses && list_all (λ t. not (is_use_at rows t)) i.types)
 
+-- ---- worlds
+
+-- a type without a name
+abbrev pub is_nameless_type : Option TypeDef → Bool
+is_nameless_type None = false
+is_nameless_type (Some d) = not (is_some d.name)
+
+abbrev pub is_nameless : List Definition → TypeId → Bool
+is_nameless rows t = is_nameless_type (type_of (slice_get rows t.0))
+
+abbrev pub is_of_world : ℕ → Definition → Bool
+is_of_world k (row.Type d) = not (is_some d.name)
+is_of_world k (row.Function f) = is_owner_world k f.owner
+
+-- a row of world k, that refers to types without names alone
+abbrev pub is_world_row : List Definition → ℕ → Definition → Bool
+is_world_row rows k d = is_of_world k d && list_all (is_nameless rows) (row_references d)
+
+abbrev pub item_function : WorldItemKind → List ℕ
+item_function (item.Interface i) = []
+item_function (item.Function f) = f.0 ∷ []
+
+abbrev pub function_at : WorldItem → List ℕ
+function_at i = item_function i.kind
+
+abbrev pub functions_of : World → List ℕ
+functions_of w = flat_map function_at w.items
+
+-- its named rows are the functions among its items
+abbrev pub has_items : List Definition → ℕ → World → Bool
+has_items rows start w = bytes_eq (places_where is_named start (world_rows rows start w)) (functions_of w)
+
+-- each world, the first of which is world k and whose rows begin at start
+abbrev pub have_items : List Definition → ℕ → ℕ → List World → Bool
+have_items rows k start [] = true
+have_items rows k start (w ∷ ws) =
+    (has_items rows start w && list_all (is_world_row rows k) (world_rows rows start w)) && have_items rows (k + 1) (world_end start w) ws
+
 -- ---- tables
 
 -- each interface, the first of which is interface k and whose rows begin at start
@@ -96,26 +138,27 @@ are_interfaces rows k start [] = true
 are_interfaces rows k start (i ∷ is) =
     (has_ids rows start i && list_all (is_local rows k) (rows_of rows start i)) && are_interfaces rows (k + 1) (end_of start i) is
 
--- One package, without worlds. Rows stand interface by interface, in each its uses, then its types, each behind the rows without names that
--- it is made of, then its functions; they refer to rows of their own interface, and a use to a named type of an earlier one.
+-- One package, of an interface or a world at least. Rows stand interface by interface, in each its uses, then its types, each behind the
+-- rows without names that it is made of, then its functions; they refer to rows of their own interface, and a use to a named type of an
+-- earlier one. Behind them stand the functions of worlds, world by world, which refer to rows without names.
 pub record IsInPackageForm (r : Resolve) : Type 0 where
-  pub some : r.interfaces ≢ []
-  pub worlds : r.worlds ≡ []
+  pub some : 0 < length r.interfaces + length r.worlds
   pub alone : length r.packages ≡ 1
   pub names : IsTrue (has_full_names r)
-  pub parted : IsTrue (is_parted (length r.definitions) 0 r.interfaces)
+  pub parted : IsTrue (is_parted (length r.definitions) 0 r.interfaces r.worlds)
   pub interfaces : IsTrue (are_interfaces r.definitions 0 0 r.interfaces)
+  pub worlds : IsTrue (have_items r.definitions 0 (interfaces_end 0 r.interfaces) r.worlds)
   pub postfix : IsPostfix r.definitions
   pub entries : type_entries (table_of r) ≤ 65535
 
 -- the same as a test, but for the order of the rows without names
 abbrev pub is_in_form : Resolve → Bool
 is_in_form r =
-    not (length r.interfaces == 0)
-    && (length r.worlds == 0
+    not (length r.interfaces + length r.worlds == 0)
     && (length r.packages == 1
-    && (not (nat_lt 65535 (1 + length r.interfaces + sum (map entries_of r.definitions)))
-    && (is_parted (length r.definitions) 0 r.interfaces
+    && (not (nat_lt 65535 (1 + length r.interfaces + (sum (map world_entries r.worlds) + sum (map entries_of r.definitions))))
+    && (is_parted (length r.definitions) 0 r.interfaces r.worlds
     && (has_full_names r
     && (are_interfaces r.definitions 0 0 r.interfaces
+    && (have_items r.definitions 0 (interfaces_end 0 r.interfaces) r.worlds
     && are_used r.definitions 0 [] r.definitions))))))

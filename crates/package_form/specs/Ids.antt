@@ -42,6 +42,15 @@ abbrev pub is_function_in : ℕ → Definition → Bool
 is_function_in i (row.Type d) = false
 is_function_in i (row.Function f) = is_owned_by i f.owner
 
+-- a function of some world
+abbrev pub is_of_worlds : Owner → Bool
+is_of_worlds (owner.Interface i) = false
+is_of_worlds (owner.World w) = true
+
+abbrev pub is_world_function : Definition → Bool
+is_world_function (row.Type d) = false
+is_world_function (row.Function f) = is_of_worlds f.owner
+
 abbrev pub package_id : ℕ → PackageId
 package_id n = record { 0 = n }
 

@@ -1,5 +1,5 @@
 -- WIT.md, "Identifiers": the scopes of a package's table, in which names differ in more than the case of their letters.
-use Rattle.std.specs.Prelude.{ℕ, List, [], ◌∷◌, ◌++◌, map, flat_map, Option, None, Some, Contains}
+use Rattle.std.specs.Prelude.{ℕ, Bool, true, false, if◌then◌else◌, List, [], ◌∷◌, ◌++◌, map, flat_map, Option, None, Some, Contains}
 use Rattle.tables.specs.declared.tables.TypeDefKind.{TypeDefKind}
 use Rattle.tables.specs.declared.tables.TypeDefKind.TheVariants as kind
 use Rattle.tables.specs.declared.tables.TypeName.{TypeName}
@@ -9,7 +9,11 @@ use Rattle.tables.specs.declared.tables.Parameter.{Parameter}
 use Rattle.tables.specs.declared.tables.Definition.{Definition}
 use Rattle.tables.specs.declared.tables.Definition.TheVariants as row
 use Rattle.tables.specs.declared.tables.Interface.{Interface}
+use Rattle.tables.specs.declared.tables.Direction.{Direction}
+use Rattle.tables.specs.declared.tables.Direction.TheVariants as direction
+use Rattle.tables.specs.declared.tables.World.{World}
 use Rattle.tables.specs.declared.tables.Resolve.{Resolve}
+use Rattle.tables.specs.Package.{Fields, no_fields, field, ItemMeaning, WithInterface, WithFunction, WorldMeaning, worlds}
 use Rattle.package_form.specs.Scope.{IsDuplicate}
 use Rattle.package_form.specs.Ends.{end_of, rows_of}
 
@@ -60,12 +64,46 @@ abbrev pub interfaces_scopes : List Definition → ℕ → List Interface → Li
 interfaces_scopes rows start [] = []
 interfaces_scopes rows start (i ∷ is) = rows_scopes (rows_of rows start i) ++ interfaces_scopes rows (end_of start i) is
 
--- the names of interfaces are a scope
-abbrev pub table_scopes : List Definition → List Interface → List (List (List ℕ))
-table_scopes rows is = map interface_name is ∷ interfaces_scopes rows 0 is
+-- ---- worlds: the imports of one are a scope, and so are its exports; an interface stands there under its full name
+
+abbrev pub is_direction : Direction → Direction → Bool
+is_direction direction.Import direction.Import = true
+is_direction direction.Import direction.Export = false
+is_direction direction.Export direction.Import = false
+is_direction direction.Export direction.Export = true
+
+abbrev pub item_direction : ItemMeaning → Direction
+item_direction (WithInterface way name) = way
+item_direction (WithFunction way name params result) = way
+
+abbrev pub item_name : ItemMeaning → List ℕ
+item_name (WithInterface way name) = name
+item_name (WithFunction way name params result) = name
+
+abbrev pub field_labels : Fields → List (List ℕ)
+field_labels no_fields = []
+field_labels (field label t fs) = label ∷ field_labels fs
+
+abbrev pub item_parameters : ItemMeaning → List (List ℕ)
+item_parameters (WithInterface way name) = []
+item_parameters (WithFunction way name params result) = field_labels params
+
+abbrev pub name_in : Direction → ItemMeaning → List (List ℕ)
+name_in way i = if is_direction way (item_direction i) then item_name i ∷ [] else []
+
+-- the names of its imports, those of its exports, and the parameters of each of its functions
+abbrev pub world_scopes : WorldMeaning → List (List (List ℕ))
+world_scopes w = flat_map (name_in direction.Import) w.items ∷ flat_map (name_in direction.Export) w.items ∷ map item_parameters w.items
+
+abbrev pub label_of : World → List ℕ
+label_of w = w.name
+
+-- the names of interfaces and of worlds are one scope
+abbrev pub table_scopes : List Definition → List Interface → List World → List WorldMeaning → List (List (List ℕ))
+table_scopes rows is ws meanings = (map interface_name is ++ map label_of ws) ∷ (interfaces_scopes rows 0 is ++ flat_map world_scopes meanings)
 
 abbrev pub package_scopes : Resolve → List (List (List ℕ))
-package_scopes r = table_scopes r.definitions r.interfaces
+package_scopes r = table_scopes r.definitions r.interfaces r.worlds (worlds r)
 
 -- a name of this spelling is one before it of its scope again
 abbrev pub Repeats : Resolve → List ℕ → Type 0

@@ -1,16 +1,22 @@
 //! 40: names of one scope differ in more than the case of their letters.
-ghost use Rattle.std.specs.Prelude.{◌≡◌, ◌++◌, List, ℕ, All, IsTrue, map, length, IfErr, OnOk};
+ghost use Rattle.std.specs.Prelude.{◌≡◌, ◌++◌, ◌∷◌, [], List, ℕ, All, IsTrue, map, flat_map, length, IfOk, IfErr, OnOk};
 ghost use Rattle.package_form.specs.Scope.{AreDistinct};
-ghost use Rattle.package_form.specs.Distinct.{AreMet, RefusesNames, RefusesScopes};
+ghost use Rattle.package_form.specs.Distinct.{AreMet, AreMetOnSides, RefusesNames, RefusesScopes, RefusesSides};
 ghost use Rattle.package_form.specs.Ends.{is_parted};
-ghost use Rattle.package_form.specs.Naming.{field_name, case_name, parameter_name, kind_members, row_members, row_names, rows_scopes, table_scopes, package_scopes};
+ghost use Rattle.tables.specs.Tables.{is_placed_item, is_placed_world, are_placed_worlds};
+ghost use Rattle.tables.specs.Names.{full_name};
+ghost use Rattle.tables.specs.Package.{ItemMeaning, item_meaning, world_meaning, interface_names, trees, worlds};
+ghost use Rattle.package_form.specs.Naming.{field_name, case_name, parameter_name, interface_name, label_of, kind_members, row_members, row_names, rows_scopes, interfaces_scopes, item_name, item_direction, item_parameters, world_scopes, package_scopes};
 
 use crate::ends::end_of;
 use crate::keys::keyed_by_table;
 use crate::scope::Scope;
 use atoms::{KeyedState, Label};
-use std::alloc::Global;
-use tables::{Case, Definition, Field, Interface, Parameter, Resolve, ResolveError, TypeDefKind};
+use std::alloc::{AllocError, Global};
+use tables::{
+    Case, Definition, Direction, Field, Interface, Name, Parameter, Resolve, ResolveError,
+    TypeDefKind, World, WorldItem, WorldItemKind,
+};
 
 fn distinct_labels(alloc: Global, keyed: KeyedState, labels: &[Label]) -> Result<(), ResolveError>
     ensures ok { OnOk result (AreDistinct labels.now) }
@@ -121,16 +127,19 @@ fn distinct_rows(alloc: Global, keyed: KeyedState, rows: &[Definition]) -> Resul
     Ok(())
 }
 
-/// 40 for the first name of these interfaces that its scope has before, an interface's rows before its name.
-fn distinct_interfaces(
+/// Meets the names of these interfaces: 40 for the first that its scope has before, an interface's rows before
+/// its name.
+fn meet_interfaces(
     alloc: Global,
     keyed: KeyedState,
     rows: &[Definition],
     interfaces: &[Interface],
-) -> Result<(), ResolveError>
-    requires { IsTrue (is_parted (length rows.now) 0 interfaces.now) }
-    ensures ok { OnOk result (All AreDistinct (table_scopes rows.now interfaces.now)) }
-    ensures err { IfErr result (RefusesScopes (table_scopes rows.now interfaces.now)) }
+    worlds: &[World],
+) -> Result<Scope, ResolveError>
+    requires { IsTrue (is_parted (length rows.now) 0 interfaces.now worlds.now) }
+    ensures names { IfOk result (AreMet (map interface_name interfaces.now)) }
+    ensures parts { OnOk result (All AreDistinct (interfaces_scopes rows.now 0 interfaces.now)) }
+    ensures err { IfErr result (RefusesScopes (map interface_name interfaces.now ∷ interfaces_scopes rows.now 0 interfaces.now)) }
 {
     let mut scope = Scope::new(alloc, keyed);
     let mut start = 0;
@@ -140,16 +149,141 @@ fn distinct_interfaces(
         scope.meet(alloc, &interface.name)?;
         start = end;
     }
+    Ok(scope)
+}
+
+/// The names of a world's imports and of its exports.
+#[derive(Drop)]
+struct Sides {
+    imports: Scope,
+    exports: Scope,
+}
+
+impl Sides {
+    /// Meets the name of an item. 40 where its side has it before.
+    fn meet(&mut self, alloc: Global, direction: Direction, name: Name) -> Result<(), ResolveError>
+        ensures ok { OnOk result ((items : List ItemMeaning) (i : ItemMeaning) → item_direction i ≡ direction → item_name i ≡ name
+            → AreMetOnSides items self.old → AreMetOnSides (items ++ i ∷ []) self.new) }
+        ensures err { IfErr result (λ e. (items : List ItemMeaning) (i : ItemMeaning) → item_direction i ≡ direction → item_name i ≡ name
+            → AreMetOnSides items self.old → RefusesSides (items ++ i ∷ []) e) }
+    {
+        match direction {
+            Direction::Import => self.imports.meet_told(alloc, name),
+            Direction::Export => self.exports.meet_told(alloc, name),
+        }
+    }
+}
+
+/// The name under which an item stands in its world: of an interface its full name.
+fn item_name(
+    alloc: Global,
+    resolve: &Resolve,
+    place: usize,
+    item: WorldItem,
+) -> Result<Name, AllocError>
+    requires { IsTrue (is_placed_item resolve.now.definitions (length resolve.now.interfaces) place item.kind) }
+    ensures { IfOk result (λ n. n ≡ item_name (item_meaning (interface_names resolve.now) (trees resolve.now) resolve.now.definitions item.direction item.kind)) }
+{
+    match item.kind {
+        WorldItemKind::Interface(id) => resolve.full_name(alloc, id),
+        WorldItemKind::Function(id) => match resolve.definitions.as_slice().get(id.0 as usize) {
+            Some(Definition::Function(function)) => Ok(Name::of(alloc, &function.name)?),
+            _ => unreachable!(),
+        },
+    }
+}
+
+/// Whether the parameters of an item differ.
+fn distinct_item(
+    alloc: Global,
+    keyed: KeyedState,
+    resolve: &Resolve,
+    place: usize,
+    item: WorldItem,
+) -> Result<(), ResolveError>
+    requires { IsTrue (is_placed_item resolve.now.definitions (length resolve.now.interfaces) place item.kind) }
+    ensures ok { OnOk result (AreDistinct (item_parameters (item_meaning (interface_names resolve.now) (trees resolve.now) resolve.now.definitions item.direction item.kind))) }
+    ensures err { IfErr result (RefusesNames (item_parameters (item_meaning (interface_names resolve.now) (trees resolve.now) resolve.now.definitions item.direction item.kind))) }
+{
+    match item.kind {
+        WorldItemKind::Interface(_) => Ok(()),
+        WorldItemKind::Function(id) => {
+            distinct_parameters(alloc, keyed, resolve.signature(id).params.as_slice())
+        }
+    }
+}
+
+/// Meets the name of an item on its side.
+fn meet_item(
+    alloc: Global,
+    resolve: &Resolve,
+    place: usize,
+    sides: &mut Sides,
+    item: WorldItem,
+) -> Result<(), ResolveError>
+    requires { IsTrue (is_placed_item resolve.now.definitions (length resolve.now.interfaces) place item.kind) }
+    ensures ok { OnOk result ((items : List ItemMeaning) → AreMetOnSides items sides.old
+        → AreMetOnSides (items ++ item_meaning (interface_names resolve.now) (trees resolve.now) resolve.now.definitions item.direction item.kind ∷ []) sides.new) }
+    ensures err { IfErr result (λ e. (items : List ItemMeaning) → AreMetOnSides items sides.old
+        → RefusesSides (items ++ item_meaning (interface_names resolve.now) (trees resolve.now) resolve.now.definitions item.direction item.kind ∷ []) e) }
+{
+    let name = item_name(alloc, resolve, place, item)?;
+    sides.meet(alloc, item.direction, name)
+}
+
+/// 40 for the first name of a world's items that its side has before, a function's parameters before its name.
+fn distinct_items(
+    alloc: Global,
+    keyed: KeyedState,
+    resolve: &Resolve,
+    place: usize,
+    world: &World,
+) -> Result<(), ResolveError>
+    requires { IsTrue (is_placed_world resolve.now.definitions (length resolve.now.interfaces) place world.now) }
+    ensures ok { OnOk result (All AreDistinct (world_scopes (world_meaning (interface_names resolve.now) (trees resolve.now) resolve.now.definitions [] world.now))) }
+    ensures err { IfErr result (RefusesScopes (world_scopes (world_meaning (interface_names resolve.now) (trees resolve.now) resolve.now.definitions [] world.now))) }
+{
+    let mut sides = Sides {
+        imports: Scope::new(alloc, keyed),
+        exports: Scope::new(alloc, keyed),
+    };
+    for item in world.items.as_slice() {
+        distinct_item(alloc, keyed, resolve, place, *item)?;
+        meet_item(alloc, resolve, place, &mut sides, *item)?;
+    }
+    Ok(())
+}
+
+/// 40 for the first name of the worlds that its scope has before, a world's items before its name. `met` has the
+/// names of the interfaces.
+fn distinct_worlds(
+    alloc: Global,
+    keyed: KeyedState,
+    resolve: &Resolve,
+    met: Scope,
+) -> Result<(), ResolveError>
+    ensures ok { OnOk result ((ns : List (List ℕ)) → AreMet ns met → AreDistinct (ns ++ map label_of resolve.now.worlds)) }
+    ensures parts { OnOk result (All AreDistinct (flat_map world_scopes (worlds resolve.now))) }
+    ensures err { IfErr result (λ e. (ns : List (List ℕ)) → AreMet ns met
+        → RefusesScopes ((ns ++ map label_of resolve.now.worlds) ∷ flat_map world_scopes (worlds resolve.now)) e) }
+{
+    let mut scope = met;
+    for (place, world) in resolve.worlds.as_slice().iter().enumerate() {
+        distinct_items(alloc, keyed, resolve, place, world)?;
+        scope.meet(alloc, &world.name)?;
+    }
     Ok(())
 }
 
 /// 40 for the first name in the order of the bytes that its scope has before.
 pub fn distinct_names(alloc: Global, resolve: &Resolve) -> Result<(), ResolveError>
-    requires { IsTrue (is_parted (length resolve.now.definitions) 0 resolve.now.interfaces) }
+    requires { IsTrue (is_parted (length resolve.now.definitions) 0 resolve.now.interfaces resolve.now.worlds) }
     ensures ok { OnOk result (All AreDistinct (package_scopes resolve.now)) }
     ensures err { IfErr result (RefusesScopes (package_scopes resolve.now)) }
 {
     let rows = resolve.definitions.as_slice();
+    let interfaces = resolve.interfaces.as_slice();
     let keyed = keyed_by_table(resolve);
-    distinct_interfaces(alloc, keyed, rows, resolve.interfaces.as_slice())
+    let names = meet_interfaces(alloc, keyed, rows, interfaces, resolve.worlds.as_slice())?;
+    distinct_worlds(alloc, keyed, resolve, names)
 }

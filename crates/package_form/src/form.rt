@@ -4,17 +4,18 @@ ghost use Rattle.std.specs.List.{list_all};
 ghost use Rattle.atoms.specs.FullName.{is_package_label};
 ghost use Rattle.atoms.specs.Label.{is_upper};
 ghost use Rattle.package_form.specs.Ids.{places_where};
-ghost use Rattle.package_form.specs.Ends.{end_of, is_parted};
-ghost use Rattle.package_form.specs.Form.{is_package_name, has_full_names, is_own_name, is_own, is_earlier_name, is_earlier, uses_earlier, is_owned, is_local, is_named, ids_of, is_use_at, has_ids, are_interfaces, is_in_form, IsInPackageForm};
+ghost use Rattle.package_form.specs.Ends.{end_of, interfaces_end, world_end, are_worlds_parted, is_parted};
+ghost use Rattle.package_form.specs.Form.{is_package_name, has_full_names, is_own_name, is_own, is_earlier_name, is_earlier, uses_earlier, is_owned, is_local, is_named, ids_of, is_use_at, has_ids, are_interfaces, is_nameless, is_of_world, is_world_row, functions_of, has_items, have_items, is_in_form, IsInPackageForm};
 
-use crate::ends::end_of;
+use crate::ends::{end_of, interfaces_end, world_end};
 use crate::entries::passes_entries;
 use crate::references::references;
 use crate::unused::{are_used, is_unnamed};
 use atoms::{Label, is_version};
 use std::alloc::{AllocError, Global};
 use tables::{
-    Definition, Interface, Owner, PackageName, Resolve, TypeDefKind, TypeId, TypeName, ValType,
+    Definition, Interface, Owner, PackageName, Resolve, TypeDefKind, TypeId, TypeName, World,
+    WorldItemKind,
 };
 
 fn has_no_upper_case(text: &[u8]) -> bool
@@ -250,9 +251,25 @@ fn has_ids(
     )
 }
 
-/// Whether each interface's rows stand behind those of the interface before it, and no other row is there.
-fn is_parted(count: usize, interfaces: &[Interface]) -> bool
-    ensures { result ≡ is_parted count 0 interfaces.now }
+/// Whether each world's rows stand behind those of the world before it, and no other row is there.
+fn are_worlds_parted(count: usize, first: usize, worlds: &[World]) -> bool
+    ensures { result ≡ are_worlds_parted count first worlds.now }
+{
+    let mut start = first;
+    for world in worlds {
+        let end = world_end(start, world);
+        if end < start || count < end {
+            return false;
+        }
+        start = end;
+    }
+    start == count
+}
+
+/// Whether each interface's rows stand behind those of the interface before it, then the worlds', and no other row
+/// is there.
+fn is_parted(count: usize, interfaces: &[Interface], worlds: &[World]) -> bool
+    ensures { result ≡ is_parted count 0 interfaces.now worlds.now }
 {
     let mut start = 0;
     for interface in interfaces {
@@ -262,7 +279,7 @@ fn is_parted(count: usize, interfaces: &[Interface]) -> bool
         }
         start = end;
     }
-    start == count
+    are_worlds_parted(count, start, worlds)
 }
 
 /// Whether each interface has its ids, and its rows refer to its types alone.
@@ -270,8 +287,9 @@ fn are_interfaces(
     alloc: Global,
     rows: &[Definition],
     interfaces: &[Interface],
+    worlds: &[World],
 ) -> Result<bool, AllocError>
-    requires parted { IsTrue (is_parted (length rows.now) 0 interfaces.now) }
+    requires parted { IsTrue (is_parted (length rows.now) 0 interfaces.now worlds.now) }
     requires few { length rows.now ≤ 65535 }
     ensures { IfOk result (λ b. b ≡ are_interfaces rows.now 0 0 interfaces.now) }
 {
@@ -289,19 +307,136 @@ fn are_interfaces(
     Ok(true)
 }
 
+/// Whether the row is a type without a name.
+fn is_nameless(rows: &[Definition], id: TypeId) -> bool
+    ensures { result ≡ is_nameless rows.now id }
+{
+    match rows.get(id.0 as usize) {
+        Some(Definition::Type(definition)) => definition.name.is_none(),
+        _ => false,
+    }
+}
+
+fn are_nameless(rows: &[Definition], ids: &[TypeId]) -> bool
+    ensures { result ≡ list_all (is_nameless rows.now) ids.now }
+{
+    for id in ids {
+        if !is_nameless(rows, *id) {
+            return false;
+        }
+    }
+    true
+}
+
+fn is_of_world(place: usize, row: &Definition) -> bool
+    ensures { result ≡ is_of_world place row.now }
+{
+    match row {
+        Definition::Type(definition) => definition.name.is_none(),
+        Definition::Function(function) => match function.owner {
+            Owner::World(owner) => owner.0 as usize == place,
+            Owner::Interface(_) => false,
+        },
+    }
+}
+
+/// Whether each is a row of this world that refers to types without names alone.
+fn are_world_rows(
+    alloc: Global,
+    rows: &[Definition],
+    place: usize,
+    own: &[Definition],
+) -> Result<bool, AllocError>
+    ensures { IfOk result (λ b. b ≡ list_all (is_world_row rows.now place) own.now) }
+{
+    for row in own {
+        if !is_of_world(place, row) {
+            return Ok(false);
+        }
+        let ids = references(alloc, row)?;
+        if !are_nameless(rows, &ids) {
+            return Ok(false);
+        }
+    }
+    Ok(true)
+}
+
+/// The functions among a world's items.
+fn functions_of(alloc: Global, world: &World) -> Result<Vec<u32>, AllocError>
+    ensures { IfOk result (λ ids. ids.items ≡ functions_of world.now) }
+{
+    let mut ids = Vec::new(alloc);
+    for item in world.items.as_slice() {
+        if let WorldItemKind::Function(id) = item.kind {
+            ids.push(id.0)?;
+        }
+    }
+    Ok(ids)
+}
+
+/// Whether a world's named rows are the functions among its items.
+fn has_items(
+    alloc: Global,
+    rows: &[Definition],
+    start: usize,
+    end: usize,
+    world: &World,
+) -> Result<bool, AllocError>
+    requires end { end ≡ world_end start world.now }
+    requires some { start ≤ end }
+    requires within { end ≤ length rows.now }
+    requires few { length rows.now ≤ 65535 }
+    ensures { IfOk result (λ b. b ≡ has_items rows.now start world.now) }
+{
+    let ids = functions_of(alloc, world)?;
+    let places = named_places(alloc, start, &rows[start..end])?;
+    Ok(places.as_slice() == ids.as_slice())
+}
+
+/// Whether each world has its functions, the rows of the first of which begin at `first`.
+fn have_items(
+    alloc: Global,
+    rows: &[Definition],
+    first: usize,
+    worlds: &[World],
+) -> Result<bool, AllocError>
+    requires parted { IsTrue (are_worlds_parted (length rows.now) first worlds.now) }
+    requires few { length rows.now ≤ 65535 }
+    ensures { IfOk result (λ b. b ≡ have_items rows.now 0 first worlds.now) }
+{
+    let mut start = first;
+    for (place, world) in worlds.iter().enumerate() {
+        let end = world_end(start, world);
+        if !has_items(alloc, rows, start, end, world)? {
+            return Ok(false);
+        }
+        if !are_world_rows(alloc, rows, place, &rows[start..end])? {
+            return Ok(false);
+        }
+        start = end;
+    }
+    Ok(true)
+}
+
 /// Whether a table is one that packages have, by one test after the other.
 fn passes_tests(alloc: Global, resolve: &Resolve) -> Result<bool, AllocError>
     ensures { IfOk result (λ b. b ≡ is_in_form resolve.now) }
 {
     let rows = resolve.definitions.as_slice();
     let interfaces = resolve.interfaces.as_slice();
-    if interfaces.is_empty() || !resolve.worlds.is_empty() || resolve.packages.len() != 1 {
+    let worlds = resolve.worlds.as_slice();
+    if (interfaces.is_empty() && worlds.is_empty()) || resolve.packages.len() != 1 {
         return Ok(false);
     }
-    if passes_entries(interfaces.len(), rows) || !is_parted(rows.len(), interfaces) {
+    if passes_entries(interfaces.len(), worlds, rows)
+        || !is_parted(rows.len(), interfaces, worlds)
+    {
         return Ok(false);
     }
-    if !has_full_names(alloc, resolve)? || !are_interfaces(alloc, rows, interfaces)? {
+    if !has_full_names(alloc, resolve)? || !are_interfaces(alloc, rows, interfaces, worlds)? {
+        return Ok(false);
+    }
+    if !have_items(alloc, rows, interfaces_end(interfaces), worlds)? {
         return Ok(false);
     }
     are_used(alloc, rows)

@@ -1,6 +1,8 @@
 //! The key of a table's names.
 use atoms::{KeyedState, Label, NameKey};
-use tables::{Case, Definition, Field, Interface, Parameter, Resolve, TypeDefKind};
+use tables::{
+    Case, Definition, Field, Interface, PackageName, Parameter, Resolve, TypeDefKind, World,
+};
 
 fn write_labels(key: &mut NameKey, labels: &[Label]) {
     for label in labels {
@@ -58,16 +60,31 @@ fn write_row(key: &mut NameKey, row: &Definition) {
     }
 }
 
+fn write_packages(key: &mut NameKey, packages: &[PackageName]) {
+    for package in packages {
+        key.write(package.namespace.as_bytes());
+        key.write(package.name.as_bytes());
+    }
+}
+
 fn write_interfaces(key: &mut NameKey, interfaces: &[Interface]) {
     for interface in interfaces {
         key.write(interface.name.as_bytes());
     }
 }
 
+fn write_worlds(key: &mut NameKey, worlds: &[World]) {
+    for world in worlds {
+        key.write(world.name.as_bytes());
+    }
+}
+
 /// Hashers of names, with a key made of all names in the scopes of a table.
 pub fn keyed_by_table(resolve: &Resolve) -> KeyedState {
     let mut key = NameKey::new();
+    write_packages(&mut key, resolve.packages.as_slice());
     write_interfaces(&mut key, resolve.interfaces.as_slice());
+    write_worlds(&mut key, resolve.worlds.as_slice());
     for row in resolve.definitions.as_slice() {
         write_row(&mut key, row);
     }

@@ -16,7 +16,7 @@ mod scope;
 mod unused;
 
 pub use distinct::distinct_names;
-pub use ends::end_of;
+pub use ends::{end_of, interfaces_end, world_end};
 pub use entries::passes_entries;
 pub use form::is_in_form;
 pub use scope::Scope;

@@ -6,7 +6,7 @@ use atoms::{KeyedState, Label};
 use indexmap::IndexSet;
 use std::alloc::Global;
 use std::marker::Model;
-use tables::ResolveError;
+use tables::{Name, ResolveError};
 
 /// The names that were met in a scope, in lower case.
 #[derive(Drop)]
@@ -41,7 +41,20 @@ impl Scope {
         if self.insert(name.as_bytes().to_ascii_lowercase(alloc)?)? {
             Ok(())
         } else {
-            Err(ResolveError::Duplicate(name.copy(alloc)?))
+            Err(ResolveError::Duplicate(Name::of(alloc, name)?))
+        }
+    }
+
+    /// Meets a name as it is told, of an interface its full name. 40 where it was met before.
+    pub fn meet_told(&mut self, alloc: Global, name: Name) -> Result<(), ResolveError>
+        ensures new { OnOk result (¬ Contains self.old (lowered name)) }
+        ensures ok { OnOk result (self.new ≡ self.old ++ lowered name ∷ []) }
+        ensures err { IfErr result (λ e. (e ≡ ResolveError.NoMemory) ⊎ ((e ≡ ResolveError.Duplicate name) × Contains self.old (lowered name))) }
+    {
+        if self.insert(name.as_str().as_bytes().to_ascii_lowercase(alloc)?)? {
+            Ok(())
+        } else {
+            Err(ResolveError::Duplicate(name))
         }
     }
 

@@ -2,7 +2,7 @@
 use Rattle.std.proofs.Common.{◌≡◌, ◌≢◌, ℕ, suc, ◌+◌, ◌<◌, ◌≤◌, Bool, true, false, not, ◌==◌, List, [], ◌∷◌, ◌++◌, map, flat_map, length, Option, None, Some, refl, ap, sym, subst, ◌∙◌, arith, length-append, All}
 use Rattle.std.specs.List.{list_all}
 use Rattle.tables.specs.Tables.{definition_below, are_earlier}
-use Rattle.tables.specs.Package.{Tree, NamedDefinition, reference, references, owner_name, definitions_from}
+use Rattle.tables.specs.Package.{Tree, NamedDefinition, reference, references}
 use Rattle.tables.specs.declared.tables.TypeDefKind.{TypeDefKind}
 use Rattle.tables.specs.declared.tables.TypeName.{TypeName}
 use Rattle.tables.specs.declared.tables.Owner.{Owner}
@@ -19,6 +19,7 @@ use Rattle.resolve.proofs.Segments.{TypeMeans, Means}
 use Rattle.resolve.proofs.Owning.{is_inner_row, Step, step}
 use Rattle.resolve.proofs.Homes.{IsPlace, MeansUse, MeansType, MeansFunction}
 use Rattle.resolve.proofs.Parting.{IsElsewhere, not-that, none-and}
+use Rattle.resolve.proofs.AllDefinitions.{all_from, owner_name}
 
 -- the definitions of an interface
 pub record Block : Type 0 where
@@ -74,7 +75,7 @@ module _ (ns : List (List ℕ)) where
   later-type k j l trees None c h = refl
   later-type k j l trees (Some n) c h = not-that n.interface.0 k (λ e. omega (arith, e, h.place n.interface.0 refl, h.later, l))
 
-  later-owner : (k m j : ℕ) (w : Owner) → k < j → j ≤ m → IsPlace ns m (owner_name ns [] w) → is_owned_by k w ≡ false
+  later-owner : (k m j : ℕ) (w : Owner) → k < j → j ≤ m → IsPlace ns m (owner_name ns w) → is_owned_by k w ≡ false
   later-owner k m j (owner.Interface x) l later place = not-that x.0 k (λ e. omega (arith, e, place x.0 refl, later, l))
   later-owner k m j (owner.World w) l later place = refl
 
@@ -111,14 +112,14 @@ used-inner rows n unused (d ∷ ds) h =
     both (is_inner_row d) (list_all is_inner_row ds) s.inner (used-inner rows (n + 1) (s.rest ++ one_if (is_unnamed d) n) ds s.on)
 
 -- rows that define nothing would be left unused
-none-left : (ns : List (List ℕ)) (rows : List Definition) (trees : List Tree) (n : ℕ) (unused : List ℕ) (d : Definition) (ds : List Definition) → definitions_from ns [] trees (d ∷ ds) ≡ []
+none-left : (ns : List (List ℕ)) (rows : List Definition) (trees : List Tree) (n : ℕ) (unused : List ℕ) (d : Definition) (ds : List Definition) → all_from ns trees (d ∷ ds) ≡ []
     → are_used rows n unused (d ∷ ds) ≡ true → ⊥
 none-left ns rows trees n unused d [] e h = by (is_unnamed d) refl (step [] rows [] n unused d [] h)
   where
-    named-none : (d : Definition) → is_unnamed d ≡ false → definitions_from ns [] trees (d ∷ []) ≡ [] → ⊥
+    named-none : (d : Definition) → is_unnamed d ≡ false → all_from ns trees (d ∷ []) ≡ [] → ⊥
     named-none (row.Type d) u e = of d.name u e
       where
-        of : (o : Option TypeName) → is_unnamed (row.Type (record { name = o; kind = d.kind })) ≡ false → definitions_from ns [] trees (row.Type (record { name = o; kind = d.kind }) ∷ []) ≡ [] → ⊥
+        of : (o : Option TypeName) → is_unnamed (row.Type (record { name = o; kind = d.kind })) ≡ false → all_from ns trees (row.Type (record { name = o; kind = d.kind }) ∷ []) ≡ [] → ⊥
         of None u e = absurd (cc)
         of (Some n) u e = absurd (cc)
     named-none (row.Function f) u e = absurd (cc)
@@ -133,15 +134,15 @@ none-left ns rows trees n unused d (c ∷ ds) e h =
     let s = step [] rows [] n unused d (c ∷ ds) h in
     none-left ns rows (trees ++ reference ns trees d ∷ []) (n + 1) (s.rest ++ one_if (is_unnamed d) n) c ds (tail-none d e) s.on
   where
-    tail-none : (d : Definition) → definitions_from ns [] trees (d ∷ c ∷ ds) ≡ [] → definitions_from ns [] (trees ++ reference ns trees d ∷ []) (c ∷ ds) ≡ []
+    tail-none : (d : Definition) → all_from ns trees (d ∷ c ∷ ds) ≡ [] → all_from ns (trees ++ reference ns trees d ∷ []) (c ∷ ds) ≡ []
     tail-none (row.Type d) e = of d.name e
       where
-        of : (o : Option TypeName) → definitions_from ns [] trees (row.Type (record { name = o; kind = d.kind }) ∷ c ∷ ds) ≡ []
-            → definitions_from ns [] (trees ++ reference ns trees (row.Type (record { name = o; kind = d.kind })) ∷ []) (c ∷ ds) ≡ []
+        of : (o : Option TypeName) → all_from ns trees (row.Type (record { name = o; kind = d.kind }) ∷ c ∷ ds) ≡ []
+            → all_from ns (trees ++ reference ns trees (row.Type (record { name = o; kind = d.kind })) ∷ []) (c ∷ ds) ≡ []
         of None e = e
         of (Some n) e = absurd (cc)
     tail-none (row.Function f) e = absurd (cc)
 
-pub nothing-left : (ns : List (List ℕ)) (rows : List Definition) (trees : List Tree) (n : ℕ) (ds : List Definition) → definitions_from ns [] trees ds ≡ [] → are_used rows n [] ds ≡ true → ds ≡ []
+pub nothing-left : (ns : List (List ℕ)) (rows : List Definition) (trees : List Tree) (n : ℕ) (ds : List Definition) → all_from ns trees ds ≡ [] → are_used rows n [] ds ≡ true → ds ≡ []
 nothing-left ns rows trees n [] e h = refl
 nothing-left ns rows trees n (d ∷ ds) e h = absurd (none-left ns rows trees n [] d ds e h)

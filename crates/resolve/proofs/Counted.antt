@@ -4,7 +4,7 @@ use Rattle.std.specs.Prelude.{true, false, not, sum, Option, None, Some, is_some
 use Rattle.std.specs.List.{list_all}
 use Rattle.std.proofs.lemmas.Bool.{and_parts, false≢true}
 use Rattle.tables.specs.Tables.{option_all, kind_all, definition_all, is_type, type_of, is_there}
-use Rattle.tables.specs.Package.{Tree, TextTree, PrimTree, Reference, ListTree, VariantTree, RecordTree, FlagsTree, Meaning, IsUse, IsType, IsFunction, read_val, read_kind, meaning_of, references, named_by, definition_of, definitions_from}
+use Rattle.tables.specs.Package.{Tree, TextTree, PrimTree, Reference, ListTree, VariantTree, RecordTree, FlagsTree, Meaning, IsUse, IsType, IsFunction, read_val, read_kind, meaning_of, references, named_by}
 use Rattle.tables.specs.declared.tables.TypeId.{TypeId}
 use Rattle.tables.specs.declared.tables.ValType.{ValType}
 use Rattle.tables.specs.declared.tables.ValType.TheVariants as val
@@ -19,6 +19,7 @@ use Rattle.package_form.specs.Entries.{entries_under, entries_of}
 use Rattle.package_form.specs.Ids.{is_use}
 use Rattle.package_form.specs.Unused.{is_alias}
 use Rattle.resolve.proofs.Weighed.{nodes, nodes_in, nodes_of, nodes_if, total, total-append, params-count, if-count, whole-count, val-count, name-tree, IsTyped, Weights, sizes, Agree, by-name}
+use Rattle.resolve.proofs.AllDefinitions.{all_from, all_of}
 
 -- a type without a name takes one entry
 abbrev pub one : Tree → ℕ
@@ -68,7 +69,7 @@ not-one trees (kind.Variant cs) u a = omega arith
 not-one trees (kind.Enum ns) u a = omega arith
 not-one trees (kind.Flags ns) u a = refl
 
-module _ (ns ws : List (List ℕ)) (rows rest : List Definition) where
+module _ (ns : List (List ℕ)) (rows rest : List Definition) where
   abbrev front : List Tree
   front = references ns [] rows
 
@@ -97,7 +98,7 @@ module _ (ns ws : List (List ℕ)) (rows rest : List Definition) where
   kind-entries n (kind.Flags names) h a = other (kind.Flags names) h refl refl
 
   entries-whole : (d : Definition) → definition_all (is_type rows) d ≡ true → is_unnamed d ≡ false → aliased_by rows d ≡ []
-      → sizes entries (definition_of ns ws front d) ≡ entries_of d + total one final (parts_of rows d)
+      → sizes entries (all_of ns front d) ≡ entries_of d + total one final (parts_of rows d)
   entries-whole (row.Type d) h u a = by d.name refl
     where
       by : (m : Option TypeName) → d.name ≡ m → sizes entries (named_by ns front d.name d.kind) ≡ entries_under d.name d.kind + total one final (parts rows d.kind)
@@ -116,9 +117,9 @@ module _ (ns ws : List (List ℕ)) (rows rest : List Definition) where
 agree : Agree entries
 agree = record {
   inner = λ trees k i. refl;
-  whole = λ ns ws rows rest d h u a. entries-whole ns ws rows rest d h u a;
+  whole = λ ns rows rest d h u a. entries-whole ns rows rest d h u a;
 }
 
 -- Two tables in postfix order with the same definitions by name take the same type entries.
-pub entries-by-name : (ns ws : List (List ℕ)) (rows : List Definition) → IsTyped rows → Leaves rows [] → sum (map entries_of rows) ≡ sizes entries (definitions_from ns ws [] rows)
-entries-by-name ns ws rows typed p = by-name entries agree ns ws rows typed p
+pub entries-by-name : (ns : List (List ℕ)) (rows : List Definition) → IsTyped rows → Leaves rows [] → sum (map entries_of rows) ≡ sizes entries (all_from ns [] rows)
+entries-by-name ns rows typed p = by-name entries agree ns rows typed p

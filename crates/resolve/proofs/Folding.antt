@@ -2,10 +2,9 @@
 use Rattle.std.proofs.Common.{◌≡◌, ℕ, ◌+◌, ◌≤◌, true, ◌&&◌, List, [], ◌∷◌, ◌++◌, map, flat_map, length, refl, ap, sym, subst, ◌∙◌, arith, length-append, append_assoc, append-nil, All, inl, inr}
 use Rattle.std.specs.Prelude.{nat_le}
 use Rattle.std.specs.List.{list_all}
-use Rattle.std.proofs.lemmas.Bool.Decides.{nat_tests}
 use Rattle.std.proofs.lemmas.List.Folds.{list_all-append}
 use Rattle.std.proofs.lemmas.Bool.{le-leb}
-use Rattle.tables.specs.Package.{Tree, NamedDefinition, references, definitions_from}
+use Rattle.tables.specs.Package.{Tree, NamedDefinition, references}
 use Rattle.tables.specs.declared.tables.Definition.{Definition}
 use Rattle.package_form.specs.Ids.{interface_in, interfaces_from}
 use Rattle.package_form.specs.Form.{has_ids, is_local, are_interfaces}
@@ -21,6 +20,7 @@ use Rattle.resolve.proofs.Parting.{IsElsewhere, IsUseRow, IsTypeRow, IsFunctionR
 use Rattle.resolve.proofs.Blocks.{Block, IsBlock, AreBlocks, block_definitions, blocks_definitions, block_names, IsLater, blocks-later, later-elsewhere, references-append, nothing-left}
 use Rattle.resolve.proofs.RowNames.{key_name, names-defined, parts-named}
 use Rattle.resolve.proofs.Forming.{IsTable, part, at-key, Places, end-is, rows-are, ids-stand}
+use Rattle.resolve.proofs.AllDefinitions.{all_from}
 
 module _ (ns : List (List ℕ)) (rows : List Definition) (table : IsTable rows) where
   -- the rows of an interface, in front of those of later ones
@@ -33,21 +33,21 @@ module _ (ns : List (List ℕ)) (rows : List Definition) (table : IsTable rows) 
     pub locals : list_all (is_local rows j) (uses ++ (types ++ functions)) ≡ true
     pub names : flat_map row_names (uses ++ (types ++ functions)) ≡ map key_name (block_definitions b)
     pub parts : rows ≡ (((pre ++ uses) ++ types) ++ functions) ++ rest
-    pub defined : definitions_from ns [] (references ns [] (((pre ++ uses) ++ types) ++ functions)) rest ≡ blocks_definitions bs
+    pub defined : all_from ns (references ns [] (((pre ++ uses) ++ types) ++ functions)) rest ≡ blocks_definitions bs
     pub on : are_used rows (length (((pre ++ uses) ++ types) ++ functions)) [] rest ≡ true
     pub before : (k : ℕ) → j + 1 ≤ k → Every (IsElsewhere k) (((pre ++ uses) ++ types) ++ functions)
 
   along : (pre S T : List Definition) → are_used rows (length pre + length S) [] T ≡ true → are_used rows (length (pre ++ S)) [] T ≡ true
   along pre S T h = subst (λ (k : ℕ). are_used rows k [] T ≡ true) (sym (length-append pre S)) h
 
-  behind-trees : (pre S T : List Definition) (A : List NamedDefinition) → definitions_from ns [] (references ns (references ns [] pre) S) T ≡ A → definitions_from ns [] (references ns [] (pre ++ S)) T ≡ A
-  behind-trees pre S T A h = ap (λ (ts : List Tree). definitions_from ns [] ts T) (references-append ns [] pre S) ∙ h
+  behind-trees : (pre S T : List Definition) (A : List NamedDefinition) → all_from ns (references ns (references ns [] pre) S) T ≡ A → all_from ns (references ns [] (pre ++ S)) T ≡ A
+  behind-trees pre S T A h = ap (λ (ts : List Tree). all_from ns ts T) (references-append ns [] pre S) ∙ h
 
-  named-as : (trees : List Tree) (S : List Definition) (A : List NamedDefinition) → definitions_from ns [] trees S ≡ A → flat_map row_names S ≡ map key_name A
+  named-as : (trees : List Tree) (S : List Definition) (A : List NamedDefinition) → all_from ns trees S ≡ A → flat_map row_names S ≡ map key_name A
   named-as trees S A h = names-defined ns trees S ∙ ap (map key_name) h
 
   pub segment : (j : ℕ) (b : Block) (bs : List Block) (pre ds : List Definition) → rows ≡ pre ++ ds → ((k : ℕ) → j ≤ k → Every (IsElsewhere k) pre)
-      → definitions_from ns [] (references ns [] pre) ds ≡ blocks_definitions (b ∷ bs) → are_used rows (length pre) [] ds ≡ true
+      → all_from ns (references ns [] pre) ds ≡ blocks_definitions (b ∷ bs) → are_used rows (length pre) [] ds ≡ true
       → IsBlock ns j b → AreBlocks ns (j + 1) bs → Segment j b bs pre ds
   segment j b bs pre ds e before defined used block blocks =
       let rest = blocks_definitions bs in
@@ -108,8 +108,8 @@ module _ (ns : List (List ℕ)) (rows : List Definition) (table : IsTable rows) 
       }
 
   pub formed : (j : ℕ) (bs : List Block) (pre ds : List Definition) → rows ≡ pre ++ ds → ((k : ℕ) → j ≤ k → Every (IsElsewhere k) pre)
-      → definitions_from ns [] (references ns [] pre) ds ≡ blocks_definitions bs → are_used rows (length pre) [] ds ≡ true → AreBlocks ns j bs
-      → (is_parted (length rows) (length pre) (interfaces_from rows j (block_names bs)) ≡ true) × (are_interfaces rows j (length pre) (interfaces_from rows j (block_names bs)) ≡ true)
+      → all_from ns (references ns [] pre) ds ≡ blocks_definitions bs → are_used rows (length pre) [] ds ≡ true → AreBlocks ns j bs
+      → (is_parted (length rows) (length pre) (interfaces_from rows j (block_names bs)) [] ≡ true) × (are_interfaces rows j (length pre) (interfaces_from rows j (block_names bs)) ≡ true)
   formed j [] pre ds e before defined used h =
       let none = nothing-left ns rows (references ns [] pre) (length pre) ds defined used in
       let same : length pre ≡ length rows = sym (ap length (e ∙ ap (λ (xs : List Definition). pre ++ xs) none ∙ append-nil pre)) in
@@ -126,7 +126,7 @@ module _ (ns : List (List ℕ)) (rows : List Definition) (table : IsTable rows) 
       let total : length rows ≡ length pre4 + length s.rest = ap length s.parts ∙ length-append pre4 s.rest in (
         both (nat_le (length pre) (end_of (length pre) i)) _ (le-leb _ _ (omega (arith, ends, long)))
             (both (nat_le (end_of (length pre) i) (length rows)) _ (le-leb _ _ (omega (arith, ends, total)))
-            (subst (λ (k : ℕ). is_parted (length rows) k is ≡ true) (sym ends) again.0)),
+            (subst (λ (k : ℕ). is_parted (length rows) k is [] ≡ true) (sym ends) again.0)),
         both (has_ids rows (length pre) i && list_all (is_local rows j) (rows_of rows (length pre) i)) _
             (both (has_ids rows (length pre) i) _ (ids-stand rows j pre s.uses s.types s.functions s.rest s.places b.name)
             (ap (list_all (is_local rows j)) (rows-are rows j pre s.uses s.types s.functions s.rest s.places b.name) ∙ s.locals))

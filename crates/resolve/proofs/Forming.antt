@@ -5,7 +5,7 @@ use Rattle.std.specs.Str.{bytes_eq}
 use Rattle.std.proofs.Math.Seq.{drop-append_seam, take-append_seam}
 use Rattle.std.proofs.lemmas.Slice.Eq.{bytes_eq-Decides}
 use Rattle.tables.specs.Tables.{type_of, is_type, definition_all, definition_below, are_earlier}
-use Rattle.tables.specs.Package.{Tree, NamedDefinition, reference, references, definitions_from}
+use Rattle.tables.specs.Package.{Tree, NamedDefinition, reference, references}
 use Rattle.tables.specs.declared.tables.TypeId.{TypeId}
 use Rattle.tables.specs.declared.tables.FunctionId.{FunctionId}
 use Rattle.tables.specs.declared.tables.Definition.{Definition}
@@ -24,6 +24,7 @@ use Rattle.resolve.proofs.Homes.{MeansAny}
 use Rattle.resolve.proofs.Locals.{any-refers, local}
 use Rattle.resolve.proofs.Parting.{places-same, places-none, places-append, places-all, types-end, functions-end, IsElsewhere, elsewhere, IsUseRow, IsTypeRow, IsFunctionRow, rows-every}
 use Rattle.resolve.proofs.Blocks.{Block, IsBlock, references-append, references-length, below-at, at-true}
+use Rattle.resolve.proofs.AllDefinitions.{all_from}
 
 -- what is known of the whole table
 pub record IsTable (rows : List Definition) : Type 0 where
@@ -55,7 +56,7 @@ module _ (ns : List (List ℕ)) (rows : List Definition) (table : IsTable rows) 
     pub on : are_used rows (length pre + length S) [] T ≡ true
 
   pub part : (Q : NamedDefinition → Type 0) → ((x : NamedDefinition) → Q x → MeansAny ns j b.name x) → (A : List NamedDefinition) → All Q A
-      → (pre S T : List Definition) → rows ≡ pre ++ (S ++ T) → definitions_from ns [] (references ns [] pre) S ≡ A → ends_named S ≡ true
+      → (pre S T : List Definition) → rows ≡ pre ++ (S ++ T) → all_from ns (references ns [] pre) S ≡ A → ends_named S ≡ true
       → are_used rows (length pre) [] (S ++ T) ≡ true → Part Q pre S T
   part Q any A all pre S T e first ends used =
       let trees = references ns [] pre in

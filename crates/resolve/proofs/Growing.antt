@@ -48,9 +48,9 @@ pub define-grows : (first mid new : Table) (before after : KnownTypes) (k : Type
     → Grows first before new after (one (scope_name first before) name meaning)
 define-grows first mid new before after k n m name id meaning en em at with is scope l =
     let d = row.Type (record { name = Some (record { interface = before.interface; name = n }); kind = k }) in
-    let front = with-front mid new d with l.typed in
+    let front = with-front mid new d with l.typed refl in
     let all = front-trans first mid new l.extends.front front in
-    let defined : definition_of mid.interfaces [] (table_trees mid) d ≡ one (scope_name first before) name meaning = rw (l.means, en, l.extends.front.interfaces) refl in
+    let defined : definition_of mid.interfaces (table_trees mid) d ≡ one (scope_name first before) name meaning = rw (l.means, en, l.extends.front.interfaces) refl in
     let stands = with-stands mid new d with id at refl in
     let here : IsEntry new (scope_name new before) (record { name = m; id = id }) = record {
       stands = subst (λ (ns : List (List ℕ)). TreeStands new (val.Id id) (Reference (record { interface = get_or ns before.interface.0 []; name = m }))) (sym front.interfaces)
@@ -60,7 +60,7 @@ define-grows first mid new before after k n m name id meaning en em at with is s
     record {
       adds = record {
         front = all;
-        definitions = with-definitions mid new d with ∙ ap (λ (ds : List NamedDefinition). ds ++ definition_of mid.interfaces [] (table_trees mid) d) l.extends.same
+        definitions = with-definitions mid new d with ∙ ap (λ (ds : List NamedDefinition). ds ++ definition_of mid.interfaces (table_trees mid) d) l.extends.same
             ∙ ap (λ (ds : List NamedDefinition). table_definitions first ++ ds) defined;
         postfix = λ h. subst (λ (ds : List Definition). Leaves ds []) (sym (with-rows mid new d with)) (whole mid.rows d refl l.names (l.extends.postfix [] h));
       };
@@ -81,13 +81,13 @@ function-adds old mid last new i n name ps ls r t l m en with =
     let s = all-stay parameter_typed read_parameter unnamed_parameter parameter-stays mid last m.extends.front ps l.within in
     let extends = subst (λ (us : List ℕ). Extends old last (us ++ unnamed_if last.rows r)) (sym s.2) (extends-trans old mid last _ _ l.extends m.extends) in
     let typed : function_all (is_type last.rows) f ≡ true = both (list_all (parameter_typed last.rows) ps) (option_all (is_type last.rows) r) s.0 m.typed in
-    let front = with-front last new d with typed in
+    let front = with-front last new d with typed refl in
     let reads : read_params (table_trees last) ps ≡ fields_of ls = parameters-read (table_trees last) ps ∙ ap fields_of (s.1 ∙ l.reads) in
-    let defined : definition_of last.interfaces [] (table_trees last) d ≡ one (name_at old i.0) name (IsFunction (fields_of ls) t) =
+    let defined : definition_of last.interfaces (table_trees last) d ≡ one (name_at old i.0) name (IsFunction (fields_of ls) t) =
     rw (reads, m.reads, en, extends.front.interfaces) refl in
     record {
       front = front-trans old last new extends.front front;
-      definitions = with-definitions last new d with ∙ ap (λ (ds : List NamedDefinition). ds ++ definition_of last.interfaces [] (table_trees last) d) extends.same
+      definitions = with-definitions last new d with ∙ ap (λ (ds : List NamedDefinition). ds ++ definition_of last.interfaces (table_trees last) d) extends.same
           ∙ ap (λ (ds : List NamedDefinition). table_definitions old ++ ds) defined;
       postfix = λ h. subst (λ (ds : List Definition). Leaves ds []) (sym (with-rows last new d with)) (whole last.rows d refl refl (extends.postfix [] h));
     }

@@ -3,6 +3,7 @@ pub mod Typing
 pub mod OrderSteps
 pub mod Settling
 pub mod Reading
+pub mod AllDefinitions
 pub mod Lowering
 pub mod Growing
 pub mod Placing

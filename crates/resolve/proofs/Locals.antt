@@ -1,12 +1,12 @@
 -- The rows of an interface refer to its own types, and its uses to those of earlier interfaces.
-use Rattle.std.proofs.Common.{◌≡◌, ◌≢◌, ℕ, ◌<◌, true, false, cond, not, ◌&&◌, ◌==◌, nat_lt, List, [], ◌∷◌, ◌++◌, length, slice_get, is_some, Option, None, Some, refl, ap, sym, subst, ◌∙◌, arith, inl, inr}
+use Rattle.std.proofs.Common.{◌≡◌, ◌≢◌, ℕ, ◌<◌, true, false, cond, not, ◌&&◌, ◌==◌, List, [], ◌∷◌, ◌++◌, length, slice_get, is_some, Option, None, Some, refl, ap, sym, subst, ◌∙◌, arith, inl, inr}
 use Rattle.std.specs.Prelude.{slice_index_or}
 use Rattle.std.specs.Option.{option_map}
 use Rattle.std.specs.List.{list_all}
 use Rattle.std.proofs.lemmas.Bool.Decides.{nat_tests}
 use Rattle.std.proofs.lemmas.Bool.{ltb-true, lt-ltb}
 use Rattle.tables.specs.Tables.{type_of, is_there, is_type_id, is_type, definition_all, definition_below}
-use Rattle.tables.specs.Package.{Tree, TextTree, Reference, Key, key_of, owner_name, read_val, read_params, read_kind, meaning_of, reference_by, references}
+use Rattle.tables.specs.Package.{Tree, TextTree, Reference, Key, key_of, read_val, read_params, read_kind, meaning_of, reference_by, references}
 use Rattle.tables.specs.declared.tables.TypeId.{TypeId}
 use Rattle.tables.specs.declared.tables.TypeDef.{TypeDef}
 use Rattle.tables.specs.declared.tables.TypeDefKind.{TypeDefKind}
@@ -27,6 +27,7 @@ use Rattle.resolve.proofs.Segments.{TypeMeans, Means}
 use Rattle.resolve.proofs.Referring.{Every, Refers, FieldsRefer, RefersIf, IdRefers, tree_of, params-ids, if-ids, kind-ids, every-append}
 use Rattle.resolve.proofs.Owning.{is_inner_row, RowRefers, NamedRefers}
 use Rattle.resolve.proofs.Homes.{IsPlace, MeansAny, use-kind, type-kind, no-function, inner-use, inner-reads, not-use, tree-at}
+use Rattle.resolve.proofs.AllDefinitions.{owner_name}
 
 pub is-that : (m j : ℕ) → m ≡ j → (m == j) ≡ true
 is-that m j e = grind (arith, nat_tests)
@@ -119,7 +120,7 @@ module _ (ns : List (List ℕ)) (rows : List Definition) (j : ℕ) (i : List ℕ
         by (inr (inl x)) = not-use rows j k (type-kind trees k x.tree x.meaning).0
         by (inr (inr x)) = absurd (no-function trees k x.params x.result x.meaning)
 
-    owned-function : (w : Owner) → owner_name ns [] w ≡ i → is_owned_by j w ≡ true
+    owned-function : (w : Owner) → owner_name ns w ≡ i → is_owned_by j w ≡ true
     owned-function (owner.Interface k) e = is-that k.0 j (place k.0 e)
     owned-function (owner.World w) e = absurd (some (sym e))
 

@@ -1,7 +1,6 @@
 -- Depth of types and properties of all, one more.
 use Rattle.std.proofs.Common.{◌≡◌, ℕ, zero, suc, ◌+◌, ◌<◌, ◌≤◌, Bool, true, false, ◌&&◌, nat_le, List, [], ◌∷◌, ◌++◌, map, take, length, get_or, refl, ap, sym, ◌∙◌, arith}
 use Rattle.std.specs.List.{list_all}
-use Rattle.std.proofs.lemmas.Bool.Decides.{nat_tests}
 use Rattle.std.proofs.lemmas.Bool.{le-leb, leb-true, lt-leb, leb-false}
 use Rattle.wit_syntax.specs.Syntax.{depth, depth_all, tys_of}
 use Rattle.wit_syntax.specs.View.{ty_view}

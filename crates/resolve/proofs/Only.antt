@@ -11,7 +11,7 @@ use Rattle.tables.specs.declared.tables.ValType.TheVariants as val
 use Rattle.tables.specs.PackageNames.{own_name}
 use Rattle.tables.specs.Names.{full_name}
 use Rattle.tables.specs.declared.tables.Interface.{Interface}
-use Rattle.tables.specs.Package.{Package, package_of, definitions_from, interface_names as names_in}
+use Rattle.tables.specs.Package.{Package, package_of, interface_names as names_in}
 use Rattle.tables.specs.declared.tables.Definition.{Definition}
 use Rattle.tables.specs.declared.tables.Resolve.{Resolve}
 use Rattle.tables.specs.declared.error.ResolveError.{ResolveError}
@@ -21,7 +21,7 @@ use Rattle.resolve.specs.Order.{IsPlacement}
 use Rattle.package_form.specs.Postfix.{IsPostfix}
 use Rattle.resolve.specs.Declarations.{UsedItem, InterfaceTree, interfaces, package_named, full_interface, full_interfaces, interface_at, interface_names, interface_name, type_names, named_definition, named_function, scopes}
 use Rattle.resolve.specs.Resolves.{HasPackage, IsTooLarge, Resolves, full_names, package_in, interface_uses, type_uses, PassesLimit, HasDuplicate, HasDistinctNames, IsKnownUse, IsUnknownUse, IsUnknownIn, HasUnknown, HasKnownNames, HasCycle, IsPackageOf, HasNoFaults, ResolveRefuses, AnswersOnly}
-use Rattle.package_form.specs.Entries.{Table, table_of, entries_of, type_entries}
+use Rattle.package_form.specs.Entries.{world_entries, Table, table_of, entries_of, type_entries}
 use Rattle.resolve.proofs.Trees.{distinct-interfaces}
 use Rattle.package_form.proofs.OneRow.{same-place}
 use Rattle.package_form.proofs.Lists.{contains-map, get-front}
@@ -36,6 +36,8 @@ use Rattle.resolve.proofs.FullNames.{interface-full, uses-full}
 use Rattle.resolve.proofs.Counted.{entries, entries-by-name}
 use Rattle.resolve.proofs.Weighed.{IsTyped, sizes}
 use Rattle.resolve.proofs.StandardRows.{standard-by-name}
+use Rattle.resolve.proofs.AllDefinitions.{all_from, all-are, none-of, map-none}
+use Rattle.tables.specs.declared.tables.World.{World}
 
 -- a name that stands twice
 no-duplicate : (f : File) (n : List ℕ) → HasDistinctNames f → HasDuplicate f n → ⊥
@@ -118,32 +120,34 @@ earlier-typed rows earlier typed front d rest e = definition-grows (λ v. is_bel
         let g : slice_get rows t.0 ≡ slice_get front t.0 = ap (λ xs. slice_get xs t.0) e ∙ get-front front (d ∷ rest) t.0 l in
         subst (λ o. is_there (type_of o) ≡ true) g (and_parts (is_below (length front) (val.Id t)) (is_type rows (val.Id t)) h).1
 
--- Two tables of one package, whose rows name earlier types and stand in postfix order: both pass a limit or none does. `ns` and `ms` are
--- the full names of their interfaces.
-same-limits : (t u : Table) (ns ms : List (List ℕ)) → length ns ≡ length t.interfaces → length ms ≡ length u.interfaces → ns ≡ ms
-    → definitions_from ns [] [] t.rows ≡ definitions_from ms [] [] u.rows → IsTyped t.rows → IsPostfix t.rows → IsTyped u.rows → IsPostfix u.rows
+-- Two tables of one package without worlds, whose rows name earlier types and stand in postfix order: both pass a limit or none does. `ns`
+-- and `ms` are the full names of their interfaces.
+same-limits : (t u : Table) (ns ms : List (List ℕ)) → length ns ≡ length t.interfaces → length ms ≡ length u.interfaces → ns ≡ ms → t.worlds ≡ [] → u.worlds ≡ []
+    → all_from ns [] t.rows ≡ all_from ms [] u.rows → IsTyped t.rows → IsPostfix t.rows → IsTyped u.rows → IsPostfix u.rows
     → type_entries t ≤ 65535 → are_standard t.rows ≡ true → PassesLimit u → ⊥
-same-limits t u ns ms long_t long_u names meant a p b q within standard passes = by passes
+same-limits t u ns ms long_t long_u names none_t none_u meant a p b q within standard passes = by passes
   where
     by : PassesLimit u → ⊥
     by (inl l) =
-        let x = entries-by-name ns [] t.rows (λ f d r z. a f d r z) p in
-        let y = entries-by-name ms [] u.rows (λ f d r z. b f d r z) q in
+        let x = entries-by-name ns t.rows (λ f d r z. a f d r z) p in
+        let y = entries-by-name ms u.rows (λ f d r z. b f d r z) q in
         let sums : sum (map entries_of t.rows) ≡ sum (map entries_of u.rows) = x ∙ (ap (sizes entries) meant ∙ sym y) in
         let counts = ap length names in
-        omega (arith, within, l, sums, counts, long_t, long_u)
-    by (inr h) = false≢true (sym h ∙ standard-by-name ns ms [] [] t.rows u.rows a p b q meant standard)
-
--- the package of a table without worlds
-package-same : (f : File) (r : Resolve) → IsPackageOf f r → record { interfaces = names_in r; definitions = definitions_from (names_in r) [] [] r.definitions } ≡ package_of r
-package-same f r h = ap (λ (ws : List (List ℕ)). record { interfaces = names_in r; definitions = definitions_from (names_in r) ws [] r.definitions }) (sym (ap (map (λ w. w.name)) h.worlds))
+        let first : sum (map world_entries t.worlds) ≡ 0 = ap (λ (ws : List World). sum (map world_entries ws)) none_t in
+        let second : sum (map world_entries u.worlds) ≡ 0 = ap (λ (ws : List World). sum (map world_entries ws)) none_u in
+        omega (arith, within, l, sums, counts, long_t, long_u, first, second)
+    by (inr h) = false≢true (sym h ∙ standard-by-name ns ms t.rows u.rows a p b q meant standard)
 
 not-too-large : (f : File) (r : Resolve) → IsPackageOf f r → IsTooLarge f → ⊥
 not-too-large f r h x =
     let n = package_named f in
-    let same = package-same f r h ∙ one-package (full_interfaces f) (package_of r) (package_in n x.table) h.resolves x.resolves in
+    let same = one-package (full_interfaces f) (package_of r) (package_in n x.table) h.resolves x.resolves in
+    let none : x.table.worlds ≡ [] = map-none _ x.table.worlds x.resolves.worlds in
+    let meant =
+    sym (all-are (names_in r) [] r.definitions (none-of r.definitions r.worlds h.worlds h.items)) ∙ ap (λ (p : Package). p.definitions) same
+    ∙ all-are (full_names n x.table) [] x.table.rows (none-of x.table.rows x.table.worlds none x.items) in
     same-limits (table_of r) x.table (names_in r) (full_names n x.table) (length-map r.interfaces (full_name r) ∙ sym (length-map r.interfaces (λ (i : Interface). i.name))) (length-map x.table.interfaces (own_name n))
-    (ap (λ (p : Package). p.interfaces) same) (ap (λ (p : Package). p.definitions) same)
+    (ap (λ (p : Package). p.interfaces) same) h.worlds none meant
     (earlier-typed r.definitions r.earlier r.typed) h.postfix (earlier-typed x.table.rows x.earlier x.typed) x.postfix h.within r.standard x.passes
 
 -- ---- no refusal but for memory

@@ -1,12 +1,13 @@
 -- What a syntax tree resolves to has distinct names in each scope of its table.
 use Rattle.std.proofs.Common.{◌≡◌, ℕ, ◌<◌, ◌+◌, IsTrue, List, [], ◌∷◌, ◌++◌, map, flat_map, length, get_or, slice_get, refl, ap, sym, subst, ◌∙◌, arith, All, Contains}
-use Rattle.std.proofs.lemmas.List.{length-map, get_or_default}
+use Rattle.std.proofs.lemmas.List.{length-map, get_or_default, append-nil}
 use Rattle.std.proofs.lemmas.Simd.{map-map}
 use Rattle.wit_syntax.specs.Syntax.{File}
 use Rattle.wit_syntax.specs.FullNames.{has_full_names}
 use Rattle.tables.specs.PackageNames.{PackageParts, own_name}
 use Rattle.tables.specs.Names.{full_name_in}
-use Rattle.tables.specs.Package.{interface_names as names_in}
+use Rattle.tables.specs.Package.{WorldMeaning, worlds, interface_names as names_in}
+use Rattle.tables.specs.declared.tables.World.{World}
 use Rattle.tables.specs.declared.tables.Definition.{Definition}
 use Rattle.tables.specs.declared.tables.Interface.{Interface}
 use Rattle.tables.specs.declared.tables.Resolve.{Resolve}
@@ -23,7 +24,7 @@ use Rattle.resolve.proofs.Packaging.{interface-name}
 use Rattle.resolve.proofs.Trees.{distinct-interfaces, full-kept}
 use Rattle.resolve.proofs.Placed.{same-map}
 use Rattle.resolve.proofs.FullNames.{locals-full, interface-full, uses-full}
-use Rattle.package_form.specs.Naming.{row_members, rows_scopes, interfaces_scopes, package_scopes}
+use Rattle.package_form.specs.Naming.{row_members, rows_scopes, interfaces_scopes, label_of, world_scopes, package_scopes}
 use Rattle.resolve.proofs.Segments.{heads, tails, rows-mean}
 use Rattle.resolve.proofs.Referring.{Every}
 use Rattle.resolve.proofs.Blocks.{Block, block_names, block_definitions, blocks_definitions}
@@ -146,6 +147,10 @@ module _ (f : File) (r : Resolve) (h : HasNoFaults f) (full : IsTrue (has_full_n
   has-distinct-names =
       let rows = r.definitions in
       let all = scoped (names_in r) rows (table f r h full p) rows-members 0 bs [] rows refl (λ k l. tt) (defined f r h full p) (used f r h full p) (are-all f r h full p) keys-distinct in
-      all-cons AreDistinct (labels_of r.interfaces) (interfaces_scopes rows 0 r.interfaces) interfaces-named
+      let named : labels_of r.interfaces ++ map label_of r.worlds ≡ labels_of r.interfaces = ap (λ (ws : List World). labels_of r.interfaces ++ map label_of ws) p.worlds ∙ append-nil (labels_of r.interfaces) in
+      let none : interfaces_scopes rows 0 r.interfaces ++ flat_map world_scopes (worlds r) ≡ interfaces_scopes rows 0 r.interfaces =
+      ap (λ (ms : List WorldMeaning). interfaces_scopes rows 0 r.interfaces ++ flat_map world_scopes ms) p.resolves.worlds ∙ append-nil (interfaces_scopes rows 0 r.interfaces) in
+      subst (All AreDistinct) (sym (ap (λ (ss : List (List (List ℕ))). (labels_of r.interfaces ++ map label_of r.worlds) ∷ ss) none ∙ ap (λ (ns : List (List ℕ)). ns ∷ interfaces_scopes rows 0 r.interfaces) named))
+      (all-cons AreDistinct (labels_of r.interfaces) (interfaces_scopes rows 0 r.interfaces) interfaces-named
       (subst (λ (js : List Interface). All AreDistinct (interfaces_scopes rows 0 js)) (sym p.ids)
-      (subst (λ (ss : List (List (List ℕ))). All AreDistinct ss) (sym (scopes-so rows 0 0 (labels_of r.interfaces) (block_names bs) (count f r h full p))) all))
+      (subst (λ (ss : List (List (List ℕ))). All AreDistinct ss) (sym (scopes-so rows 0 0 (labels_of r.interfaces) (block_names bs) (count f r h full p))) all)))

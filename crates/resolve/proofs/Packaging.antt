@@ -11,7 +11,7 @@ use Rattle.resolve.specs.Declarations.{UsedItem, InterfaceTree, interface_at, no
 use Rattle.resolve.specs.Resolved.{interface_meaning}
 use Rattle.package_form.specs.Entries.{Table}
 use Rattle.resolve.specs.Resolves.{interface_uses, uses_of_interface, type_uses, HasKnownNames, IsKnownUse, names_in_order, place_of}
-use Rattle.resolve.specs.Building.{table_definitions, name_at, Adds, IsScope, scope_name, scope_names, CanUse, DefinesInterface, DefinesPackage, package_meaning}
+use Rattle.resolve.specs.Building.{HasNoWorlds, table_definitions, name_at, Adds, IsScope, scope_name, scope_names, CanUse, DefinesInterface, DefinesPackage, package_meaning}
 use Rattle.tables.specs.declared.tables.InterfaceId.{InterfaceId}
 use Rattle.tables.specs.declared.tables.Definition.{Definition}
 use Rattle.resolve.specs.declared.known.KnownTypes.{KnownTypes}
@@ -146,13 +146,15 @@ module _ (is : List InterfaceTree) (order : List ℕ) (orders : List (List ℕ))
           (subst (λ (ms : List (List ℕ)). Contains ms n) (sym d.names) (all-placed i types typed n here))
 
 pub defines-package : (is : List InterfaceTree) (order : List ℕ) (orders : List (List ℕ)) (empty t : Table) (scopes : List KnownTypes) (k : ℕ)
-    → empty ≡ record { interfaces = names_in_order is order; rows = [] } → length order ≤ k → PackageSoFar k is order orders empty t scopes → DefinesPackage is order orders t
+    → empty ≡ record { interfaces = names_in_order is order; worlds = []; rows = [] } → length order ≤ k → PackageSoFar k is order orders empty t scopes → DefinesPackage is order orders t
 unfolding table_definitions
 defines-package is order orders empty t scopes k e l h =
     let rows : empty.rows ≡ [] = ap (λ (x : Table). x.rows) e in
     let all = take_all k order l in
     record {
       interfaces = h.adds.front.interfaces ∙ ap (λ (x : Table). x.interfaces) e;
+      worlds = h.adds.front.worlds ∙ ap (λ (x : Table). x.worlds) e;
+      own = h.adds.front.own (subst (λ (ds : List Definition). HasNoWorlds ds) (sym rows) refl);
       definitions = h.adds.definitions ∙ ap (λ (x : Table). table_definitions x ++ package_meaning is orders (take k order)) e ∙ ap (package_meaning is orders) all;
       postfix = h.adds.postfix (subst (λ (ds : List Definition). Leaves ds []) (sym rows) begin);
       earlier = h.adds.front.earlier (subst (λ (ds : List Definition). IsTrue (are_earlier 0 ds)) (sym rows) refl);
@@ -160,7 +162,7 @@ defines-package is order orders empty t scopes k e l h =
     }
 
 abbrev pub table : List (List ℕ) → Table
-table ns = record { interfaces = ns; rows = [] }
+table ns = record { interfaces = ns; worlds = []; rows = [] }
 
 pub order-below : (all : List Declarations) (order : List ℕ) → IsPlacement (interface_uses (map declared_tree all)) order → All (λ k. k < length all) order
 order-below all order placed k d l =

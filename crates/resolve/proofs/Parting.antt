@@ -2,7 +2,7 @@
 use Rattle.std.proofs.Common.{◌≡◌, ◌≢◌, ℕ, suc, ◌+◌, Bool, true, false, cond, not, ◌&&◌, ◌==◌, List, [], ◌∷◌, ◌++◌, map, length, slice_get, Option, None, Some, refl, ap, sym, subst, ◌∙◌, arith, length-append, append_assoc}
 use Rattle.std.specs.List.{list_all}
 use Rattle.std.proofs.lemmas.Bool.Decides.{nat_tests}
-use Rattle.tables.specs.Package.{Tree, Reference, owner_name, reference}
+use Rattle.tables.specs.Package.{Tree, Reference, reference}
 use Rattle.tables.specs.declared.tables.TypeId.{TypeId}
 use Rattle.tables.specs.declared.tables.TypeDefKind.{TypeDefKind}
 use Rattle.tables.specs.declared.tables.TypeName.{TypeName}
@@ -18,6 +18,7 @@ use Rattle.resolve.proofs.Segments.{ends_named, RowsAre, TypeMeans, Means}
 use Rattle.resolve.proofs.Referring.{Every}
 use Rattle.resolve.proofs.Homes.{IsPlace, MeansUse, MeansType, MeansFunction, use-kind, type-kind, no-function}
 use Rattle.resolve.proofs.Locals.{is-that}
+use Rattle.resolve.proofs.AllDefinitions.{owner_name}
 
 -- ---- places
 
@@ -121,7 +122,7 @@ module _ (ns : List (List ℕ)) where
   type-elsewhere k m i place other trees None c h = refl
   type-elsewhere k m i place other trees (Some n) c h = not-that n.interface.0 k (λ e. other (e ∙ place n.interface.0 h))
 
-  owner-elsewhere : (k m : ℕ) (i : List ℕ) → IsPlace ns m i → (k ≡ m → ⊥) → (w : Owner) → owner_name ns [] w ≡ i → is_owned_by k w ≡ false
+  owner-elsewhere : (k m : ℕ) (i : List ℕ) → IsPlace ns m i → (k ≡ m → ⊥) → (w : Owner) → owner_name ns w ≡ i → is_owned_by k w ≡ false
   owner-elsewhere k m i place other (owner.Interface x) h = not-that x.0 k (λ e. other (e ∙ place x.0 h))
   owner-elsewhere k m i place other (owner.World w) h = refl
 
@@ -179,7 +180,7 @@ module _ (ns : List (List ℕ)) (j : ℕ) (i : List ℕ) (place : IsPlace ns j i
   function-type trees None k h = record { used = refl; typed = refl; function = refl }
   function-type trees (Some n) k h = absurd (no-function trees k h.params h.result h.meaning)
 
-  function-owner : (w : Owner) → owner_name ns [] w ≡ i → is_owned_by j w ≡ true
+  function-owner : (w : Owner) → owner_name ns w ≡ i → is_owned_by j w ≡ true
   function-owner (owner.Interface k) e = is-that k.0 j (place k.0 e)
   function-owner (owner.World w) e = absurd (some (sym e))
 

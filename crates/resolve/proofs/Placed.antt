@@ -6,7 +6,7 @@ use Rattle.std.proofs.lemmas.Bool.{and_parts, or_cases, false≢true, eqb-true, 
 use Rattle.std.proofs.lemmas.List.Folds.{list_any-append}
 use Rattle.std.proofs.Math.Seq.{take-suc}
 use Rattle.std.proofs.lemmas.List.{take_all, length-map}
-use Rattle.tables.specs.Package.{Package, NamedDefinition}
+use Rattle.tables.specs.Package.{WorldMeaning, Package, NamedDefinition}
 use Rattle.resolve.specs.Declarations.{InterfaceTree, interface_at, interface_names}
 use Rattle.resolve.specs.Resolved.{interface_meaning}
 use Rattle.resolve.specs.Resolves.{Resolves, interface_uses, uses_of_interface, type_uses, names_in_order}
@@ -102,5 +102,6 @@ one-package is p q a b =
     (λ k l. ap (interface_meaning (interface_at is (get_or a.order k 0))) (types (get_or a.order k 0) (inside k l)))
     ∙ (ap (flat_map (λ k. interface_meaning (interface_at is k) (b.types k))) order ∙ sym b.definitions)) in
     let names : p.interfaces ≡ q.interfaces = a.names ∙ (ap (names_in_order is) order ∙ sym b.names) in
-    ap (λ (ns : List (List ℕ)). record { interfaces = ns; definitions = p.definitions }) names
-    ∙ ap (λ (ds : List NamedDefinition). record { interfaces = q.interfaces; definitions = ds }) definitions
+    ap (λ (ns : List (List ℕ)). record { interfaces = ns; worlds = p.worlds; definitions = p.definitions }) names
+    ∙ ap (λ (ws : List WorldMeaning). record { interfaces = q.interfaces; worlds = ws; definitions = p.definitions }) (a.worlds ∙ sym b.worlds)
+    ∙ ap (λ (ds : List NamedDefinition). record { interfaces = q.interfaces; worlds = q.worlds; definitions = ds }) definitions

@@ -1,12 +1,13 @@
 -- What a table's rows read as, when more rows come behind them.
-use Rattle.std.proofs.Common.{◌≡◌, ℕ, zero, suc, ◌+◌, ◌<◌, ◌≤◌, true, IsTrue, List, [], ◌∷◌, ◌++◌, length, get_or, slice_get, Option, Some, refl, ap, sym, subst, ◌∙◌, arith, append_assoc, append-nil}
+use Rattle.std.proofs.Common.{◌≡◌, ℕ, zero, suc, ◌+◌, ◌<◌, ◌≤◌, true, false, not, IsTrue, List, [], ◌∷◌, ◌++◌, length, get_or, slice_get, Option, Some, refl, ap, sym, subst, ◌∙◌, arith, append_assoc, append-nil}
 use Rattle.std.proofs.lemmas.List.{length-append, get_or_append_left, get_or_at}
 use Rattle.std.proofs.lemmas.Bool.{ltb-true}
 use Rattle.tables.specs.Tables.{is_type, is_there, type_of, definition_all, definition_below, are_earlier, name_types}
 use Rattle.tables.specs.Package.{Tree, TextTree, NamedDefinition, Meaning, IsUse, IsType, IsFunction, references, reference, definitions_from, definition_of, read_val, read_kind, meaning_of}
 use Rattle.package_form.specs.Postfix.{Leaves, inner, unnamed, is_inner, is_unnamed, is_unnamed_row, one_if, inner_row}
+use Rattle.package_form.specs.Ids.{is_world_function}
 use Rattle.package_form.specs.Entries.{Table}
-use Rattle.resolve.specs.Building.{table_trees, table_definitions, Front, Extends, Adds, TreeStands, Lowers, LowersInner, is_expressed}
+use Rattle.resolve.specs.Building.{HasNoWorlds, table_trees, table_definitions, Front, Extends, Adds, TreeStands, Lowers, LowersInner, is_expressed}
 use Rattle.tables.specs.declared.tables.ValType.{ValType}
 use Rattle.tables.specs.declared.tables.ValType.TheVariants as val
 use Rattle.tables.specs.declared.tables.TypeId.{TypeId}
@@ -79,7 +80,7 @@ stands-later old new v tree x s = record {
 -- ---- growth after growth
 
 pub front-none : (t : Table) → Front t t
-front-none t = record { interfaces = refl; rows = ([], sym (append-nil t.rows)); earlier = λ h. h; typed = λ h. h }
+front-none t = record { interfaces = refl; rows = ([], sym (append-nil t.rows)); earlier = λ h. h; typed = λ h. h; own = λ h. h; worlds = refl }
 
 pub front-trans : (a b c : Table) → Front a b → Front b c → Front a c
 front-trans a b c x y = record {
@@ -87,6 +88,8 @@ front-trans a b c x y = record {
   rows = (x.rows.0 ++ y.rows.0, y.rows.1 ∙ ap (λ ds. ds ++ y.rows.0) x.rows.1 ∙ append_assoc a.rows x.rows.0 y.rows.0);
   earlier = λ h. y.earlier (x.earlier h);
   typed = λ h. y.typed (x.typed h);
+  own = λ h. y.own (x.own h);
+  worlds = y.worlds ∙ x.worlds;
 }
 
 pub extends-none : (t : Table) → Extends t t []
@@ -114,24 +117,28 @@ adds-trans a b c ds es x y = record {
 }
 
 definitions-append : (is : List (List ℕ)) (ts : List Tree) (ds es : List Definition)
-    → definitions_from is [] ts (ds ++ es) ≡ definitions_from is [] ts ds ++ definitions_from is [] (references is ts ds) es
+    → definitions_from is ts (ds ++ es) ≡ definitions_from is ts ds ++ definitions_from is (references is ts ds) es
 definitions-append is ts [] es = refl
 definitions-append is ts (d ∷ ds) es =
-    ap (λ zs. definition_of is [] ts d ++ zs) (definitions-append is (ts ++ reference is ts d ∷ []) ds es)
-    ∙ sym (append_assoc (definition_of is [] ts d) (definitions_from is [] (ts ++ reference is ts d ∷ []) ds) (definitions_from is [] (references is (ts ++ reference is ts d ∷ []) ds) es))
+    ap (λ zs. definition_of is ts d ++ zs) (definitions-append is (ts ++ reference is ts d ∷ []) ds es)
+    ∙ sym (append_assoc (definition_of is ts d) (definitions_from is (ts ++ reference is ts d ∷ []) ds) (definitions_from is (references is (ts ++ reference is ts d ∷ []) ds) es))
 
 pub definitions-more : (old new : Table) (d : Definition) → new.interfaces ≡ old.interfaces → new.rows ≡ old.rows ++ d ∷ []
-    → table_definitions new ≡ table_definitions old ++ definition_of old.interfaces [] (table_trees old) d
+    → table_definitions new ≡ table_definitions old ++ definition_of old.interfaces (table_trees old) d
 unfolding table_definitions table_trees
 definitions-more old new d is rows =
     rw (is, rows) (definitions-append old.interfaces [] old.rows (d ∷ [])
-    ∙ ap (λ zs. definitions_from old.interfaces [] [] old.rows ++ zs) (append-nil (definition_of old.interfaces [] (references old.interfaces [] old.rows) d)))
+    ∙ ap (λ zs. definitions_from old.interfaces [] old.rows ++ zs) (append-nil (definition_of old.interfaces (references old.interfaces [] old.rows) d)))
 
 -- ---- one row more
 
 -- the table with one more row
 abbrev pub With : Table → Definition → Table → Type 0
-With old d new = new ≡ record { interfaces = old.interfaces; rows = old.rows ++ d ∷ [] }
+With old d new = new ≡ record { interfaces = old.interfaces; worlds = old.worlds; rows = old.rows ++ d ∷ [] }
+
+owned-more : (ds : List Definition) (d : Definition) → HasNoWorlds ds → is_world_function d ≡ false → HasNoWorlds (ds ++ d ∷ [])
+owned-more [] d h e = rw e refl
+owned-more (c ∷ ds) d h e = let s = split (not (is_world_function c)) _ h in both _ _ s.0 (owned-more ds d s.1 e)
 
 earlier-more : (n : ℕ) (ds : List Definition) (d : Definition) → IsTrue (are_earlier n ds) → definition_below (n + length ds) d ≡ true → IsTrue (are_earlier n (ds ++ d ∷ []))
 earlier-more n [] d h b = let e : n + 0 ≡ n = omega arith in both (definition_below n d) true (rw e at b) refl
@@ -147,8 +154,8 @@ module _ (old new : Table) (d : Definition) (is : With old d new) where
   pub with-names : new.interfaces ≡ old.interfaces
   with-names = ap (λ (t : Table). t.interfaces) is
 
-  pub with-front : definition_all (is_type old.rows) d ≡ true → Front old new
-  with-front typed =
+  pub with-front : definition_all (is_type old.rows) d ≡ true → is_world_function d ≡ false → Front old new
+  with-front typed own =
       let zero_plus : 0 + length old.rows ≡ length old.rows = omega arith in
       let below : definition_below (length old.rows) d ≡ true = definition-grows _ _ (type-below old.rows) d typed in
       record {
@@ -156,9 +163,11 @@ module _ (old new : Table) (d : Definition) (is : With old d new) where
         rows = (d ∷ [], with-rows);
         earlier = λ h. subst (λ (ds : List Definition). IsTrue (are_earlier 0 ds)) (sym with-rows) (earlier-more 0 old.rows d h (rw zero_plus below));
         typed = λ h. subst (λ (ds : List Definition). IsTrue (name_types ds)) (sym with-rows) (names-later old.rows d h typed);
+        own = λ h. subst (λ (ds : List Definition). HasNoWorlds ds) (sym with-rows) (owned-more old.rows d h own);
+        worlds = ap (λ (t : Table). t.worlds) is;
       }
 
-  pub with-definitions : table_definitions new ≡ table_definitions old ++ definition_of old.interfaces [] (table_trees old) d
+  pub with-definitions : table_definitions new ≡ table_definitions old ++ definition_of old.interfaces (table_trees old) d
   with-definitions = definitions-more old new d with-names with-rows
 
   pub with-stands : (id : TypeId) → id.0 ≡ length old.rows → is_there (type_of (Some d)) ≡ true → TreeStands new (val.Id id) (reference old.interfaces (table_trees old) d)
@@ -205,7 +214,7 @@ pub inner-lowers : (first old new : Table) (k : TypeDefKind) (id : TypeId) (tree
     → LowersInner first old k tree → Lowers first new (val.Id id) tree
 inner-lowers first old new k id tree at is isinner li =
     let l = li.lowers in
-    let front = with-front old new (inner_row k) is l.typed in
+    let front = with-front old new (inner_row k) is l.typed refl in
     let stands = with-stands old new (inner_row k) is id at refl in
     let own : unnamed new.rows (val.Id id) ≡ length old.rows ∷ [] = with-unnamed old new (inner_row k) is id at ∙ ap (λ (n : ℕ). n ∷ []) at in
     record {

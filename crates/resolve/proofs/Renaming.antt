@@ -6,7 +6,7 @@ use Rattle.std.proofs.lemmas.List.{map-append}
 use Rattle.wit_syntax.specs.Syntax.{Ty, Prim, Named, ListOf, OptionOf, TupleOf, ResultOf, Tys, none, more, MaybeTy, Absent, Present, Definition as Body, Alias, Record, Variant, Enumeration, FlagSet, Member, CaseOf}
 use Rattle.wit_syntax.specs.declared.ast.Primitive.{Primitive as Keyword}
 use Rattle.wit_syntax.specs.declared.ast.Primitive.TheVariants as keyword
-use Rattle.tables.specs.Package.{Key, key_of, Tree, PrimTree, TextTree, Reference, ListTree, RecordTree, VariantTree, FlagsTree, Fields, no_fields, field, Choices, no_choices, empty, holding, Plain, AsTuple, AsResult, AsEnum, Meaning, IsUse, IsType, IsFunction, NamedDefinition, read_val, read_choice, read_tuple, read_fields, read_params, read_cases, read_enum, read_kind, reference, reference_by, meaning_of, owner_name, named_by, definition_of, definitions_from}
+use Rattle.tables.specs.Package.{Key, key_of, Tree, PrimTree, TextTree, Reference, ListTree, RecordTree, VariantTree, FlagsTree, Fields, no_fields, field, Choices, no_choices, empty, holding, Plain, AsTuple, AsResult, AsEnum, Meaning, IsUse, IsType, IsFunction, NamedDefinition, read_val, read_choice, read_tuple, read_fields, read_params, read_cases, read_enum, read_kind, reference, reference_by, meaning_of, named_function, function_meaning as called, named_by, definition_of, definitions_from}
 use Rattle.tables.specs.declared.tables.ValType.{ValType}
 use Rattle.tables.specs.declared.tables.ValType.TheVariants as val
 use Rattle.tables.specs.declared.tables.TypeDefKind.{TypeDefKind}
@@ -140,23 +140,27 @@ module _ (to : List ℕ → List ℕ) (none-kept : to [] ≡ []) where
   named-same ns ts None k = refl
   named-same ns ts (Some n) k = let a = key-same ns n in let b = meaning-same ts k in cc
 
-  owner-same : (ns : List (List ℕ)) (o : Owner) → owner_name (map to ns) [] o ≡ to (owner_name ns [] o)
-  owner-same ns (owner.Interface i) = name-at ns i.0
-  owner-same ns (owner.World w) = sym none-kept
+  function-same : (ns : List (List ℕ)) (o : Owner) (name : List ℕ) (m : Meaning) → named_function (map to ns) o name (renamed_meaning m) ≡ map renamed_definition (named_function ns o name m)
+  function-same ns (owner.Interface i) name m = ap (λ (n : List ℕ). record { key = record { interface = n; name = name }; meaning = renamed_meaning m } ∷ []) (name-at ns i.0)
+  function-same ns (owner.World w) name m = refl
 
-  definition-same : (ns : List (List ℕ)) (ts : List Tree) (d : Definition) → definition_of (map to ns) [] (map renamed ts) d ≡ map renamed_definition (definition_of ns [] ts d)
+  definition-same : (ns : List (List ℕ)) (ts : List Tree) (d : Definition) → definition_of (map to ns) (map renamed ts) d ≡ map renamed_definition (definition_of ns ts d)
   definition-same ns ts (row.Type d) = named-same ns ts d.name d.kind
-  definition-same ns ts (row.Function f) = let a = owner-same ns f.owner in let b = params-same ts f.params in let c = if-same ts f.result in cc
+  definition-same ns ts (row.Function f) =
+      let b = params-same ts f.params in
+      let c = if-same ts f.result in
+      let means : called (map renamed ts) f ≡ renamed_meaning (called ts f) = cc in
+      ap (named_function (map to ns) f.owner f.name) means ∙ function-same ns f.owner f.name (called ts f)
 
-  pub definitions-same : (ns : List (List ℕ)) (ts : List Tree) (ds : List Definition) → definitions_from (map to ns) [] (map renamed ts) ds ≡ map renamed_definition (definitions_from ns [] ts ds)
+  pub definitions-same : (ns : List (List ℕ)) (ts : List Tree) (ds : List Definition) → definitions_from (map to ns) (map renamed ts) ds ≡ map renamed_definition (definitions_from ns ts ds)
   definitions-same ns ts [] = refl
   definitions-same ns ts (d ∷ ds) =
       let more : map renamed ts ++ reference (map to ns) (map renamed ts) d ∷ [] ≡ map renamed (ts ++ reference ns ts d ∷ []) =
       ap (λ (t : Tree). map renamed ts ++ t ∷ []) (row-same ns ts d) ∙ sym (map-append renamed ts (reference ns ts d ∷ [])) in
-      ap (λ (xs : List NamedDefinition). xs ++ definitions_from (map to ns) [] (map renamed ts ++ reference (map to ns) (map renamed ts) d ∷ []) ds) (definition-same ns ts d)
-      ∙ ap (λ (us : List Tree). map renamed_definition (definition_of ns [] ts d) ++ definitions_from (map to ns) [] us ds) more
-      ∙ ap (λ (xs : List NamedDefinition). map renamed_definition (definition_of ns [] ts d) ++ xs) (definitions-same ns (ts ++ reference ns ts d ∷ []) ds)
-      ∙ sym (map-append renamed_definition (definition_of ns [] ts d) (definitions_from ns [] (ts ++ reference ns ts d ∷ []) ds))
+      ap (λ (xs : List NamedDefinition). xs ++ definitions_from (map to ns) (map renamed ts ++ reference (map to ns) (map renamed ts) d ∷ []) ds) (definition-same ns ts d)
+      ∙ ap (λ (us : List Tree). map renamed_definition (definition_of ns ts d) ++ definitions_from (map to ns) us ds) more
+      ∙ ap (λ (xs : List NamedDefinition). map renamed_definition (definition_of ns ts d) ++ xs) (definitions-same ns (ts ++ reference ns ts d ∷ []) ds)
+      ∙ sym (map-append renamed_definition (definition_of ns ts d) (definitions_from ns (ts ++ reference ns ts d ∷ []) ds))
 
   -- ---- what the syntax stands for
 

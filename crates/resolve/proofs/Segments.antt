@@ -1,12 +1,13 @@
 -- The rows of a table, cut behind the row with a name that stands for a definition.
 use Rattle.std.proofs.Common.{◌≡◌, ℕ, Bool, true, false, not, List, [], ◌∷◌, ◌++◌, Option, None, Some, refl, ap, ◌∙◌, All}
-use Rattle.tables.specs.Package.{Tree, NamedDefinition, reference, references, meaning_of, key_of, named_function, definitions_from}
+use Rattle.tables.specs.Package.{Tree, NamedDefinition, reference, references, meaning_of, key_of}
 use Rattle.tables.specs.declared.tables.TypeDefKind.{TypeDefKind}
 use Rattle.tables.specs.declared.tables.TypeName.{TypeName}
 use Rattle.tables.specs.declared.tables.Definition.{Definition}
 use Rattle.tables.specs.declared.tables.Definition.TheVariants as row
 use Rattle.package_form.specs.Postfix.{is_unnamed}
 use Rattle.package_form.proofs.Lists.{all-head, all-tail}
+use Rattle.resolve.proofs.AllDefinitions.{all_from, any_function}
 
 -- the last of these rows has a name, if there is any
 abbrev pub ends_named : List Definition → Bool
@@ -31,7 +32,7 @@ TypeMeans ns Q trees (Some n) k = Q (record { key = key_of ns n; meaning = meani
 
 abbrev pub Means : List (List ℕ) → (NamedDefinition → Type 0) → List Tree → Definition → Type 0
 Means ns Q trees (row.Type d) = TypeMeans ns Q trees d.name d.kind
-Means ns Q trees (row.Function f) = Q (named_function ns [] trees f)
+Means ns Q trees (row.Function f) = Q (any_function ns trees f)
 
 module _ (ns : List (List ℕ)) (P Q : NamedDefinition → Type 0) (f : (x : NamedDefinition) → P x → Q x) where
   type-mono : (trees : List Tree) (o : Option TypeName) (k : TypeDefKind) → TypeMeans ns P trees o k → TypeMeans ns Q trees o k
@@ -44,12 +45,12 @@ module _ (ns : List (List ℕ)) (P Q : NamedDefinition → Type 0) (f : (x : Nam
 
 module _ (ns : List (List ℕ)) (Q : NamedDefinition → Type 0) where
   type-means : (trees : List Tree) (o : Option TypeName) (k : TypeDefKind) (ds : List Definition)
-      → All Q (definitions_from ns [] trees (row.Type (record { name = o; kind = k }) ∷ ds))
-      → TypeMeans ns Q trees o k × All Q (definitions_from ns [] (trees ++ reference ns trees (row.Type (record { name = o; kind = k })) ∷ []) ds)
+      → All Q (all_from ns trees (row.Type (record { name = o; kind = k }) ∷ ds))
+      → TypeMeans ns Q trees o k × All Q (all_from ns (trees ++ reference ns trees (row.Type (record { name = o; kind = k })) ∷ []) ds)
   type-means trees None k ds h = (tt, h)
   type-means trees (Some n) k ds h = (all-head Q _ _ h, all-tail Q _ _ h)
 
-  pub rows-mean : (trees : List Tree) (ds : List Definition) → All Q (definitions_from ns [] trees ds) → RowsAre ns (Means ns Q) trees ds
+  pub rows-mean : (trees : List Tree) (ds : List Definition) → All Q (all_from ns trees ds) → RowsAre ns (Means ns Q) trees ds
   rows-mean trees [] h = tt
   rows-mean trees (row.Type d ∷ ds) h = let x = type-means trees d.name d.kind ds h in (x.0, rows-mean (trees ++ reference ns trees (row.Type d) ∷ []) ds x.1)
   rows-mean trees (row.Function f ∷ ds) h = (all-head Q _ _ h, rows-mean (trees ++ reference ns trees (row.Function f) ∷ []) ds (all-tail Q _ _ h))
@@ -65,8 +66,8 @@ pub record Cut (ns : List (List ℕ)) (trees : List Tree) (ds : List Definition)
   pub front : List Definition
   pub back : List Definition
   pub parts : ds ≡ front ++ back
-  pub first : definitions_from ns [] trees front ≡ A
-  pub then_ : definitions_from ns [] (references ns trees front) back ≡ B
+  pub first : all_from ns trees front ≡ A
+  pub then_ : all_from ns (references ns trees front) back ≡ B
   pub ends : ends_named front ≡ true
 
 module _ (ns : List (List ℕ)) where
@@ -75,7 +76,7 @@ module _ (ns : List (List ℕ)) where
   ends-more d (e ∷ ds) u h = h
 
   with-named : (trees : List Tree) (d : Definition) (ds : List Definition) (x a : NamedDefinition) (A B : List NamedDefinition) → is_unnamed d ≡ false
-      → ((cs : List Definition) → definitions_from ns [] trees (d ∷ cs) ≡ x ∷ definitions_from ns [] (trees ++ reference ns trees d ∷ []) cs)
+      → ((cs : List Definition) → all_from ns trees (d ∷ cs) ≡ x ∷ all_from ns (trees ++ reference ns trees d ∷ []) cs)
       → x ≡ a → Cut ns (trees ++ reference ns trees d ∷ []) ds A B → Cut ns trees (d ∷ ds) (a ∷ A) B
   with-named trees d ds x a A B u one is c = record {
     front = d ∷ c.front;
@@ -87,7 +88,7 @@ module _ (ns : List (List ℕ)) where
   }
 
   with-unnamed : (trees : List Tree) (d : Definition) (ds : List Definition) (a : NamedDefinition) (A B : List NamedDefinition)
-      → ((cs : List Definition) → definitions_from ns [] trees (d ∷ cs) ≡ definitions_from ns [] (trees ++ reference ns trees d ∷ []) cs)
+      → ((cs : List Definition) → all_from ns trees (d ∷ cs) ≡ all_from ns (trees ++ reference ns trees d ∷ []) cs)
       → Cut ns (trees ++ reference ns trees d ∷ []) ds (a ∷ A) B → Cut ns trees (d ∷ ds) (a ∷ A) B
   with-unnamed trees d ds a A B none c = record {
     front = d ∷ c.front;
@@ -98,20 +99,20 @@ module _ (ns : List (List ℕ)) where
     ends = by c.front c.first c.ends;
   }
     where
-      by : (cs : List Definition) → definitions_from ns [] (trees ++ reference ns trees d ∷ []) cs ≡ a ∷ A → ends_named cs ≡ true → ends_named (d ∷ cs) ≡ true
+      by : (cs : List Definition) → all_from ns (trees ++ reference ns trees d ∷ []) cs ≡ a ∷ A → ends_named cs ≡ true → ends_named (d ∷ cs) ≡ true
       by [] e h = absurd (cc)
       by (c ∷ cs) e h = h
 
   type-cut : (trees : List Tree) (o : Option TypeName) (k : TypeDefKind) (ds : List Definition) (a : NamedDefinition) (A B : List NamedDefinition)
-      → ((ts : List Tree) (C : List NamedDefinition) → definitions_from ns [] ts ds ≡ C ++ B → Cut ns ts ds C B)
-      → definitions_from ns [] trees (row.Type (record { name = o; kind = k }) ∷ ds) ≡ (a ∷ A) ++ B
+      → ((ts : List Tree) (C : List NamedDefinition) → all_from ns ts ds ≡ C ++ B → Cut ns ts ds C B)
+      → all_from ns trees (row.Type (record { name = o; kind = k }) ∷ ds) ≡ (a ∷ A) ++ B
       → Cut ns trees (row.Type (record { name = o; kind = k }) ∷ ds) (a ∷ A) B
   type-cut trees None k ds a A B again e = with-unnamed trees _ ds a A B (λ cs. refl) (again _ (a ∷ A) e)
   type-cut trees (Some n) k ds a A B again e =
       with-named trees _ ds (record { key = key_of ns n; meaning = meaning_of trees k }) a A B refl (λ cs. refl) (heads e) (again _ A (tails e))
 
-  pub cut : (trees : List Tree) (ds : List Definition) (A B : List NamedDefinition) → definitions_from ns [] trees ds ≡ A ++ B → Cut ns trees ds A B
+  pub cut : (trees : List Tree) (ds : List Definition) (A B : List NamedDefinition) → all_from ns trees ds ≡ A ++ B → Cut ns trees ds A B
   cut trees ds [] B e = record { front = []; back = ds; parts = refl; first = refl; then_ = e; ends = refl }
   cut trees [] (a ∷ A) B e = absurd (cc)
   cut trees (row.Type d ∷ ds) (a ∷ A) B e = type-cut trees d.name d.kind ds a A B (λ ts C q. cut ts ds C B q) e
-  cut trees (row.Function f ∷ ds) (a ∷ A) B e = with-named trees (row.Function f) ds (named_function ns [] trees f) a A B refl (λ cs. refl) (heads e) (cut _ ds A B (tails e))
+  cut trees (row.Function f ∷ ds) (a ∷ A) B e = with-named trees (row.Function f) ds (any_function ns trees f) a A B refl (λ cs. refl) (heads e) (cut _ ds A B (tails e))

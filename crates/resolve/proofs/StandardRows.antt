@@ -4,7 +4,7 @@ use Rattle.std.specs.Prelude.{Bool, true, false, not, ◌&&◌, nat_lt, if◌the
 use Rattle.std.specs.List.{list_all}
 use Rattle.std.proofs.lemmas.Bool.{and_parts, false≢true}
 use Rattle.tables.specs.Tables.{option_all, kind_all, definition_all, is_type, is_within, is_standard_kind, is_standard, are_standard}
-use Rattle.tables.specs.Package.{Tree, TextTree, PrimTree, Reference, ListTree, VariantTree, RecordTree, FlagsTree, Fields, Choices, no_fields, field, no_choices, empty, holding, Meaning, IsUse, IsType, IsFunction, read_val, read_choice, read_tuple, read_fields, read_cases, read_enum, read_kind, meaning_of, references, named_by, definition_of, definitions_from}
+use Rattle.tables.specs.Package.{Tree, TextTree, PrimTree, Reference, ListTree, VariantTree, RecordTree, FlagsTree, Fields, Choices, no_fields, field, no_choices, empty, holding, Meaning, IsUse, IsType, IsFunction, read_val, read_choice, read_tuple, read_fields, read_cases, read_enum, read_kind, meaning_of, references, named_by}
 use Rattle.tables.specs.declared.tables.ValType.{ValType}
 use Rattle.tables.specs.declared.tables.TypeDefKind.{TypeDefKind}
 use Rattle.tables.specs.declared.tables.TypeDefKind.TheVariants as kind
@@ -17,6 +17,7 @@ use Rattle.package_form.specs.Postfix.{is_unnamed, unnamed, unnamed_if, unnamed_
 use Rattle.package_form.specs.Ids.{is_use}
 use Rattle.package_form.specs.Unused.{is_alias}
 use Rattle.resolve.proofs.Weighed.{nodes, nodes_in, nodes_if, total, sum-append, total-append, params-count, if-count, whole-count, val-count, IsTyped, Weights, sizes, Agree, by-name}
+use Rattle.resolve.proofs.AllDefinitions.{all_from, all_of}
 
 -- ---- types that no text has
 
@@ -103,7 +104,7 @@ not-alias : (k : TypeDefKind) → is_inner k ≡ true → is_alias k ≡ false
 not-alias (kind.Alias v) h = absurd (false≢true h)
 not-alias _ h = refl
 
-module _ (ns ws : List (List ℕ)) (rows rest : List Definition) where
+module _ (ns : List (List ℕ)) (rows rest : List Definition) where
   abbrev front : List Tree
   front = references ns [] rows
 
@@ -129,7 +130,7 @@ module _ (ns ws : List (List ℕ)) (rows rest : List Definition) where
   kind-whole (kind.Flags ns) h a = other (kind.Flags ns) h refl refl
 
   pub bad-whole : (d : Definition) → definition_all (is_type rows) d ≡ true → is_unnamed d ≡ false → aliased_by rows d ≡ []
-      → sizes faults (definition_of ns ws front d) ≡ bad_row d + total bad final (parts_of rows d)
+      → sizes faults (all_of ns front d) ≡ bad_row d + total bad final (parts_of rows d)
   bad-whole (row.Type d) h u a = by d.name refl
     where
       by : (m : Option TypeName) → d.name ≡ m → sizes faults (named_by ns front d.name d.kind) ≡ one_unless (is_standard_kind d.kind) + total bad final (parts rows d.kind)
@@ -147,7 +148,7 @@ module _ (ns ws : List (List ℕ)) (rows rest : List Definition) where
 pub agree : Agree faults
 agree = record {
   inner = λ trees k i. ap one_unless (standard-top trees k (not-use k i) (not-alias k i));
-  whole = λ ns ws rows rest d h u a. bad-whole ns ws rows rest d h u a;
+  whole = λ ns rows rest d h u a. bad-whole ns rows rest d h u a;
 }
 
 one-none : (b : Bool) (n : ℕ) → one_unless b + n ≡ 0 → (b ≡ true) × (n ≡ 0)
@@ -171,7 +172,7 @@ none-bad (d ∷ ds) h =
     bad-front d ds ∙ (ap (λ b. one_unless b + sum (map bad_row ds)) t.0 ∙ omega (arith, r))
 
 -- Whether rows are standard is told by their definitions by name.
-pub standard-by-name : (ns ms ws vs : List (List ℕ)) (rows others : List Definition) → IsTyped rows → Leaves rows [] → IsTyped others → Leaves others []
-    → definitions_from ns ws [] rows ≡ definitions_from ms vs [] others → are_standard rows ≡ true → are_standard others ≡ true
-standard-by-name ns ms ws vs rows others t p u q e h =
-    bad-none others (by-name faults agree ms vs others u q ∙ (ap (sizes faults) (sym e) ∙ (sym (by-name faults agree ns ws rows t p) ∙ none-bad rows h)))
+pub standard-by-name : (ns ms : List (List ℕ)) (rows others : List Definition) → IsTyped rows → Leaves rows [] → IsTyped others → Leaves others []
+    → all_from ns [] rows ≡ all_from ms [] others → are_standard rows ≡ true → are_standard others ≡ true
+standard-by-name ns ms rows others t p u q e h =
+    bad-none others (by-name faults agree ms others u q ∙ (ap (sizes faults) (sym e) ∙ (sym (by-name faults agree ns rows t p) ∙ none-bad rows h)))

@@ -1,6 +1,6 @@
 -- Interface by interface, the scopes of a table are those of its definitions.
 use Rattle.std.proofs.Common.{◌≡◌, ℕ, ◌+◌, ◌-◌, ◌≤◌, true, List, [], ◌∷◌, ◌++◌, map, flat_map, drop, length, ap, sym, subst, ◌∙◌, arith, length-append, All}
-use Rattle.tables.specs.Package.{references, definitions_from}
+use Rattle.tables.specs.Package.{references}
 use Rattle.tables.specs.declared.tables.Definition.{Definition}
 use Rattle.package_form.specs.Scope.{AreDistinct}
 use Rattle.package_form.specs.Ids.{interface_in, interfaces_from}
@@ -15,13 +15,14 @@ use Rattle.resolve.proofs.Forming.{IsTable, end-is, rows-are}
 use Rattle.resolve.proofs.Folding.{segment}
 use Rattle.resolve.proofs.RowNames.{key_name}
 use Rattle.resolve.proofs.Members.{take-distinct, drop-distinct}
+use Rattle.resolve.proofs.AllDefinitions.{all_from}
 
 abbrev pub HasDistinctKeys : Block → Type 0
 HasDistinctKeys b = AreDistinct (map key_name (block_definitions b))
 
 module _ (ns : List (List ℕ)) (rows : List Definition) (table : IsTable rows) (members : All AreDistinct (map row_members rows)) where
   pub scoped : (j : ℕ) (bs : List Block) (pre ds : List Definition) → rows ≡ pre ++ ds → ((k : ℕ) → j ≤ k → Every (IsElsewhere k) pre)
-      → definitions_from ns [] (references ns [] pre) ds ≡ blocks_definitions bs → are_used rows (length pre) [] ds ≡ true → AreBlocks ns j bs → Every HasDistinctKeys bs
+      → all_from ns (references ns [] pre) ds ≡ blocks_definitions bs → are_used rows (length pre) [] ds ≡ true → AreBlocks ns j bs → Every HasDistinctKeys bs
       → All AreDistinct (interfaces_scopes rows (length pre) (interfaces_from rows j (block_names bs)))
   scoped j [] pre ds e before defined used h keys = all-none AreDistinct
   scoped j (b ∷ bs) pre ds e before defined used h keys =

@@ -9,9 +9,8 @@ use Rattle.tables.specs.PackageNames.{PackageParts, name_parts, own_name}
 use Rattle.tables.specs.Names.{full_name}
 use Rattle.wit_syntax.specs.Syntax.{FileEntry, AnInterface, AWorld, File}
 use Rattle.wit_syntax.specs.FullNames.{has_full_names}
-use Rattle.tables.specs.Package.{NamedDefinition, definitions_from, interface_names as names_in}
+use Rattle.tables.specs.Package.{NamedDefinition, interface_names as names_in}
 use Rattle.tables.specs.declared.tables.Definition.{Definition}
-use Rattle.tables.specs.declared.tables.World.{World}
 use Rattle.tables.specs.declared.tables.Interface.{Interface}
 use Rattle.tables.specs.declared.tables.Resolve.{Resolve}
 use Rattle.resolve.specs.Order.{IsPlacement, is_among}
@@ -27,17 +26,18 @@ use Rattle.package_form.proofs.OneRow.{same-place}
 use Rattle.resolve.proofs.Packaging.{interface-name, name-in-order}
 use Rattle.resolve.proofs.Trees.{distinct-interfaces}
 use Rattle.resolve.proofs.FullNames.{interface-full, distinct-full, known-full}
-use Rattle.package_form.specs.Form.{IsInPackageForm, is_package_name, is_local, has_ids, are_interfaces, has_full_names as has_names}
+use Rattle.package_form.specs.Form.{have_items, IsInPackageForm, is_package_name, is_local, has_ids, are_interfaces, has_full_names as has_names}
 use Rattle.tables.proofs.Rows.{split, both}
 use Rattle.package_form.proofs.Postfix.{postfix-used}
 use Rattle.resolve.proofs.Referring.{if-refers, members-refer, body-refers}
 use Rattle.resolve.proofs.Locals.{is-that}
-use Rattle.package_form.specs.Ends.{end_of, rows_of, is_parted}
+use Rattle.package_form.specs.Ends.{interfaces_end, end_of, rows_of, is_parted}
 use Rattle.package_form.specs.Unused.{are_used}
 use Rattle.resolve.proofs.Homes.{IsPlace, MeansUse, MeansType, MeansFunction}
 use Rattle.resolve.proofs.Blocks.{Block, IsBlock, AreBlocks, blocks_definitions, block_names, used-inner}
 use Rattle.resolve.proofs.Forming.{IsTable}
 use Rattle.resolve.proofs.Folding.{formed}
+use Rattle.resolve.proofs.AllDefinitions.{all_from, all-are, none-of}
 
 -- ---- names
 
@@ -50,7 +50,7 @@ own-some p n = by p.namespace
 
 -- rows are parted, and stand in their interfaces, whatever the names of these
 parted-so : (count : ℕ) (rows : List Definition) (start j : ℕ) (ns ms : List (List ℕ)) → length ns ≡ length ms
-    → is_parted count start (interfaces_from rows j ns) ≡ is_parted count start (interfaces_from rows j ms)
+    → is_parted count start (interfaces_from rows j ns) [] ≡ is_parted count start (interfaces_from rows j ms) []
 parted-so count rows start j [] [] e = refl
 parted-so count rows start j [] (m ∷ ms) e = absurd (omega (arith, e))
 parted-so count rows start j (n ∷ ns) [] e = absurd (omega (arith, e))
@@ -233,9 +233,6 @@ some-interface [] some h = absurd (some refl)
 some-interface (AnInterface n xs ∷ es) some h = omega arith
 some-interface (AWorld at n ws ∷ es) some h = absurd (h at n ws (contains-here (AWorld at n ws) es))
 
-no-worlds : (ws : List World) → ws ≡ [] → map (λ (w : World). w.name) ws ≡ []
-no-worlds ws e = ap (map (λ (w : World). w.name)) e
-
 module _ (f : File) (r : Resolve) (h : HasNoFaults f) (full : IsTrue (has_full_names f)) (p : IsPackageOf f r) where
   abbrev pub trees : List InterfaceTree
   trees = full_interfaces f
@@ -279,9 +276,9 @@ module _ (f : File) (r : Resolve) (h : HasNoFaults f) (full : IsTrue (has_full_n
       (all-blocks trees types order p.resolves.placed (distinct-full (package_named f) (interfaces f) (distinct-interfaces f h)) some-name
       (known-full (package_named f) (interfaces f) h.known))
 
-  pub defined : definitions_from (names_in r) [] [] r.definitions ≡ blocks_definitions blocks
+  pub defined : all_from (names_in r) [] r.definitions ≡ blocks_definitions blocks
   defined =
-      ap (λ (ws : List (List ℕ)). definitions_from (names_in r) ws [] r.definitions) (sym (no-worlds r.worlds p.worlds))
+      sym (all-are (names_in r) [] r.definitions (none-of r.definitions r.worlds p.worlds p.items))
       ∙ p.resolves.definitions ∙ sym (definitions-are trees types order)
 
   pub used : are_used r.definitions 0 [] r.definitions ≡ true
@@ -297,25 +294,25 @@ module _ (f : File) (r : Resolve) (h : HasNoFaults f) (full : IsTrue (has_full_n
   count =
       length-map r.interfaces (λ (i : Interface). i.name) ∙ sym (length-map r.interfaces (full_name r)) ∙ ap length (named ∙ sym (names-are trees types order))
 
-  in-place : (is_parted (length r.definitions) 0 made ≡ true) × (are_interfaces r.definitions 0 0 made ≡ true)
+  in-place : (is_parted (length r.definitions) 0 made [] ≡ true) × (are_interfaces r.definitions 0 0 made ≡ true)
   in-place = formed (names_in r) r.definitions table 0 blocks [] r.definitions refl (λ k l. tt) defined used are-all
 
-  some-interfaces : r.interfaces ≢ []
-  some-interfaces e =
-      let none : length (names_in r) ≡ 0 = ap (λ (is : List Interface). length (map (full_name r) is)) e in
+  some-interfaces : 0 < length r.interfaces
+  some-interfaces =
+      let counted : length (names_in r) ≡ length r.interfaces = length-map r.interfaces (full_name r) in
       let many : 0 < length trees = omega (arith, some-interface f.entries h.interfaces.some alone, length-map (interfaces f) (full_interface (package_named f))) in
       let uses : 0 < length (interface_uses trees) = omega (arith, many, length-map trees (uses_of_interface (interface_names trees))) in
       let placed = some-order (interface_uses trees) order p.resolves.placed uses in
-      absurd (omega (arith, none, placed, ap length named, length-map order (λ (k : ℕ). (interface_at trees k).name)))
+      omega (arith, counted, placed, ap length named, length-map order (λ (k : ℕ). (interface_at trees k).name))
 
   pub has-form : IsInPackageForm r
   has-form = record {
-    some = some-interfaces;
-    worlds = p.worlds;
+    some = omega (arith, some-interfaces);
     alone = ap length p.packages;
     names = have-names;
-    parted = ap (is_parted (length r.definitions) 0) p.ids ∙ parted-so (length r.definitions) r.definitions 0 0 (labels_of r.interfaces) (block_names blocks) count ∙ in-place.0;
+    parted = ap (is_parted (length r.definitions) 0 r.interfaces) p.worlds ∙ ap (λ (is : List Interface). is_parted (length r.definitions) 0 is []) p.ids ∙ parted-so (length r.definitions) r.definitions 0 0 (labels_of r.interfaces) (block_names blocks) count ∙ in-place.0;
     interfaces = ap (are_interfaces r.definitions 0 0) p.ids ∙ standing-so r.definitions 0 0 0 (labels_of r.interfaces) (block_names blocks) count ∙ in-place.1;
+    worlds = ap (have_items r.definitions 0 (interfaces_end 0 r.interfaces)) p.worlds;
     postfix = p.postfix;
     entries = p.within;
   }

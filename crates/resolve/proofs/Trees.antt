@@ -5,7 +5,7 @@ use Rattle.std.proofs.lemmas.List.{length-map, get_or_default}
 use Rattle.std.proofs.lemmas.Simd.{map-map}
 use Rattle.atoms.specs.Label.{IsLabel, is_label}
 use Rattle.tables.specs.PackageNames.{PackageParts, own_name}
-use Rattle.tables.specs.Names.{full_name_in}
+use Rattle.tables.specs.Names.{full_name_in, world_name}
 use Rattle.std.specs.Option.{option_map}
 use Rattle.std.specs.String.{string_bytes}
 use Rattle.std.specs.declared.string.String.{String}
@@ -17,13 +17,13 @@ use Rattle.wit_syntax.specs.declared.ast.Interface.{Interface as Syntax}
 use Rattle.wit_syntax.specs.declared.ast.PackageId.{PackageId}
 use Rattle.resolve.specs.Order.{IsPlacement}
 use Rattle.package_form.specs.Scope.{AreDistinct}
-use Rattle.tables.specs.Package.{package_of, interface_names as names_in, world_names, definitions_from}
+use Rattle.tables.specs.Package.{WorldMeaning, worlds, trees, world_meaning, references, package_of, interface_names as names_in, definitions_from}
 use Rattle.resolve.specs.Resolved.{interface_meaning}
 use Rattle.resolve.specs.Declarations.{UsedItem, InterfaceTree, interface_of, interfaces, package_named, full_use, full_interface, full_interfaces, no_interface, interface_at, interface_name, interface_names, file_name}
 use Rattle.package_form.specs.Entries.{Table, table_of, labels_of, type_entries}
 use Rattle.resolve.specs.Resolves.{Resolves, full_names, package_in, names_in_order, uses_of_interface, IsKnownUse, HasKnownNames, interface_uses, type_uses, PassesLimit, IsOfInterfaces, HasNoFaults, HasDistinctNames, HasCycle, IsPackageOf, ResolveRefuses}
 use Rattle.package_form.specs.Ids.{interfaces_from, interfaces_in}
-use Rattle.resolve.specs.Building.{DefinesPackage, table_definitions}
+use Rattle.resolve.specs.Building.{HasNoWorlds, DefinesPackage, table_definitions}
 use Rattle.resolve.specs.Finished.{IsFinished, header}
 use Rattle.resolve.specs.Knowing.{RefusesUnknown}
 use Rattle.resolve.specs.Shape.{HasInterfaces}
@@ -32,11 +32,11 @@ use Rattle.resolve.specs.Sources.{interface_entry, interface_syntax}
 use Rattle.tables.specs.declared.error.ResolveError.{ResolveError}
 use Rattle.tables.specs.declared.error.ResolveError.TheVariants as error
 use Rattle.tables.specs.declared.tables.Interface.{Interface}
-use Rattle.tables.specs.declared.tables.World.{World}
 use Rattle.tables.specs.declared.tables.Definition.{Definition}
 use Rattle.tables.specs.declared.tables.Resolve.{Resolve}
 use Rattle.package_form.proofs.Lists.{all-contained, contains-map, contains-unmap, contains-here, contains-later, all-head}
 use Rattle.resolve.proofs.Packaging.{interface-name}
+use Rattle.resolve.proofs.AllDefinitions.{items-none}
 use Rattle.resolve.proofs.Placed.{same-map, same-flat}
 use Rattle.resolve.proofs.FullNames.{uses-full, interface-full}
 use Rattle.resolve.proofs.Renaming.{renamed_definition, used_under, interface_under, definitions-same, meaning-renamed, flat-renamed}
@@ -148,10 +148,10 @@ module _ (p : PackageParts) (is : List InterfaceTree) (order : List ℕ) (orders
       sym (meaning-renamed (full_if p) (none-full p) (interface_at is k) (get_or orders k []))
       ∙ ap (λ (i : InterfaceTree). interface_meaning i (get_or orders k [])) (under-is p (interface_at is k) (some-here k l) (some-used k l) ∙ sym (interface-full p is k l))
 
-  definitions-ordered : definitions_from (full_names p t) [] [] t.rows ≡ flat_map (λ k. interface_meaning (interface_at (map (full_interface p) is) k) (get_or orders k [])) order
+  definitions-ordered : definitions_from (full_names p t) [] t.rows ≡ flat_map (λ k. interface_meaning (interface_at (map (full_interface p) is) k) (get_or orders k [])) order
   unfolding table_definitions
   definitions-ordered =
-      ap (λ (ns : List (List ℕ)). definitions_from ns [] [] t.rows) (sym (fulls-are p t.interfaces some-ordered))
+      ap (λ (ns : List (List ℕ)). definitions_from ns [] t.rows) (sym (fulls-are p t.interfaces some-ordered))
       ∙ definitions-same (full_if p) (none-full p) t.interfaces [] t.rows
       ∙ ap (map (renamed_definition (full_if p) (none-full p))) d.definitions
       ∙ flat-renamed (full_if p) (none-full p) (λ k. interface_meaning (interface_at is k) (get_or orders k [])) order
@@ -167,6 +167,7 @@ module _ (p : PackageParts) (is : List InterfaceTree) (order : List ℕ) (orders
         let m : k < length is = omega (arith, l, length-map is (full_interface p)) in
         subst (λ (i : InterfaceTree). IsPlacement (type_uses i) (get_or orders k [])) (sym (interface-full p is k m)) (types k m);
     names = names-ordered;
+    worlds = ap (map (λ w. world_meaning (full_names p t) (references (full_names p t) [] t.rows) t.rows (own_name p w.name) w)) d.worlds;
     definitions = definitions-ordered;
   }
 
@@ -179,6 +180,7 @@ module _ (p : PackageParts) (is : List InterfaceTree) (order : List ℕ) (orders
       resolves = subst (λ (ts : List InterfaceTree). Resolves (map (full_interface (package_named f)) ts) (package_in (package_named f) t)) same
           (subst (λ (q : PackageParts). Resolves (map (full_interface q) is) (package_in q t)) named table-resolves);
       postfix = d.postfix;
+      items = items-none t.rows t.worlds d.worlds d.own;
       earlier = d.earlier;
       typed = d.typed;
       passes = q.1;
@@ -205,7 +207,7 @@ module _ (id : PackageId) (t : Table) (r : Resolve) (f : IsFinished id t r) wher
   labels-same = ap labels_of f.interfaces ∙ names-kept t.rows 0 t.interfaces
 
   table-same : table_of r ≡ t
-  table-same = rw (labels-same, f.definitions) refl
+  table-same = rw (labels-same, f.worlds, f.definitions) refl
 
   names-same : names_in r ≡ full_names (header id) t
   names-same =
@@ -213,17 +215,24 @@ module _ (id : PackageId) (t : Table) (r : Resolve) (f : IsFinished id t r) wher
       ∙ ap (map (λ (x : Interface). full_name_in (slice_get (header id ∷ []) x.«package».0) x.name)) f.interfaces
       ∙ full-kept (header id) t.rows 0 t.interfaces
 
-  package-same : package_of r ≡ package_in (header id) t
-  package-same =
-      let worlds : world_names r ≡ [] = ap (λ (ws : List World). map (λ (w : World). w.name) ws) f.worlds in
-      rw (names-same, worlds, f.definitions) refl
+  package-same : t.worlds ≡ [] → package_of r ≡ package_in (header id) t
+  package-same none =
+      let here : worlds r ≡ [] = ap (map (λ w. world_meaning (names_in r) (trees r) r.definitions (world_name r w) w)) (f.worlds ∙ none) in
+      let there : (package_in (header id) t).worlds ≡ [] =
+      ap (map (λ w. world_meaning (full_names (header id) t) (references (full_names (header id) t) [] t.rows) t.rows (own_name (header id) w.name) w)) none in
+      let definitions : (package_of r).definitions ≡ (package_in (header id) t).definitions =
+      ap (λ (ns : List (List ℕ)). definitions_from ns [] r.definitions) names-same ∙ ap (definitions_from (full_names (header id) t) []) f.definitions in
+      ap (λ (ns : List (List ℕ)). record { interfaces = ns; worlds = worlds r; definitions = (package_of r).definitions }) names-same
+      ∙ ap (λ (ws : List WorldMeaning). record { interfaces = full_names (header id) t; worlds = ws; definitions = (package_of r).definitions }) (here ∙ sym there)
+      ∙ ap (λ ds. record { interfaces = full_names (header id) t; worlds = (package_in (header id) t).worlds; definitions = ds }) definitions
 
-  pub is-package : (g : File) → header id ≡ package_named g → Resolves (full_interfaces g) (package_in (package_named g) t) → IsPostfix t.rows → IsPackageOf g r
-  is-package g named resolves postfix = record {
+  pub is-package : (g : File) → header id ≡ package_named g → Resolves (full_interfaces g) (package_in (package_named g) t) → IsPostfix t.rows → t.worlds ≡ [] → HasNoWorlds t.rows → IsPackageOf g r
+  is-package g named resolves postfix none own = record {
     packages = f.packages ∙ ap (λ (p : PackageParts). p ∷ []) named;
-    worlds = f.worlds;
-    resolves = subst (Resolves (full_interfaces g)) (ap (λ (p : PackageParts). package_in p t) (sym named) ∙ sym package-same) resolves;
+    worlds = f.worlds ∙ none;
+    resolves = subst (Resolves (full_interfaces g)) (ap (λ (p : PackageParts). package_in p t) (sym named) ∙ sym (package-same none)) resolves;
     postfix = subst IsPostfix (sym f.definitions) postfix;
+    items = items-none r.definitions r.worlds (f.worlds ∙ none) (subst HasNoWorlds (sym f.definitions) own);
     ids = f.interfaces ∙ ap interfaces_in (sym table-same);
     within = subst (λ (x : Table). type_entries x ≤ 65535) (sym table-same) f.within;
   }

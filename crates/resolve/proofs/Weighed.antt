@@ -1,6 +1,6 @@
 -- What rows in postfix order weigh is told by their definitions by name: each inner type of a tree is one row.
 use Rattle.std.proofs.Common.{◌≡◌, ◌<◌, ◌+◌, ℕ, zero, suc, List, [], ◌∷◌, ◌++◌, length, map, flat_map, refl, sym, ap, subst, ◌∙◌, arith, append_assoc, append-nil, length-append, get_or, slice_get}
-use Rattle.std.specs.Prelude.{Bool, true, false, not, sum, Option, None, Some, is_some}
+use Rattle.std.specs.Prelude.{true, false, not, sum, Option, None, Some, is_some}
 use Rattle.std.specs.List.{list_all}
 use Rattle.std.specs.Option.{option_map}
 use Rattle.std.proofs.lemmas.Bool.{and_parts, false≢true}
@@ -9,7 +9,7 @@ use Rattle.std.proofs.Math.Seq.{get_or-append_seam}
 use Rattle.std.proofs.lemmas.List.Sums.{sum_by-append}
 use Rattle.tables.specs.Tables.{option_all, kind_all, definition_all, is_type, type_of, is_there}
 use Rattle.canonical_abi.specs.Labelled.{ok_label, error_label}
-use Rattle.tables.specs.Package.{Tree, TextTree, PrimTree, Reference, ListTree, VariantTree, RecordTree, FlagsTree, Fields, Choices, no_fields, field, no_choices, empty, holding, Meaning, read_val, read_choice, read_tuple, read_fields, read_params, read_cases, read_enum, read_kind, reference, reference_by, references, key_of, definition_of, definitions_from, NamedDefinition}
+use Rattle.tables.specs.Package.{Tree, TextTree, PrimTree, Reference, ListTree, VariantTree, RecordTree, FlagsTree, Fields, Choices, no_fields, field, no_choices, empty, holding, Meaning, read_val, read_choice, read_tuple, read_fields, read_params, read_cases, read_enum, read_kind, reference, reference_by, references, key_of, NamedDefinition}
 use Rattle.tables.specs.declared.tables.ValType.{ValType}
 use Rattle.tables.specs.declared.tables.ValType.TheVariants as val
 use Rattle.tables.specs.declared.tables.TypeDefKind.{TypeDefKind}
@@ -25,6 +25,7 @@ use Rattle.package_form.specs.Postfix.{is_unnamed, is_unnamed_row, one_if, unnam
 use Rattle.package_form.specs.Ids.{is_use}
 use Rattle.package_form.specs.Unused.{is_alias}
 use Rattle.resolve.proofs.Blocks.{references-append, references-length}
+use Rattle.resolve.proofs.AllDefinitions.{all_from, all_of}
 
 -- ---- by names
 
@@ -139,11 +140,11 @@ trees-kept ns trees [] n l = refl
 trees-kept ns trees (d ∷ ds) n l =
     trees-kept ns (trees ++ reference ns trees d ∷ []) ds n (grind (arith, length-append)) ∙ get_or_append_left trees (reference ns trees d ∷ []) TextTree n l
 
-pub definitions-append : (ns ws : List (List ℕ)) (trees : List Tree) (ds : List Definition) (d : Definition) → definitions_from ns ws trees (ds ++ d ∷ []) ≡ definitions_from ns ws trees ds ++ definition_of ns ws (references ns trees ds) d
-definitions-append ns ws trees [] d = append-nil (definition_of ns ws trees d)
-definitions-append ns ws trees (c ∷ ds) d =
-    ap (λ xs. definition_of ns ws trees c ++ xs) (definitions-append ns ws (trees ++ reference ns trees c ∷ []) ds d)
-    ∙ sym (append_assoc (definition_of ns ws trees c) _ _)
+pub definitions-append : (ns : List (List ℕ)) (trees : List Tree) (ds : List Definition) (d : Definition) → all_from ns trees (ds ++ d ∷ []) ≡ all_from ns trees ds ++ all_of ns (references ns trees ds) d
+definitions-append ns trees [] d = append-nil (all_of ns trees d)
+definitions-append ns trees (c ∷ ds) d =
+    ap (λ xs. all_of ns trees c ++ xs) (definitions-append ns (trees ++ reference ns trees c ∷ []) ds d)
+    ∙ sym (append_assoc (all_of ns trees c) _ _)
 
 -- a row with a name is referred to by it
 pub name-tree : (ns : List (List ℕ)) (trees : List Tree) (ds : List Definition) (k : ℕ) (d : TypeDef) (n : TypeName) → slice_get ds k ≡ Some (row.Type d) → d.name ≡ Some n
@@ -213,8 +214,8 @@ sizes s ds = sum (map (λ d. s.size d.meaning) ds)
 -- a row without a name weighs what its tree's top does; one with a name what its definition does, but for its unnamed parts
 pub record Agree (s : Weights) : Type 0 where
   pub inner : (trees : List Tree) (k : TypeDefKind) → is_inner k ≡ true → s.row (inner_row k) ≡ s.node (read_kind trees k)
-  pub whole : (ns ws : List (List ℕ)) (rows rest : List Definition) (d : Definition) → definition_all (is_type rows) d ≡ true → is_unnamed d ≡ false → aliased_by rows d ≡ []
-      → sizes s (definition_of ns ws (references ns [] rows) d) ≡ s.row d + total s.node (references ns [] (rows ++ rest)) (parts_of rows d)
+  pub whole : (ns : List (List ℕ)) (rows rest : List Definition) (d : Definition) → definition_all (is_type rows) d ≡ true → is_unnamed d ≡ false → aliased_by rows d ≡ []
+      → sizes s (all_of ns (references ns [] rows) d) ≡ s.row d + total s.node (references ns [] (rows ++ rest)) (parts_of rows d)
 
 module _ (s : Weights) (a : Agree s) where
   sizes-append : (xs ys : List NamedDefinition) → sizes s (xs ++ ys) ≡ sizes s xs + sizes s ys
@@ -224,14 +225,14 @@ module _ (s : Weights) (a : Agree s) where
   rows-append xs d = ap sum (map-append s.row xs (d ∷ [])) ∙ (sum-append (map s.row xs) (s.row d ∷ []) ∙ omega arith)
 
   -- Rows in postfix order weigh what their definitions by name do, and what is still to be used.
-  pub weighed : (ns ws : List (List ℕ)) (all : List Definition) → IsTyped all → (rows : List Definition) (unused : List ℕ) → Leaves rows unused → (rest : List Definition) → all ≡ rows ++ rest
-      → sum (map s.row rows) ≡ sizes s (definitions_from ns ws [] rows) + total s.node (references ns [] all) unused
-  weighed ns ws all typed _ _ begin rest e = refl
-  weighed ns ws all typed _ _ (inner rows unused k i before) rest e =
+  pub weighed : (ns : List (List ℕ)) (all : List Definition) → IsTyped all → (rows : List Definition) (unused : List ℕ) → Leaves rows unused → (rest : List Definition) → all ≡ rows ++ rest
+      → sum (map s.row rows) ≡ sizes s (all_from ns [] rows) + total s.node (references ns [] all) unused
+  weighed ns all typed _ _ begin rest e = refl
+  weighed ns all typed _ _ (inner rows unused k i before) rest e =
       let flat : all ≡ rows ++ inner_row k ∷ rest = e ∙ append_assoc rows (inner_row k ∷ []) rest in
       let trees : List Tree = references ns [] rows in
       let final : List Tree = references ns [] all in
-      let so-far = weighed ns ws all typed rows (unused ++ parts rows k) before (inner_row k ∷ rest) flat in
+      let so-far = weighed ns all typed rows (unused ++ parts rows k) before (inner_row k ∷ rest) flat in
       let count : (v : ValType) → is_type rows v ≡ true → nodes s.node (read_val trees v) ≡ total s.node final (unnamed rows v) =
       λ v h. subst (λ (xs : List Definition). nodes s.node (read_val trees v) ≡ total s.node (references ns [] xs) (unnamed rows v)) (sym flat) (val-count s.node ns rows (inner_row k ∷ rest) v h) in
       let here : get_or final (length rows) TextTree ≡ read_kind trees k =
@@ -243,21 +244,21 @@ module _ (s : Weights) (a : Agree s) where
       let last = total-append s.node final unused (length rows ∷ []) in
       let alone : total s.node final (length rows ∷ []) ≡ 0 + nodes s.node (get_or final (length rows) TextTree) = refl in
       let more = rows-append rows (inner_row k) in
-      let same : sizes s (definitions_from ns ws [] (rows ++ inner_row k ∷ [])) ≡ sizes s (definitions_from ns ws [] rows) + 0 =
-      ap (sizes s) (definitions-append ns ws [] rows (inner_row k)) ∙ sizes-append (definitions_from ns ws [] rows) [] in
+      let same : sizes s (all_from ns [] (rows ++ inner_row k ∷ [])) ≡ sizes s (all_from ns [] rows) + 0 =
+      ap (sizes s) (definitions-append ns [] rows (inner_row k)) ∙ sizes-append (all_from ns [] rows) [] in
       omega (arith, so-far, one, top, split, last, alone, more, same)
-  weighed ns ws all typed _ _ (whole rows d u b before) rest e =
+  weighed ns all typed _ _ (whole rows d u b before) rest e =
       let flat : all ≡ rows ++ d ∷ rest = e ∙ append_assoc rows (d ∷ []) rest in
       let final : List Tree = references ns [] all in
-      let so-far = weighed ns ws all typed rows (parts_of rows d) before (d ∷ rest) flat in
-      let one : sizes s (definition_of ns ws (references ns [] rows) d) ≡ s.row d + total s.node final (parts_of rows d) =
-      subst (λ (xs : List Definition). sizes s (definition_of ns ws (references ns [] rows) d) ≡ s.row d + total s.node (references ns [] xs) (parts_of rows d)) (sym flat)
-      (a.whole ns ws rows (d ∷ rest) d (typed rows d rest flat) u b) in
+      let so-far = weighed ns all typed rows (parts_of rows d) before (d ∷ rest) flat in
+      let one : sizes s (all_of ns (references ns [] rows) d) ≡ s.row d + total s.node final (parts_of rows d) =
+      subst (λ (xs : List Definition). sizes s (all_of ns (references ns [] rows) d) ≡ s.row d + total s.node (references ns [] xs) (parts_of rows d)) (sym flat)
+      (a.whole ns rows (d ∷ rest) d (typed rows d rest flat) u b) in
       let more = rows-append rows d in
-      let same : sizes s (definitions_from ns ws [] (rows ++ d ∷ [])) ≡ sizes s (definitions_from ns ws [] rows) + sizes s (definition_of ns ws (references ns [] rows) d) =
-      ap (sizes s) (definitions-append ns ws [] rows d) ∙ sizes-append (definitions_from ns ws [] rows) (definition_of ns ws (references ns [] rows) d) in
+      let same : sizes s (all_from ns [] (rows ++ d ∷ [])) ≡ sizes s (all_from ns [] rows) + sizes s (all_of ns (references ns [] rows) d) =
+      ap (sizes s) (definitions-append ns [] rows d) ∙ sizes-append (all_from ns [] rows) (all_of ns (references ns [] rows) d) in
       omega (arith, so-far, one, more, same)
 
   -- Tables in postfix order with the same definitions by name weigh the same.
-  pub by-name : (ns ws : List (List ℕ)) (rows : List Definition) → IsTyped rows → Leaves rows [] → sum (map s.row rows) ≡ sizes s (definitions_from ns ws [] rows)
-  by-name ns ws rows typed p = let c = weighed ns ws rows typed rows [] p [] (sym (append-nil rows)) in omega (arith, c)
+  pub by-name : (ns : List (List ℕ)) (rows : List Definition) → IsTyped rows → Leaves rows [] → sum (map s.row rows) ≡ sizes s (all_from ns [] rows)
+  by-name ns rows typed p = let c = weighed ns rows typed rows [] p [] (sym (append-nil rows)) in omega (arith, c)

@@ -44,7 +44,7 @@ header p = record { namespace = p.namespace; name = p.name; version = option_map
 
 pub record IsFinished (p : PackageId) (t : Table) (r : Resolve) : Type 0 where
   pub packages : r.packages ≡ header p ∷ []
-  pub worlds : r.worlds ≡ []
+  pub worlds : r.worlds ≡ t.worlds
   pub interfaces : r.interfaces ≡ interfaces_in t
   pub definitions : r.definitions ≡ t.rows
   pub within : type_entries t ≤ 65535

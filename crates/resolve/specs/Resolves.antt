@@ -9,9 +9,12 @@ use Rattle.tables.specs.PackageNames.{PackageParts, own_name}
 use Rattle.package_form.specs.Scope.{AreDistinct, IsDuplicate}
 use Rattle.resolve.specs.Order.{IsPlacement, IsCycle}
 use Rattle.tables.specs.Tables.{are_earlier, name_types, are_standard}
-use Rattle.tables.specs.Package.{Package, definitions_from, package_of}
+use Rattle.tables.specs.Package.{Package, references, definitions_from, world_meaning, package_of}
 use Rattle.package_form.specs.Entries.{Table, table_of, type_entries}
-use Rattle.package_form.specs.Ids.{interfaces_in}
+use Rattle.package_form.specs.Ids.{is_world_function, places_where, interfaces_in}
+use Rattle.package_form.specs.Form.{functions_of}
+use Rattle.tables.specs.declared.tables.World.{World}
+use Rattle.tables.specs.declared.tables.Definition.{Definition}
 use Rattle.package_form.specs.Postfix.{IsPostfix}
 use Rattle.resolve.specs.Declarations.{UsedItem, TypeItem, FunctionItem, InterfaceTree, interfaces, full_interfaces, package_named, interface_at, interface_names, use_interface, type_names, own_types, named_definition, named_function, scopes}
 use Rattle.resolve.specs.Resolved.{interface_meaning}
@@ -57,6 +60,7 @@ pub record Resolves (is : List InterfaceTree) (p : Package) : Type 0 where
   pub types : ℕ → List ℕ
   pub types_placed : (k : ℕ) → k < length is → IsPlacement (type_uses (interface_at is k)) (types k)
   pub names : p.interfaces ≡ names_in_order is order
+  pub worlds : p.worlds ≡ []
   pub definitions : p.definitions ≡ flat_map (λ k. interface_meaning (interface_at is k) (types k)) order
 
 -- the full names of a table's interfaces
@@ -65,7 +69,15 @@ full_names p t = map (own_name p) t.interfaces
 
 -- the package of this name that a table stands for
 abbrev pub package_in : PackageParts → Table → Package
-package_in p t = record { interfaces = full_names p t; definitions = definitions_from (full_names p t) [] [] t.rows }
+package_in p t = record {
+  interfaces = full_names p t;
+  worlds = map (λ w. world_meaning (full_names p t) (references (full_names p t) [] t.rows) t.rows (own_name p w.name) w) t.worlds;
+  definitions = definitions_from (full_names p t) [] t.rows;
+}
+
+-- the functions of worlds among these rows are the worlds' items, in order
+abbrev pub HasItems : List Definition → List World → Type 0
+HasItems rows ws = places_where is_world_function 0 rows ≡ flat_map functions_of ws
 
 -- ---- limits
 
@@ -167,6 +179,7 @@ pub record IsPackageOf (f : File) (r : Resolve) : Type 0 where
   pub worlds : r.worlds ≡ []
   pub resolves : Resolves (full_interfaces f) (package_of r)
   pub postfix : IsPostfix r.definitions
+  pub items : HasItems r.definitions r.worlds
   pub ids : r.interfaces ≡ interfaces_in (table_of r)
   pub within : type_entries (table_of r) ≤ 65535
 
@@ -185,6 +198,7 @@ pub record IsTooLarge (f : File) : Type 0 where
   pub table : Table
   pub resolves : Resolves (full_interfaces f) (package_in (package_named f) table)
   pub postfix : IsPostfix table.rows
+  pub items : HasItems table.rows table.worlds
   pub earlier : IsTrue (are_earlier 0 table.rows)
   pub typed : IsTrue (name_types table.rows)
   pub passes : PassesLimit table

@@ -19,16 +19,17 @@ pub struct Builder {
 
 impl Model for Builder {
     ghost use Rattle.package_form.specs.Entries.{Table};
+    ghost use Rattle.std.specs.Prelude.{[]};
 
     ghost Value = { Table };
 
-    ghost view = { λ b. record { interfaces = b.interfaces.items; rows = b.rows.items } };
+    ghost view = { λ b. record { interfaces = b.interfaces.items; worlds = []; rows = b.rows.items } };
 }
 
 impl Builder {
     /// A table of no definitions.
     pub fn new(alloc: Global, interfaces: Vec<Label>) -> Self
-        ensures { result ≡ record { interfaces = interfaces.items; rows = [] } }
+        ensures { result ≡ record { interfaces = interfaces.items; worlds = []; rows = [] } }
     {
         Builder {
             interfaces,
@@ -39,6 +40,7 @@ impl Builder {
     /// The names of the interfaces and the definitions.
     pub fn into_parts(self) -> (Vec<Label>, Vec<Definition>)
         ensures names { result.0.items ≡ self.interfaces }
+        ensures worlds { self.worlds ≡ [] }
         ensures rows { result.1.items ≡ self.rows }
     {
         (self.interfaces, self.rows)
@@ -47,7 +49,7 @@ impl Builder {
     /// Puts a definition at the end of the table. No memory, too, where an id can't tell its place.
     pub fn define(&mut self, definition: Definition) -> Result<TypeId, AllocError>
         ensures { IfOk result (λ id. (id.0 ≡ length self.old.rows)
-            × (self.new ≡ record { interfaces = self.old.interfaces; rows = self.old.rows ++ definition ∷ [] })) }
+            × (self.new ≡ record { interfaces = self.old.interfaces; worlds = self.old.worlds; rows = self.old.rows ++ definition ∷ [] })) }
     {
         let Ok(place) = u32::try_from(self.rows.len()) else {
             return Err(AllocError);

@@ -105,7 +105,7 @@ pub fn finish(
     ensures err { IfErr result (λ e. (e ≡ ResolveError.NoMemory) ⊎ ((e ≡ ResolveError.Limit) × PassesLimit builder)) }
 {
     let (names, rows) = builder.into_parts();
-    if passes_entries(names.len(), &rows) || !are_standard(&rows) {
+    if passes_entries(names.len(), &[], &rows) || !are_standard(&rows) {
         return Err(ResolveError::Limit);
     }
     let package = package_name(alloc, id)?;

@@ -5,9 +5,11 @@ use Rattle.std.proofs.lemmas.List.{length-take}
 use Rattle.std.proofs.lemmas.Bool.{ltb-true}
 use Rattle.std.specs.List.{list_all}
 use Rattle.std.proofs.lemmas.List.Folds.{list_all_more, list_all_at}
-use Rattle.tables.specs.Tables.{option_all, kind_all, definition_all, is_below, definition_below, are_earlier, is_type, name_types, is_earlier, are_standard, are_placed, are_grouped}
-use Rattle.tables.specs.Parts.{is_package}
+use Rattle.tables.specs.Tables.{option_all, kind_all, definition_all, is_below, definition_below, are_earlier, is_type, name_types, is_earlier, are_standard, are_placed, are_grouped, are_worlds_grouped, are_placed_worlds}
+use Rattle.tables.specs.Parts.{are_worlds, is_package}
 use Rattle.tables.specs.declared.tables.Interface.{Interface}
+use Rattle.tables.specs.declared.tables.World.{World}
+use Rattle.tables.specs.declared.tables.Resolve.{Resolve}
 use Rattle.tables.specs.declared.tables.ValType.{ValType}
 use Rattle.tables.specs.declared.tables.Case.{Case}
 use Rattle.tables.specs.declared.tables.Parameter.{Parameter}
@@ -124,14 +126,48 @@ names-never ds i d h is here = by (definition_below i d) (definition_all (is_typ
 
 -- ---- parts of a package
 
-pub package-parts : (count : ℕ) (ds : List Definition) (is : List Interface) → is_package count ds is ≡ true
-    → IsTrue (are_earlier 0 ds) × IsTrue (name_types ds) × IsTrue (are_standard ds) × IsTrue (are_placed ds is) × IsTrue (are_grouped count 0 is)
-package-parts count ds is h =
-    let halves = split (are_earlier 0 ds && name_types ds) (are_standard ds && (are_placed ds is && are_grouped count 0 is)) h in
+pub record HasTests (count : ℕ) (ds : List Definition) (is : List Interface) (ws : List World) : Type 0 where
+  pub earlier : IsTrue (are_earlier 0 ds)
+  pub typed : IsTrue (name_types ds)
+  pub standard : IsTrue (are_standard ds)
+  pub placed : IsTrue (are_placed ds is)
+  pub grouped : IsTrue (are_grouped count 0 is)
+  pub worlds_grouped : IsTrue (are_worlds_grouped count 0 ws)
+  pub worlds_placed : IsTrue (are_placed_worlds ds (length is) 0 ws)
+
+pub package-parts : (count : ℕ) (ds : List Definition) (is : List Interface) (ws : List World) → is_package count ds is ws ≡ true → HasTests count ds is ws
+package-parts count ds is ws h =
+    let worlds = are_worlds count ds (length is) ws in
+    let halves = split (are_earlier 0 ds && name_types ds) (are_standard ds && (are_placed ds is && (are_grouped count 0 is && worlds))) h in
     let named = split (are_earlier 0 ds) (name_types ds) halves.0 in
-    let rest = split (are_standard ds) (are_placed ds is && are_grouped count 0 is) halves.1 in
-    let last = split (are_placed ds is) (are_grouped count 0 is) rest.1 in
-    (named.0, named.1, rest.0, last.0, last.1)
+    let rest = split (are_standard ds) (are_placed ds is && (are_grouped count 0 is && worlds)) halves.1 in
+    let placed = split (are_placed ds is) (are_grouped count 0 is && worlds) rest.1 in
+    let grouped = split (are_grouped count 0 is) worlds placed.1 in
+    let last = split (are_worlds_grouped count 0 ws) (are_placed_worlds ds (length is) 0 ws) grouped.1 in
+    record {
+      earlier = named.0;
+      typed = named.1;
+      standard = rest.0;
+      placed = placed.0;
+      grouped = grouped.0;
+      worlds_grouped = last.0;
+      worlds_placed = last.1;
+    }
+
+-- .. and the other way round
+pub package-whole : (count : ℕ) (ds : List Definition) (is : List Interface) (ws : List World) → HasTests count ds is ws → is_package count ds is ws ≡ true
+package-whole count ds is ws h = both _ _ (both _ _ h.earlier h.typed) (both _ _ h.standard (both _ _ h.placed (both _ _ h.grouped (both _ _ h.worlds_grouped h.worlds_placed))))
+
+pub tests-of : (r : Resolve) → HasTests (length r.packages) r.definitions r.interfaces r.worlds
+tests-of r = record {
+  earlier = r.earlier;
+  typed = r.typed;
+  standard = r.standard;
+  placed = r.placed;
+  grouped = r.grouped;
+  worlds_grouped = r.worlds_grouped;
+  worlds_placed = r.worlds_placed;
+}
 
 -- an interface of a table is of one of its packages
 pub grouped-at : (count first : ℕ) (is : List Interface) (k : ℕ) (i : Interface) → IsTrue (are_grouped count first is) → k < length is → get_or is k i ≡ i → i.«package».0 < count

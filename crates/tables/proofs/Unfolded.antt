@@ -6,7 +6,7 @@ use Rattle.std.proofs.lemmas.Slice.Eq.{bytes_eq-Decides}
 use Rattle.canonical_abi.specs.Types.{ClosedType, string_type, list_type, record_type, variant_type, fields_of, cases_of}
 use Rattle.canonical_abi.specs.Types as closed
 use Rattle.tables.specs.Closed.{closed_val, closed_kind, closed_params, closed_definition, closed_rows}
-use Rattle.tables.specs.Package.{ClosesAlike, HasDistinctTypes, IsDistinctName, Key, key_of, is_same_key, is_known, lookup, entry, environment, Environment, meaning_of, named_by, definitions_from, reference_by, references, interface_names, world_names, Tree, TextTree, Reference, RecordTree, Plain, Choices, closed_tree, closed_fields, closed_choices, read_val, read_choice, read_tuple, read_fields, read_params, read_cases, read_enum, read_kind}
+use Rattle.tables.specs.Package.{ClosesAlike, HasDistinctTypes, IsDistinctName, Key, key_of, is_same_key, is_known, lookup, entry, environment, Environment, meaning_of, named_by, named_function, function_meaning, definitions_from, reference_by, references, interface_names, Tree, TextTree, Reference, RecordTree, Plain, Choices, closed_tree, closed_fields, closed_choices, read_val, read_choice, read_tuple, read_fields, read_params, read_cases, read_enum, read_kind}
 use Rattle.tables.specs.declared.tables.ValType.{ValType}
 use Rattle.tables.specs.declared.tables.ValType.TheVariants as val
 use Rattle.tables.specs.declared.tables.TypeDefKind.{TypeDefKind}
@@ -15,6 +15,8 @@ use Rattle.tables.specs.declared.tables.TypeName.{TypeName}
 use Rattle.tables.specs.declared.tables.Parameter.{Parameter}
 use Rattle.tables.specs.declared.tables.Field.{Field}
 use Rattle.tables.specs.declared.tables.Case.{Case}
+use Rattle.tables.specs.declared.tables.Owner.{Owner}
+use Rattle.tables.specs.declared.tables.Owner.TheVariants as owner
 use Rattle.tables.specs.declared.tables.Function.{Function}
 use Rattle.tables.specs.declared.tables.Definition.{Definition}
 use Rattle.tables.specs.declared.tables.Definition.TheVariants as row
@@ -171,14 +173,14 @@ entry-of env ts n (kind.Variant cs) = refl
 entry-of env ts n (kind.Enum names) = refl
 entry-of env ts n (kind.Flags names) = refl
 
-module _ (interfaces worlds : List (List ℕ)) where
+module _ (interfaces : List (List ℕ)) where
   abbrev Rest : List Definition → Type 0
   Rest ds = (env : Environment) (ts : List Tree) (cs : List ClosedType) → Reads env ts cs → HasDistinctTypes interfaces ds (keys env)
-      → Reads (environment env (definitions_from interfaces worlds ts ds)) (references interfaces ts ds) (closed_rows cs ds)
+      → Reads (environment env (definitions_from interfaces ts ds)) (references interfaces ts ds) (closed_rows cs ds)
 
   type-step : (ds : List Definition) (env : Environment) (ts : List Tree) (cs : List ClosedType) (k : TypeDefKind) (name : Option TypeName) → Reads env ts cs
       → IsDistinctName interfaces (keys env) name (HasDistinctTypes interfaces ds) → Rest ds
-      → Reads (environment env (named_by interfaces ts name k ++ definitions_from interfaces worlds (ts ++ reference_by interfaces name (read_kind ts k) ∷ []) ds))
+      → Reads (environment env (named_by interfaces ts name k ++ definitions_from interfaces (ts ++ reference_by interfaces name (read_kind ts k) ∷ []) ds))
       (references interfaces (ts ++ reference_by interfaces name (read_kind ts k) ∷ []) ds) (closed_rows (cs ++ closed_kind cs k ∷ []) ds)
   type-step ds env ts cs k None r h rest = rest env (ts ++ read_kind ts k ∷ []) (cs ++ closed_kind cs k ∷ []) (plain k r) h
   type-step ds env ts cs k (Some n) r h rest =
@@ -188,15 +190,23 @@ module _ (interfaces worlds : List (List ℕ)) where
       named key (closed_kind cs k) (extended ((key, c) ∷ []) r) (known_last env key c) (lookup_last env key c h.0 ∙ kind-closed env ts cs (agree_by r) k) in
       let distinct : HasDistinctTypes interfaces ds (keys (env ++ (key, c) ∷ [])) = rw (keys-push env key c) h.1 in
       let whole = rest (env ++ (key, c) ∷ []) (ts ++ Reference key ∷ []) (cs ++ closed_kind cs k ∷ []) more distinct in
-      let family : Environment → Type 0 = λ es. Reads (environment (env ++ es) (definitions_from interfaces worlds (ts ++ Reference key ∷ []) ds)) (references interfaces (ts ++ Reference key ∷ []) ds) (closed_rows (cs ++ closed_kind cs k ∷ []) ds) in
+      let family : Environment → Type 0 = λ es. Reads (environment (env ++ es) (definitions_from interfaces (ts ++ Reference key ∷ []) ds)) (references interfaces (ts ++ Reference key ∷ []) ds) (closed_rows (cs ++ closed_kind cs k ∷ []) ds) in
       subst family (sym (entry-of env ts key k)) whole
 
   steps : (ds : List Definition) → Rest ds
   steps [] env ts cs r h = r
   steps (row.Type d ∷ ds) env ts cs r h = type-step ds env ts cs d.kind d.name r h (steps ds)
   steps (row.Function f ∷ ds) env ts cs r h =
-      let same : env ++ [] ≡ env = append-nil env in
-      rw same (steps ds env (ts ++ RecordTree Plain (read_params ts f.params) ∷ []) (cs ++ closed_definition cs (row.Function f) ∷ []) (called f r) h)
+      function-step f.owner (steps ds env (ts ++ RecordTree Plain (read_params ts f.params) ∷ []) (cs ++ closed_definition cs (row.Function f) ∷ []) (called f r) h)
+    where
+      us : List Tree
+      us = ts ++ RecordTree Plain (read_params ts f.params) ∷ []
+
+      function-step : (o : Owner) → Reads (environment env (definitions_from interfaces us ds)) (references interfaces us ds) (closed_rows (cs ++ closed_definition cs (row.Function f) ∷ []) ds)
+          → Reads (environment env (named_function interfaces o f.name (function_meaning ts f) ++ definitions_from interfaces us ds)) (references interfaces us ds) (closed_rows (cs ++ closed_definition cs (row.Function f) ∷ []) ds)
+      function-step (owner.Interface i) h =
+          subst (λ (es : Environment). Reads (environment es (definitions_from interfaces us ds)) (references interfaces us ds) (closed_rows (cs ++ closed_definition cs (row.Function f) ∷ []) ds)) (sym (append-nil env)) h
+      function-step (owner.World w) h = h
 
 pub closes_alike : (r : Resolve) → ClosesAlike r
-closes_alike r distinct v = val-closed _ _ _ (agree_by (steps (interface_names r) (world_names r) r.definitions [] [] [] none distinct)) v
+closes_alike r distinct v = val-closed _ _ _ (agree_by (steps (interface_names r) r.definitions [] [] [] none distinct)) v

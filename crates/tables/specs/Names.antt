@@ -5,15 +5,19 @@ use Rattle.tables.specs.PackageNames.{PackageParts, own_name}
 use Rattle.tables.specs.Closed.{function_at}
 use Rattle.tables.specs.declared.tables.FunctionId.{FunctionId}
 use Rattle.tables.specs.declared.tables.Interface.{Interface}
+use Rattle.tables.specs.declared.tables.World.{World}
 use Rattle.tables.specs.declared.tables.Resolve.{Resolve}
 
--- the full name of a name in the package, if there is one: each interface of a table is of a package
+-- the full name of a name in the package, if there is one: each interface and each world of a table is of a package
 abbrev pub full_name_in : Option PackageParts → List ℕ → List ℕ
 full_name_in None name = name
 full_name_in (Some p) name = own_name p name
 
 abbrev pub full_name : Resolve → Interface → List ℕ
 full_name r i = full_name_in (slice_get r.packages i.«package».0) i.name
+
+abbrev pub world_name : Resolve → World → List ℕ
+world_name r w = full_name_in (slice_get r.packages w.«package».0) w.name
 
 abbrev pub function_name : Resolve → FunctionId → Option (List ℕ)
 function_name r f = option_map (λ g. g.name) (function_at r f)

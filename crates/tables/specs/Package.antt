@@ -1,13 +1,14 @@
 -- A package as its names tell it: definitions in package order, in which a reference is a pair of an interface and a name, and what
 -- their names unfold to.
-use Rattle.std.specs.Prelude.{◌≡◌, ◌||◌, ◌&&◌, ℕ, Bool, false, List, [], ◌∷◌, ◌++◌, map, length, slice_index_or, Option, None, Some, if◌then◌else◌}
+use Rattle.std.specs.Prelude.{◌≡◌, ◌||◌, ◌&&◌, ℕ, Bool, false, List, [], ◌∷◌, ◌++◌, map, length, slice_index_or, Option, None, Some, slice_get, if◌then◌else◌}
 use Rattle.std.specs.Option.{option_map}
 use Rattle.std.specs.Str.{bytes_eq}
 use Rattle.canonical_abi.specs.Types.{ClosedType, prim_type, string_type, list_type, record_type, variant_type, flags_type}
 use Rattle.canonical_abi.specs.Types as closed
 use Rattle.canonical_abi.specs.Labelled.{none_label, some_label, ok_label, error_label}
 use Rattle.tables.specs.Closed.{prim_of, closed_type}
-use Rattle.tables.specs.Names.{full_name}
+use Rattle.tables.specs.Names.{full_name, world_name}
+use Rattle.tables.specs.Tables.{function_of}
 use Rattle.tables.specs.declared.tables.Primitive.{Primitive}
 use Rattle.tables.specs.declared.tables.ValType.{ValType}
 use Rattle.tables.specs.declared.tables.ValType.TheVariants as val
@@ -22,6 +23,10 @@ use Rattle.tables.specs.declared.tables.Owner.TheVariants as owner
 use Rattle.tables.specs.declared.tables.Function.{Function}
 use Rattle.tables.specs.declared.tables.Definition.{Definition}
 use Rattle.tables.specs.declared.tables.Definition.TheVariants as row
+use Rattle.tables.specs.declared.tables.Direction.{Direction}
+use Rattle.tables.specs.declared.tables.WorldItemKind.{WorldItemKind}
+use Rattle.tables.specs.declared.tables.WorldItemKind.TheVariants as item
+use Rattle.tables.specs.declared.tables.World.{World}
 use Rattle.tables.specs.declared.tables.Resolve.{Resolve}
 
 -- how a record or a variant is written
@@ -66,6 +71,16 @@ pub data Meaning : Type 0 where
 pub record NamedDefinition : Type 0 where
   pub key : Key
   pub meaning : Meaning
+
+-- what a world imports or exports: an interface under its full name, or a function with its name, its parameters and its result
+pub data ItemMeaning : Type 0 where
+  WithInterface : Direction → List ℕ → ItemMeaning
+  WithFunction : Direction → List ℕ → Fields → Option Tree → ItemMeaning
+
+-- a world under its full name, with its items in order
+pub record WorldMeaning : Type 0 where
+  pub name : List ℕ
+  pub items : List ItemMeaning
 
 -- ---- closed types by names
 
@@ -179,46 +194,63 @@ abbrev pub named_by : List (List ℕ) → List Tree → Option TypeName → Type
 named_by interfaces trees None k = []
 named_by interfaces trees (Some n) k = record { key = key_of interfaces n; meaning = meaning_of trees k } ∷ []
 
--- the name of the interface, or of the world, in which a function stands
-abbrev pub owner_name : List (List ℕ) → List (List ℕ) → Owner → List ℕ
-owner_name interfaces worlds (owner.Interface i) = slice_index_or interfaces i.0 []
-owner_name interfaces worlds (owner.World w) = slice_index_or worlds w.0 []
+abbrev pub function_meaning : List Tree → Function → Meaning
+function_meaning trees f = IsFunction (read_params trees f.params) (option_map (read_val trees) f.result)
 
-abbrev pub named_function : List (List ℕ) → List (List ℕ) → List Tree → Function → NamedDefinition
-named_function interfaces worlds trees f = record {
-  key = record { interface = owner_name interfaces worlds f.owner; name = f.name };
-  meaning = IsFunction (read_params trees f.params) (option_map (read_val trees) f.result);
+-- a function of an interface is one of its definitions; one of a world is an item of the world
+abbrev pub named_function : List (List ℕ) → Owner → List ℕ → Meaning → List NamedDefinition
+named_function interfaces (owner.Interface i) name m =
+    record { key = record { interface = slice_index_or interfaces i.0 []; name = name }; meaning = m } ∷ []
+named_function interfaces (owner.World w) name m = []
+
+abbrev pub definition_of : List (List ℕ) → List Tree → Definition → List NamedDefinition
+definition_of interfaces trees (row.Type d) = named_by interfaces trees d.name d.kind
+definition_of interfaces trees (row.Function f) = named_function interfaces f.owner f.name (function_meaning trees f)
+
+abbrev pub definitions_from : List (List ℕ) → List Tree → List Definition → List NamedDefinition
+definitions_from interfaces trees [] = []
+definitions_from interfaces trees (d ∷ ds) =
+    definition_of interfaces trees d ++ definitions_from interfaces (trees ++ reference interfaces trees d ∷ []) ds
+
+-- ---- what the items of worlds read as
+
+abbrev pub function_item : List Tree → Direction → Option Function → ItemMeaning
+function_item trees way None = WithInterface way []
+function_item trees way (Some f) = WithFunction way f.name (read_params trees f.params) (option_map (read_val trees) f.result)
+
+abbrev pub item_meaning : List (List ℕ) → List Tree → List Definition → Direction → WorldItemKind → ItemMeaning
+item_meaning interfaces trees rows way (item.Interface i) = WithInterface way (slice_index_or interfaces i.0 [])
+item_meaning interfaces trees rows way (item.Function f) = function_item trees way (function_of (slice_get rows f.0))
+
+-- a world under this name
+abbrev pub world_meaning : List (List ℕ) → List Tree → List Definition → List ℕ → World → WorldMeaning
+world_meaning interfaces trees rows name w = record {
+  name = name;
+  items = map (λ i. item_meaning interfaces trees rows i.direction i.kind) w.items;
 }
-
-abbrev pub definition_of : List (List ℕ) → List (List ℕ) → List Tree → Definition → List NamedDefinition
-definition_of interfaces worlds trees (row.Type d) = named_by interfaces trees d.name d.kind
-definition_of interfaces worlds trees (row.Function f) = named_function interfaces worlds trees f ∷ []
-
-abbrev pub definitions_from : List (List ℕ) → List (List ℕ) → List Tree → List Definition → List NamedDefinition
-definitions_from interfaces worlds trees [] = []
-definitions_from interfaces worlds trees (d ∷ ds) =
-    definition_of interfaces worlds trees d ++ definitions_from interfaces worlds (trees ++ reference interfaces trees d ∷ []) ds
 
 -- interfaces go by their full names
 abbrev pub interface_names : Resolve → List (List ℕ)
 interface_names r = map (full_name r) r.interfaces
 
-abbrev pub world_names : Resolve → List (List ℕ)
-world_names r = map (λ w. w.name) r.worlds
-
 abbrev pub trees : Resolve → List Tree
 trees r = references (interface_names r) [] r.definitions
 
 abbrev pub definitions : Resolve → List NamedDefinition
-definitions r = definitions_from (interface_names r) (world_names r) [] r.definitions
+definitions r = definitions_from (interface_names r) [] r.definitions
+
+-- so do worlds
+abbrev pub worlds : Resolve → List WorldMeaning
+worlds r = map (λ w. world_meaning (interface_names r) (trees r) r.definitions (world_name r w) w) r.worlds
 
 -- a package as its names tell it
 pub record Package : Type 0 where
   pub interfaces : List (List ℕ)
+  pub worlds : List WorldMeaning
   pub definitions : List NamedDefinition
 
 abbrev pub package_of : Resolve → Package
-package_of r = record { interfaces = interface_names r; definitions = definitions r }
+package_of r = record { interfaces = interface_names r; worlds = worlds r; definitions = definitions r }
 
 -- ---- the law
 

@@ -1,15 +1,20 @@
 -- A package is made of its parts alone.
-use Rattle.std.specs.Prelude.{◌≡◌, ◌&&◌, ℕ, Bool, List}
+use Rattle.std.specs.Prelude.{◌≡◌, ◌&&◌, ℕ, Bool, List, length}
 use Rattle.tables.specs.PackageNames.{PackageParts}
-use Rattle.tables.specs.Tables.{are_earlier, name_types, are_standard, are_placed, are_grouped}
+use Rattle.tables.specs.Tables.{are_earlier, name_types, are_standard, are_placed, are_grouped, are_worlds_grouped, are_placed_worlds}
 use Rattle.tables.specs.declared.tables.Interface.{Interface}
 use Rattle.tables.specs.declared.tables.World.{World}
 use Rattle.tables.specs.declared.tables.Definition.{Definition}
 use Rattle.tables.specs.declared.tables.Resolve.{Resolve}
 
+-- worlds are of packages, and their items stand in the tables
+abbrev pub are_worlds : ℕ → List Definition → ℕ → List World → Bool
+are_worlds count ds interfaces ws = are_worlds_grouped count 0 ws && are_placed_worlds ds interfaces 0 ws
+
 -- these parts are those of a package, of so many names of packages
-abbrev pub is_package : ℕ → List Definition → List Interface → Bool
-is_package count ds is = (are_earlier 0 ds && name_types ds) && (are_standard ds && (are_placed ds is && are_grouped count 0 is))
+abbrev pub is_package : ℕ → List Definition → List Interface → List World → Bool
+is_package count ds is ws =
+    (are_earlier 0 ds && name_types ds) && (are_standard ds && (are_placed ds is && (are_grouped count 0 is && are_worlds count ds (length is) ws)))
 
 pub record HasParts (ps : List PackageParts) (is : List Interface) (ws : List World) (ds : List Definition) (r : Resolve) : Type 0 where
   pub has_packages : r.packages ≡ ps

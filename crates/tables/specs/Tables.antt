@@ -1,5 +1,5 @@
 -- What is true of every table of definitions: each names earlier types alone, none is empty or above the limits, and ids are of their kind.
-use Rattle.std.specs.Prelude.{ℕ, ◌+◌, Bool, true, false, ◌&&◌, nat_lt, nat_le, List, [], ◌∷◌, length, Option, None, Some, slice_get}
+use Rattle.std.specs.Prelude.{ℕ, ◌+◌, Bool, true, false, ◌&&◌, nat_lt, nat_le, ◌==◌, List, [], ◌∷◌, length, Option, None, Some, slice_get}
 use Rattle.std.specs.List.{list_all}
 use Rattle.tables.specs.declared.tables.TypeId.{TypeId}
 use Rattle.tables.specs.declared.tables.FunctionId.{FunctionId}
@@ -11,7 +11,12 @@ use Rattle.tables.specs.declared.tables.TypeDef.{TypeDef}
 use Rattle.tables.specs.declared.tables.Function.{Function}
 use Rattle.tables.specs.declared.tables.Definition.{Definition}
 use Rattle.tables.specs.declared.tables.Definition.TheVariants as row
+use Rattle.tables.specs.declared.tables.Owner.{Owner}
+use Rattle.tables.specs.declared.tables.Owner.TheVariants as owner
 use Rattle.tables.specs.declared.tables.Interface.{Interface}
+use Rattle.tables.specs.declared.tables.WorldItemKind.{WorldItemKind}
+use Rattle.tables.specs.declared.tables.WorldItemKind.TheVariants as item
+use Rattle.tables.specs.declared.tables.World.{World}
 
 -- each type that a kind, or a definition, names directly has the property
 abbrev pub option_all : (ValType → Bool) → Option ValType → Bool
@@ -112,6 +117,33 @@ are_placed ds is = list_all (is_placed ds) is
 abbrev pub are_grouped : ℕ → ℕ → List Interface → Bool
 are_grouped count first [] = true
 are_grouped count first (i ∷ is) = (nat_le first i.«package».0 && nat_lt i.«package».0 count) && are_grouped count i.«package».0 is
+
+-- so are these worlds
+abbrev pub are_worlds_grouped : ℕ → ℕ → List World → Bool
+are_worlds_grouped count first [] = true
+are_worlds_grouped count first (w ∷ ws) = (nat_le first w.«package».0 && nat_lt w.«package».0 count) && are_worlds_grouped count w.«package».0 ws
+
+-- it is a function of the world at place w
+abbrev pub is_owner_world : ℕ → Owner → Bool
+is_owner_world w (owner.Interface i) = false
+is_owner_world w (owner.World v) = v.0 == w
+
+abbrev pub is_function_of : ℕ → Option Function → Bool
+is_function_of w None = false
+is_function_of w (Some f) = is_owner_world w f.owner
+
+-- an item of the world at place w is one of `count` interfaces, or a function of this world
+abbrev pub is_placed_item : List Definition → ℕ → ℕ → WorldItemKind → Bool
+is_placed_item ds count w (item.Interface i) = nat_lt i.0 count
+is_placed_item ds count w (item.Function f) = is_function_of w (function_of (slice_get ds f.0))
+
+abbrev pub is_placed_world : List Definition → ℕ → ℕ → World → Bool
+is_placed_world ds count w x = list_all (λ i. is_placed_item ds count w i.kind) x.items
+
+-- the items of each of these worlds, the first of which stands at place w
+abbrev pub are_placed_worlds : List Definition → ℕ → ℕ → List World → Bool
+are_placed_worlds ds count w [] = true
+are_placed_worlds ds count w (x ∷ xs) = is_placed_world ds count w x && are_placed_worlds ds count (w + 1) xs
 
 -- the type is a primitive or string, or a type of the table, not a function
 abbrev pub is_type : List Definition → ValType → Bool

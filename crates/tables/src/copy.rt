@@ -172,6 +172,7 @@ impl Copied for PackageName {
 impl Copied for World {
     fn copied(&self, alloc: Global) -> Result<Self, AllocError> {
         Ok(World {
+            package: self.package,
             name: self.name.copy(alloc)?,
             items: copied_all(alloc, &self.items)?,
         })

@@ -2,6 +2,7 @@
 ghost use Rattle.std.specs.Prelude.{◌≡◌};
 ghost use Rattle.tables.specs.declared.error.ResolveError.TheVariants.{NoMemory};
 
+use crate::name::Name;
 use atoms::Label;
 use std::alloc::{AllocError, AllocFailed};
 use thiserror::Error;
@@ -10,9 +11,9 @@ use thiserror::Error;
 #[derive(Debug, Drop, Error)]
 pub enum ResolveError {
     /// 40: a name stands twice in one scope, but for the case of its letters. It is given as it is spelt at
-    /// the later place.
+    /// the later place, an interface among the items of a world by its full name.
     #[error("error 40 duplicate {}", .0.as_str())]
-    Duplicate(Label),
+    Duplicate(Name),
     /// 41: a name stands for nothing.
     #[error("error 41 unknown {}", .0.as_str())]
     Unknown(Label),

@@ -11,6 +11,7 @@ mod error;
 pub mod laws;
 mod lookup;
 mod members;
+mod name;
 mod parts;
 mod sequence;
 mod tables;
@@ -18,6 +19,7 @@ mod tables;
 pub use copy::copy_version;
 pub use error::ResolveError;
 pub use members::{Choice, Member};
+pub use name::Name;
 pub use parts::are_standard;
 pub use sequence::Sequence;
 pub use tables::{

@@ -1,13 +1,18 @@
 //! Functions of a package by their names, and what is known of one.
-ghost use Rattle.std.specs.Prelude.{◌≡◌, ◌↔◌, ◌≢◌, ◌<◌, ◌++◌, ◌∷◌, ℕ, List, length, IsTrue, IfSome, IfNone, None, Some, MatchOption};
+ghost use Rattle.std.specs.Prelude.{◌≡◌, ◌↔◌, ◌≢◌, ◌<◌, ◌++◌, ◌∷◌, ℕ, List, length, IsTrue, [], slice_get, slice_index_or, IfOk, IfSome, IfNone, None, Some, MatchOption};
 ghost use Rattle.atoms.specs.FullName.{full_name_text, package_text, name_text, version_suffix};
 ghost use Rattle.tables.specs.Closed.{function_at, IsFunction, is_scalar, is_scalar_function};
 ghost use Rattle.tables.specs.PackageNames.{name_parts};
 ghost use Rattle.tables.specs.Names.{full_name, IsNamed, IsNamedIn};
+ghost use Rattle.tables.specs.Package.{interface_names};
 ghost use Rattle.tables.specs.declared.tables.FunctionId.{FunctionId};
 
-use crate::tables::{Definition, Function, FunctionId, Interface, PackageName, Resolve, ValType};
+use crate::name::Name;
+use crate::tables::{
+    Definition, Function, FunctionId, Interface, InterfaceId, PackageName, Resolve, ValType,
+};
 use atoms::Label;
+use std::alloc::{AllocError, Global};
 
 /// The most parameters of a function that is called without a record in memory.
 const MAX_SCALARS: usize = 16;
@@ -79,13 +84,29 @@ impl PackageName {
 }
 
 impl Resolve {
+    fn package_of(&self, interface: &Interface) -> &PackageName
+        requires { interface.now.«package».0 < length self.now.packages }
+        ensures { slice_get self.now.packages interface.now.«package».0 ≡ Some result.now }
+    {
+        &self.packages.as_slice()[interface.package.0 as usize]
+    }
+
     /// Whether the text is the interface's full name.
     fn is_full_name(&self, interface: &Interface, text: &str) -> bool
         requires { interface.now.«package».0 < length self.now.packages }
         ensures { IsTrue result ↔ (text.now ≡ full_name self.now interface.now) }
     {
-        let package = &self.packages.as_slice()[interface.package.0 as usize];
-        package.is_full_name(&interface.name, text)
+        self.package_of(interface)
+            .is_full_name(&interface.name, text)
+    }
+
+    /// The full name of an interface.
+    pub fn full_name(&self, alloc: Global, id: InterfaceId) -> Result<Name, AllocError>
+        requires { id.0 < length self.now.interfaces }
+        ensures { IfOk result (λ n. n ≡ slice_index_or (interface_names self.now) id.0 []) }
+    {
+        let interface = &self.interfaces.as_slice()[id.0 as usize];
+        self.package_of(interface).full_name(alloc, &interface.name)
     }
 
     fn function_of(&self, func: FunctionId) -> Option<&Function>

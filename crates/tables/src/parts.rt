@@ -1,15 +1,15 @@
 //! A package of parts that were made elsewhere.
-ghost use Rattle.std.specs.Prelude.{◌≡◌, ◌&&◌, false, IfOk, IfErr, length};
+ghost use Rattle.std.specs.Prelude.{◌≡◌, ◌&&◌, false, IfOk, IfErr, length, slice_get};
 ghost use Rattle.std.specs.List.{list_all};
-ghost use Rattle.tables.specs.Tables.{option_all, kind_all, function_all, definition_all, is_earlier, are_earlier, name_types, is_within, is_standard_kind, is_standard, are_standard, is_type_id, is_function_id, is_placed, are_placed, are_grouped};
-ghost use Rattle.tables.specs.Parts.{HasParts, is_package};
+ghost use Rattle.tables.specs.Tables.{option_all, kind_all, function_all, definition_all, is_earlier, are_earlier, name_types, is_within, is_standard_kind, is_standard, are_standard, function_of, is_type_id, is_function_id, is_placed, are_placed, are_grouped, are_worlds_grouped, is_function_of, is_placed_item, is_placed_world, are_placed_worlds};
+ghost use Rattle.tables.specs.Parts.{HasParts, are_worlds, is_package};
 
 use crate::error::ResolveError;
 use crate::members::Member;
 use crate::sequence::Sequence;
 use crate::tables::{
-    Case, Definition, Function, FunctionId, Interface, PackageName, Resolve, TypeDefKind, TypeId,
-    ValType, World,
+    Case, Definition, Function, FunctionId, Interface, Owner, PackageName, Resolve, TypeDefKind,
+    TypeId, ValType, World, WorldItem, WorldItemKind,
 };
 
 /// The most cases of a variant or an enum.
@@ -221,19 +221,92 @@ fn are_grouped(count: usize, interfaces: &[Interface]) -> bool
     true
 }
 
-fn is_package(count: usize, definitions: &[Definition], interfaces: &[Interface]) -> bool
-    ensures { result ≡ is_package count definitions.now interfaces.now }
+/// Whether each world is of one of so many packages, and those of a package stand together.
+fn are_worlds_grouped(count: usize, worlds: &[World]) -> bool
+    ensures { result ≡ are_worlds_grouped count 0 worlds.now }
+{
+    let mut last = 0;
+    for world in worlds {
+        let own = world.package.0 as usize;
+        if own < last || count <= own {
+            return false;
+        }
+        last = own;
+    }
+    true
+}
+
+/// Whether it is a function of the world at this place.
+fn is_function_of(definitions: &[Definition], world: usize, id: FunctionId) -> bool
+    ensures { result ≡ is_function_of world (function_of (slice_get definitions.now id.0)) }
+{
+    match definitions.get(id.0 as usize) {
+        Some(Definition::Function(function)) => match function.owner {
+            Owner::World(owner) => owner.0 as usize == world,
+            Owner::Interface(_) => false,
+        },
+        _ => false,
+    }
+}
+
+/// Whether an item of the world at this place is one of so many interfaces, or a function of the world.
+fn is_placed_item(definitions: &[Definition], count: usize, world: usize, item: WorldItem) -> bool
+    ensures { result ≡ is_placed_item definitions.now count world item.kind }
+{
+    match item.kind {
+        WorldItemKind::Interface(interface) => (interface.0 as usize) < count,
+        WorldItemKind::Function(function) => is_function_of(definitions, world, function),
+    }
+}
+
+fn is_placed_world(definitions: &[Definition], count: usize, place: usize, world: &World) -> bool
+    ensures { result ≡ is_placed_world definitions.now count place world.now }
+{
+    for item in world.items.as_slice() {
+        if !is_placed_item(definitions, count, place, *item) {
+            return false;
+        }
+    }
+    true
+}
+
+fn are_placed_worlds(definitions: &[Definition], count: usize, worlds: &[World]) -> bool
+    ensures { result ≡ are_placed_worlds definitions.now count 0 worlds.now }
+{
+    for (place, world) in worlds.iter().enumerate() {
+        if !is_placed_world(definitions, count, place, world) {
+            return false;
+        }
+    }
+    true
+}
+
+/// Whether worlds are of so many packages, and their items of these definitions and of so many interfaces.
+fn are_worlds(count: usize, definitions: &[Definition], interfaces: usize, worlds: &[World]) -> bool
+    ensures { result ≡ are_worlds count definitions.now interfaces worlds.now }
+{
+    are_worlds_grouped(count, worlds) && are_placed_worlds(definitions, interfaces, worlds)
+}
+
+fn is_package(
+    count: usize,
+    definitions: &[Definition],
+    interfaces: &[Interface],
+    worlds: &[World],
+) -> bool
+    ensures { result ≡ is_package count definitions.now interfaces.now worlds.now }
 {
     name_earlier_types(definitions)
         && are_standard(definitions)
         && are_placed(definitions, interfaces)
         && are_grouped(count, interfaces)
+        && are_worlds(count, definitions, interfaces.len(), worlds)
 }
 
 impl Resolve {
     /// The package of these parts. 44 exactly where a definition names one that isn't a type before it, or has no
-    /// or too many parts, where an interface names a place that is of another kind, or where interfaces are of no
-    /// package or stand in another order than their packages.
+    /// or too many parts, where an interface or a world names a place that is of another kind or a function of
+    /// another world, or where interfaces or worlds are of no package or stand in another order than their packages.
     pub fn from_parts(
         packages: Sequence<PackageName>,
         interfaces: Sequence<Interface>,
@@ -241,12 +314,13 @@ impl Resolve {
         definitions: Sequence<Definition>,
     ) -> Result<Resolve, ResolveError>
         ensures ok { IfOk result (λ r. HasParts packages interfaces worlds definitions r) }
-        ensures err { IfErr result (λ e. (e ≡ ResolveError.NotThisShape) × (is_package (length packages) definitions interfaces ≡ false)) }
+        ensures err { IfErr result (λ e. (e ≡ ResolveError.NotThisShape) × (is_package (length packages) definitions interfaces worlds ≡ false)) }
     {
         if !is_package(
             packages.len(),
             definitions.as_slice(),
             interfaces.as_slice(),
+            worlds.as_slice(),
         ) {
             return Err(ResolveError::NotThisShape);
         }

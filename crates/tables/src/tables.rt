@@ -1,6 +1,6 @@
 //! The tables of a package: its name, interfaces, worlds, and one table of definitions.
 ghost use Rattle.std.specs.Prelude.{IsTrue, length};
-ghost use Rattle.tables.specs.Tables.{are_earlier, name_types, are_standard, are_placed, are_grouped};
+ghost use Rattle.tables.specs.Tables.{are_earlier, name_types, are_standard, are_placed, are_grouped, are_worlds_grouped, are_placed_worlds};
 
 use crate::sequence::Sequence;
 use atoms::Label;
@@ -175,14 +175,17 @@ pub struct WorldItem {
     pub kind: WorldItemKind,
 }
 
-/// A world, its items in source order.
+/// A world: the package that it is of, its name, and its items in source order. Its full name is as an
+/// interface's.
 #[derive(Debug, Drop)]
 pub struct World {
+    pub package: PackageId,
     pub name: Label,
     pub items: Sequence<WorldItem>,
 }
 
-/// A package. The interfaces of each name of a package stand together, in the order of these names.
+/// A package. The interfaces of each name of a package stand together, in the order of these names, and so do
+/// the worlds.
 #[derive(Debug, Drop)]
 pub struct Resolve {
     pub packages: Sequence<PackageName>,
@@ -195,4 +198,6 @@ pub struct Resolve {
     ghost standard: { IsTrue (are_standard definitions) },
     ghost placed: { IsTrue (are_placed definitions interfaces) },
     ghost grouped: { IsTrue (are_grouped (length packages) 0 interfaces) },
+    ghost worlds_grouped: { IsTrue (are_worlds_grouped (length packages) 0 worlds) },
+    ghost worlds_placed: { IsTrue (are_placed_worlds definitions (length interfaces) 0 worlds) },
 }

@@ -1,12 +1,13 @@
 -- Where the names of each scope of a package differ, so do the labels of its types.
-use Rattle.std.proofs.Common.{◌≡◌, ℕ, zero, suc, ◌+◌, ◌-◌, ◌<◌, ◌≤◌, Bool, true, false, nat_lt, IsTrue, List, [], ◌∷◌, ◌++◌, map, length, get_or, slice_get, Option, None, Some, refl, ap, sym, ◌∙◌, subst, arith, All, Contains}
+use Rattle.std.proofs.Common.{◌≡◌, ℕ, zero, suc, ◌+◌, ◌-◌, ◌<◌, ◌≤◌, Bool, true, false, nat_lt, IsTrue, List, [], ◌∷◌, ◌++◌, map, length, get_or, slice_get, Option, None, Some, ◌⊎◌, inl, inr, refl, ap, sym, ◌∙◌, subst, arith, All, Contains}
 use Rattle.std.proofs.lemmas.Bool.Decides.{nat_tests}
-use Rattle.std.proofs.lemmas.Option.{slice_get_past}
+use Rattle.std.proofs.lemmas.Bool.{false≢true}
 use Rattle.std.specs.List.{AllByRecursion}
 use Rattle.canonical_abi.specs.Labelled.{Label, LabelledType, labelled_string, LabelledTypes, LabelledCases}
 use Rattle.tables.specs.Labelled.{labelled_val, labelled_payload, labelled_members, labelled_fields, labelled_cases, labelled_params, labelled_kind, labelled_definition, labelled_rows, labelled_type}
 use Rattle.tables.specs.declared.tables.ValType.{ValType}
 use Rattle.tables.specs.declared.tables.ValType.TheVariants as val
+use Rattle.tables.specs.declared.tables.TypeName.{TypeName}
 use Rattle.tables.specs.declared.tables.TypeDefKind.{TypeDefKind}
 use Rattle.tables.specs.declared.tables.TypeDefKind.TheVariants as kind
 use Rattle.tables.specs.declared.tables.Field.{Field}
@@ -17,10 +18,12 @@ use Rattle.tables.specs.declared.tables.Definition.TheVariants as row
 use Rattle.tables.specs.declared.tables.Interface.{Interface}
 use Rattle.tables.specs.declared.tables.Resolve.{Resolve}
 use Rattle.package_form.specs.Scope.{AreDistinct}
-use Rattle.package_form.specs.Ends.{end_of, rows_of, is_parted}
-use Rattle.package_form.specs.Naming.{field_name, case_name, row_members, rows_scopes, interfaces_scopes}
+use Rattle.package_form.specs.Ends.{end_of, rows_of, interfaces_end}
+use Rattle.package_form.specs.Postfix.{is_unnamed, parts, parts_of, is_inner, inner_row, Leaves, begin, inner, whole, IsPostfix}
+use Rattle.package_form.specs.Naming.{field_name, case_name, kind_members, row_members, rows_scopes, interfaces_scopes}
 use Rattle.package_form.proofs.Lists.{all-tail, all-left, all-right, all_map-at, contains-here, contains-right}
-use Rattle.package_form.proofs.OneRow.{distinct-back, distinct-apart, in-rows, parted-on}
+use Rattle.package_form.proofs.OneRow.{named, NoneFrom, none-named, worlds-parted, distinct-back, distinct-apart, in-rows}
+use Rattle.package_form.proofs.Scopes.{interfaces-distinct}
 use Rattle.std.proofs.Math.Logic.{∥∥₁_elim}
 use Rattle.package_form.specs.Form.{IsInPackageForm}
 use Rattle.package_form.specs.Naming.{package_scopes}
@@ -29,38 +32,91 @@ use Rattle.value_json.specs.Json.{IsNotAmong, AreDistinctLabels, IsOfNoCase, Has
 use Rattle.value_json.specs.Laws.{LabelsAreApart}
 use Rattle.value_json.proofs.Distinct.{prop-rows, prop-type}
 
--- ---- the members of each row are a scope
+-- ---- the members of each type are a scope
+
+none-distinct : AreDistinct []
+none-distinct = record { each = λ k l m. absurd (omega (arith, l)) }
 
 abbrev IsScope : Definition → Type 0
-IsScope d = AreDistinct (row_members d)
+IsScope (row.Type d) = AreDistinct (kind_members d.kind)
+IsScope (row.Function f) = Unit {0}
+
+scope-of : (d : Definition) → AreDistinct (row_members d) → IsScope d
+scope-of (row.Type d) h = h
+scope-of (row.Function f) h = tt
+
+-- a list, an option, a result or a tuple has no labels
+inner-scope : (k : TypeDefKind) → is_inner k ≡ true → AreDistinct (kind_members k)
+inner-scope (kind.List v) h = none-distinct
+inner-scope (kind.Option v) h = none-distinct
+inner-scope (kind.Result v w) h = none-distinct
+inner-scope (kind.Tuple vs) h = none-distinct
+inner-scope (kind.Use t) h = none-distinct
+inner-scope (kind.Alias v) h = none-distinct
+inner-scope (kind.Record fs) h = absurd (cc)
+inner-scope (kind.Variant cs) h = absurd (cc)
+inner-scope (kind.Enum names) h = absurd (cc)
+inner-scope (kind.Flags names) h = absurd (cc)
+
+-- a row is one of those before, or the last
+last-or : (rows : List Definition) (d x : Definition) (a : ℕ) → slice_get (rows ++ d ∷ []) a ≡ Some x → (slice_get rows a ≡ Some x) ⊎ (d ≡ x)
+last-or [] d x zero e = inr (cc)
+last-or [] d x (suc a) e = absurd (cc)
+last-or (r ∷ rows) d x zero e = inl e
+last-or (r ∷ rows) d x (suc a) e = last-or rows d x a e
+
+abbrev kind_of : Definition → TypeDefKind
+kind_of (row.Type d) = d.kind
+kind_of (row.Function f) = kind.Alias val.String
+
+-- a type without a name is one of these
+unnamed-inner : (rows : List Definition) (unused : List ℕ) → Leaves rows unused → (a : ℕ) (k : TypeDefKind) → slice_get rows a ≡ Some (inner_row k) → is_inner k ≡ true
+unnamed-inner _ _ begin a k e = absurd (cc)
+unnamed-inner _ _ (inner rows unused j i before) a k e = elim (last-or rows (inner_row j) (inner_row k) a e) [
+  | inl h ↦ unnamed-inner rows (unused ++ parts rows j) before a k h
+  | inr h ↦ subst (λ (x : TypeDefKind). is_inner x ≡ true) (ap kind_of h) i
+]
+unnamed-inner _ _ (whole rows c u b before) a k e = elim (last-or rows c (inner_row k) a e) [
+  | inl h ↦ unnamed-inner rows (parts_of rows c) before a k h
+  | inr h ↦ absurd (false≢true (sym u ∙ ap is_unnamed h))
+]
 
 found : (ds : List Definition) (k : ℕ) (d : Definition) → slice_get ds k ≡ Some d → (k < length ds) × (d ≡ get_or ds k d)
 found [] k d e = absurd (cc)
 found (x ∷ ds) zero d e = let same : x ≡ d = cc in (omega arith, sym same)
 found (x ∷ ds) (suc k) d e = let (less, is) = found ds k d e in (omega (arith, less), is)
 
-module _ (rows : List Definition) where
-  scope-at : (start : ℕ) (is : List Interface) → is_parted (length rows) start is ≡ true → All AreDistinct (interfaces_scopes rows start is)
+module _ (rows : List Definition) (postfix : IsPostfix rows) where
+  -- a row where no type has a name
+  unnamed-scope : (a n : ℕ) (d : Definition) → NoneFrom rows n → n ≤ a → slice_get rows a ≡ Some d → IsScope d
+  unfolding named
+  unnamed-scope a n (row.Function f) none l h = tt
+  unnamed-scope a n (row.Type d) none l h = by d.name h
+    where
+      by : (o : Option TypeName) → slice_get rows a ≡ Some (row.Type (record { name = o; kind = d.kind })) → AreDistinct (kind_members d.kind)
+      by None e = inner-scope d.kind (unnamed-inner rows [] postfix a d.kind e)
+      by (Some y) e = absurd (none a y l (d.kind, e))
+
+  scope-at : (start : ℕ) (is : List Interface) → NoneFrom rows (interfaces_end start is) → All AreDistinct (interfaces_scopes rows start is)
       → (a : ℕ) (d : Definition) → start ≤ a → slice_get rows a ≡ Some d → IsScope d
-  scope-at start [] p all a d l h =
-      absurd (let e : slice_get rows a ≡ None = slice_get_past rows a (let q : start ≡ length rows = grind (arith, nat_tests) in omega (arith, q, l)) in cc)
+  scope-at start [] p all a d l h = unnamed-scope a start d p l h
   scope-at start (i ∷ is) p all a d l h =
       by (nat_lt a (end_of start i)) refl
-      (λ m. scope-at (end_of start i) is (parted-on rows start i is p) (all-right AreDistinct (rows_scopes (rows_of rows start i)) (interfaces_scopes rows (end_of start i) is) all) a d m h)
+      (λ m. scope-at (end_of start i) is p (all-right AreDistinct (rows_scopes (rows_of rows start i)) (interfaces_scopes rows (end_of start i) is) all) a d m h)
     where
       by : (b : Bool) → nat_lt a (end_of start i) ≡ b → (end_of start i ≤ a → IsScope d) → IsScope d
       by true e later =
           let m : a < end_of start i = grind (arith, nat_tests) in
           let here = found (rows_of rows start i) (a - start) d (in-rows rows start i a l m ∙ h) in
           let scopes = all-tail AreDistinct _ _ (all-left AreDistinct (rows_scopes (rows_of rows start i)) (interfaces_scopes rows (end_of start i) is) all) in
-          all_map-at AreDistinct row_members (rows_of rows start i) (a - start) d scopes here.0 here.1
+          scope-of d (all_map-at AreDistinct row_members (rows_of rows start i) (a - start) d scopes here.0 here.1)
       by false e later =
           let m : end_of start i ≤ a = grind (arith, nat_tests) in
           later m
 
-  scopes-from : (ds : List Definition) (k : ℕ) → ((a : ℕ) (d : Definition) → slice_get ds a ≡ Some d → IsScope d) → AllByRecursion IsScope ds
-  scopes-from [] k each = tt
-  scopes-from (d ∷ ds) k each = (each 0 d refl, scopes-from ds (k + 1) (λ a e h. each (suc a) e h))
+scopes-from : (ds : List Definition) (k : ℕ) → ((a : ℕ) (d : Definition) → slice_get ds a ≡ Some d → IsScope d) → AllByRecursion IsScope ds
+scopes-from [] k each = tt
+scopes-from (d ∷ ds) k each = (each 0 d refl, scopes-from ds (k + 1) (λ a e h. each (suc a) e h))
 
 -- ---- labels of one scope
 
@@ -163,7 +219,8 @@ rows-labels ts (d ∷ ds) known (here, h) =
 labels-apart-in-form : (r : Resolve) → IsInPackageForm r → All AreDistinct (package_scopes r) → HasApartLabels r × ((ty : ValType) → HasDistinctLabels (labelled_type r ty))
 labels-apart-in-form r form distinct =
     let rows = r.definitions in
-    let scopes = scopes-from rows rows 0 (λ a d h. scope-at rows 0 r.interfaces form.parted (all-tail AreDistinct _ _ distinct) a d (omega arith) h) in
+    let none = none-named rows 0 (interfaces_end 0 r.interfaces) r.worlds (worlds-parted rows 0 r.interfaces r.worlds form.parted) form.worlds in
+    let scopes = scopes-from rows 0 (λ a d h. scope-at rows form.postfix 0 r.interfaces none (interfaces-distinct r distinct) a d (omega arith) h) in
     (all-apart rows scopes, val-labels (labelled_rows [] rows) (rows-labels [] rows tt scopes))
 
 pub labels-apart : (r : Resolve) → LabelsAreApart r

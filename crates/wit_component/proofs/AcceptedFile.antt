@@ -1,9 +1,9 @@
 -- The component of a table in the form of packages is accepted.
-use Rattle.std.proofs.Common.{◌≡◌, ℕ, suc, ◌+◌, ◌-◌, ◌<◌, ◌≤◌, Bool, true, false, not, ◌&&◌, nat_lt, nat_le, List, [], ◌∷◌, ◌++◌, map, drop, sum, length, slice_get, Option, None, Some, refl, sym, ap, subst, ◌∙◌, append_assoc, arith, inl, inr}
+use Rattle.std.proofs.Common.{◌≡◌, ℕ, suc, ◌+◌, ◌-◌, ◌<◌, ◌≤◌, ◌⊎◌, Bool, true, false, not, ◌&&◌, nat_lt, nat_le, List, [], ◌∷◌, ◌++◌, map, drop, sum, length, slice_get, slice_index, slice_index_or, Option, None, Some, refl, sym, ap, subst, ◌∙◌, append_assoc, arith, inl, inr}
 use Rattle.std.specs.List.{list_all}
 use Rattle.std.proofs.lemmas.Bool.Decides.{nat_tests}
-use Rattle.std.proofs.lemmas.Bool.{leb-true}
-use Rattle.std.proofs.lemmas.List.{length-append, length-map, length-take, length-drop, take-append-drop, drop-drop, map-append}
+use Rattle.std.proofs.lemmas.Bool.{leb-true, cases_lt}
+use Rattle.std.proofs.lemmas.List.{length-append, length-map, length-take, length-drop, take-append-drop, drop-drop, map-append, get_or_append_left, get_or_push}
 use Rattle.std.proofs.lemmas.List.Folds.{list_all-append, list_all-map}
 use Rattle.std.proofs.lemmas.List.Sums.{sum_by-cons, sum_by-append}
 use Rattle.std.proofs.lemmas.Slice.Eq.{bytes_eq-Decides}
@@ -11,10 +11,12 @@ use Rattle.ctype_format.specs.Raw.{Instance, Decl, Entry, Export}
 use Rattle.ctype_format.specs.View.{decls_of}
 use Rattle.ctype_format.specs.Formed.{All}
 use Rattle.ctype_bin.specs.InRange.{DeclsInRange}
-use Rattle.ctype_bin.specs.Accepted.{AllowedDecls, entries_of_decls, IsAccepted}
+use Rattle.ctype_bin.specs.Accepted.{AllowedDecls, description_entries, entries_of_decls, IsAccepted}
+use Rattle.ctype_format.specs.declared.raw.RawDescription.{RawDescription}
 use Rattle.ctype_format.specs.declared.raw.RawDescription.TheVariants as described
 use Rattle.tables.specs.Tables.{type_of, function_of, is_function_id, is_placed, are_placed, is_standard, are_earlier, is_there}
 use Rattle.tables.specs.Names.{full_name}
+use Rattle.tables.specs.Package.{interface_names}
 use Rattle.tables.specs.declared.tables.TypeId.{TypeId}
 use Rattle.tables.specs.declared.tables.FunctionId.{FunctionId}
 use Rattle.tables.specs.declared.tables.TypeDef.{TypeDef}
@@ -24,20 +26,34 @@ use Rattle.tables.specs.declared.tables.TypeName.{TypeName}
 use Rattle.tables.specs.declared.tables.Definition.{Definition}
 use Rattle.tables.specs.declared.tables.Definition.TheVariants as row
 use Rattle.tables.specs.declared.tables.Interface.{Interface}
+use Rattle.tables.specs.declared.tables.Function.{Function}
+use Rattle.tables.specs.declared.tables.Direction.{Direction}
+use Rattle.tables.specs.declared.tables.Direction.TheVariants as direction
+use Rattle.tables.specs.declared.tables.WorldItemKind.{WorldItemKind}
+use Rattle.tables.specs.declared.tables.WorldItemKind.TheVariants as item
+use Rattle.tables.specs.declared.tables.WorldItem.{WorldItem}
+use Rattle.tables.specs.declared.tables.World.{World}
 use Rattle.tables.specs.declared.tables.Resolve.{Resolve}
 use Rattle.package_form.specs.Ids.{places_where}
-use Rattle.package_form.specs.Entries.{entries_of}
+use Rattle.package_form.specs.Entries.{entries_of, entries_at, world_entries}
 use Rattle.package_form.specs.References.{row_references}
-use Rattle.wit_component.specs.Rows.{Place, declarations_of, places_after, place_after}
-use Rattle.package_form.specs.Ends.{behind_types, behind_functions, end_of, rows_of, is_parted}
-use Rattle.wit_component.specs.Component.{used_by, used_in, name_of, name_at, instance_export, row_alias, aliases_of, Front, first_place, interface_declarations, front_after, interfaces_declared, no_front, component_of}
+use Rattle.wit_component.specs.Rows.{Place, outer_alias, declarations_of, places_after, place_after}
+use Rattle.wit_component.specs.Worlds.{directed, rows_between, function_declared, Surroundings, items_declared, StandFrom}
+use Rattle.package_form.specs.Ends.{behind_types, behind_functions, end_of, rows_of, interfaces_end, behind_items, world_end, is_parted}
+use Rattle.wit_component.specs.Component.{used_by, used_in, name_of, name_at, instance_export, row_alias, aliases_of, Front, first_place, interface_declarations, front_after, interfaces_declared, no_front, interfaces_front, surroundings, world_front, worlds_declared, package_declarations, component_of}
 use Rattle.package_form.specs.Form.{is_own, is_own_name, is_earlier_name, is_earlier_type, uses_earlier, is_owned, is_local, is_named, ids_of, is_use_type, is_use_at, has_ids, are_interfaces, IsInPackageForm}
 use Rattle.package_form.specs.Unused.{inner_rows, can_use, is_next, unused_after, are_used}
 use Rattle.tables.proofs.Rows.{split, both}
 use Rattle.package_form.proofs.Postfix.{postfix-used}
+use Rattle.package_form.proofs.OneRow.{none-named, worlds-parted}
 use Rattle.wit_component.proofs.AcceptedRows.{all-split, CanStand, row-allowed, row-entries}
 use Rattle.wit_component.proofs.AcceptedStates.{named_at, closed-stands}
 use Rattle.wit_component.proofs.AcceptedWalk.{behind, is_use_place, Walk, Walked, walked}
+use Rattle.wit_component.proofs.AcceptedWorlds.{BeforeRows, items-range}
+use Rattle.wit_component.proofs.RowsBetween.{rest-is, first-row}
+use Rattle.wit_component.proofs.RowFacts.{all-take, all-drop}
+use Rattle.wit_component.proofs.WorldItems.{items-stand, AreWorlds, world-first, worlds-later}
+use Rattle.wit_component.proofs.OneTarget.{named-row}
 
 -- ---- all rows
 
@@ -220,26 +236,96 @@ module _ (r : Resolve) where
   abbrev rows : List Definition
   rows = r.definitions
 
-  parts : (start : ℕ) (i : Interface) (is : List Interface) → is_parted (length rows) start (i ∷ is) ≡ true → (start ≤ end_of start i) × (end_of start i ≤ length rows) × (is_parted (length rows) (end_of start i) is ≡ true)
+  parts : (start : ℕ) (i : Interface) (is : List Interface) → is_parted (length rows) start (i ∷ is) r.worlds ≡ true → (start ≤ end_of start i) × (end_of start i ≤ length rows) × (is_parted (length rows) (end_of start i) is r.worlds ≡ true)
   parts start i is h =
       let a = split (nat_le start (end_of start i)) _ h in
-      let b = split (nat_le (end_of start i) (length rows)) (is_parted (length rows) (end_of start i) is) a.1 in
+      let b = split (nat_le (end_of start i) (length rows)) (is_parted (length rows) (end_of start i) is r.worlds) a.1 in
       (leb-true start (end_of start i) a.0, leb-true (end_of start i) (length rows) b.0, b.1)
 
-  interfaces-range : (is : List Interface) (k start : ℕ) (at : Front) → Before rows k start at.indices → are_earlier start (drop start rows) ≡ true → are_used rows start [] (drop start rows) ≡ true
-      → is_parted (length rows) start is ≡ true → are_interfaces rows k start is ≡ true → are_placed rows is ≡ true → DeclsInRange (0 ∷ []) at.types k (decls_of (interfaces_declared r at start is))
+  -- what follows stands here, behind k interfaces
+  abbrev InstancesKnown : ℕ → Front → Type 0
+  InstancesKnown k at = (length at.instances ≡ k) × ((i : ℕ) → i < k → slice_index at.instances i < at.types)
+
+  record Ended (k start : ℕ) (at : Front) : Type 0 where
+    indices : Before rows k start at.indices
+    instances : InstancesKnown k at
+    earlier : are_earlier start (drop start rows) ≡ true
+    used : are_used rows start [] (drop start rows) ≡ true
+
+  instances-next : (k : ℕ) (at : Front) (ds : List Definition) → InstancesKnown k at → InstancesKnown (k + 1) (front_after rows at ds)
+  instances-next k at ds h = (omega (arith, h.0, length-append at.instances (index ∷ [])), λ i low. by (cases_lt i k) low)
+    where
+      index : ℕ
+      index = at.types + length (aliases_of rows ds)
+
+      old : (i : ℕ) → i < k → slice_index (at.instances ++ index ∷ []) i < index + 1
+      old i low = let same = get_or_append_left at.instances (index ∷ []) 0 i (omega (arith, low, h.0)) in let known = h.1 i low in omega (arith, same, known)
+
+      new : (i : ℕ) → i ≡ k → slice_index (at.instances ++ index ∷ []) i < index + 1
+      new i e = let same = get_or_push at.instances index 0 i (h.0 ∙ sym e) in omega (arith, same)
+
+      by : {i : ℕ} → (i < k) ⊎ (k ≤ i) → i < k + 1 → slice_index (at.instances ++ index ∷ []) i < index + 1
+      by {i} (inl l) low = old i l
+      by {i} (inr l) low = new i (omega (arith, l, low))
+
+  interfaces-range : (more : List Decl) (is : List Interface) (k start : ℕ) (at : Front) → Ended k start at → is_parted (length rows) start is r.worlds ≡ true → are_interfaces rows k start is ≡ true
+      → are_placed rows is ≡ true → (Ended (k + length is) (interfaces_end start is) (interfaces_front rows at start is) → DeclsInRange (0 ∷ []) (interfaces_front rows at start is).types (k + length is) (decls_of more))
+      → DeclsInRange (0 ∷ []) at.types k (decls_of (interfaces_declared r at start is ++ more))
   unfolding DeclsInRange
-  interfaces-range [] k start at front earlier used parted interfaces placed = tt
-  interfaces-range (i ∷ is) k start at front earlier used parted interfaces placed =
+  interfaces-range more [] k start at front parted interfaces placed then =
+      let same : k + 0 ≡ k = omega arith in
+      subst (λ (n : ℕ). DeclsInRange (0 ∷ []) at.types n (decls_of more)) same (then (subst (λ (n : ℕ). Ended n start at) (sym same) front))
+  interfaces-range more (i ∷ is) k start at front parted interfaces placed then =
       let p = parts start i is parted in
       let s = split (has_ids rows start i && list_all (is_local rows k) (rows_of rows start i)) (are_interfaces rows (k + 1) (end_of start i) is) interfaces in
       let own = split (has_ids rows start i) (list_all (is_local rows k) (rows_of rows start i)) s.0 in
       let q = split (is_placed rows i) (are_placed rows is) placed in
-      let rest = interfaces_declared r (front_after rows at (rows_of rows start i)) (end_of start i) is in
-      let next = behind-rows rows start i p.0 p.1 k at rest (full_name r i) front q.0 earlier used own.0 own.1 in
-      interface-range rows start i p.0 p.1 k at rest (full_name r i) front q.0 earlier used own.0 own.1
-      (interfaces-range is (k + 1) (end_of start i) (front_after rows at (rows_of rows start i)) (front-next rows start i p.0 p.1 k at rest (full_name r i) front q.0 earlier used own.0 own.1)
-      next.earlier next.used p.2 s.1 q.1)
+      let ds = rows_of rows start i in
+      let rest = interfaces_declared r (front_after rows at ds) (end_of start i) is ++ more in
+      let next = behind-rows rows start i p.0 p.1 k at rest (full_name r i) front.indices q.0 front.earlier front.used own.0 own.1 in
+      let after : Ended (k + 1) (end_of start i) (front_after rows at ds) = record {
+        indices = front-next rows start i p.0 p.1 k at rest (full_name r i) front.indices q.0 front.earlier front.used own.0 own.1;
+        instances = instances-next k at ds front.instances;
+        earlier = next.earlier;
+        used = next.used;
+      } in
+      let count : k + 1 + length is ≡ k + length (i ∷ is) = omega arith in
+      subst (λ (xs : List Decl). DeclsInRange (0 ∷ []) at.types k (decls_of xs)) (sym (append_assoc (interface_declarations rows at ds (full_name r i)) (interfaces_declared r (front_after rows at ds) (end_of start i) is) more))
+      (interface-range rows start i p.0 p.1 k at rest (full_name r i) front.indices q.0 front.earlier front.used own.0 own.1
+      (interfaces-range more is (k + 1) (end_of start i) (front_after rows at ds) after p.2 s.1 q.1
+      (λ e. subst (λ (n : ℕ). DeclsInRange (0 ∷ []) (interfaces_front rows (front_after rows at ds) (end_of start i) is).types n (decls_of more)) (sym count)
+      (then (subst (λ (n : ℕ). Ended n (interfaces_end (end_of start i) is) (interfaces_front rows (front_after rows at ds) (end_of start i) is)) count e)))))
+
+  -- worlds behind so many interfaces, whose names alone there are
+  module _ (lows : (t : ℕ) (m : TypeName) → named_at rows t ≡ Some m → m.interface.0 < length r.interfaces) where
+    begun : (w start : ℕ) (at : Front) → Ended (length r.interfaces) start at → BeforeRows rows (length r.interfaces) at.types w start (first_place at) [] (drop start rows)
+    begun w start at front = record {
+      here = refl;
+      earlier = front.earlier;
+      used = front.used;
+      state = record {
+        long = front.indices.long;
+        known = λ t m lt named own. let low = lows t m named in absurd (omega (arith, low, own));
+        inner = tt;
+        before = λ t m lt named. let low = lows t m named in omega (arith, low);
+      };
+    }
+
+    worlds-range : (ws : List World) (w start : ℕ) (at : Front) → Ended (length r.interfaces) start at → AreWorlds rows (length r.interfaces) w start ws
+        → DeclsInRange (0 ∷ []) at.types (length r.interfaces) (decls_of (worlds_declared r at start ws))
+    unfolding DeclsInRange
+    worlds-range [] w start at front are = tt
+    worlds-range (x ∷ ws) w start at front are =
+        let first = world-first rows (length r.interfaces) w start x ws are in
+        let items = items-range rows (length r.interfaces) at.types w (interface_names r) at.instances front.instances.1 x.items start (first_place at) (world_end start x) (begun w start at front)
+        (items-stand rows (length r.interfaces) w start x first.low first.high first.items first.placed) first.placed first.own (omega arith) in
+        let next : Ended (length r.interfaces) (world_end start x) (world_front rows at start x) = record {
+          indices = record { long = items.before.state.long; before = λ t m lt named. lows t m named };
+          instances = (front.instances.0, λ i low. let known = front.instances.1 i low in omega (arith, known));
+          earlier = items.before.earlier;
+          used = items.before.used;
+        } in
+        (items.range 0, (omega arith, worlds-range ws (w + 1) (world_end start x) (world_front rows at start x) next (worlds-later rows (length r.interfaces) w start x ws are)))
 
   -- ---- counts, nesting and type entries
 
@@ -257,6 +343,9 @@ module _ (r : Resolve) where
       let here : entries (row_alias rows d ++ (aliases_of rows ds ++ rest)) ≡ length (row_alias rows d) + entries (aliases_of rows ds ++ rest) = export-entries (name_at rows (used_in d)) (aliases_of rows ds ++ rest) in
       let more = aliases-entries ds rest in
       ap entries (append_assoc (row_alias rows d) (aliases_of rows ds) rest) ∙ omega (arith, here, more, length-append (row_alias rows d) (aliases_of rows ds))
+
+  sum-append : (ds es : List Definition) → sum (map entries_of (ds ++ es)) ≡ sum (map entries_of ds) + sum (map entries_of es)
+  sum-append ds es = ap sum (map-append entries_of ds es) ∙ sum_by-append (λ n. n) (map entries_of ds) (map entries_of es)
 
   rows-entries : (ds : List Definition) (at : Place) → All CanStand ds → entries (declarations_of at ds) + length (aliases_of rows ds) ≤ sum (map entries_of ds)
   unfolding entries_of_decls
@@ -276,24 +365,105 @@ module _ (r : Resolve) where
       let own = rows-entries ds (first_place at) h in
       omega (arith, all, own)
 
-  interfaces-entries : (is : List Interface) (start : ℕ) (at : Front) → is_parted (length rows) start is ≡ true → All CanStand (drop start rows) → entries (interfaces_declared r at start is) ≤ length is + sum (map entries_of (drop start rows))
+  interfaces-entries : (more : List Decl) (is : List Interface) (start : ℕ) (at : Front) → is_parted (length rows) start is r.worlds ≡ true → All CanStand (drop start rows)
+      → (entries (interfaces_declared r at start is ++ more) + sum (map entries_of (drop (interfaces_end start is) rows)) ≤ length is + sum (map entries_of (drop start rows)) + entries more)
+      × All CanStand (drop (interfaces_end start is) rows)
   unfolding entries_of_decls
-  interfaces-entries [] start at parted h = omega arith
-  interfaces-entries (i ∷ is) start at parted h =
+  interfaces-entries more [] start at parted h = (omega arith, h)
+  interfaces-entries more (i ∷ is) start at parted h =
       let p = parts start i is parted in
       let is-cut : drop start rows ≡ rows_of rows start i ++ drop (end_of start i) rows = cut rows start i p.0 p.1 ∙ ap (λ (ds : List Definition). rows_of rows start i ++ ds) (later-rows rows start i p.0 p.1) in
       let s = all-split CanStand (rows_of rows start i) (drop (end_of start i) rows) (subst (λ (ds : List Definition). All CanStand ds) is-cut h) in
       let sums : sum (map entries_of (drop start rows)) ≡ sum (map entries_of (rows_of rows start i)) + sum (map entries_of (drop (end_of start i) rows)) =
-      ap (λ (ds : List Definition). sum (map entries_of ds)) is-cut ∙ ap sum (map-append entries_of (rows_of rows start i) (drop (end_of start i) rows))
-      ∙ sum_by-append (λ n. n) (map entries_of (rows_of rows start i)) (map entries_of (drop (end_of start i) rows)) in
-      let here = interface-entries at (rows_of rows start i) (full_name r i) (interfaces_declared r (front_after rows at (rows_of rows start i)) (end_of start i) is) s.0 in
-      let more = interfaces-entries is (end_of start i) (front_after rows at (rows_of rows start i)) p.2 s.1 in
-      omega (arith, sums, here, more)
+      ap (λ (ds : List Definition). sum (map entries_of ds)) is-cut ∙ sum-append (rows_of rows start i) (drop (end_of start i) rows) in
+      let rest = interfaces_declared r (front_after rows at (rows_of rows start i)) (end_of start i) is in
+      let here = interface-entries at (rows_of rows start i) (full_name r i) (rest ++ more) s.0 in
+      let again = interfaces-entries more is (end_of start i) (front_after rows at (rows_of rows start i)) p.2 s.1 in
+      let same : entries (interfaces_declared r at start (i ∷ is) ++ more) ≡ entries (interface_declarations rows at (rows_of rows start i) (full_name r i) ++ (rest ++ more)) =
+      ap entries (append_assoc (interface_declarations rows at (rows_of rows start i) (full_name r i)) rest more) in
+      (omega (arith, sums, here, again.0, same), again.1)
 
-  rows-allowed : (depth : ℕ) (ds : List Definition) (at : Place) → list_all is_standard ds ≡ true → AllowedDecls depth false (decls_of (declarations_of at ds))
+  -- ---- those of worlds
+
+  entries-append : (xs ys : List Decl) → entries (xs ++ ys) ≡ entries xs + entries ys
+  unfolding entries_of_decls
+  entries-append [] ys = omega arith
+  entries-append (x ∷ xs) ys = let more = entries-append xs ys in omega (arith, more)
+
+  directed-entries : (way : Direction) (name : List ℕ) (d : RawDescription) → description_entries d ≡ 0 → entries (directed way name d ∷ []) ≡ 0
+  unfolding entries_of_decls
+  directed-entries direction.Import name d none = omega (arith, none)
+  directed-entries direction.Export name d none = omega (arith, none)
+
+  alias-entries : (n : ℕ) (rest : List Decl) → entries (outer_alias n ∷ rest) ≡ 1 + entries rest
+  unfolding entries_of_decls
+  alias-entries n rest = refl
+
+  function-entries : (at : Place) (way : Direction) (d : Definition) → entries (function_declared at way (function_of (Some d))) ≤ entries_of d
+  unfolding entries_of_decls
+  function-entries at way (row.Type d) = omega arith
+  function-entries at way (row.Function f) = let none = directed-entries way f.name (described.Function at.types) refl in omega (arith, none)
+
+  module _ (names : List (List ℕ)) (instances : List ℕ) where
+    abbrev around : Surroundings
+    around = record { rows = rows; names = names; instances = instances }
+
+    abbrev ItemsCounted : ℕ → Place → List WorldItem → Type 0
+    ItemsCounted n at is =
+        (entries (items_declared around at n is) + sum (map entries_of (drop (behind_items n is) rows)) ≤ sum (map entries_at is) + sum (map entries_of (drop n rows)))
+        × All CanStand (drop (behind_items n is) rows)
+
+    items-entries : (is : List WorldItem) (n : ℕ) (at : Place) → StandFrom (length r.interfaces) rows n is → All CanStand (drop n rows) → ItemsCounted n at is
+    unfolding entries_of_decls
+    items-entries [] n at together h = (omega arith, h)
+    items-entries (i ∷ is) n at together h = by i.kind together (λ n at together h. items-entries is n at together h)
+      where
+        by : (what : WorldItemKind) → StandFrom (length r.interfaces) rows n (record { direction = i.direction; kind = what } ∷ is)
+            → ((n : ℕ) (at : Place) → StandFrom (length r.interfaces) rows n is → All CanStand (drop n rows) → ItemsCounted n at is) → ItemsCounted n at (record { direction = i.direction; kind = what } ∷ is)
+        by (item.Interface x) together again =
+            let after : Place = record { indices = at.indices; types = at.types + 1; used = at.used } in
+            let more = again n after together.1 h in
+            let named = directed (i.direction) (slice_index_or names x.0 []) (described.Instance at.types) in
+            let here : entries (outer_alias (slice_index instances x.0) ∷ named ∷ items_declared around after n is) ≡ 1 + entries (named ∷ items_declared around after n is) =
+            alias-entries (slice_index instances x.0) (named ∷ items_declared around after n is) in
+            let none = directed-entries i.direction (slice_index_or names x.0 []) (described.Instance at.types) refl in
+            let rest : entries (named ∷ items_declared around after n is) ≡ entries (named ∷ []) + entries (items_declared around after n is) = entries-append (named ∷ []) (items_declared around after n is) in
+            let all : sum (map entries_at (record { direction = i.direction; kind = item.Interface x } ∷ is)) ≡ 1 + sum (map entries_at is) = sum_by-cons (λ n. n) 1 (map entries_at is) in
+            (omega (arith, more.0, here, none, rest, all), more.1)
+        by (item.Function f) together again =
+            let inner = rows_between rows n f.0 in
+            let at_f = places_after at inner in
+            let d = first-row rows f.0 together.0.1 in
+            let own = function_declared at_f i.direction (function_of (slice_get rows f.0)) in
+            let rest = items_declared around (places_after at (rows_between rows n (f.0 + 1))) (f.0 + 1) is in
+            let cut : drop n rows ≡ inner ++ d.0 ∷ drop (f.0 + 1) rows = rest-is rows n f.0 together.0.0 ∙ ap (λ ds. inner ++ ds) d.1 in
+            let s = all-split CanStand inner (d.0 ∷ drop (f.0 + 1) rows) (subst (λ (ds : List Definition). All CanStand ds) cut h) in
+            let more = again (f.0 + 1) (places_after at (rows_between rows n (f.0 + 1))) together.1 s.1.1 in
+            let before = rows-entries inner at s.0 in
+            let mine : entries own ≤ entries_of d.0 = subst (λ (o : Option Definition). entries (function_declared at_f i.direction (function_of o)) ≤ entries_of d.0) (sym d.2) (function-entries at_f i.direction d.0) in
+            let whole : entries ((declarations_of at inner ++ own) ++ rest) ≡ entries (declarations_of at inner) + entries own + entries rest =
+            entries-append (declarations_of at inner ++ own) rest ∙ ap (λ m. m + entries rest) (entries-append (declarations_of at inner) own) in
+            let sums : sum (map entries_of (drop n rows)) ≡ sum (map entries_of inner) + (entries_of d.0 + sum (map entries_of (drop (f.0 + 1) rows))) =
+            ap (λ (ds : List Definition). sum (map entries_of ds)) cut ∙ sum-append inner (d.0 ∷ drop (f.0 + 1) rows)
+            ∙ ap (λ m. sum (map entries_of inner) + m) (sum_by-cons (λ n. n) (entries_of d.0) (map entries_of (drop (f.0 + 1) rows))) in
+            let all : sum (map entries_at (record { direction = i.direction; kind = item.Function f } ∷ is)) ≡ 0 + sum (map entries_at is) = sum_by-cons (λ n. n) 0 (map entries_at is) in
+            (omega (arith, more.0, before, mine, whole, sums, all), more.1)
+
+  worlds-entries : (ws : List World) (w start : ℕ) (at : Front) → AreWorlds rows (length r.interfaces) w start ws → All CanStand (drop start rows)
+      → entries (worlds_declared r at start ws) ≤ sum (map world_entries ws) + sum (map entries_of (drop start rows))
+  unfolding entries_of_decls
+  worlds-entries [] w start at are h = omega arith
+  worlds-entries (x ∷ ws) w start at are h =
+      let first = world-first rows (length r.interfaces) w start x ws are in
+      let items = items-entries (interface_names r) at.instances x.items start (first_place at) (items-stand rows (length r.interfaces) w start x first.low first.high first.items first.placed) h in
+      let more = worlds-entries ws (w + 1) (world_end start x) (world_front rows at start x) (worlds-later rows (length r.interfaces) w start x ws are) items.1 in
+      let all : sum (map world_entries (x ∷ ws)) ≡ world_entries x + sum (map world_entries ws) = sum_by-cons (λ n. n) (world_entries x) (map world_entries ws) in
+      omega (arith, items.0, more, all)
+
+  rows-allowed : (depth : ℕ) (component : Bool) (ds : List Definition) (at : Place) → list_all is_standard ds ≡ true → AllowedDecls depth component (decls_of (declarations_of at ds))
   unfolding AllowedDecls
-  rows-allowed depth [] at h = tt
-  rows-allowed depth (d ∷ ds) at h = let s = split (is_standard d) (list_all is_standard ds) h in row-allowed at depth d (declarations_of (place_after at d) ds) s.0 (rows-allowed depth ds (place_after at d) s.1)
+  rows-allowed depth component [] at h = tt
+  rows-allowed depth component (d ∷ ds) at h = let s = split (is_standard d) (list_all is_standard ds) h in row-allowed at depth component d (declarations_of (place_after at d) ds) s.0 (rows-allowed depth component ds (place_after at d) s.1)
 
   export-allowed : (o : Option TypeName) (depth : ℕ) (rest : List Decl) → AllowedDecls depth true (decls_of rest) → AllowedDecls depth true (decls_of (instance_export o ++ rest))
   unfolding AllowedDecls
@@ -311,32 +481,114 @@ module _ (r : Resolve) where
   interface-allowed at ds name depth rest standard h =
       subst (λ (xs : List Decl). AllowedDecls (suc depth) true (decls_of xs))
       (sym (append_assoc (aliases_of rows ds) (Entry (Instance (decls_of (declarations_of (first_place at) ds))) ∷ Export name (described.Instance (at.types + length (aliases_of rows ds))) ∷ []) rest))
-      (aliases-allowed ds (suc depth) (Entry (Instance (decls_of (declarations_of (first_place at) ds))) ∷ Export name (described.Instance (at.types + length (aliases_of rows ds))) ∷ rest) (rows-allowed depth ds (first_place at) standard, (tt, h)))
+      (aliases-allowed ds (suc depth) (Entry (Instance (decls_of (declarations_of (first_place at) ds))) ∷ Export name (described.Instance (at.types + length (aliases_of rows ds))) ∷ rest) (rows-allowed depth false ds (first_place at) standard, (tt, h)))
 
-  interfaces-allowed : (is : List Interface) (start : ℕ) (at : Front) (depth : ℕ) → is_parted (length rows) start is ≡ true → list_all is_standard (drop start rows) ≡ true → AllowedDecls (suc depth) true (decls_of (interfaces_declared r at start is))
+  interfaces-allowed : (more : List Decl) (is : List Interface) (start : ℕ) (at : Front) (depth : ℕ) → is_parted (length rows) start is r.worlds ≡ true → list_all is_standard (drop start rows) ≡ true
+      → AllowedDecls (suc depth) true (decls_of more) → AllowedDecls (suc depth) true (decls_of (interfaces_declared r at start is ++ more))
   unfolding AllowedDecls
-  interfaces-allowed [] start at depth parted h = tt
-  interfaces-allowed (i ∷ is) start at depth parted h =
+  interfaces-allowed more [] start at depth parted h then = then
+  interfaces-allowed more (i ∷ is) start at depth parted h then =
       let p = parts start i is parted in
-      let is-cut : drop start rows ≡ rows_of rows start i ++ drop (end_of start i) rows = cut rows start i p.0 p.1 ∙ ap (λ (ds : List Definition). rows_of rows start i ++ ds) (later-rows rows start i p.0 p.1) in
-      let s = split (list_all is_standard (rows_of rows start i)) (list_all is_standard (drop (end_of start i) rows)) (sym (ap (list_all is_standard) is-cut ∙ list_all-append is_standard (rows_of rows start i) (drop (end_of start i) rows)) ∙ h) in
-      interface-allowed at (rows_of rows start i) (full_name r i) depth (interfaces_declared r (front_after rows at (rows_of rows start i)) (end_of start i) is) s.0
-      (interfaces-allowed is (end_of start i) (front_after rows at (rows_of rows start i)) depth p.2 s.1)
+      let ds = rows_of rows start i in
+      let is-cut : drop start rows ≡ ds ++ drop (end_of start i) rows = cut rows start i p.0 p.1 ∙ ap (λ (es : List Definition). ds ++ es) (later-rows rows start i p.0 p.1) in
+      let s = split (list_all is_standard ds) (list_all is_standard (drop (end_of start i) rows)) (sym (ap (list_all is_standard) is-cut ∙ list_all-append is_standard ds (drop (end_of start i) rows)) ∙ h) in
+      let rest = interfaces_declared r (front_after rows at ds) (end_of start i) is in
+      subst (λ (xs : List Decl). AllowedDecls (suc depth) true (decls_of xs)) (sym (append_assoc (interface_declarations rows at ds (full_name r i)) rest more))
+      (interface-allowed at ds (full_name r i) depth (rest ++ more) s.0 (interfaces-allowed more is (end_of start i) (front_after rows at ds) depth p.2 s.1 then))
+
+  -- ---- those of worlds
+
+  directed-allowed : (depth : ℕ) (way : Direction) (name : List ℕ) (d : RawDescription) (rest : List Decl) → AllowedDecls depth true (decls_of rest) → AllowedDecls depth true (decls_of (directed way name d ∷ rest))
+  unfolding AllowedDecls
+  directed-allowed depth direction.Import name d rest h = (refl, h)
+  directed-allowed depth direction.Export name d rest h = (tt, h)
+
+  append-allowed : (depth : ℕ) (xs ys : List Decl) → AllowedDecls depth true (decls_of xs) → AllowedDecls depth true (decls_of ys) → AllowedDecls depth true (decls_of (xs ++ ys))
+  unfolding AllowedDecls
+  append-allowed depth [] ys h q = q
+  append-allowed depth (x ∷ xs) ys h q = (h.0, append-allowed depth xs ys h.1 q)
+
+  function-allowed : (depth : ℕ) (at : Place) (way : Direction) (o : Option Function) → AllowedDecls depth true (decls_of (function_declared at way o))
+  unfolding AllowedDecls
+  function-allowed depth at way None = tt
+  function-allowed depth at way (Some f) = (tt, directed-allowed depth way f.name (described.Function at.types) [] tt)
+
+  all-between : (n end : ℕ) → list_all is_standard rows ≡ true → list_all is_standard (rows_between rows n end) ≡ true
+  all-between n end h = all-take is_standard (end - n) (drop n rows) (all-drop is_standard n rows h)
+
+  items-allowed : (depth : ℕ) (p : Surroundings) → p.rows ≡ rows → (is : List WorldItem) (n : ℕ) (at : Place) → AllowedDecls depth true (decls_of (items_declared p at n is))
+  unfolding AllowedDecls
+  items-allowed depth p own [] n at = tt
+  items-allowed depth p own (i ∷ is) n at = by i.kind (λ n at. items-allowed depth p own is n at)
+    where
+      by : (what : WorldItemKind) → ((n : ℕ) (at : Place) → AllowedDecls depth true (decls_of (items_declared p at n is))) → AllowedDecls depth true (decls_of (items_declared p at n (record { direction = i.direction; kind = what } ∷ is)))
+      by (item.Interface x) again = (
+        tt,
+        directed-allowed depth i.direction (slice_index_or p.names x.0 []) (described.Instance at.types) _
+            (again n (record { indices = at.indices; types = at.types + 1; used = at.used })),
+      )
+      by (item.Function f) again =
+          append-allowed depth (declarations_of at (rows_between p.rows n f.0) ++ function_declared (places_after at (rows_between p.rows n f.0)) i.direction (function_of (slice_get p.rows f.0))) _
+          (append-allowed depth (declarations_of at (rows_between p.rows n f.0)) _
+          (rows-allowed depth true (rows_between p.rows n f.0) at (subst (λ (ds : List Definition). list_all is_standard (rows_between ds n f.0) ≡ true) (sym own) (all-between n f.0 r.standard)))
+          (function-allowed depth (places_after at (rows_between p.rows n f.0)) i.direction (function_of (slice_get p.rows f.0))))
+          (again (f.0 + 1) (places_after at (rows_between p.rows n (f.0 + 1))))
+
+  worlds-allowed : (depth : ℕ) (ws : List World) (start : ℕ) (at : Front) → AllowedDecls (suc depth) true (decls_of (worlds_declared r at start ws))
+  unfolding AllowedDecls
+  worlds-allowed depth [] start at = tt
+  worlds-allowed depth (w ∷ ws) start at =
+      (items-allowed depth (surroundings r at) refl w.items start (first_place at), (tt, worlds-allowed depth ws (world_end start w) (world_front rows at start w)))
 
   -- ---- the component
 
-  few-entries : IsInPackageForm r → 1 + entries (interfaces_declared r no_front 0 r.interfaces) ≤ 65535
-  few-entries form =
-      let used = postfix-used rows r.earlier form.postfix in
-      let more = interfaces-entries r.interfaces 0 no_front form.parted (stand rows rows 0 [] used) in
-      let same : length (map (λ (i : Interface). i.name) r.interfaces) ≡ length r.interfaces = length-map r.interfaces (λ (i : Interface). i.name) in
-      let limit = form.entries in
-      omega (arith, more, same, limit)
+  module _ (form : IsInPackageForm r) where
+    abbrev end : ℕ
+    end = interfaces_end 0 r.interfaces
 
-  pub accepted : IsInPackageForm r → IsAccepted (component_of r)
-  unfolding DeclsInRange AllowedDecls entries_of_decls
-  accepted form = record {
-    in_range = ((interfaces-range r.interfaces 0 0 no_front (record { long = refl; before = λ t m lt named. absurd (omega (arith, lt)) }) r.earlier (postfix-used rows r.earlier form.postfix) form.parted form.interfaces r.placed, tt), (omega arith, tt));
-    allowed = (interfaces-allowed r.interfaces 0 no_front 2 form.parted r.standard, tt);
-    entries = let few = few-entries form in omega (arith, few);
-  }
+    abbrev behind-interfaces : Front
+    behind-interfaces = interfaces_front rows no_front 0 r.interfaces
+
+    all-worlds : AreWorlds rows (length r.interfaces) 0 end r.worlds
+    all-worlds = record { parted = worlds-parted rows 0 r.interfaces r.worlds form.parted; items = form.worlds; placed = r.worlds_placed }
+
+    few-entries : 1 + entries (package_declarations r) ≤ 65535
+    few-entries =
+        let used = postfix-used rows r.earlier form.postfix in
+        let more = interfaces-entries (worlds_declared r behind-interfaces end r.worlds) r.interfaces 0 no_front form.parted (stand rows rows 0 [] used) in
+        let worlds = worlds-entries r.worlds 0 end behind-interfaces all-worlds more.1 in
+        let same : length (map (λ (i : Interface). i.name) r.interfaces) ≡ length r.interfaces = length-map r.interfaces (λ (i : Interface). i.name) in
+        let limit = form.entries in
+        omega (arith, more.0, worlds, same, limit)
+
+    begun-all : Ended 0 0 no_front
+    begun-all = record {
+      indices = record { long = refl; before = λ t m lt named. absurd (omega (arith, lt)) };
+      instances = (refl, λ i low. absurd (omega (arith, low)));
+      earlier = r.earlier;
+      used = postfix-used rows r.earlier form.postfix;
+    }
+
+    -- behind the interfaces there are no names
+    lows : Before rows (length r.interfaces) end behind-interfaces.indices → (t : ℕ) (m : TypeName) → named_at rows t ≡ Some m → m.interface.0 < length r.interfaces
+    lows before t m e = elim (cases_lt t end) [
+      | inl l ↦ before.before t m l e
+      | inr l ↦ absurd (none-named rows 0 end r.worlds all-worlds.parted all-worlds.items t m l (named-row rows t m e))
+    ]
+
+    pub accepted : IsAccepted (component_of r)
+    unfolding DeclsInRange AllowedDecls entries_of_decls
+    accepted = record {
+      in_range = (
+        (
+          interfaces-range (worlds_declared r behind-interfaces end r.worlds) r.interfaces 0 0 no_front begun-all form.parted form.interfaces r.placed
+              (λ e. let zero-more : 0 + length r.interfaces ≡ length r.interfaces = omega arith in
+              subst (λ (n : ℕ). DeclsInRange (0 ∷ []) behind-interfaces.types n (decls_of (worlds_declared r behind-interfaces end r.worlds))) (sym zero-more)
+              (let ended = subst (λ (n : ℕ). Ended n end behind-interfaces) zero-more e in worlds-range (lows ended.indices) r.worlds 0 end behind-interfaces ended all-worlds)),
+          tt,
+        ),
+        (omega arith, tt),
+      );
+      allowed = (interfaces-allowed (worlds_declared r behind-interfaces end r.worlds) r.interfaces 0 no_front 2 form.parted r.standard (worlds-allowed 2 r.worlds end behind-interfaces), tt);
+      entries = let few = few-entries in omega (arith, few);
+    }

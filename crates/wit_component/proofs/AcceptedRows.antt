@@ -82,16 +82,16 @@ module _ (indices : List ℕ) (types : ℕ) where
   defined-range (kind.Enum ns) h = tt
   defined-range (kind.Flags ns) h = tt
 
-  signature-range : (f : Function) → Known (row_references (row.Function f)) → FunctionInRange types (signature_of indices f)
+  pub signature-range : (f : Function) → Known (row_references (row.Function f)) → FunctionInRange types (signature_of indices f)
   signature-range f h =
       let s = all-split (IsKnown indices types) (flat_map parameter_references f.params) (references_if f.result) h in
       (all-range parameter_references (parameter_of indices) (FieldInRange types) (λ p q. val-range p.ty q) f.params s.0, if-range f.result s.1)
 
 -- ---- indices, where the component type around has so many types
 
-module _ (count : ℕ) (at : Place) where
+module _ (count instances : ℕ) (at : Place) where
   abbrev Ranged : ℕ → List Decl → Type 0
-  Ranged types ds = DeclsInRange (0 ∷ count ∷ []) types 0 (decls_of ds)
+  Ranged types ds = DeclsInRange (0 ∷ count ∷ []) types instances (decls_of ds)
 
   at-count : (m n : ℕ) (ds : List Decl) → m ≡ n → Ranged m ds → Ranged n ds
   at-count m n ds e h = subst (λ (c : ℕ). Ranged c ds) e h
@@ -148,9 +148,9 @@ within-is limit n h = (grind (arith, nat_tests), grind (arith, nat_tests))
 some-is : {X Y : Type 0} (w : X → Y) (xs : List X) → nat_lt 0 (length xs) ≡ true → 0 < length (map w xs)
 some-is w xs h = let e = length-map xs w in let lt : 0 < length xs = grind (arith, nat_tests) in omega (arith, e, lt)
 
-module _ (at : Place) (depth : ℕ) where
+module _ (at : Place) (depth : ℕ) (component : Bool) where
   abbrev Allowed : List Decl → Type 0
-  Allowed ds = AllowedDecls depth false (decls_of ds)
+  Allowed ds = AllowedDecls depth component (decls_of ds)
 
   export-allowed : (o : Option TypeName) (i : ℕ) (rest : List Decl) → Allowed rest → Allowed (type_export o i ++ rest)
   unfolding AllowedDecls

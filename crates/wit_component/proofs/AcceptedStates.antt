@@ -17,7 +17,7 @@ use Rattle.package_form.specs.Postfix.{is_unnamed, is_unnamed_row, one_if, is_in
 use Rattle.package_form.specs.References.{row_references}
 use Rattle.wit_component.specs.Rows.{Place, defined_types, exported_types, row_types, export_offset, row_offset, place_after}
 use Rattle.wit_component.specs.Component.{name_of}
-use Rattle.package_form.specs.Form.{is_own_name, is_own_type, is_own, uses_earlier, is_owned, is_local}
+use Rattle.package_form.specs.Form.{is_own_name, is_own_type, is_own, uses_earlier, is_owned}
 use Rattle.package_form.specs.Unused.{unnamed_at, inner_rows, closes, unused_after}
 use Rattle.package_form.proofs.Fronts.{stands_before}
 use Rattle.tables.proofs.Rows.{split}
@@ -64,6 +64,13 @@ row-offset : (d : Definition) → CanStand d → row_offset d < row_types d
 row-offset (row.Type d) h = type-offset d.name d.kind h
 row-offset (row.Function f) h = omega arith
 
+-- the name of a row of interface k
+pub own-name : (rows : List Definition) (k : ℕ) (e : Definition) (m : TypeName) → is_owned rows k e ≡ true → name_of (type_of (Some e)) ≡ Some m → m.interface.0 ≡ k
+own-name rows k (row.Type e) m owned named =
+    let s = split (is_own_name k e.name) (uses_earlier rows k e.kind) owned in
+    eqb-true m.interface.0 k (subst (λ (o : Option TypeName). is_own_name k o ≡ true) named s.0)
+own-name rows k (row.Function f) m owned named = absurd (cc)
+
 -- ---- the state before a row
 
 module _ (rows : List Definition) where
@@ -98,7 +105,8 @@ module _ (rows : List Definition) where
         let s = all-split HasIndex (unnamed_at rows t) (flat_map (unnamed_at rows) ts) h in
         (ref-known t (slice_get rows t.0) refl o.0 (let b : nat_lt t.0 n ≡ true = l.0 in grind (arith, nat_tests)) s.0, refs-known ts o.1 l.1 s.1)
 
-    module _ (d : Definition) (here : slice_get rows n ≡ Some d) (local : is_local rows k d ≡ true) (stands : CanStand d) where
+    module _ (d : Definition) (here : slice_get rows n ≡ Some d) (own : list_all (is_own rows k) (row_references d) ≡ true)
+        (names : (m : TypeName) → name_of (type_of (Some d)) ≡ Some m → m.interface.0 ≡ k) (stands : CanStand d) where
       abbrev front : List ℕ
       front = take (length unused - length (inner_rows rows d)) unused
 
@@ -107,7 +115,7 @@ module _ (rows : List Definition) where
       cut is = all-split HasIndex (take (length unused - length (inner_rows rows d)) unused) (inner_rows rows d) (subst (λ ns. All HasIndex ns) is state.inner)
 
       pub row-known : list_all (stands_before n) (row_references d) ≡ true → unused ≡ take (length unused - length (inner_rows rows d)) unused ++ inner_rows rows d → All (IsKnown at.indices at.types) (row_references d)
-      row-known lt is = let l = split (is_owned rows k d) (list_all (is_own rows k) (row_references d)) local in refs-known (row_references d) l.1 lt (cut is).1
+      row-known lt is = refs-known (row_references d) own lt (cut is).1
 
       abbrev next : Place
       next = place_after at d
@@ -133,20 +141,13 @@ module _ (rows : List Definition) where
         | inr l ↦ new-known t (omega (arith, l, lt))
       ]
 
-      own-name : (e : Definition) (m : TypeName) → is_owned rows k e ≡ true → name_of (type_of (Some e)) ≡ Some m → m.interface.0 ≡ k
-      own-name (row.Type e) m owned named =
-          let s = split (is_own_name k e.name) (uses_earlier rows k e.kind) owned in
-          eqb-true m.interface.0 k (subst (λ (o : Option TypeName). is_own_name k o ≡ true) named s.0)
-      own-name (row.Function f) m owned named = absurd (cc)
-
       next-before : (t : ℕ) (m : TypeName) → t < n + 1 → named_at t ≡ Some m → m.interface.0 ≤ k
       next-before t m lt named = elim (cases_lt t n) [
         | inl l ↦ state.before t m l named
         | inr l ↦
             let at_n : t ≡ n = omega (arith, l, lt) in
             let name : name_of (type_of (Some d)) ≡ Some m = ap (λ (o : Option Definition). name_of (type_of o)) (sym (ap (λ (j : ℕ). slice_get rows j) at_n ∙ here)) ∙ named in
-            let own : m.interface.0 ≡ k = own-name d m (split (is_owned rows k d) (list_all (is_own rows k) (row_references d)) local).0 name in
-            omega (arith, own)
+            omega (arith, names m name)
       ]
 
       new-inner : (b : Bool) → All (λ t. (t < n + 1) × (slice_index next.indices t < next.types)) (one_if b n)

@@ -23,7 +23,7 @@ use Rattle.package_form.proofs.Fronts.{row-before}
 use Rattle.tables.proofs.Rows.{split}
 use Rattle.package_form.proofs.Postfix.{ends, is-none}
 use Rattle.wit_component.proofs.AcceptedRows.{is_use_def, CanStand, IsKnown, row-range}
-use Rattle.wit_component.proofs.AcceptedStates.{State, closed-stands, row-known, state-next}
+use Rattle.wit_component.proofs.AcceptedStates.{State, closed-stands, own-name, row-known, state-next}
 
 -- ---- a row that is a used name
 
@@ -88,11 +88,11 @@ no-name None h = refl
 no-name (Some n) h = absurd (cc)
 
 -- and it has a name
-use-named : (d : Definition) → is_use_def d ≡ true → CanStand d → is_unnamed d ≡ true → ⊥
+pub use-named : (d : Definition) → is_use_def d ≡ true → CanStand d → is_unnamed d ≡ true → ⊥
 use-named (row.Type d) is stands none = let a = stands (no-name d.name none) in let b = (kind-plain [] d.kind is).1 in absurd (cc)
 use-named (row.Function f) is stands none = absurd (cc)
 
-named-closes : (d : Definition) (left : ℕ) → is_unnamed d ≡ false → closes d left ≡ true → left ≡ 0
+pub named-closes : (d : Definition) (left : ℕ) → is_unnamed d ≡ false → closes d left ≡ true → left ≡ 0
 named-closes (row.Type d) left named h = is-none left (subst (λ (b : Bool). cond b (is_inner d.kind) (left == 0) ≡ true) named h)
 named-closes (row.Function f) left named h = is-none left h
 
@@ -160,6 +160,10 @@ module _ (rows : List Definition) (k count : ℕ) where
     local : (is_local rows k d ≡ true) × (list_all (is_local rows k) ds ≡ true)
     local = split (is_local rows k d) (list_all (is_local rows k) ds) w.local
 
+    -- its types are the interface's, and so is its name
+    own : (list_all (is_own rows k) (row_references d) ≡ true) × ((m : TypeName) → name_of (type_of (Some d)) ≡ Some m → m.interface.0 ≡ k)
+    own = let s = split (is_owned rows k d) (list_all (is_own rows k) (row_references d)) local.0 in (s.1, λ m e. own-name rows k d m s.0 e)
+
     earlier : (definition_below n d ≡ true) × (are_earlier (n + 1) (ds ++ es) ≡ true)
     earlier = split (definition_below n d) (are_earlier (n + 1) (ds ++ es)) w.earlier
 
@@ -173,7 +177,7 @@ module _ (rows : List Definition) (k count : ℕ) where
     stands = closed-stands d left cut.1
 
     known : All (IsKnown at.indices at.types) (row_references d)
-    known = row-known rows k n at unused w.state d here.0 local.0 stands (row-before n d earlier.0) cut.0
+    known = row-known rows k n at unused w.state d here.0 own.0 own.1 stands (row-before n d earlier.0) cut.0
 
     use-at : is_use_place n ≡ is_use_def d
     use-at = ap (λ (o : Option Definition). is_use_type (type_of o)) here.0 ∙ use-here d
@@ -192,7 +196,7 @@ module _ (rows : List Definition) (k count : ℕ) where
       last_before = before;
       last_whole = whole;
       end = end;
-      state = state-next rows k n at unused w.state d here.0 local.0 stands cut.0;
+      state = state-next rows k n at unused w.state d here.0 own.0 own.1 stands cut.0;
     }
 
     -- ---- a row with a name
@@ -294,4 +298,4 @@ module _ (rows : List Definition) (k count : ℕ) where
       let s = step n at unused uses others last d ds es w in
       let rest = walked ds es (n + 1) (place_after at d) (unused_after n unused (inner_rows rows d) d) s.uses s.others s.last s.walk in
       let same : n + 1 + length ds ≡ n + length (d ∷ ds) = omega arith in
-      (row-range count at d (declarations_of (place_after at d) ds) s.known s.alias rest.0, subst (λ (m : ℕ). Walked m (places_after (place_after at d) ds) es) same rest.1)
+      (row-range count 0 at d (declarations_of (place_after at d) ds) s.known s.alias rest.0, subst (λ (m : ℕ). Walked m (places_after (place_after at d) ds) es) same rest.1)

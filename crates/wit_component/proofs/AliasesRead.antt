@@ -1,11 +1,12 @@
 -- The aliases of the types that an interface uses, read again.
-use Rattle.std.proofs.Common.{◌≡◌, ℕ, suc, true, not, List, [], ◌∷◌, ◌++◌, length, Some, refl, ap, sym, ◌∙◌, append_assoc, append-nil}
+use Rattle.std.proofs.Common.{◌≡◌, ℕ, suc, true, not, List, [], ◌∷◌, ◌++◌, map, length, Option, None, Some, refl, ap, sym, ◌∙◌, append_assoc, append-nil}
 use Rattle.std.specs.List.{list_all}
 use Rattle.std.specs.Option.{option_map}
 use Rattle.ctype_format.specs.Raw.{Decl}
 use Rattle.ctype_format.specs.View.{decls_of}
 use Rattle.package_form.specs.Scoped.{Entry as Named}
 use Rattle.tables.specs.declared.tables.TypeId.{TypeId}
+use Rattle.tables.specs.declared.tables.InterfaceId.{InterfaceId}
 use Rattle.tables.specs.declared.tables.TypeDefKind.{TypeDefKind}
 use Rattle.tables.specs.declared.tables.TypeDefKind.TheVariants as kind
 use Rattle.tables.specs.declared.tables.Definition.{Definition}
@@ -17,8 +18,24 @@ use Rattle.tables.proofs.Rows.{split}
 use Rattle.wit_component.proofs.UsesFound.{UsesFound, found_none, found_one, all_some}
 use Rattle.wit_component.proofs.AcceptedRows.{is_use_def}
 
+-- an index of a type is that of no interface
+abbrev pub no_interfaces : List TypeId → List (Option InterfaceId)
+no_interfaces us = map (λ u. None) us
+
+abbrev with_indices : ComponentRead → List (Option TypeId) → List (Option InterfaceId) → ComponentRead
+with_indices s indices instances = record {
+  rows = s.rows;
+  interfaces = s.interfaces;
+  exports = s.exports;
+  worlds = s.worlds;
+  indices = indices;
+  instances = instances;
+  awaited = s.awaited;
+  awaited_world = s.awaited_world;
+}
+
 abbrev pub with_types : ComponentRead → List TypeId → ComponentRead
-with_types s us = record { rows = s.rows; interfaces = s.interfaces; exports = s.exports; indices = s.indices ++ all_some us; awaited = s.awaited }
+with_types s us = with_indices s (s.indices ++ all_some us) (s.instances ++ no_interfaces us)
 
 no-alias : (table : List Definition) (d : Definition) → not (is_use_def d) ≡ true → row_alias table d ≡ []
 no-alias table (row.Function f) h = refl
@@ -44,10 +61,9 @@ module _ (table : List Definition) (start k : ℕ) where
       → declarations_read (decls_of (aliases_of table ds ++ more)) s ≡ declarations_read (decls_of more) (with_types s us)
   aliases-read exports _ _ (found_none ds none) s is more =
       ap (λ es. declarations_read (decls_of (es ++ more)) s) (no-aliases table ds none)
-      ∙ ap (λ xs. declarations_read (decls_of more) (record { rows = s.rows; interfaces = s.interfaces; exports = s.exports; indices = xs; awaited = s.awaited })) (sym (append-nil s.indices))
+      ∙ (λ j. declarations_read (decls_of more) (with_indices s (sym (append-nil s.indices) j) (sym (append-nil s.instances) j)))
   aliases-read exports _ _ (found_one x t y us ds named e found) s is more =
       ap (λ o. declarations_read (decls_of ((instance_export o ++ aliases_of table ds) ++ more)) s) named
       ∙ ap (λ o. if_found (option_map (with_type s) o) (declarations_read (decls_of (aliases_of table ds ++ more)))) (ap (λ es. exported_type es y.interface.0 y.name) is ∙ e.found)
       ∙ aliases-read exports us ds found (with_type s e.id) is more
-      ∙ ap (λ xs. declarations_read (decls_of more) (record { rows = s.rows; interfaces = s.interfaces; exports = s.exports; indices = xs; awaited = s.awaited }))
-      (append_assoc s.indices (Some e.id ∷ []) (all_some us))
+      ∙ (λ j. declarations_read (decls_of more) (with_indices s (append_assoc s.indices (Some e.id ∷ []) (all_some us) j) (append_assoc s.instances (None ∷ []) (no_interfaces us) j)))

@@ -1,5 +1,5 @@
 -- Tables whose rows are alike are in package form together, and have the same component.
-use Rattle.std.proofs.Common.{◌≡◌, ℕ, zero, suc, ◌+◌, ◌-◌, ◌≤◌, Bool, true, cond, not, ◌&&◌, IsTrue, List, [], ◌∷◌, ◌++◌, map, flat_map, sum, take, drop, length, slice_get, Option, None, Some, refl, ap, sym, subst, ◌∙◌, arith}
+use Rattle.std.proofs.Common.{◌≡◌, ℕ, zero, suc, ◌+◌, ◌-◌, ◌<◌, ◌≤◌, Bool, true, cond, not, ◌&&◌, IsTrue, List, [], ◌∷◌, ◌++◌, map, flat_map, sum, take, drop, length, slice_get, Option, None, Some, refl, ap, sym, subst, ◌∙◌, arith}
 use Rattle.std.specs.List.{list_all}
 use Rattle.std.specs.Str.{bytes_eq}
 use Rattle.atoms.specs.Label.{is_label}
@@ -7,10 +7,12 @@ use Rattle.std.proofs.lemmas.Bool.Decides.{nat_tests}
 use Rattle.ctype_format.specs.Raw.{Decl, Entry, Instance, Component, Export, File}
 use Rattle.ctype_format.specs.View.{decls_of}
 use Rattle.ctype_format.specs.declared.raw.RawDescription.TheVariants as described
-use Rattle.tables.specs.Tables.{type_of, function_of, is_there, is_type_id, is_function_id, is_type, option_all, kind_all, definition_all, definition_below, are_earlier, name_types, is_standard, are_standard, is_placed, are_placed, are_grouped}
+use Rattle.tables.specs.Tables.{type_of, function_of, is_there, is_type_id, is_function_id, is_type, option_all, kind_all, definition_all, definition_below, are_earlier, is_standard, is_placed, is_function_of, is_placed_item, is_placed_world, are_placed_worlds}
 use Rattle.tables.specs.Parts.{is_package}
+use Rattle.tables.proofs.Earlier.{package-whole}
 use Rattle.tables.specs.PackageNames.{PackageParts}
-use Rattle.tables.specs.Names.{full_name_in, full_name}
+use Rattle.tables.specs.Names.{full_name_in, full_name, world_name}
+use Rattle.tables.specs.Package.{interface_names}
 use Rattle.tables.specs.declared.tables.TypeId.{TypeId}
 use Rattle.tables.specs.declared.tables.FunctionId.{FunctionId}
 use Rattle.tables.specs.declared.tables.ValType.{ValType}
@@ -22,16 +24,22 @@ use Rattle.tables.specs.declared.tables.TypeName.{TypeName}
 use Rattle.tables.specs.declared.tables.Definition.{Definition}
 use Rattle.tables.specs.declared.tables.Definition.TheVariants as row
 use Rattle.tables.specs.declared.tables.Interface.{Interface}
+use Rattle.tables.specs.declared.tables.WorldItemKind.{WorldItemKind}
+use Rattle.tables.specs.declared.tables.WorldItemKind.TheVariants as item
+use Rattle.tables.specs.declared.tables.Direction.{Direction}
+use Rattle.tables.specs.declared.tables.WorldItem.{WorldItem}
+use Rattle.tables.specs.declared.tables.World.{World}
 use Rattle.tables.specs.declared.tables.Resolve.{Resolve}
 use Rattle.package_form.specs.Postfix.{is_unnamed, is_unnamed_row, one_if}
 use Rattle.package_form.specs.Ids.{places_where}
-use Rattle.package_form.specs.Entries.{entries_of, type_entries, table_of}
+use Rattle.package_form.specs.Entries.{entries_of, world_entries, type_entries, table_of}
 use Rattle.package_form.specs.References.{row_references}
 use Rattle.package_form.specs.Unused.{unnamed_at, inner_rows, is_next, unused_after, are_used}
 use Rattle.wit_component.specs.Rows.{Place, row_declarations, place_after, declarations_of, places_after}
-use Rattle.wit_component.specs.Component.{used_in, name_of, name_at, instance_export, row_alias, aliases_of, Front, first_place, interface_declarations, front_after, interfaces_declared, no_front, package_export, component_of}
-use Rattle.package_form.specs.Ends.{end_of, rows_of, is_parted}
-use Rattle.package_form.specs.Form.{is_named, is_own_name, is_own_type, is_own, is_earlier_name, is_earlier_type, is_earlier, uses_earlier, is_owned, is_local, is_use_type, is_use_at, has_ids, are_interfaces, is_package_name, has_full_names, ids_of, IsInPackageForm}
+use Rattle.wit_component.specs.Component.{used_in, name_of, name_at, instance_export, row_alias, aliases_of, Front, first_place, interface_declarations, front_after, interfaces_declared, no_front, interfaces_front, surroundings, world_declarations, world_front, worlds_declared, package_declarations, package_export, component_of}
+use Rattle.wit_component.specs.Worlds.{rows_between, function_declared, Surroundings, item_declarations, item_place, items_declared, items_place}
+use Rattle.package_form.specs.Ends.{end_of, rows_of, interfaces_end, behind_item, world_end, world_rows, is_parted}
+use Rattle.package_form.specs.Form.{is_named, is_own_name, is_own_type, is_own, is_earlier_name, is_earlier_type, is_earlier, uses_earlier, is_owned, is_local, is_use_type, is_use_at, has_ids, are_interfaces, is_package_name, has_full_names, ids_of, is_nameless_type, is_nameless, is_of_world, is_world_row, functions_of, has_items, have_items, IsInPackageForm}
 use Rattle.wit_component.specs.ToComponent.{is_labelled, are_labelled}
 use Rattle.tables.proofs.Rows.{split, both}
 use Rattle.package_form.proofs.Postfix.{used-postfix, postfix-used}
@@ -277,6 +285,27 @@ module _ (rows new : List Definition) (h : Alikes rows rows new) where
       (alikes-all rows is_labelled is_labelled (same-labelled rows) (rows_of rows start i) (rows_of new start i) (rows-alike start i))
       ∙ ap (λ (b : Bool). (is_label i.name && list_all is_labelled (rows_of rows start i)) && b) (labelled-same (end_of start i) is)
 
+  -- ---- worlds
+
+  nameless-same : (t : TypeId) → is_nameless new t ≡ is_nameless rows t
+  nameless-same t = get-same (λ o. is_nameless_type (type_of o)) (λ x t u. refl) t.0
+
+  world-row-same : (k n : ℕ) (d e : Definition) → IsAlike rows n d e → is_world_row new k e ≡ is_world_row rows k d
+  world-row-same k n _ _ (same d) = ap (λ (b : Bool). is_of_world k d && b) (all-same (is_nameless rows) (is_nameless new) nameless-same (row_references d))
+  world-row-same k n _ _ (uses x t u y at to below) = refl
+
+  world-rows-alike : (start : ℕ) (w : World) → Alikes rows (world_rows rows start w) (world_rows new start w)
+  world-rows-alike start w = alikes-take rows (world_end start w - start) (drop start rows) (drop start new) (alikes-drop rows start rows new h)
+
+  worlds-same : (k start : ℕ) (ws : List World) → have_items new k start ws ≡ have_items rows k start ws
+  worlds-same k start [] = refl
+  worlds-same k start (w ∷ ws) =
+      ap (λ ps. (bytes_eq ps (functions_of w) && list_all (is_world_row new k) (world_rows new start w)) && have_items new (k + 1) (world_end start w) ws)
+      (alikes-places rows is_named (same-named rows) start (world_rows rows start w) (world_rows new start w) (world-rows-alike start w))
+      ∙ ap (λ (b : Bool). (has_items rows start w && b) && have_items new (k + 1) (world_end start w) ws)
+      (alikes-all rows (is_world_row rows k) (is_world_row new k) (world-row-same k) (world_rows rows start w) (world_rows new start w) (world-rows-alike start w))
+      ∙ ap (λ (b : Bool). (has_items rows start w && list_all (is_world_row rows k) (world_rows rows start w)) && b) (worlds-same (k + 1) (world_end start w) ws)
+
   -- ---- what every table keeps
 
   vals-same : (v : ValType) → is_type new v ≡ is_type rows v
@@ -334,6 +363,17 @@ module _ (rows new : List Definition) (h : Alikes rows rows new) where
       ∙ ap (λ (b : Bool). list_all (is_type_id rows) i.uses && (b && list_all (is_function_id new) i.functions)) (all-same (is_type_id rows) (is_type_id new) type-same i.types)
       ∙ ap (λ (b : Bool). list_all (is_type_id rows) i.uses && (list_all (is_type_id rows) i.types && b)) (all-same (is_function_id rows) (is_function_id new) function-same i.functions)
 
+  item-same : (count w : ℕ) (i : WorldItemKind) → is_placed_item new count w i ≡ is_placed_item rows count w i
+  item-same count w (item.Interface i) = refl
+  item-same count w (item.Function f) = get-same (λ o. is_function_of w (function_of o)) (λ x t u. refl) f.0
+
+  placed-worlds-same : (count w : ℕ) (ws : List World) → are_placed_worlds new count w ws ≡ are_placed_worlds rows count w ws
+  placed-worlds-same count w [] = refl
+  placed-worlds-same count w (x ∷ xs) =
+      ap (λ (b : Bool). b && are_placed_worlds new count (w + 1) xs)
+      (all-same (λ i. is_placed_item rows count w i.kind) (λ i. is_placed_item new count w i.kind) (λ i. item-same count w i.kind) x.items)
+      ∙ ap (λ (b : Bool). is_placed_world rows count w x && b) (placed-worlds-same count (w + 1) xs)
+
   -- ---- what is written
 
   aliases-same : (n : ℕ) (d e : Definition) → IsAlike rows n d e → row_alias new e ≡ row_alias rows d
@@ -355,8 +395,50 @@ module _ (rows new : List Definition) (h : Alikes rows rows new) where
   front-same at start i =
       let a = alikes-flat rows (row_alias rows) (row_alias new) aliases-same (rows_of rows start i) (rows_of new start i) (rows-alike start i) in
       let p = placed-after rows (first_place at) (rows_of rows start i) (rows_of new start i) (rows-alike start i) in
-      ap (λ (xs : List Decl). record { indices = (places_after (first_place at) (rows_of new start i)).indices; types = at.types + length xs + 1 }) a
-      ∙ ap (λ (p : Place). record { indices = p.indices; types = at.types + length (aliases_of rows (rows_of rows start i)) + 1 }) p
+      λ j. record { indices = (p j).indices; types = at.types + length (a j) + 1; instances = at.instances ++ (at.types + length (a j)) ∷ [] }
+
+  -- ---- worlds
+
+  between-alike : (start end : ℕ) → Alikes rows (rows_between rows start end) (rows_between new start end)
+  between-alike start end = alikes-take rows (end - start) (drop start rows) (drop start new) (alikes-drop rows start rows new h)
+
+  function-of-same : (k : ℕ) → function_of (slice_get new k) ≡ function_of (slice_get rows k)
+  function-of-same k = get-same function_of (λ x t u. refl) k
+
+  item-place-same : (at : Place) (start : ℕ) (what : WorldItemKind) → item_place new at start what ≡ item_place rows at start what
+  item-place-same at start (item.Interface i) = refl
+  item-place-same at start (item.Function f) = placed-after rows at (rows_between rows start (f.0 + 1)) (rows_between new start (f.0 + 1)) (between-alike start (f.0 + 1))
+
+  module _ (names : List (List ℕ)) (instances : List ℕ) where
+    abbrev told : List Definition → Surroundings
+    told ds = record { rows = ds; names = names; instances = instances }
+
+    item-declared-same : (at : Place) (start : ℕ) (way : Direction) (what : WorldItemKind) → item_declarations (told new) at start way what ≡ item_declarations (told rows) at start way what
+    item-declared-same at start way (item.Interface i) = refl
+    item-declared-same at start way (item.Function f) =
+        let inner = declared rows at (rows_between rows start f.0) (rows_between new start f.0) (between-alike start f.0) in
+        let place = placed-after rows at (rows_between rows start f.0) (rows_between new start f.0) (between-alike start f.0) in
+        λ j. inner j ++ function_declared (place j) way (function-of-same f.0 j)
+
+    items-declared-same : (at : Place) (start : ℕ) (is : List WorldItem) → items_declared (told new) at start is ≡ items_declared (told rows) at start is
+    items-declared-same at start [] = refl
+    items-declared-same at start (i ∷ is) =
+        ap (λ xs. xs ++ items_declared (told new) (item_place new at start i.kind) (behind_item start i.kind) is) (item-declared-same at start i.direction i.kind)
+        ∙ ap (λ p. item_declarations (told rows) at start i.direction i.kind ++ items_declared (told new) p (behind_item start i.kind) is) (item-place-same at start i.kind)
+        ∙ ap (λ xs. item_declarations (told rows) at start i.direction i.kind ++ xs) (items-declared-same (item_place rows at start i.kind) (behind_item start i.kind) is)
+
+  items-place-same : (at : Place) (start : ℕ) (is : List WorldItem) → items_place new at start is ≡ items_place rows at start is
+  items-place-same at start [] = refl
+  items-place-same at start (i ∷ is) =
+      ap (λ p. items_place new p (behind_item start i.kind) is) (item-place-same at start i.kind) ∙ items-place-same (item_place rows at start i.kind) (behind_item start i.kind) is
+
+  world-front-same : (at : Front) (start : ℕ) (w : World) → world_front new at start w ≡ world_front rows at start w
+  world-front-same at start w = ap (λ (p : Place). record { indices = p.indices; types = at.types + 1; instances = at.instances }) (items-place-same (first_place at) start w.items)
+
+  interfaces-front-same : (at : Front) (start : ℕ) (is : List Interface) → interfaces_front new at start is ≡ interfaces_front rows at start is
+  interfaces-front-same at start [] = refl
+  interfaces-front-same at start (i ∷ is) =
+      ap (λ f. interfaces_front new f (end_of start i) is) (front-same at start i) ∙ interfaces-front-same (front_after rows at (rows_of rows start i)) (end_of start i) is
 
 -- ---- packages
 
@@ -367,19 +449,22 @@ file_with ds = record { types = Component (decls_of ds) ∷ []; exports = record
 pub record IsAlikePackage (r p : Resolve) : Type 0 where
   pub packages : p.packages ≡ r.packages
   pub interfaces : p.interfaces ≡ r.interfaces
-  pub worlds : p.worlds ≡ []
+  pub worlds : p.worlds ≡ r.worlds
   pub definitions : AreAlike r.definitions 0 r.definitions p.definitions
 
 -- tables alike are those of a package together
-pub package-same : (r : Resolve) (new : List Definition) → AreAlike r.definitions 0 r.definitions new → is_package (length r.packages) new r.interfaces ≡ true
+pub package-same : (r : Resolve) (new : List Definition) → AreAlike r.definitions 0 r.definitions new → is_package (length r.packages) new r.interfaces r.worlds ≡ true
 package-same r new a =
     let h = alikes r.definitions 0 r.definitions new a in
-    both (are_earlier 0 new && name_types new) (are_standard new && (are_placed new r.interfaces && are_grouped (length r.packages) 0 r.interfaces))
-    (both (are_earlier 0 new) (name_types new) (earlier-new r.definitions new h 0 r.definitions new a r.earlier)
-    (alikes-all r.definitions (definition_all (is_type r.definitions)) (definition_all (is_type new)) (typed-same r.definitions new h) r.definitions new h ∙ r.typed))
-    (both (are_standard new) (are_placed new r.interfaces && are_grouped (length r.packages) 0 r.interfaces) (alikes-all r.definitions is_standard is_standard (same-standard r.definitions) r.definitions new h ∙ r.standard)
-    (both (are_placed new r.interfaces) (are_grouped (length r.packages) 0 r.interfaces)
-    (all-same r.definitions new h (is_placed r.definitions) (is_placed new) (placed-same r.definitions new h) r.interfaces ∙ r.placed) r.grouped))
+    package-whole (length r.packages) new r.interfaces r.worlds (record {
+      earlier = earlier-new r.definitions new h 0 r.definitions new a r.earlier;
+      typed = alikes-all r.definitions (definition_all (is_type r.definitions)) (definition_all (is_type new)) (typed-same r.definitions new h) r.definitions new h ∙ r.typed;
+      standard = alikes-all r.definitions is_standard is_standard (same-standard r.definitions) r.definitions new h ∙ r.standard;
+      placed = all-same r.definitions new h (is_placed r.definitions) (is_placed new) (placed-same r.definitions new h) r.interfaces ∙ r.placed;
+      grouped = r.grouped;
+      worlds_grouped = r.worlds_grouped;
+      worlds_placed = placed-worlds-same r.definitions new h (length r.interfaces) 0 r.worlds ∙ r.worlds_placed;
+    })
 
 module _ (r p : Resolve) (a : IsAlikePackage r p) where
   abbrev like : Alikes r.definitions r.definitions p.definitions
@@ -397,32 +482,72 @@ module _ (r p : Resolve) (a : IsAlikePackage r p) where
       (front-same r.definitions p.definitions like at start i)
       ∙ ap (λ ds. interface_declarations r.definitions at (rows_of r.definitions start i) (full_name r i) ++ ds) (written (front_after r.definitions at (rows_of r.definitions start i)) (end_of start i) is)
 
+  names-are : interface_names p ≡ interface_names r
+  names-are = λ j. map (λ i. full_name_in (slice_get (a.packages j) i.«package».0) i.name) (a.interfaces j)
+
+  world-name : (w : World) → world_name p w ≡ world_name r w
+  world-name w = ap (λ (ps : List PackageParts). full_name_in (slice_get ps w.«package».0) w.name) a.packages
+
+  world-written : (at : Front) (start : ℕ) (w : World) → world_declarations p at start w ≡ world_declarations r at start w
+  world-written at start w =
+      let items : items_declared (surroundings p at) (first_place at) start w.items ≡ items_declared (surroundings r at) (first_place at) start w.items =
+      ap (λ (ns : List (List ℕ)). items_declared (record { rows = p.definitions; names = ns; instances = at.instances }) (first_place at) start w.items) names-are
+      ∙ items-declared-same r.definitions p.definitions like (interface_names r) at.instances (first_place at) start w.items in
+      λ j. Entry (Component (decls_of (items j))) ∷ Export (world-name w j) (described.Component at.types) ∷ []
+
+  worlds-written : (at : Front) (start : ℕ) (ws : List World) → worlds_declared p at start ws ≡ worlds_declared r at start ws
+  worlds-written at start [] = refl
+  worlds-written at start (w ∷ ws) =
+      ap (λ ds. ds ++ worlds_declared p (world_front p.definitions at start w) (world_end start w) ws) (world-written at start w)
+      ∙ ap (λ f. world_declarations r at start w ++ worlds_declared p f (world_end start w) ws) (world-front-same r.definitions p.definitions like at start w)
+      ∙ ap (λ ds. world_declarations r at start w ++ ds) (worlds-written (world_front r.definitions at start w) (world_end start w) ws)
+
+  package-written : package_declarations p ≡ package_declarations r
+  package-written =
+      let end = interfaces_end 0 r.interfaces in
+      let first : interfaces_declared p no_front 0 p.interfaces ≡ interfaces_declared r no_front 0 r.interfaces = ap (interfaces_declared p no_front 0) a.interfaces ∙ written no_front 0 r.interfaces in
+      let front : interfaces_front p.definitions no_front 0 r.interfaces ≡ interfaces_front r.definitions no_front 0 r.interfaces = interfaces-front-same r.definitions p.definitions like no_front 0 r.interfaces in
+      ap (λ ds. ds ++ worlds_declared p (interfaces_front p.definitions no_front 0 p.interfaces) (interfaces_end 0 p.interfaces) p.worlds) first
+      ∙ ap (λ (is : List Interface). interfaces_declared r no_front 0 r.interfaces ++ worlds_declared p (interfaces_front p.definitions no_front 0 is) (interfaces_end 0 is) p.worlds) a.interfaces
+      ∙ ap (λ (f : Front). interfaces_declared r no_front 0 r.interfaces ++ worlds_declared p f end p.worlds) front
+      ∙ ap (λ (ws : List World). interfaces_declared r no_front 0 r.interfaces ++ worlds_declared p (interfaces_front r.definitions no_front 0 r.interfaces) end ws) a.worlds
+      ∙ ap (λ ds. interfaces_declared r no_front 0 r.interfaces ++ ds) (worlds-written (interfaces_front r.definitions no_front 0 r.interfaces) end r.worlds)
+
   -- they have the same component
   pub component-same : component_of p ≡ component_of r
-  component-same = ap file_with (ap (interfaces_declared p no_front 0) a.interfaces ∙ written no_front 0 r.interfaces)
+  component-same = ap file_with package-written
 
   pub labels-same : IsTrue (are_labelled r.definitions 0 r.interfaces) → IsTrue (are_labelled p.definitions 0 p.interfaces)
   labels-same h = ap (are_labelled p.definitions 0) a.interfaces ∙ labelled-same r.definitions p.definitions like 0 r.interfaces ∙ h
 
   entries-same : type_entries (table_of p) ≡ type_entries (table_of r)
   entries-same =
-      ap (λ (is : List Interface). 1 + length (map (λ (i : Interface). i.name) is) + sum (map entries_of p.definitions)) a.interfaces
-      ∙ ap (λ (ns : List ℕ). 1 + length (map (λ (i : Interface). i.name) r.interfaces) + sum ns) (alikes-map r.definitions entries_of (same-entries r.definitions) r.definitions p.definitions like)
+      ap (λ (is : List Interface). 1 + length (map (λ (i : Interface). i.name) is) + (sum (map world_entries p.worlds) + sum (map entries_of p.definitions))) a.interfaces
+      ∙ ap (λ (ws : List World). 1 + length (map (λ (i : Interface). i.name) r.interfaces) + (sum (map world_entries ws) + sum (map entries_of p.definitions))) a.worlds
+      ∙ ap (λ (ns : List ℕ). 1 + length (map (λ (i : Interface). i.name) r.interfaces) + (sum (map world_entries r.worlds) + sum ns))
+      (alikes-map r.definitions entries_of (same-entries r.definitions) r.definitions p.definitions like)
 
   names-same : has_full_names p ≡ has_full_names r
   names-same = ap (list_all is_package_name) a.packages
 
+  count-same : length p.interfaces + length p.worlds ≡ length r.interfaces + length r.worlds
+  count-same = λ j. length (a.interfaces j) + length (a.worlds j)
+
   -- they are in package form together
   pub form-same : IsInPackageForm r → IsInPackageForm p
   form-same f = record {
-    some = λ e. f.some (sym a.interfaces ∙ e);
-    worlds = a.worlds;
+    some = subst (λ (n : ℕ). 0 < n) (sym count-same) f.some;
     alone = ap length a.packages ∙ f.alone;
     names = names-same ∙ f.names;
     parted =
-        ap (is_parted (length p.definitions) 0) a.interfaces
-        ∙ ap (λ (n : ℕ). is_parted n 0 r.interfaces) (alikes-length r.definitions r.definitions p.definitions like) ∙ f.parted;
+        ap (λ (n : ℕ). is_parted n 0 p.interfaces p.worlds) (alikes-length r.definitions r.definitions p.definitions like)
+        ∙ ap (λ (is : List Interface). is_parted (length r.definitions) 0 is p.worlds) a.interfaces
+        ∙ ap (is_parted (length r.definitions) 0 r.interfaces) a.worlds ∙ f.parted;
     interfaces = ap (are_interfaces p.definitions 0 0) a.interfaces ∙ interfaces-same r.definitions p.definitions like 0 0 r.interfaces ∙ f.interfaces;
+    worlds =
+        ap (λ (is : List Interface). have_items p.definitions 0 (interfaces_end 0 is) p.worlds) a.interfaces
+        ∙ ap (have_items p.definitions 0 (interfaces_end 0 r.interfaces)) a.worlds
+        ∙ worlds-same r.definitions p.definitions like 0 (interfaces_end 0 r.interfaces) r.worlds ∙ f.worlds;
     postfix = used-postfix p.definitions p.earlier (used-same r.definitions p.definitions like 0 [] r.definitions p.definitions like ∙ postfix-used r.definitions r.earlier f.postfix);
     entries = subst (λ (n : ℕ). n ≤ 65535) (sym entries-same) f.entries;
   }

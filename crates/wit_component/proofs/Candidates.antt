@@ -1,11 +1,15 @@
 -- The candidate of a component is the package that it stands for.
-use Rattle.std.proofs.Common.{◌≡◌, ◌≢◌, true, false, cond, ℕ, List, [], ◌∷◌, ◌++◌, append_assoc, None, Some, Ok, Err, refl, ap, sym, subst, ◌∙◌, All, Contains, inl, inr}
+use Rattle.std.proofs.Common.{◌≡◌, ◌<◌, ◌+◌, true, false, cond, ℕ, List, [], ◌∷◌, ◌++◌, map, length, slice_get, append_assoc, arith, None, Some, Ok, Err, refl, ap, sym, subst, ◌∙◌, All, Contains, inl, inr}
 use Rattle.ctype_format.specs.Raw.{Decl, File}
 use Rattle.ctype_format.specs.View.{decls_of}
 use Rattle.ctype_bin.specs.FileView.{file_view}
 use Rattle.ctype_bin.specs.declared.component.RawComponent.{RawComponent}
 use Rattle.tables.specs.Parts.{is_package}
 use Rattle.tables.specs.Same.{IsSamePackage}
+use Rattle.tables.specs.Names.{full_name_in, full_name}
+use Rattle.tables.specs.Package.{WorldMeaning, world_meaning, references}
+use Rattle.tables.specs.PackageNames.{PackageParts}
+use Rattle.tables.specs.declared.tables.World.{World}
 use Rattle.tables.specs.declared.tables.Interface.{Interface}
 use Rattle.tables.specs.declared.tables.Definition.{Definition}
 use Rattle.tables.specs.declared.tables.Resolve.{Resolve}
@@ -15,8 +19,8 @@ use Rattle.package_form.specs.Scope.{AreDistinct}
 use Rattle.package_form.specs.Distinct.{RefusesScopes}
 use Rattle.package_form.proofs.Lists.{all-contained}
 use Rattle.component_reader.specs.declared.unread.Unread.TheVariants as unread
-use Rattle.package_form.specs.Ends.{end_of, rows_of}
-use Rattle.wit_component.specs.Component.{aliases_of, front_after, interfaces_declared, no_front, component_of}
+use Rattle.package_form.specs.Ends.{end_of, rows_of, interfaces_end}
+use Rattle.wit_component.specs.Component.{aliases_of, Front, interface_declarations, front_after, interfaces_declared, no_front, interfaces_front, worlds_declared, package_declarations, component_of}
 use Rattle.wit_component.specs.FromComponent.{is_none, is_empty_package}
 use Rattle.package_form.specs.Naming.{package_scopes, table_scopes}
 use Rattle.package_form.specs.Form.{IsInPackageForm}
@@ -32,28 +36,28 @@ module _ (raw : RawComponent) (r : Resolve) (s : ComponentStands raw r) where
   candidate-is : (c : Candidate) × (candidate_of (file_view raw) ≡ Some c) × ((p : Resolve) → IsMadeOf c p → IsAlikePackage r p)
       × (All AreDistinct (package_scopes r) → IsMadeOf c r)
   candidate-is =
-      let x = reread r s.form s.labels in
-      let n = name-reread r s.form s.labels in
+      let x = reread r s.form s.labels s.world_labels in
+      let n = name-reread r s.form s.labels s.world_labels in
       let made = x.0 in
-      let ok : is_package 1 made.rows made.interfaces ≡ true =
-      ap (is_package 1 made.rows) x.2 ∙ ap (λ (k : ℕ). is_package k made.rows r.interfaces) (sym s.form.alone) ∙ package-same r made.rows x.3 in
-      let c : Candidate = record { packages = package_named n.0 ∷ []; interfaces = made.interfaces; definitions = made.rows } in (
+      let ok : is_package 1 made.rows made.interfaces made.worlds ≡ true =
+      (λ j. is_package (sym s.form.alone j) made.rows (x.2 j) (x.3 j)) ∙ package-same r made.rows x.4 in
+      let c : Candidate = record { packages = package_named n.0 ∷ []; interfaces = made.interfaces; worlds = made.worlds; definitions = made.rows } in (
         c,
         ap candidate_of s.component
-            ∙ ap (λ o. if_found o (λ text. if_found (declarations_read (decls_of (interfaces_declared r no_front 0 r.interfaces)) no_component) (candidate_named text))) n.1
+            ∙ ap (λ o. if_found o (λ text. if_found (declarations_read (decls_of (package_declarations r)) no_component) (candidate_named text))) n.1
             ∙ ap (λ o. if_found o (candidate_named n.0)) x.1
             ∙ ap (λ b. cond b (Some c) None) ok,
         λ p m. record {
           packages = m.packages ∙ n.2;
           interfaces = m.interfaces ∙ x.2;
-          worlds = m.worlds;
-          definitions = subst (λ (ds : List Definition). AreAlike r.definitions 0 r.definitions ds) (sym m.definitions) x.3;
+          worlds = m.worlds ∙ x.3;
+          definitions = subst (λ (ds : List Definition). AreAlike r.definitions 0 r.definitions ds) (sym m.definitions) x.4;
         },
         λ d. record {
           packages = sym n.2;
           interfaces = sym x.2;
-          worlds = s.form.worlds;
-          definitions = sym (same-definitions r made.rows x.3 s.form d);
+          worlds = sym x.3;
+          definitions = sym (same-definitions r made.rows x.4 s.form d);
         },
       )
 
@@ -90,20 +94,34 @@ some-decls : (xs : List Decl) (y : Decl) (ys : List Decl) → is_none (decls_of 
 some-decls [] y ys = refl
 some-decls (x ∷ xs) y ys = refl
 
-some-declared : (r : Resolve) (is : List Interface) → is ≢ [] → is_none (decls_of (interfaces_declared r no_front 0 is)) ≡ false
-some-declared r [] some = absurd (some refl)
-some-declared r (i ∷ is) some =
+some-declared : (r : Resolve) (is : List Interface) (at : Front) (start : ℕ) (ws : List World) → 0 < length is + length ws
+    → is_none (decls_of (interfaces_declared r no_front 0 is ++ worlds_declared r at start ws)) ≡ false
+some-declared r [] at start [] some = absurd (omega (arith, some))
+some-declared r [] at start (w ∷ ws) some = refl
+some-declared r (i ∷ is) at start ws some =
     let ds = rows_of r.definitions 0 i in
     let rest = interfaces_declared r (front_after r.definitions no_front ds) (end_of 0 i) is in
-    ap (λ (xs : List Decl). is_none (decls_of xs)) (append_assoc (aliases_of r.definitions ds) _ rest) ∙ some-decls (aliases_of r.definitions ds) _ _
+    ap (λ (xs : List Decl). is_none (decls_of xs)) (append_assoc (interface_declarations r.definitions no_front ds (full_name r i)) rest (worlds_declared r at start ws))
+    ∙ ap (λ (xs : List Decl). is_none (decls_of xs)) (append_assoc (aliases_of r.definitions ds) _ (rest ++ worlds_declared r at start ws)) ∙ some-decls (aliases_of r.definitions ds) _ _
 
 pub not-empty : (raw : RawComponent) (r : Resolve) → ComponentStands raw r → is_empty_package (file_view raw).types ≡ false
-not-empty raw r s = ap (λ (f : File). is_empty_package f.types) s.component ∙ some-declared r r.interfaces s.form.some
+not-empty raw r s =
+    ap (λ (f : File). is_empty_package f.types) s.component
+    ∙ some-declared r r.interfaces (interfaces_front r.definitions no_front 0 r.interfaces) (interfaces_end 0 r.interfaces) r.worlds s.form.some
+
+-- the worlds of these tables, as their names tell them
+abbrev names_in : List PackageParts → List Interface → List (List ℕ)
+names_in ps is = map (λ i. full_name_in (slice_get ps i.«package».0) i.name) is
+
+abbrev meanings : List PackageParts → List Interface → List World → List Definition → List WorldMeaning
+meanings ps is ws ds =
+    map (λ w. world_meaning (names_in ps is) (references (names_in ps is) [] ds) ds (full_name_in (slice_get ps w.«package».0) w.name) w) ws
 
 -- the same tables have the same scopes
 pub same-scopes : (p r : Resolve) → IsSamePackage p r → package_scopes p ≡ package_scopes r
 same-scopes p r e =
-    ap (λ (ds : List Definition). table_scopes ds p.interfaces) e.definitions ∙ ap (λ (is : List Interface). table_scopes r.definitions is) e.interfaces
+    λ j. table_scopes (e.definitions j) (e.interfaces j) (e.worlds j)
+    (meanings (e.packages j) (e.interfaces j) (e.worlds j) (e.definitions j))
 
 -- names that differ are not told as standing twice
 pub no-duplicate : (p r : Resolve) (e : ResolveError) → IsSamePackage p r → All AreDistinct (package_scopes r) → RefusesScopes (package_scopes p) e → e ≡ error.NoMemory

@@ -8,11 +8,11 @@ use Rattle.wit_component.specs.Rows.{Place, row_declarations, place_after, decla
 use Rattle.wit_component.specs.ToComponent.{is_labelled}
 use Rattle.tables.proofs.Rows.{both}
 
-places-append : (at : Place) (ds es : List Definition) → places_after at (ds ++ es) ≡ places_after (places_after at ds) es
+pub places-append : (at : Place) (ds es : List Definition) → places_after at (ds ++ es) ≡ places_after (places_after at ds) es
 places-append at [] es = refl
 places-append at (d ∷ ds) es = places-append (place_after at d) ds es
 
-declarations-append : (at : Place) (ds es : List Definition) → declarations_of at (ds ++ es) ≡ declarations_of at ds ++ declarations_of (places_after at ds) es
+pub declarations-append : (at : Place) (ds es : List Definition) → declarations_of at (ds ++ es) ≡ declarations_of at ds ++ declarations_of (places_after at ds) es
 declarations-append at [] es = refl
 declarations-append at (d ∷ ds) es =
     ap (λ xs. row_declarations at d ++ xs) (declarations-append (place_after at d) ds es)

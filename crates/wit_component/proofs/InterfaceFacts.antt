@@ -37,7 +37,7 @@ pub record IsInterfaceAt (table : List Definition) (start k : ℕ) (i : Interfac
   pub earlier : are_earlier start (drop start table) ≡ true
   pub used : are_used table start [] (drop start table) ≡ true
 
-earlier-parts : (n : ℕ) (ds es : List Definition) → are_earlier n (ds ++ es) ≡ true → (are_earlier n ds ≡ true) × (are_earlier (n + length ds) es ≡ true)
+pub earlier-parts : (n : ℕ) (ds es : List Definition) → are_earlier n (ds ++ es) ≡ true → (are_earlier n ds ≡ true) × (are_earlier (n + length ds) es ≡ true)
 earlier-parts n [] es h = let e : n ≡ n + 0 = omega arith in (refl, subst (λ m. are_earlier m es ≡ true) e h)
 earlier-parts n (d ∷ ds) es h =
     let s = split (definition_below n d) _ h in

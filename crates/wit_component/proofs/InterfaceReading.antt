@@ -1,8 +1,8 @@
 -- The declarations of one interface, read again.
-use Rattle.std.proofs.Common.{◌≡◌, ◌≤◌, ◌<◌, ◌⊎◌, inl, inr, ℕ, suc, ◌+◌, Bool, true, false, cond, nat_lt, List, [], ◌∷◌, ◌++◌, map, take, drop, length, slice_get, None, Some, refl, ap, sym, subst, ◌∙◌, arith, append_assoc, length-append, eqb-true}
+use Rattle.std.proofs.Common.{◌≡◌, ◌≤◌, ◌<◌, ◌⊎◌, inl, inr, ℕ, zero, suc, ◌+◌, Bool, true, false, cond, nat_lt, List, [], ◌∷◌, ◌++◌, map, take, drop, length, slice_get, slice_index, Option, None, Some, refl, ap, sym, subst, ◌∙◌, arith, append_assoc, length-append, eqb-true}
 use Rattle.std.specs.Option.{option_map}
 use Rattle.std.proofs.lemmas.Bool.Decides.{nat_tests}
-use Rattle.std.proofs.lemmas.List.{length-map}
+use Rattle.std.proofs.lemmas.List.{length-map, get_or_append_left, get_or_push}
 use Rattle.atoms.specs.Label.{is_label}
 use Rattle.ctype_format.specs.Raw.{Decl, Instance, Entry, Export}
 use Rattle.ctype_format.specs.View.{decls_of}
@@ -11,10 +11,13 @@ use Rattle.package_form.proofs.Lists.{get-front}
 use Rattle.package_form.specs.Ids.{places_where, package_id, type_id, function_id}
 use Rattle.tables.specs.declared.tables.TypeId.{TypeId}
 use Rattle.tables.specs.declared.tables.FunctionId.{FunctionId}
+use Rattle.tables.specs.declared.tables.InterfaceId.{InterfaceId}
 use Rattle.tables.specs.declared.tables.TypeName.{TypeName}
 use Rattle.tables.specs.declared.tables.Definition.{Definition}
 use Rattle.tables.specs.declared.tables.Interface.{Interface}
 use Rattle.component_reader.specs.Instance.{if_found, InstanceRead, nothing_read, instance_read, type_named}
+use Rattle.component_reader.specs.Types.{found_in}
+use Rattle.component_reader.specs.World.{interface_at}
 use Rattle.component_reader.specs.Component.{ComponentRead, with_instance, interface_in, interface_named, with_interface, instance_exported, declarations_read}
 use Rattle.wit_component.specs.Component.{name_at, aliases_of, Front, first_place, interface_declarations, front_after}
 use Rattle.package_form.specs.Ends.{end_of, rows_of}
@@ -22,7 +25,7 @@ use Rattle.package_form.proofs.Postfixed.{is_function}
 use Rattle.wit_component.specs.Rows.{declarations_of, places_after}
 use Rattle.wit_component.proofs.AfterRows.{is_use_row, is_type_row, rows-rows, rows-uses, rows-types, rows-functions, alike-places, alike-length}
 use Rattle.wit_component.proofs.Alike.{AreAlike, none, one_more}
-use Rattle.wit_component.proofs.AliasesRead.{with_types, aliases-length, aliases-read}
+use Rattle.wit_component.proofs.AliasesRead.{no_interfaces, with_types, aliases-length, aliases-read}
 use Rattle.wit_component.proofs.InterfaceFacts.{IsInterfaceAt, stand, facts, first, ids-own}
 use Rattle.wit_component.proofs.Located.{rows-end, rows-front}
 use Rattle.wit_component.proofs.Readable.{rows_after, AreRowsOf, AreReadable, HasRead}
@@ -30,7 +33,7 @@ use Rattle.wit_component.proofs.RowFacts.{NameEarlier}
 use Rattle.wit_component.proofs.RowsReading.{instance-reread}
 use Rattle.wit_component.proofs.UsesFound.{IsExported, NamesFound, UsesFound, own-names, uses-found, all_some, found-readable}
 
-alike-append : (table : List Definition) (n : ℕ) (ds es fs gs : List Definition) → AreAlike table n ds es → AreAlike table (n + length ds) fs gs → AreAlike table n (ds ++ fs) (es ++ gs)
+pub alike-append : (table : List Definition) (n : ℕ) (ds es fs gs : List Definition) → AreAlike table n ds es → AreAlike table (n + length ds) fs gs → AreAlike table n (ds ++ fs) (es ++ gs)
 alike-append table _ _ _ fs gs (none n) more = let e : n + 0 ≡ n = omega arith in subst (λ m. AreAlike table m fs gs) e more
 alike-append table _ _ _ fs gs (one_more n d e ds es one all) more =
     let same : n + suc (length ds) ≡ n + 1 + length ds = omega arith in
@@ -39,6 +42,15 @@ alike-append table _ _ _ fs gs (one_more n d e ds es one all) more =
 get-last : {A : Type 0} (xs : List A) (y : A) → slice_get (xs ++ y ∷ []) (length xs) ≡ Some y
 get-last [] y = refl
 get-last (x ∷ xs) y = get-last xs y
+
+-- each of k interfaces is the one whose instance type has its index
+abbrev pub KnowsInterfaces : List (Option InterfaceId) → List ℕ → ℕ → Type 0
+KnowsInterfaces instances indices k = (j : ℕ) → j < k → interface_at instances (slice_index indices j) ≡ Some (record { 0 = j })
+
+pub interface-more : (xs ys : List (Option InterfaceId)) (i : ℕ) (t : InterfaceId) → interface_at xs i ≡ Some t → interface_at (xs ++ ys) i ≡ Some t
+interface-more [] ys i t h = absurd (cc)
+interface-more (x ∷ xs) ys zero t h = h
+interface-more (x ∷ xs) ys (suc i) t h = interface-more xs ys i t h
 
 -- what was read of the interfaces before interface k, whose rows end before start
 pub record HasReadTo (table : List Definition) (at : Front) (k start : ℕ) (done : List Interface) (s : ComponentRead) : Type 0 where
@@ -51,6 +63,10 @@ pub record HasReadTo (table : List Definition) (at : Front) (k start : ℕ) (don
   pub exports : length s.exports ≡ k
   pub names : NamesFound table s.exports start
   pub lows : NameEarlier table start k
+  pub worlds : s.worlds ≡ []
+  pub instances : length s.instances ≡ at.types
+  pub each : length at.instances ≡ k
+  pub known : KnowsInterfaces s.instances at.instances k
 
 below-or-from : (i n : ℕ) → (i < n) ⊎ (n ≤ i)
 below-or-from i n = by (nat_lt i n) refl
@@ -158,8 +174,31 @@ module _ (table : List Definition) (at : Front) (k start : ℕ) (i : Interface) 
       exports = length-append s.exports (inside.names ∷ []) ∙ ap (λ n. n + 1) has.exports;
       names = names-after;
       lows = lows-after;
+      worlds = has.worlds;
+      instances = length-append (s.instances ++ no_interfaces found.0) (Some (record { 0 = length s.interfaces }) ∷ []) ∙ omega (arith, index);
+      each = length-append at.instances (last ∷ []) ∙ omega (arith, has.each);
+      known = λ j low. by j (below-or-from j k) low;
     }
       where
+        -- the type index of its instance type
+        last : ℕ
+        last = at.types + length (aliases_of table (rows_of table start i))
+
+        index : length (s.instances ++ no_interfaces found.0) ≡ last
+        index =
+            length-append s.instances (no_interfaces found.0)
+            ∙ omega (arith, length-map {B = Option InterfaceId} found.0 (λ (u : TypeId). None), has.instances, aliases-length table start k s.exports found.0 (rows_of table start i) found.1)
+
+        by : (j : ℕ) → (j < k) ⊎ (k ≤ j) → j < k + 1 → interface_at ((s.instances ++ no_interfaces found.0) ++ Some (record { 0 = length s.interfaces }) ∷ []) (slice_index (at.instances ++ last ∷ []) j) ≡ Some (record { 0 = j })
+        by j (inl l) low =
+            ap (interface_at ((s.instances ++ no_interfaces found.0) ++ Some (record { 0 = length s.interfaces }) ∷ [])) (get_or_append_left at.instances (last ∷ []) 0 j (omega (arith, l, has.each)))
+            ∙ interface-more (s.instances ++ no_interfaces found.0) (Some (record { 0 = length s.interfaces }) ∷ []) _ _ (interface-more s.instances (no_interfaces found.0) _ _ (has.known j l))
+        by j (inr l) low =
+            let here : j ≡ k = omega (arith, l, low) in
+            ap (interface_at ((s.instances ++ no_interfaces found.0) ++ Some (record { 0 = length s.interfaces }) ∷ [])) (get_or_push at.instances last 0 j (has.each ∙ sym here) ∙ sym index)
+            ∙ ap found_in (get-last (s.instances ++ no_interfaces found.0) (Some (record { 0 = length s.interfaces })))
+            ∙ ap (λ (n : ℕ). Some (record { 0 = n })) (has.index ∙ sym here)
+
         front : start ≡ 0 + length (take start table)
         front = omega (arith, alike-length table 0 (take start table) s.rows has.rows, has.row_count)
 

@@ -10,17 +10,18 @@ use Rattle.package_form.specs.Ids.{type_id}
 use Rattle.tables.specs.Tables.{type_of, is_there, is_type_id}
 use Rattle.tables.specs.declared.tables.TypeId.{TypeId}
 use Rattle.tables.specs.declared.tables.TypeDefKind.{TypeDefKind}
-use Rattle.tables.specs.declared.tables.ValType.{ValType}
 use Rattle.tables.specs.declared.tables.TypeName.{TypeName}
-use Rattle.tables.specs.declared.tables.Parameter.{Parameter}
+use Rattle.tables.specs.declared.tables.FunctionId.{FunctionId}
+use Rattle.tables.specs.declared.tables.Function.{Function}
 use Rattle.tables.specs.declared.tables.Definition.{Definition}
-use Rattle.component_reader.specs.Instance.{Nothing, InstanceRead, named, type_named, with_unnamed, named_row, with_named, with_index, alias_to, function_row}
+use Rattle.tables.specs.declared.tables.Definition.TheVariants as row
+use Rattle.component_reader.specs.Instance.{Nothing, InstanceRead, named, type_named, with_unnamed, named_row, with_named, with_index, alias_to}
 use Rattle.wit_component.specs.Component.{name_of, name_at}
 use Rattle.component_reader.specs.Types.{row_at}
 use Rattle.wit_component.specs.Rows.{Place, defined_types, row_types, row_offset, place_after}
 use Rattle.wit_component.proofs.NamesKept.{named-found, named-other}
 use Rattle.tables.proofs.Rows.{split, both}
-use Rattle.wit_component.proofs.Readable.{is_inside, with_function, NamesType, HasRead}
+use Rattle.wit_component.proofs.Readable.{is_inside, NamesType, HasRead}
 
 pub row-at-more : (xs ys : List (Option TypeId)) (i : ℕ) (t : TypeId) → row_at xs i ≡ Some t → row_at (xs ++ ys) i ≡ Some t
 row-at-more [] ys i t h = absurd (cc)
@@ -164,9 +165,21 @@ module _ (table : List Definition) (start k : ℕ) where
         (λ typed. ap (λ (n : ℕ). Some (type_id n)) has.rows)
         (named-more at s has (named_row k x (alias_to t)) here (with_named k x (alias_to t) s) x refl refl)
 
-    pub function-kept : (x : List ℕ) (ps : List Parameter) (result : Option ValType) → slice_get table (length at.indices) ≡ Some (function_row k x ps result)
-        → HasRead table start k (place_after at (function_row k x ps result)) (with_function k x ps result s)
-    function-kept x ps result here =
-        kept at s has (function_row k x ps result) here (with_function k x ps result s) (None ∷ []) refl refl (length-append s.rows _) refl
+    -- a function, of an interface or of a world
+    abbrev with_functions : Definition → List FunctionId → InstanceRead
+    with_functions d functions = record {
+      rows = s.rows ++ d ∷ [];
+      indices = s.indices ++ None ∷ [];
+      awaited = Nothing;
+      names = s.names;
+      uses = s.uses;
+      types = s.types;
+      functions = functions;
+    }
+
+    pub function-kept : (f : Function) (functions : List FunctionId) → slice_get table (length at.indices) ≡ Some (row.Function f)
+        → HasRead table start k (place_after at (row.Function f)) (with_functions (row.Function f) functions)
+    function-kept f functions here =
+        kept at s has (row.Function f) here (with_functions (row.Function f) functions) (None ∷ []) refl refl (length-append s.rows _) refl
         (λ typed. absurd (cc))
-        (nameless at s has (function_row k x ps result) here (with_function k x ps result s) refl refl)
+        (nameless at s has (row.Function f) here (with_functions (row.Function f) functions) refl refl)

@@ -12,6 +12,9 @@ pub mod AfterRows
 pub mod Located
 pub mod Ids
 pub mod RowFacts
+pub mod WorldItems
+pub mod RowsBetween
+pub mod WorldsWritten
 pub mod UsesFirst
 pub mod InterfaceEnds
 pub mod UsesFound
@@ -21,10 +24,12 @@ pub mod InterfaceFacts
 pub mod AlikeForm
 pub mod OneTarget
 pub mod InterfaceReading
+pub mod WorldReading
 pub mod Reread
 pub mod AcceptedRows
 pub mod AcceptedStates
 pub mod AcceptedWalk
+pub mod AcceptedWorlds
 pub mod AcceptedFile
 pub mod Candidates
 pub mod Refusing

@@ -1,5 +1,5 @@
 -- Where names differ, a used name stands for one row: tables alike are the same.
-use Rattle.std.proofs.Common.{◌≡◌, ℕ, ◌+◌, List, ◌∷◌, slice_get, Option, None, Some, refl, ap, sym, ◌∙◌, arith, All}
+use Rattle.std.proofs.Common.{◌≡◌, ℕ, ◌+◌, List, ◌∷◌, slice_get, Option, None, Some, refl, ap, ◌∙◌, arith, All}
 use Rattle.tables.specs.Tables.{type_of}
 use Rattle.tables.specs.Same.{IsSamePackage}
 use Rattle.tables.specs.declared.tables.TypeId.{TypeId}
@@ -11,17 +11,18 @@ use Rattle.tables.specs.declared.tables.Definition.TheVariants as row
 use Rattle.tables.specs.declared.tables.Resolve.{Resolve}
 use Rattle.package_form.specs.Scope.{AreDistinct}
 use Rattle.package_form.specs.Ids.{type_id}
-use Rattle.package_form.proofs.Lists.{all-tail}
+use Rattle.package_form.specs.Ends.{interfaces_end}
+use Rattle.package_form.proofs.Scopes.{interfaces-distinct}
 use Rattle.wit_component.specs.Component.{name_of, name_at}
 use Rattle.package_form.specs.Form.{IsInPackageForm}
 use Rattle.package_form.specs.Naming.{package_scopes}
-use Rattle.package_form.proofs.OneRow.{named, IsNamedAt, unique}
+use Rattle.package_form.proofs.OneRow.{named, IsNamedAt, none-named, worlds-parted, unique}
 use Rattle.wit_component.proofs.Alike.{IsAlike, same, uses, AreAlike, none, one_more}
 use Rattle.wit_component.proofs.AlikeForm.{IsAlikePackage}
 
-named-at : (rows : List Definition) (t : TypeId) (y : TypeName) → name_at rows (Some t) ≡ Some y → IsNamedAt rows t.0 y
+pub named-row : (rows : List Definition) (n : ℕ) (y : TypeName) → name_of (type_of (slice_get rows n)) ≡ Some y → IsNamedAt rows n y
 unfolding named
-named-at rows t y h = by (slice_get rows t.0) h
+named-row rows n y h = by (slice_get rows n) h
   where
     by : (o : Option Definition) → name_of (type_of o) ≡ Some y → (k : TypeDefKind) × (o ≡ Some (named y k))
     by None e = absurd (cc)
@@ -41,9 +42,9 @@ module _ (rows : List Definition) where
 pub same-definitions : (r : Resolve) (rows : List Definition) → AreAlike r.definitions 0 r.definitions rows → IsInPackageForm r → All AreDistinct (package_scopes r)
     → rows ≡ r.definitions
 same-definitions r rows a f d =
-    let scopes = all-tail AreDistinct _ _ d in
+    let none = none-named r.definitions 0 (interfaces_end 0 r.interfaces) r.worlds (worlds-parted r.definitions 0 r.interfaces r.worlds f.parted) f.worlds in
     let one : (t u : TypeId) (y : TypeName) → name_at r.definitions (Some t) ≡ Some y → name_at r.definitions (Some u) ≡ Some y → t ≡ u =
-    λ t u y x z. ap type_id (unique r.definitions 0 0 r.interfaces f.parted f.interfaces scopes t.0 u.0 y (omega arith) (omega arith) (named-at r.definitions t y x) (named-at r.definitions u y z)) in
+    λ t u y x z. ap type_id (unique r.definitions 0 0 r.interfaces none f.interfaces (interfaces-distinct r d) t.0 u.0 y (omega arith) (omega arith) (named-row r.definitions t.0 y x) (named-row r.definitions u.0 y z)) in
     same-rows r.definitions one 0 r.definitions rows a
 
 -- so is a package alike to it
@@ -51,6 +52,6 @@ pub same-package : (r p : Resolve) → IsAlikePackage r p → IsInPackageForm r 
 same-package r p a f d = record {
   packages = a.packages;
   interfaces = a.interfaces;
-  worlds = a.worlds ∙ sym f.worlds;
+  worlds = a.worlds;
   definitions = same-definitions r p.definitions a.definitions f d;
 }

@@ -1,44 +1,63 @@
 -- What is written of a package is read as that package, but that a used name may stand for another row of the same name.
-use Rattle.std.proofs.Common.{◌≡◌, ◌≢◌, IsTrue, true, cond, ◌&&◌, nat_le, ℕ, ◌+◌, List, [], ◌∷◌, ◌++◌, take, drop, length, Option, None, Some, refl, ap, sym, subst, ◌∙◌, arith, append_assoc, append-nil, take_all, eqb-true}
+use Rattle.std.proofs.Common.{◌≡◌, ◌<◌, ◌≤◌, ◌-◌, IsTrue, true, false, cond, ◌&&◌, nat_le, nat_lt, ℕ, zero, suc, ◌+◌, List, [], ◌∷◌, ◌++◌, take, drop, length, get_or, slice_get, slice_index_or, Option, None, Some, refl, ap, sym, subst, ◌∙◌, arith, append_assoc, append-nil, length-append, take_all, take-add, eqb-true, inl, inr}
 use Rattle.std.specs.List.{list_all}
-use Rattle.std.proofs.lemmas.Bool.{leb-true}
+use Rattle.std.specs.Option.{option_map}
+use Rattle.std.proofs.lemmas.Bool.{leb-true, ltb-true, cases_lt}
+use Rattle.std.proofs.lemmas.List.{get_or-map}
+use Rattle.std.proofs.lemmas.Slice.Eq.{bytes_eq-Decides}
 use Rattle.atoms.specs.Label.{is_label}
 use Rattle.ctype_format.specs.Raw.{Decl, Instance, Entry, Export}
 use Rattle.ctype_format.specs.View.{decls_of}
 use Rattle.ctype_format.specs.declared.raw.RawDescription.TheVariants as described
-use Rattle.tables.specs.PackageNames.{PackageParts}
-use Rattle.tables.specs.Names.{full_name}
-use Rattle.tables.specs.Tables.{are_earlier, is_placed, are_grouped}
+use Rattle.tables.specs.PackageNames.{PackageParts, name_parts}
+use Rattle.tables.specs.Names.{full_name, world_name}
+use Rattle.tables.specs.Package.{interface_names}
+use Rattle.tables.specs.Tables.{are_earlier, is_placed, are_grouped, are_worlds_grouped}
+use Rattle.tables.specs.declared.tables.TypeId.{TypeId}
 use Rattle.tables.specs.declared.tables.TypeName.{TypeName}
 use Rattle.tables.specs.declared.tables.Definition.{Definition}
 use Rattle.tables.specs.declared.tables.Interface.{Interface}
+use Rattle.tables.specs.declared.tables.WorldItem.{WorldItem}
+use Rattle.tables.specs.declared.tables.World.{World}
 use Rattle.tables.specs.declared.tables.Resolve.{Resolve}
-use Rattle.component_reader.specs.Component.{ComponentRead, no_component, declarations_read, package_named, first_of, first_full_name}
-use Rattle.wit_component.specs.Component.{name_at, instance_export, used_in, aliases_of, Front, no_front, first_place, front_after, interfaces_declared}
-use Rattle.package_form.specs.Ends.{end_of, rows_of, is_parted}
-use Rattle.package_form.specs.Form.{has_full_names, is_local, has_ids, are_interfaces, IsInPackageForm}
-use Rattle.wit_component.specs.Rows.{declarations_of}
-use Rattle.wit_component.specs.ToComponent.{is_labelled, are_labelled}
+use Rattle.tables.proofs.Rows.{split}
+use Rattle.package_form.specs.Ends.{end_of, rows_of, interfaces_end, world_end, world_rows, is_parted}
+use Rattle.package_form.specs.Form.{is_named, has_full_names, is_local, has_ids, are_interfaces, functions_of, IsInPackageForm}
+use Rattle.package_form.specs.Ids.{package_id, places_where}
 use Rattle.package_form.specs.Unused.{are_used}
+use Rattle.package_form.proofs.OnePackage.{single, is_first, all-first, first-place, own-full-name}
+use Rattle.package_form.proofs.OneRow.{none-named, worlds-parted}
+use Rattle.package_form.proofs.Postfix.{postfix-used}
+use Rattle.component_reader.specs.Instance.{if_found, nothing_read}
+use Rattle.component_reader.specs.World.{no_world, world_read}
+use Rattle.component_reader.specs.Component.{ComponentRead, no_component, with_component, interface_in, world_named, with_world, component_exported, declarations_read, package_named, first_of, first_full_name}
+use Rattle.component_reader.proofs.ExportNames.{no-label}
+use Rattle.wit_component.specs.Component.{name_at, instance_export, used_in, aliases_of, Front, no_front, first_place, interface_declarations, front_after, interfaces_declared, interfaces_front, surroundings, world_declarations, world_front, worlds_declared, package_declarations}
+use Rattle.wit_component.specs.Rows.{declarations_of}
+use Rattle.wit_component.specs.ToComponent.{is_labelled, are_labelled, are_worlds_labelled}
+use Rattle.wit_component.specs.Worlds.{items_declared}
+use Rattle.wit_component.proofs.AfterRows.{alike-length}
 use Rattle.wit_component.proofs.Alike.{AreAlike, none}
 use Rattle.wit_component.proofs.FullNamesRead.{full-name-cut, full-no-label}
 use Rattle.wit_component.proofs.InterfaceFacts.{IsInterfaceAt, next-earlier, next-used}
-use Rattle.wit_component.proofs.InterfaceReading.{HasReadTo, interface-reread}
-use Rattle.package_form.proofs.OnePackage.{single, is_first, all-first}
-use Rattle.package_form.proofs.Postfix.{postfix-used}
-use Rattle.tables.proofs.Rows.{split}
+use Rattle.wit_component.proofs.InterfaceReading.{alike-append, KnowsInterfaces, interface-more, HasReadTo, interface-reread}
+use Rattle.wit_component.proofs.OneTarget.{named-row}
+use Rattle.wit_component.proofs.Readable.{is_inside, HasRead}
+use Rattle.wit_component.proofs.RowsBetween.{rest-is}
+use Rattle.wit_component.proofs.WorldItems.{AreWorlds, IsWorldAt, world-first, worlds-later, world-length}
+use Rattle.wit_component.proofs.WorldReading.{WorldRows, ItemsRead, items-reread}
 
 -- what is known of these interfaces, the first of which is interface k and whose rows begin at start
-record AreInterfaces (table : List Definition) (k start : ℕ) (is : List Interface) : Type 0 where
+record AreInterfaces (table : List Definition) (ws : List World) (k start : ℕ) (is : List Interface) : Type 0 where
   first : list_all is_first is ≡ true
   form : are_interfaces table k start is ≡ true
-  parted : is_parted (length table) start is ≡ true
+  parted : is_parted (length table) start is ws ≡ true
   labels : are_labelled table start is ≡ true
   placed : list_all (is_placed table) is ≡ true
   earlier : are_earlier start (drop start table) ≡ true
   used : are_used table start [] (drop start table) ≡ true
 
-module _ (table : List Definition) (k start : ℕ) (i : Interface) (is : List Interface) (are : AreInterfaces table k start (i ∷ is)) where
+module _ (table : List Definition) (ws : List World) (k start : ℕ) (i : Interface) (is : List Interface) (are : AreInterfaces table ws k start (i ∷ is)) where
   head : IsInterfaceAt table start k i
   head =
       let form = split (has_ids table start i) _ (split (has_ids table start i && list_all (is_local table k) (rows_of table start i)) _ are.form).0 in
@@ -58,7 +77,7 @@ module _ (table : List Definition) (k start : ℕ) (i : Interface) (is : List In
         used = are.used;
       }
 
-  tail : AreInterfaces table (k + 1) (end_of start i) is
+  tail : AreInterfaces table ws (k + 1) (end_of start i) is
   tail = record {
     first = (split (is_first i) _ are.first).1;
     form = (split (has_ids table start i && list_all (is_local table k) (rows_of table start i)) _ are.form).1;
@@ -69,30 +88,186 @@ module _ (table : List Definition) (k start : ℕ) (i : Interface) (is : List In
     used = next-used table start k i head;
   }
 
-module _ (r : Resolve) (p : PackageParts) (one : r.packages ≡ p ∷ []) (names : IsTrue (has_full_names r)) where
-  interfaces-reread : (is : List Interface) (at : Front) (k start : ℕ) (done : List Interface) (s : ComponentRead) → AreInterfaces r.definitions k start is → HasReadTo r.definitions at k start done s
-      → (s2 : ComponentRead) × (declarations_read (decls_of (interfaces_declared r at start is)) s ≡ Some s2) × (s2.interfaces ≡ done ++ is) × AreAlike r.definitions 0 r.definitions s2.rows
-  interfaces-reread [] at k start done s are has =
-      let all : take start r.definitions ≡ r.definitions = take-whole start r.definitions (eqb-true start (length r.definitions) are.parted) in
-      (s, refl, has.interfaces ∙ sym (append-nil done), subst (λ ds. AreAlike r.definitions 0 ds s.rows) all has.rows)
-    where
-      take-whole : (n : ℕ) (ds : List Definition) → n ≡ length ds → take n ds ≡ ds
-      take-whole n ds e = take_all n ds (omega (arith, e))
-  interfaces-reread (i ∷ is) at k start done s are has =
-      let here = head r.definitions k start i is are in
-      let first = eqb-true i.«package».0 0 here.first in
-      let own = interface-reread r.definitions at k start i here done s has (full_name r i)
-      (full-no-label r p one i first names here.label) (full-name-cut r p one i first names here.label).1 in
-      let ds = rows_of r.definitions start i in
-      let all = interfaces-reread is (front_after r.definitions at ds) (k + 1) (end_of start i) (done ++ i ∷ []) own.0 (tail r.definitions k start i is are) own.1 in (
-        all.0,
-        own.2 (interfaces_declared r (front_after r.definitions at ds) (end_of start i) is) ∙ all.1,
-        all.2 ∙ append_assoc done (i ∷ []) is,
-        all.3,
-      )
+-- a world's full name is as an interface's
+abbrev as_interface : World → Interface
+as_interface w = record { «package» = w.«package»; name = w.name; uses = []; types = []; functions = [] }
 
-module _ (r : Resolve) (form : IsInPackageForm r) (labels : IsTrue (are_labelled r.definitions 0 r.interfaces)) where
-  all-interfaces : AreInterfaces r.definitions 0 0 r.interfaces
+same-world : (w : World) (n : List ℕ) (is : List WorldItem) → w.«package».0 ≡ 0 → n ≡ w.name → is ≡ w.items → record { «package» = package_id 0; name = n; items = is } ≡ w
+same-world w n is first a b = λ j. record { «package» = package_id (sym first j); name = a j; items = b j }
+
+module _ (r : Resolve) (p : PackageParts) (one : r.packages ≡ p ∷ []) (names : IsTrue (has_full_names r)) where
+  abbrev table : List Definition
+  table = r.definitions
+
+  -- these interfaces were read, whatever follows them
+  record InterfacesRead (at : Front) (k start : ℕ) (is done : List Interface) (s : ComponentRead) : Type 0 where
+    state : ComponentRead
+    has : HasReadTo table (interfaces_front table at start is) (k + length is) (interfaces_end start is) (done ++ is) state
+    read : (more : List Decl) → declarations_read (decls_of (interfaces_declared r at start is ++ more)) s ≡ declarations_read (decls_of more) state
+    earlier : are_earlier (interfaces_end start is) (drop (interfaces_end start is) table) ≡ true
+    used : are_used table (interfaces_end start is) [] (drop (interfaces_end start is) table) ≡ true
+
+  interfaces-reread : (is : List Interface) (at : Front) (k start : ℕ) (done : List Interface) (s : ComponentRead) → AreInterfaces table r.worlds k start is → HasReadTo table at k start done s
+      → InterfacesRead at k start is done s
+  interfaces-reread [] at k start done s are has =
+      let same : k ≡ k + 0 = omega arith in
+      record {
+        state = s;
+        has = subst (λ (n : ℕ). HasReadTo table at n start (done ++ []) s) same (subst (λ (is : List Interface). HasReadTo table at k start is s) (sym (append-nil done)) has);
+        read = λ more. refl;
+        earlier = are.earlier;
+        used = are.used;
+      }
+  interfaces-reread (i ∷ is) at k start done s are has =
+      let here = head table r.worlds k start i is are in
+      let first = eqb-true i.«package».0 0 here.first in
+      let own = interface-reread table at k start i here done s has (full_name r i)
+      (full-no-label r p one i first names here.label) (full-name-cut r p one i first names here.label).1 in
+      let ds = rows_of table start i in
+      let rest = interfaces_declared r (front_after table at ds) (end_of start i) is in
+      let all = interfaces-reread is (front_after table at ds) (k + 1) (end_of start i) (done ++ i ∷ []) own.0 (tail table r.worlds k start i is are) own.1 in
+      let count : k + 1 + length is ≡ k + length (i ∷ is) = omega arith in
+      record {
+        state = all.state;
+        has = subst (λ (n : ℕ). HasReadTo table (interfaces_front table at start (i ∷ is)) n (interfaces_end start (i ∷ is)) (done ++ i ∷ is) all.state) count
+            (subst (λ (xs : List Interface). HasReadTo table (interfaces_front table at start (i ∷ is)) (k + 1 + length is) (interfaces_end start (i ∷ is)) xs all.state) (append_assoc done (i ∷ []) is) all.has);
+        read = λ more.
+            ap (λ ds. declarations_read (decls_of ds) s) (append_assoc (interface_declarations table at ds (full_name r i)) rest more) ∙ own.2 (rest ++ more) ∙ all.read more;
+        earlier = all.earlier;
+        used = all.used;
+      }
+
+  -- ---- worlds
+
+  -- so many interfaces
+  abbrev count : ℕ
+  count = length r.interfaces
+
+  module _ (lows : (t : TypeId) (y : TypeName) → name_at table (Some t) ≡ Some y → y.interface.0 < count)
+      (full : (i : ℕ) → i < count → is_label (slice_index_or (interface_names r) i []) ≡ false) where
+    -- what was read of the worlds before world w, whose rows end before start
+    record HasWorldsTo (at : Front) (w start : ℕ) (done : List World) (s : ComponentRead) : Type 0 where
+      rows : AreAlike table 0 (take start table) s.rows
+      count_before : length at.indices ≡ start
+      row_count : length s.rows ≡ start
+      interfaces : s.interfaces ≡ r.interfaces
+      worlds : s.worlds ≡ done
+      index : length s.worlds ≡ w
+      known : KnowsInterfaces s.instances at.instances count
+      earlier : are_earlier start (drop start table) ≡ true
+      used : are_used table start [] (drop start table) ≡ true
+
+    module _ (x : World) (w start : ℕ) (at : Front) (done : List World) (s : ComponentRead) (is : IsWorldAt table count w start x) (first : x.«package».0 ≡ 0)
+        (labels : (is_label x.name ≡ true) × (list_all is_labelled (world_rows table start x) ≡ true)) (has : HasWorldsTo at w start done s) where
+      abbrev own : List Definition
+      own = world_rows table start x
+
+      abbrev later : List Definition
+      later = drop (world_end start x) table
+
+      ahead : drop start table ≡ own ++ later
+      ahead = rest-is table start (world_end start x) is.low
+
+      world-rows : WorldRows table start count w (λ t y up. lows t y) s.instances (interface_names r) at.instances count has.known full start own later
+      world-rows = record {
+        here = ahead;
+        own = is.own;
+        labels = labels.1;
+        earlier = subst (λ (ds : List Definition). are_earlier start ds ≡ true) ahead has.earlier;
+        used = subst (λ (ds : List Definition). are_used table start [] ds ≡ true) ahead has.used;
+        begins = omega arith;
+      }
+
+      outside : (t : TypeId) → is_inside table start (length at.indices) t ≡ true → ⊥
+      outside t h =
+          let a = split (nat_le start t.0) _ h in
+          let b = split (nat_lt t.0 (length at.indices)) _ a.1 in
+          omega (arith, has.count_before, leb-true start t.0 a.0, ltb-true t.0 (length at.indices) b.0)
+
+      begun-world : HasRead table start count (first_place at) (nothing_read s.rows)
+      begun-world = record {
+        awaited = refl;
+        types = refl;
+        rows = has.row_count ∙ sym has.count_before;
+        begins = omega (arith, has.count_before);
+        known = λ t h. absurd (outside t h);
+        names = λ t y low up e. absurd (omega (arith, has.count_before, low, up));
+      }
+
+      items : ItemsRead table start count w (λ t y up. lows t y) s.instances (interface_names r) at.instances count has.known full start (first_place at) x.items own later (no_world s.rows)
+      items =
+          items-reread table start count w (λ t y up. lows t y) s.instances (interface_names r) at.instances count has.known full x.items start own later (first_place at) (no_world s.rows) world-rows
+          ((bytes_eq-Decides (places_where is_named start own) (functions_of x)).0 is.items) (world-length table start x is.low is.high) is.placed has.count_before begun-world
+
+      abbrev after : ComponentRead
+      after = with_world (world_name r x) (with_component s items.state) items.state
+
+      cut : (package_named (world_name r x) ≡ p) × (interface_in (world_name r x) ≡ x.name)
+      cut = full-name-cut r p one (as_interface x) first names labels.0
+
+      ends : length items.state.inside.rows ≡ world_end start x
+      ends = ap length items.told ∙ length-append s.rows items.rows
+          ∙ omega (arith, has.row_count, alike-length table start own items.rows items.alike, world-length table start x is.low is.high)
+
+      world-read : (more : List Decl) → declarations_read (decls_of (world_declarations r at start x ++ more)) s ≡ declarations_read (decls_of more) after
+      world-read more =
+          let body = decls_of (items_declared (surroundings r at) (first_place at) start x.items) in
+          let export = Export (world_name r x) (described.Component at.types) in
+          ap (λ n. if_found (option_map (with_component s) (world_read s.instances n body s.rows)) (declarations_read (decls_of (export ∷ more)))) has.index
+          ∙ ap (λ o. if_found (option_map (with_component s) o) (declarations_read (decls_of (export ∷ more)))) items.read
+          ∙ ap (λ b. if_found (cond b None (component_exported (world_name r x) (with_component s items.state))) (declarations_read (decls_of more)))
+          (full-no-label r p one (as_interface x) first names labels.0)
+
+      has-after : HasWorldsTo (world_front table at start x) (w + 1) (world_end start x) (done ++ x ∷ []) after
+      has-after = record {
+        rows = subst (λ (ds : List Definition). AreAlike table 0 ds items.state.inside.rows) front-is
+            (subst (λ (es : List Definition). AreAlike table 0 (take start table ++ own) es) (sym items.told)
+            (alike-append table 0 (take start table) s.rows own items.rows has.rows (subst (λ (n : ℕ). AreAlike table n own items.rows) from items.alike)));
+        count_before = sym items.kept.rows ∙ ends;
+        row_count = ends;
+        interfaces = has.interfaces;
+        worlds = ap (λ (xs : List World). xs ++ world_named (world_name r x) items.state ∷ []) has.worlds
+            ∙ ap (λ (v : World). done ++ v ∷ []) (same-world x (interface_in (world_name r x)) items.state.items first cut.1 items.items);
+        index = length-append s.worlds (world_named (world_name r x) items.state ∷ []) ∙ ap (λ (n : ℕ). n + 1) has.index;
+        known = λ j low. interface-more s.instances (None ∷ []) _ _ (has.known j low);
+        earlier = subst (λ (n : ℕ). are_earlier n later ≡ true) (world-length table start x is.low is.high) items.earlier;
+        used = subst (λ (n : ℕ). are_used table n [] later ≡ true) (world-length table start x is.low is.high) items.used;
+      }
+        where
+          from : start ≡ 0 + length (take start table)
+          from = omega (arith, alike-length table 0 (take start table) s.rows has.rows, has.row_count)
+
+          front-is : take start table ++ own ≡ take (world_end start x) table
+          front-is = sym (take-add start (world_end start x - start) table) ∙ ap (λ n. take n table) (let low = is.low in omega (arith, low))
+
+    worlds-reread : (ws : List World) (w start : ℕ) (at : Front) (done : List World) (s : ComponentRead) → AreWorlds table count w start ws → are_worlds_grouped 1 0 ws ≡ true
+        → are_worlds_labelled table start ws ≡ true → HasWorldsTo at w start done s
+        → (s2 : ComponentRead) × (declarations_read (decls_of (worlds_declared r at start ws)) s ≡ Some s2) × (s2.interfaces ≡ r.interfaces) × (s2.worlds ≡ done ++ ws) × AreAlike table 0 table s2.rows
+    worlds-reread [] w start at done s are grouped labels has =
+        let whole : take start table ≡ table = take-whole start table (eqb-true start (length table) are.parted) in
+        (s, refl, has.interfaces, has.worlds ∙ sym (append-nil done), subst (λ (ds : List Definition). AreAlike table 0 ds s.rows) whole has.rows)
+      where
+        take-whole : (n : ℕ) (ds : List Definition) → n ≡ length ds → take n ds ≡ ds
+        take-whole n ds e = take_all n ds (omega (arith, e))
+    worlds-reread (x ∷ ws) w start at done s are grouped labels has =
+        let own = world-first table count w start x ws are in
+        let g = split (nat_le 0 x.«package».0 && nat_lt x.«package».0 1) (are_worlds_grouped 1 x.«package».0 ws) grouped in
+        let below = ltb-true x.«package».0 1 (split (nat_le 0 x.«package».0) _ g.0).1 in
+        let first : x.«package».0 ≡ 0 = omega (arith, below) in
+        let l = split (is_label x.name && list_all is_labelled (world_rows table start x)) (are_worlds_labelled table (world_end start x) ws) labels in
+        let named = split (is_label x.name) (list_all is_labelled (world_rows table start x)) l.0 in
+        let all = worlds-reread ws (w + 1) (world_end start x) (world_front table at start x) (done ++ x ∷ []) (after x w start at done s own first named has)
+        (worlds-later table count w start x ws are) (subst (λ (n : ℕ). are_worlds_grouped 1 n ws ≡ true) first g.1) l.1 (has-after x w start at done s own first named has) in (
+          all.0,
+          world-read x w start at done s own first named has (worlds_declared r (world_front table at start x) (world_end start x) ws) ∙ all.1,
+          all.2,
+          all.3 ∙ append_assoc done (x ∷ []) ws,
+          all.4,
+        )
+
+module _ (r : Resolve) (form : IsInPackageForm r) (labels : IsTrue (are_labelled r.definitions 0 r.interfaces))
+    (world_labels : IsTrue (are_worlds_labelled r.definitions (interfaces_end 0 r.interfaces) r.worlds)) where
+  all-interfaces : AreInterfaces r.definitions r.worlds 0 0 r.interfaces
   all-interfaces = record {
     first = all-first 0 r.interfaces (subst (λ (n : ℕ). IsTrue (are_grouped n 0 r.interfaces)) form.alone r.grouped);
     form = form.interfaces;
@@ -114,42 +289,127 @@ module _ (r : Resolve) (form : IsInPackageForm r) (labels : IsTrue (are_labelled
     exports = refl;
     names = λ t y up e. absurd (omega (arith, up));
     lows = λ t y up e. absurd (omega (arith, up));
+    worlds = refl;
+    instances = refl;
+    each = refl;
+    known = λ j low. absurd (omega (arith, low));
   }
 
-  pub reread : (s : ComponentRead) × (declarations_read (decls_of (interfaces_declared r no_front 0 r.interfaces)) no_component ≡ Some s)
-      × (s.interfaces ≡ r.interfaces) × AreAlike r.definitions 0 r.definitions s.rows
-  reread = let one = single r.packages form.alone in interfaces-reread r one.0 one.1 form.names r.interfaces no_front 0 0 [] no_component all-interfaces begun
+  abbrev one : (p : PackageParts) × (r.packages ≡ p ∷ [])
+  one = single r.packages form.alone
+
+  abbrev end : ℕ
+  end = interfaces_end 0 r.interfaces
+
+  interfaces : InterfacesRead r one.0 one.1 form.names no_front 0 0 r.interfaces [] no_component
+  interfaces = interfaces-reread r one.0 one.1 form.names r.interfaces no_front 0 0 [] no_component all-interfaces begun
+
+  all-worlds : AreWorlds r.definitions (length r.interfaces) 0 end r.worlds
+  all-worlds = record { parted = worlds-parted r.definitions 0 r.interfaces r.worlds form.parted; items = form.worlds; placed = r.worlds_placed }
+
+  -- behind the interfaces there are no names
+  lows : (t : TypeId) (y : TypeName) → name_at r.definitions (Some t) ≡ Some y → y.interface.0 < length r.interfaces
+  lows t y e = elim (cases_lt t.0 end) [
+    | inl l ↦ let low = interfaces.has.lows t y l e in omega (arith, low)
+    | inr l ↦ absurd (none-named r.definitions 0 end r.worlds all-worlds.parted all-worlds.items t.0 y l (named-row r.definitions t.0 y e))
+  ]
+
+  full : (i : ℕ) → i < length r.interfaces → is_label (slice_index_or (interface_names r) i []) ≡ false
+  full i low = by (slice_get r.interfaces i) refl
+    where
+      by : (o : Option Interface) → slice_get r.interfaces i ≡ o → is_label (slice_index_or (interface_names r) i []) ≡ false
+      by None e = absurd (omega (arith, low, past r.interfaces i e))
+        where
+          past : (is : List Interface) (n : ℕ) → slice_get is n ≡ None → length is ≤ n
+          past [] n e = omega arith
+          past (x ∷ is) zero e = absurd (cc)
+          past (x ∷ is) (suc n) e = omega (arith, past is n e)
+      by (Some x) e =
+          let at = get-interface r.interfaces i x e in
+          let first = first-place r one.0 one.1 x (i, low, at x) in
+          ap is_label (get_or-map (full_name r) r.interfaces i x [] low ∙ ap (full_name r) (at x) ∙ own-full-name r one.0 one.1 x first) ∙ no-label (name_parts one.0 x.name)
+        where
+          get-interface : (is : List Interface) (n : ℕ) (x : Interface) → slice_get is n ≡ Some x → (y : Interface) → get_or is n y ≡ x
+          get-interface [] n x e y = absurd (cc)
+          get-interface (z ∷ is) zero x e y = cc
+          get-interface (z ∷ is) (suc n) x e y = get-interface is n x e y
+
+  begun-worlds : HasWorldsTo r one.0 one.1 form.names lows full (interfaces_front r.definitions no_front 0 r.interfaces) 0 end [] interfaces.state
+  begun-worlds = record {
+    rows = interfaces.has.rows;
+    count_before = interfaces.has.count;
+    row_count = interfaces.has.row_count;
+    interfaces = interfaces.has.interfaces;
+    worlds = interfaces.has.worlds;
+    index = ap length interfaces.has.worlds;
+    known = λ j low. interfaces.has.known j (omega (arith, low));
+    earlier = interfaces.earlier;
+    used = interfaces.used;
+  }
+
+  pub reread : (s : ComponentRead) × (declarations_read (decls_of (package_declarations r)) no_component ≡ Some s)
+      × (s.interfaces ≡ r.interfaces) × (s.worlds ≡ r.worlds) × AreAlike r.definitions 0 r.definitions s.rows
+  reread =
+      let worlds = worlds-reread r one.0 one.1 form.names lows full r.worlds 0 end (interfaces_front r.definitions no_front 0 r.interfaces) [] interfaces.state all-worlds
+      (subst (λ (n : ℕ). IsTrue (are_worlds_grouped n 0 r.worlds)) form.alone r.worlds_grouped) world_labels begun-worlds in
+      (worlds.0, interfaces.read (worlds_declared r (interfaces_front r.definitions no_front 0 r.interfaces) end r.worlds) ∙ worlds.1, worlds.2, worlds.3, worlds.4)
 
 -- ---- the package's name
 
 -- aliases export nothing
-aliases-no-name : (table : List Definition) (ds : List Definition) (more : List Decl) → first_full_name (decls_of (aliases_of table ds ++ more)) ≡ first_full_name (decls_of more)
-aliases-no-name table [] more = refl
-aliases-no-name table (d ∷ ds) more = by (name_at table (used_in d)) ∙ aliases-no-name table ds more
+aliases-no-name : (rows : List Definition) (ds : List Definition) (more : List Decl) → first_full_name (decls_of (aliases_of rows ds ++ more)) ≡ first_full_name (decls_of more)
+aliases-no-name rows [] more = refl
+aliases-no-name rows (d ∷ ds) more = by (name_at rows (used_in d)) ∙ aliases-no-name rows ds more
   where
-    by : (o : Option TypeName) → first_full_name (decls_of ((instance_export o ++ aliases_of table ds) ++ more)) ≡ first_full_name (decls_of (aliases_of table ds ++ more))
+    by : (o : Option TypeName) → first_full_name (decls_of ((instance_export o ++ aliases_of rows ds) ++ more)) ≡ first_full_name (decls_of (aliases_of rows ds ++ more))
     by None = refl
     by (Some y) = refl
 
-module _ (r : Resolve) (form : IsInPackageForm r) (labels : IsTrue (are_labelled r.definitions 0 r.interfaces)) where
-  -- the first full name that is exported is the first interface's, which has the name of the package
-  pub name-reread : (text : List ℕ) × (first_full_name (decls_of (interfaces_declared r no_front 0 r.interfaces)) ≡ Some text) × (package_named text ∷ [] ≡ r.packages)
-  name-reread = by r.interfaces form.some (all-interfaces r form labels).first labels
+module _ (r : Resolve) (form : IsInPackageForm r) (labels : IsTrue (are_labelled r.definitions 0 r.interfaces))
+    (world_labels : IsTrue (are_worlds_labelled r.definitions (interfaces_end 0 r.interfaces) r.worlds)) where
+  abbrev only : (p : PackageParts) × (r.packages ≡ p ∷ [])
+  only = single r.packages form.alone
+
+  abbrev FirstName : List Decl → Type 0
+  FirstName ds = (text : List ℕ) × (first_full_name (decls_of ds) ≡ Some text) × (package_named text ∷ [] ≡ r.packages)
+
+  -- a package without interfaces has the name of its first world
+  world-name-reread : (at : Front) (start : ℕ) (ws : List World) → 0 < length ws → are_worlds_grouped 1 0 ws ≡ true → IsTrue (are_worlds_labelled r.definitions start ws) → FirstName (worlds_declared r at start ws)
+  world-name-reread at start [] some grouped labels = absurd (omega (arith, some))
+  world-name-reread at start (x ∷ ws) some grouped labels =
+      let label = (split (is_label x.name) _ (split (is_label x.name && list_all is_labelled (world_rows r.definitions start x)) _ labels).0).0 in
+      let below = ltb-true x.«package».0 1 (split (nat_le 0 x.«package».0) _ (split (nat_le 0 x.«package».0 && nat_lt x.«package».0 1) (are_worlds_grouped 1 x.«package».0 ws) grouped).0).1 in
+      let first : x.«package».0 ≡ 0 = omega (arith, below) in
+      let rest = worlds_declared r (world_front r.definitions at start x) (world_end start x) ws in (
+        world_name r x,
+        ap (λ b. first_of (cond b None (Some (world_name r x))) (first_full_name (decls_of rest))) (full-no-label r only.0 only.1 (as_interface x) first form.names label),
+        ap (λ (p : PackageParts). p ∷ []) (full-name-cut r only.0 only.1 (as_interface x) first form.names label).0 ∙ sym only.1,
+      )
+
+  -- the first full name that is exported has the name of the package
+  pub name-reread : FirstName (package_declarations r)
+  name-reread = by r.interfaces refl (all-interfaces r form labels world_labels).first labels
     where
-      by : (is : List Interface) → is ≢ [] → list_all is_first is ≡ true → IsTrue (are_labelled r.definitions 0 is)
-          → (text : List ℕ) × (first_full_name (decls_of (interfaces_declared r no_front 0 is)) ≡ Some text) × (package_named text ∷ [] ≡ r.packages)
-      by [] some first labels = absurd (some refl)
+      worlds : List Decl
+      worlds = worlds_declared r (interfaces_front r.definitions no_front 0 r.interfaces) (interfaces_end 0 r.interfaces) r.worlds
+
+      by : (is : List Interface) → r.interfaces ≡ is → list_all is_first is ≡ true → IsTrue (are_labelled r.definitions 0 is) → FirstName (interfaces_declared r no_front 0 is ++ worlds)
+      by [] empty first labels =
+          world-name-reread (interfaces_front r.definitions no_front 0 r.interfaces) (interfaces_end 0 r.interfaces) r.worlds
+          (omega (arith, form.some, ap (λ (is : List Interface). length is) empty))
+          (subst (λ (n : ℕ). IsTrue (are_worlds_grouped n 0 r.worlds)) form.alone r.worlds_grouped) world_labels
       by (i ∷ is) some first labels =
           let label = (split (is_label i.name) _ (split (is_label i.name && list_all is_labelled (rows_of r.definitions 0 i)) _ labels).0).0 in
-          let one = single r.packages form.alone in
           let here = eqb-true i.«package».0 0 (split (is_first i) _ first).0 in
-          let cut = full-name-cut r one.0 one.1 i here form.names label in
+          let cut = full-name-cut r only.0 only.1 i here form.names label in
           let ds = rows_of r.definitions 0 i in
           let body = decls_of (declarations_of (first_place no_front) ds) in
+          let export = Export (full_name r i) (described.Instance (0 + length (aliases_of r.definitions ds))) in
           let rest = interfaces_declared r (front_after r.definitions no_front ds) (end_of 0 i) is in (
             full_name r i,
-            ap (λ es. first_full_name (decls_of es)) (append_assoc (aliases_of r.definitions ds) (Entry (Instance body) ∷ Export (full_name r i) (described.Instance (0 + length (aliases_of r.definitions ds))) ∷ []) rest)
-                ∙ aliases-no-name r.definitions ds (Entry (Instance body) ∷ Export (full_name r i) (described.Instance (0 + length (aliases_of r.definitions ds))) ∷ rest)
-                ∙ ap (λ b. first_of (cond b None (Some (full_name r i))) (first_full_name (decls_of rest))) (full-no-label r one.0 one.1 i here form.names label),
-            ap (λ (p : PackageParts). p ∷ []) cut.0 ∙ sym one.1,
+            ap (λ es. first_full_name (decls_of es)) (append_assoc (interface_declarations r.definitions no_front ds (full_name r i)) rest worlds)
+                ∙ ap (λ es. first_full_name (decls_of es)) (append_assoc (aliases_of r.definitions ds) (Entry (Instance body) ∷ export ∷ []) (rest ++ worlds))
+                ∙ aliases-no-name r.definitions ds (Entry (Instance body) ∷ export ∷ (rest ++ worlds))
+                ∙ ap (λ b. first_of (cond b None (Some (full_name r i))) (first_full_name (decls_of (rest ++ worlds)))) (full-no-label r only.0 only.1 i here form.names label),
+            ap (λ (p : PackageParts). p ∷ []) cut.0 ∙ sym only.1,
           )

@@ -33,12 +33,12 @@ use Rattle.tables.proofs.Rows.{split, both}
 use Rattle.wit_component.proofs.Readable.{is_inside, IsReadable, inner, defines, renames, function, AreReadable, no_rows, row_first}
 use Rattle.wit_component.proofs.AcceptedRows.{is_use_def}
 
-all-take : {A : Type 0} (p : A → Bool) (n : ℕ) (xs : List A) → list_all p xs ≡ true → list_all p (take n xs) ≡ true
+pub all-take : {A : Type 0} (p : A → Bool) (n : ℕ) (xs : List A) → list_all p xs ≡ true → list_all p (take n xs) ≡ true
 all-take p zero xs h = refl
 all-take p (suc n) [] h = refl
 all-take p (suc n) (x ∷ xs) h = let s = split (p x) (list_all p xs) h in both _ _ s.0 (all-take p n xs s.1)
 
-all-drop : {A : Type 0} (p : A → Bool) (n : ℕ) (xs : List A) → list_all p xs ≡ true → list_all p (drop n xs) ≡ true
+pub all-drop : {A : Type 0} (p : A → Bool) (n : ℕ) (xs : List A) → list_all p xs ≡ true → list_all p (drop n xs) ≡ true
 all-drop p zero xs h = h
 all-drop p (suc n) [] h = refl
 all-drop p (suc n) (x ∷ xs) h = all-drop p n xs (split (p x) (list_all p xs) h).1
@@ -111,7 +111,7 @@ module _ (table : List Definition) (start k : ℕ) where
         by None h = absurd (cc)
         by (Some d) h = refl
 
-    refs-inside : (ts : List TypeId) → list_all (is_own table k) ts ≡ true → list_all (stands_before n) ts ≡ true
+    pub refs-inside : (ts : List TypeId) → list_all (is_own table k) ts ≡ true → list_all (stands_before n) ts ≡ true
         → list_all (nat_le start) (flat_map (unnamed_at table) ts) ≡ true → list_all (is_inside table start n) ts ≡ true
     refs-inside [] own before unnamed = refl
     refs-inside (t ∷ ts) own before unnamed =
@@ -122,7 +122,7 @@ module _ (table : List Definition) (start k : ℕ) where
 
   -- ---- a row can be read
 
-  inner-since : (unused taken : List ℕ) → ends_with nat_eq unused taken ≡ true → list_all (nat_le start) unused ≡ true → list_all (nat_le start) taken ≡ true
+  pub inner-since : (unused taken : List ℕ) → ends_with nat_eq unused taken ≡ true → list_all (nat_le start) unused ≡ true → list_all (nat_le start) taken ≡ true
   inner-since unused taken h since =
       subst (λ ns. list_all (nat_le start) ns ≡ true) (sym ((bytes_eq-Decides taken (drop (length unused - length taken) unused)).0 h))
       (all-drop (nat_le start) (length unused - length taken) unused since)

@@ -1,5 +1,5 @@
 -- One row's declarations, read again.
-use Rattle.std.proofs.Common.{◌≡◌, ℕ, zero, suc, ◌+◌, ◌<◌, Bool, true, false, cond, List, [], ◌∷◌, ◌++◌, length, map, flat_map, slice_get, slice_index, Option, None, Some, refl, ap, sym, subst, ◌∙◌, append-nil, eq-eqb, ne_eqb, arith}
+use Rattle.std.proofs.Common.{◌≡◌, ℕ, zero, suc, ◌+◌, ◌<◌, Bool, true, false, cond, List, [], ◌∷◌, ◌++◌, length, flat_map, slice_get, slice_index, Option, None, Some, refl, ap, sym, subst, ◌∙◌, append-nil, eq-eqb, ne_eqb, arith}
 use Rattle.std.specs.List.{list_all}
 use Rattle.std.specs.Option.{option_map}
 use Rattle.std.proofs.lemmas.List.Folds.{list_all-append}
@@ -8,7 +8,7 @@ use Rattle.ctype_format.specs.Raw.{Defined, Define, Func, Decl, Entry, Export, n
 use Rattle.ctype_format.specs.View.{decls_of}
 use Rattle.ctype_format.specs.declared.raw.RawDescription.TheVariants as described
 use Rattle.package_form.specs.Postfix.{is_unnamed_row, is_inner, inner_row}
-use Rattle.package_form.specs.Ids.{type_id}
+use Rattle.package_form.specs.Ids.{type_id, function_id}
 use Rattle.tables.specs.declared.tables.TypeId.{TypeId}
 use Rattle.tables.specs.declared.tables.ValType.{ValType}
 use Rattle.tables.specs.declared.tables.ValType.TheVariants as val
@@ -16,12 +16,15 @@ use Rattle.tables.specs.declared.tables.TypeDefKind.{TypeDefKind}
 use Rattle.tables.specs.declared.tables.TypeDefKind.TheVariants as kind
 use Rattle.tables.specs.declared.tables.TypeName.{TypeName}
 use Rattle.tables.specs.declared.tables.Parameter.{Parameter}
+use Rattle.tables.specs.declared.tables.Owner.TheVariants as owner
+use Rattle.tables.specs.declared.tables.Function.{Function}
 use Rattle.tables.specs.declared.tables.Definition.{Definition}
-use Rattle.component_reader.specs.Instance.{if_found, AType, AFunction, InstanceRead, awaiting, with_unnamed, settled, settled_as, named_row, with_named, with_index, alias_to, renamed, type_exported, exported, function_row, decl_read, decls_read}
-use Rattle.component_reader.specs.Types.{both_found, all_found, row_at, parameter_read, optional_type, kind_of}
+use Rattle.tables.specs.declared.tables.Definition.TheVariants as definition
+use Rattle.component_reader.specs.Instance.{if_found, AType, AFunction, InstanceRead, awaiting, with_unnamed, settled, settled_as, named_row, with_named, with_index, alias_to, renamed, type_exported, exported, function_row, defined, decl_read, decls_read}
+use Rattle.component_reader.specs.Types.{both_found, row_at, optional_type, kind_of}
 use Rattle.package_form.specs.References.{parameter_references, references_if, kind_references, row_references}
 use Rattle.wit_component.specs.Component.{name_at}
-use Rattle.wit_component.specs.Rows.{Place, valtype_of, parameter_of, definition_of, definition_index, definition_if, defined_of, outer_alias, row_declarations, defined_types, place_after}
+use Rattle.wit_component.specs.Rows.{Place, valtype_of, signature_of, definition_of, definition_index, definition_if, defined_of, outer_alias, row_declarations, defined_types, place_after}
 use Rattle.wit_component.proofs.Alike.{IsAlike, same, uses}
 use Rattle.wit_component.proofs.Keeping.{unnamed-kept, defined-kept, renamed-kept, function-kept}
 use Rattle.tables.proofs.Rows.{split}
@@ -58,6 +61,17 @@ row-at-end [] t zero e = refl
 row-at-end [] t (suc i) e = absurd (omega arith)
 row-at-end (x ∷ xs) t zero e = absurd (omega arith)
 row-at-end (x ∷ xs) t (suc i) e = row-at-end xs t i (omega arith)
+
+-- a function's signature, of an interface or of a world
+pub signature-read : (table : List Definition) (start k : ℕ) (at : Place) (s s1 : InstanceRead) → IsSettled table s s1 → HasRead table start k at s1 → (f : Function)
+    → list_all (is_inside table start (length at.indices)) (row_references (definition.Function f)) ≡ true
+    → if_found (settled s) (defined (Func (signature_of at.indices f))) ≡ Some (awaiting s1 (AFunction f.params f.result))
+signature-read table start k at s s1 settles has f refs =
+    let p = is_inside table start (length at.indices) in
+    let both = split (list_all p (flat_map parameter_references f.params)) (list_all p (references_if f.result)) (sym (list_all-append p (flat_map parameter_references f.params) (references_if f.result)) ∙ refs) in
+    ap (λ (o : Option InstanceRead). if_found o (defined (Func (signature_of at.indices f)))) (settled-is table s s1 settles)
+    ∙ ap (λ (o : Option (List Parameter)). option_map (awaiting s1) (both_found AFunction o (optional_type s1.indices (option_map (valtype_of at.indices) f.result)))) (parameters-reread at.indices s1.indices p has.known f.params both.0)
+    ∙ ap (λ (o : Option (Option ValType)). option_map (awaiting s1) (both_found AFunction (Some f.params) o)) (if-reread at.indices s1.indices p has.known f.result both.1)
 
 module _ (table : List Definition) (around : List (Option TypeId)) (start k : ℕ) where
   -- one declaration, and two
@@ -183,25 +197,17 @@ module _ (table : List Definition) (around : List (Option TypeId)) (start k : �
     function-read : (x : List ℕ) (ps : List Parameter) (result : Option ValType) → slice_get table (length at.indices) ≡ Some (function_row k x ps result) → is_label x ≡ true
         → list_all (is_inside table start (length at.indices)) (row_references (function_row k x ps result)) ≡ true → IsRowRead at s s1 (function_row k x ps result)
     function-read x ps result here label refs =
-        let p = is_inside table start (length at.indices) in
-        let both = split (list_all p (flat_map parameter_references ps)) (list_all p (references_if result)) (sym (list_all-append p (flat_map parameter_references ps) (references_if result)) ∙ refs) in
-        let told : both_found AFunction (all_found (parameter_read s1.indices) (map (parameter_of at.indices) ps)) (optional_type s1.indices (option_map (valtype_of at.indices) result)) ≡ Some (AFunction ps result) =
-        ap (λ (o : Option (List Parameter)). both_found AFunction o (optional_type s1.indices (option_map (valtype_of at.indices) result))) (parameters-reread at.indices s1.indices p has.known ps both.0)
-        ∙ ap (λ (o : Option (Option ValType)). both_found AFunction (Some ps) o) (if-reread at.indices s1.indices p has.known result both.1) in
+        let f : Function = record { owner = owner.Interface (record { 0 = k }); name = x; params = ps; result = result } in
         record {
           row = function_row k x ps result;
           own = function_of_it x ps result;
           alike = same (function_row k x ps result);
           state = with_function k x ps result s1;
-          read = two-read (Entry (Func (record { params = map (parameter_of at.indices) ps; outcome = option_map (valtype_of at.indices) result }))) (Export x (described.Function at.types))
-              s (awaiting s1 (AFunction ps result)) (with_function k x ps result s1)
-              (ap (λ (o : Option InstanceRead). if_found o (λ (s : InstanceRead). option_map (awaiting s)
-              (both_found AFunction (all_found (parameter_read s.indices) (map (parameter_of at.indices) ps)) (optional_type s.indices (option_map (valtype_of at.indices) result)))))
-              (settled-is table s s1 settles)
-              ∙ ap (option_map (awaiting s1)) told)
+          read = two-read (Entry (Func (signature_of at.indices f))) (Export x (described.Function at.types)) s (awaiting s1 (AFunction ps result)) (with_function k x ps result s1)
+              (signature-read table start k at s s1 settles has f refs)
               (ap (λ (b : Bool). cond b (Some (with_function k x ps result s1)) None) label);
           settled = rests (with_function k x ps result s1) refl;
-          kept = function-kept table start k at s1 has x ps result here;
+          kept = function-kept table start k at s1 has f (s1.functions ++ function_id (length s1.rows) ∷ []) here;
         }
 
     pub row-read : (d : Definition) → slice_get table (length at.indices) ≡ Some d → IsReadable table around start k (length at.indices) at.used d → IsRowRead at s s1 d

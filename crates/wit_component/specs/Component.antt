@@ -1,12 +1,14 @@
 -- Binary.md, "Component Definitions" and "Type Definitions": a package as one component type. Each interface is an instance type and an
--- export of an instance under its full name; before them stands an alias of each type that the interface uses of another.
+-- export of an instance under its full name; before them stands an alias of each type that the interface uses of another. Behind them each
+-- world is a component type and an export of a component under its full name.
 use Rattle.std.specs.Prelude.{ℕ, ◌+◌, List, [], ◌∷◌, ◌++◌, flat_map, length, slice_get, Option, None, Some}
 use Rattle.ctype_format.specs.Raw.{Component, Instance, Decl, Entry, Alias, Export, File}
 use Rattle.ctype_format.specs.View.{decls_of}
 use Rattle.ctype_format.specs.declared.raw.RawAlias.TheVariants as alias
 use Rattle.ctype_format.specs.declared.raw.RawDescription.TheVariants as described
 use Rattle.tables.specs.Tables.{type_of}
-use Rattle.tables.specs.Names.{full_name}
+use Rattle.tables.specs.Names.{full_name, world_name}
+use Rattle.tables.specs.Package.{interface_names}
 use Rattle.tables.specs.declared.tables.TypeId.{TypeId}
 use Rattle.tables.specs.declared.tables.TypeDef.{TypeDef}
 use Rattle.tables.specs.declared.tables.TypeDefKind.{TypeDefKind}
@@ -15,9 +17,11 @@ use Rattle.tables.specs.declared.tables.TypeName.{TypeName}
 use Rattle.tables.specs.declared.tables.Definition.{Definition}
 use Rattle.tables.specs.declared.tables.Definition.TheVariants as row
 use Rattle.tables.specs.declared.tables.Interface.{Interface}
+use Rattle.tables.specs.declared.tables.World.{World}
 use Rattle.tables.specs.declared.tables.Resolve.{Resolve}
-use Rattle.package_form.specs.Ends.{end_of, rows_of}
+use Rattle.package_form.specs.Ends.{end_of, rows_of, interfaces_end, world_end}
 use Rattle.wit_component.specs.Rows.{Place, declarations_of, places_after}
+use Rattle.wit_component.specs.Worlds.{Surroundings, items_declared, items_place}
 
 -- ---- aliases of used types
 
@@ -52,10 +56,12 @@ aliases_of rows ds = flat_map (row_alias rows) ds
 
 -- ---- interfaces
 
--- Where an interface stands: the type index of each row of the table before it, and how many types the component type has before it.
+-- Where an interface or a world stands: the type index of each row of the table before it, how many types the component type has before
+-- it, and which of them is the instance type of each interface before it.
 pub record Front : Type 0 where
   pub indices : List ℕ
   pub types : ℕ
+  pub instances : List ℕ
 
 abbrev pub first_place : Front → Place
 first_place at = record { indices = at.indices; types = 0; used = at.types }
@@ -72,6 +78,7 @@ abbrev pub front_after : List Definition → Front → List Definition → Front
 front_after rows at ds = record {
   indices = (places_after (first_place at) ds).indices;
   types = at.types + length (aliases_of rows ds) + 1;
+  instances = at.instances ++ (at.types + length (aliases_of rows ds)) ∷ [];
 }
 
 -- the declarations of these interfaces, the first of which stands at this front; its rows begin at start
@@ -83,7 +90,43 @@ interfaces_declared r at start (i ∷ is) =
 
 -- nothing stands before the first interface
 abbrev pub no_front : Front
-no_front = record { indices = []; types = 0 }
+no_front = record { indices = []; types = 0; instances = [] }
+
+-- where what follows these interfaces stands
+abbrev pub interfaces_front : List Definition → Front → ℕ → List Interface → Front
+interfaces_front rows at start [] = at
+interfaces_front rows at start (i ∷ is) = interfaces_front rows (front_after rows at (rows_of rows start i)) (end_of start i) is
+
+-- ---- worlds
+
+abbrev pub surroundings : Resolve → Front → Surroundings
+surroundings r at = record { rows = r.definitions; names = interface_names r; instances = at.instances }
+
+-- a world, whose rows begin at start
+abbrev pub world_declarations : Resolve → Front → ℕ → World → List Decl
+world_declarations r at start w =
+    Entry (Component (decls_of (items_declared (surroundings r at) (first_place at) start w.items)))
+    ∷ Export (world_name r w) (described.Component at.types)
+    ∷ []
+
+abbrev pub world_front : List Definition → Front → ℕ → World → Front
+world_front rows at start w = record {
+  indices = (items_place rows (first_place at) start w.items).indices;
+  types = at.types + 1;
+  instances = at.instances;
+}
+
+-- the declarations of these worlds, the first of which stands at this front; its rows begin at start
+abbrev pub worlds_declared : Resolve → Front → ℕ → List World → List Decl
+worlds_declared r at start [] = []
+worlds_declared r at start (w ∷ ws) =
+    world_declarations r at start w ++ worlds_declared r (world_front r.definitions at start w) (world_end start w) ws
+
+-- those of a package
+abbrev pub package_declarations : Resolve → List Decl
+package_declarations r =
+    interfaces_declared r no_front 0 r.interfaces
+    ++ worlds_declared r (interfaces_front r.definitions no_front 0 r.interfaces) (interfaces_end 0 r.interfaces) r.worlds
 
 -- `package`
 abbrev pub package_export : List ℕ
@@ -92,6 +135,6 @@ package_export = 112 ∷ 97 ∷ 99 ∷ 107 ∷ 97 ∷ 103 ∷ 101 ∷ []
 -- a package as a file: one component type, exported under the name `package`
 abbrev pub component_of : Resolve → File
 component_of r = record {
-  types = Component (decls_of (interfaces_declared r no_front 0 r.interfaces)) ∷ [];
+  types = Component (decls_of (package_declarations r)) ∷ [];
   exports = record { name = package_export; type = 0 } ∷ [];
 }

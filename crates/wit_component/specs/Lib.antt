@@ -1,4 +1,5 @@
 pub mod Rows
+pub mod Worlds
 pub mod Component
 pub mod ToComponent
 pub mod FromComponent

@@ -8,9 +8,10 @@ use Rattle.tables.specs.declared.tables.TypeName.{TypeName}
 use Rattle.tables.specs.declared.tables.Definition.{Definition}
 use Rattle.tables.specs.declared.tables.Definition.TheVariants as row
 use Rattle.tables.specs.declared.tables.Interface.{Interface}
+use Rattle.tables.specs.declared.tables.World.{World}
 use Rattle.tables.specs.declared.tables.Resolve.{Resolve}
 use Rattle.wit_component.specs.Component.{component_of}
-use Rattle.package_form.specs.Ends.{end_of, rows_of}
+use Rattle.package_form.specs.Ends.{end_of, rows_of, interfaces_end, world_end, world_rows}
 use Rattle.package_form.specs.Form.{IsInPackageForm}
 
 abbrev pub is_label_if : Option TypeName → Bool
@@ -27,8 +28,15 @@ abbrev pub are_labelled : List Definition → ℕ → List Interface → Bool
 are_labelled rows start [] = true
 are_labelled rows start (i ∷ is) = (is_label i.name && list_all is_labelled (rows_of rows start i)) && are_labelled rows (end_of start i) is
 
+-- .. and those of these worlds
+abbrev pub are_worlds_labelled : List Definition → ℕ → List World → Bool
+are_worlds_labelled rows start [] = true
+are_worlds_labelled rows start (w ∷ ws) =
+    (is_label w.name && list_all is_labelled (world_rows rows start w)) && are_worlds_labelled rows (world_end start w) ws
+
 -- the component is the package's, in the layout of packages
 pub record ComponentStands (raw : RawComponent) (r : Resolve) : Type 0 where
   pub component : file_view raw ≡ component_of r
   pub form : IsInPackageForm r
   pub labels : IsTrue (are_labelled r.definitions 0 r.interfaces)
+  pub world_labels : IsTrue (are_worlds_labelled r.definitions (interfaces_end 0 r.interfaces) r.worlds)

@@ -1,11 +1,14 @@
-//! The rows of an interface as declarations of its instance type.
-ghost use Rattle.std.specs.Prelude.{◌≡◌, ◌≤◌, ◌<◌, ◌+◌, ◌++◌, map, option_map, length, vec_len, IsTrue, IfOk, OnOk, OnErr};
+//! Rows as declarations of the type that they stand in: an interface's instance type, or a world's component type.
+ghost use Rattle.std.specs.Prelude.{◌≡◌, ◌≤◌, ◌<◌, ◌+◌, ◌*◌, ◌++◌, map, option_map, length, vec_len, IsTrue, IfOk, OnOk, OnErr};
 ghost use Rattle.std.specs.List.{list_all};
 ghost use Rattle.atoms.specs.Label.{IsLabel};
 ghost use Rattle.ctype_format.specs.View.{decl_view, decls_of, defined_view};
-ghost use Rattle.ctype_format.specs.Raw.{Define, Func, Entry, Export};
+ghost use Rattle.ctype_format.specs.Names.{name_view};
+ghost use Rattle.ctype_format.specs.Raw.{Define, Func, Entry};
+ghost use Rattle.tables.specs.Tables.{function_of, is_there};
 ghost use Rattle.package_form.specs.Ids.{is_use};
 ghost use Rattle.wit_component.specs.Rows.{Place, signature_of, defined_of, definition_of, definition_index, type_export, row_declarations, outer_alias, defined_types, row_types, row_offset, place_after, declarations_of, places_after};
+ghost use Rattle.wit_component.specs.Worlds.{directed, function_declared};
 ghost use Rattle.wit_component.specs.ToComponent.{is_labelled};
 
 use crate::valtypes::{
@@ -18,14 +21,14 @@ use ctype_bin::{
 };
 use std::alloc::{AllocError, Global};
 use std::marker::Model;
-use tables::{Definition, Function, TypeDef, TypeDefKind, TypeName, ValType};
+use tables::{Definition, Direction, Function, TypeDef, TypeDefKind, TypeName, ValType};
 
-/// Where a row of an interface stands.
+/// Where a row stands.
 #[derive(Drop)]
 pub struct RowPlace {
     /// The type index of each row of the table before it.
     indices: Vec<u32>,
-    /// How many types the instance type has before it.
+    /// How many types the type that it stands in has before it.
     types: u32,
     /// The component type's index of the type that it uses, if it is a used name.
     used: u32,
@@ -90,24 +93,36 @@ fn definition_decl(defined: RawDefinedType) -> RawDecl
     RawDecl::Type(RawType::Defined(defined))
 }
 
+/// The declaration of an alias of the type around at this index.
 #[tactic(auto, unfolding(ctype_format::specs::View::decl_view))]
-fn outer_alias(index: u32) -> RawDecl
+pub fn outer_alias(index: u32) -> RawDecl
     ensures { decl_view result ≡ outer_alias index }
 {
     RawDecl::Alias(RawAlias::Outer { count: 1, index })
 }
 
+/// The declaration of what is imported or exported under this name.
 #[tactic(auto, unfolding(ctype_format::specs::View::decl_view))]
-fn export_decl(
+pub fn directed(way: Direction, name: ExternName, description: RawDescription) -> RawDecl
+    ensures { decl_view result ≡ directed way (name_view name) description }
+{
+    match way {
+        Direction::Import => RawDecl::Import(name, description),
+        Direction::Export => RawDecl::Export(name, description),
+    }
+}
+
+fn labelled_decl(
     alloc: Global,
+    way: Direction,
     name: &Label,
     description: RawDescription,
 ) -> Result<RawDecl, AllocError>
-    ensures declaration { IfOk result (λ d. decl_view d ≡ Export name.now description) }
+    ensures declaration { IfOk result (λ d. decl_view d ≡ directed way name.now description) }
     ensures label { IsLabel name.now }
 {
     let name = Label::from_bytes(alloc, name.as_bytes())?;
-    Ok(RawDecl::Export(ExternName::Label(name), description))
+    Ok(directed(way, ExternName::Label(name), description))
 }
 
 #[tactic(auto, unfolding(ctype_format::specs::View::decl_view, ctype_format::specs::View::type_view))]
@@ -209,6 +224,41 @@ impl RowPlace {
         }
     }
 
+    /// Appends a function's declarations.
+    pub fn push_function(
+        &self,
+        alloc: Global,
+        decls: &mut Vec<RawDecl>,
+        way: Direction,
+        function: &Function,
+    ) -> Result<(), AllocError>
+        ensures declarations { OnOk result (map decl_view decls.new.items ≡ map decl_view decls.old.items ++ function_declared self.now way (Some function.now)) }
+        ensures label { OnOk result (IsLabel function.now.name) }
+    {
+        decls.push(signature_decl(alloc, &self.indices, function)?)?;
+        let description = RawDescription::Function(self.types);
+        decls.push(labelled_decl(alloc, way, &function.name, description)?)?;
+        Ok(())
+    }
+
+    /// Appends the declarations of a world's function, which this row is.
+    pub fn push_item(
+        &self,
+        alloc: Global,
+        decls: &mut Vec<RawDecl>,
+        way: Direction,
+        row: &Definition,
+    ) -> Result<(), AllocError>
+        requires { IsTrue (is_there (function_of (Some row.now))) }
+        ensures declarations { OnOk result (map decl_view decls.new.items ≡ map decl_view decls.old.items ++ function_declared self.now way (function_of (Some row.now))) }
+        ensures labelled { OnOk result (IsTrue (is_labelled row.now)) }
+    {
+        match row {
+            Definition::Function(function) => self.push_function(alloc, decls, way, function),
+            Definition::Type(_) => Ok(()),
+        }
+    }
+
     /// Appends a row's declarations.
     fn push_row(
         &self,
@@ -225,28 +275,61 @@ impl RowPlace {
                 if let Some(name) = &definition.name {
                     let index = self.definition_index(&definition.kind);
                     let description = RawDescription::TypeEqual(index);
-                    decls.push(export_decl(alloc, &name.name, description)?)?;
+                    let way = Direction::Export;
+                    decls.push(labelled_decl(alloc, way, &name.name, description)?)?;
                 }
             }
             Definition::Function(function) => {
-                decls.push(signature_decl(alloc, &self.indices, function)?)?;
-                let description = RawDescription::Function(self.types);
-                decls.push(export_decl(alloc, &function.name, description)?)?;
+                self.push_function(alloc, decls, Direction::Export, function)?;
             }
         }
         Ok(())
     }
 
     /// Goes on behind a row.
-    fn pass(&mut self, row: &Definition) -> Result<(), AllocError>
-        requires types { self.old.types ≤ 131070 }
-        requires used { self.old.used ≤ 262143 }
+    pub fn pass(&mut self, row: &Definition) -> Result<(), AllocError>
+        requires types { self.old.types ≤ 1048576 }
+        requires used { self.old.used ≤ 1048576 }
         ensures passed { OnOk result (self.new ≡ place_after self.old row.now) }
         ensures few { OnOk result (self.new.types ≤ self.old.types + 2) }
     {
         self.indices.push(self.types + row_offset(row))?;
         self.types += row_types(row);
         self.used += 1;
+        Ok(())
+    }
+
+    /// The type index of an alias, behind which it goes on.
+    pub fn pass_alias(&mut self) -> u32
+        requires { self.old.types ≤ 1048576 }
+        ensures index { result ≡ self.old.types }
+        ensures passed { self.new ≡ record { indices = self.old.indices; types = self.old.types + 1; used = self.old.used } }
+    {
+        let index = self.types;
+        self.types += 1;
+        index
+    }
+
+    /// Appends the declarations of these rows, and goes on behind them.
+    pub fn push_rows(
+        &mut self,
+        alloc: Global,
+        decls: &mut Vec<RawDecl>,
+        rows: &[Definition],
+    ) -> Result<(), AllocError>
+        requires types { self.old.types ≤ 524288 }
+        requires used { self.old.used ≤ 524288 }
+        requires rows { length rows.now ≤ 65535 }
+        ensures declarations { OnOk result (map decl_view decls.new.items ≡ map decl_view decls.old.items ++ declarations_of self.old rows.now) }
+        ensures place { OnOk result (self.new ≡ places_after self.old rows.now) }
+        ensures few { OnOk result (self.new.types ≤ self.old.types + 2 * length rows.now) }
+        ensures passed { OnOk result (self.new.used ≡ self.old.used + length rows.now) }
+        ensures labelled { OnOk result (IsTrue (list_all is_labelled rows.now)) }
+    {
+        for row in rows {
+            self.push_row(alloc, decls, row)?;
+            self.pass(row)?;
+        }
         Ok(())
     }
 }
@@ -258,7 +341,7 @@ pub fn declarations_of(
     rows: &[Definition],
 ) -> Result<(Vec<RawDecl>, RowPlace), AllocError>
     requires types { first.types ≡ 0 }
-    requires used { first.used ≤ 196606 }
+    requires used { first.used ≤ 524288 }
     requires rows { length rows.now ≤ 65535 }
     ensures declarations { IfOk result (λ x. map decl_view x.0.items ≡ declarations_of first rows.now) }
     ensures place { IfOk result (λ x. x.1 ≡ places_after first rows.now) }
@@ -266,9 +349,6 @@ pub fn declarations_of(
 {
     let mut place = first;
     let mut decls = Vec::new(alloc);
-    for row in rows {
-        place.push_row(alloc, &mut decls, row)?;
-        place.pass(row)?;
-    }
+    place.push_rows(alloc, &mut decls, rows)?;
     Ok((decls, place))
 }

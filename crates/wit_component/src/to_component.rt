@@ -6,7 +6,8 @@ ghost use Rattle.ctype_bin.specs.Encoding.{AppendsSpelling};
 ghost use Rattle.ctype_format.specs.Writing.{file_bytes};
 ghost use Rattle.wit_component.specs.Component.{component_of, package_export};
 ghost use Rattle.package_form.specs.Form.{IsInPackageForm};
-ghost use Rattle.wit_component.specs.ToComponent.{ComponentStands, are_labelled};
+ghost use Rattle.package_form.specs.Ends.{interfaces_end};
+ghost use Rattle.wit_component.specs.ToComponent.{ComponentStands, are_labelled, are_worlds_labelled};
 
 use crate::component::declarations;
 use atoms::Label;
@@ -32,6 +33,7 @@ fn parts_of(alloc: Global, resolve: &Resolve) -> Result<(Vec<RawType>, Vec<RawEx
     requires { IsInPackageForm resolve.now }
     ensures file { IfOk result (λ x. file_of x.0 x.1 ≡ component_of resolve.now) }
     ensures labelled { OnOk result (IsTrue (are_labelled resolve.now.definitions 0 resolve.now.interfaces)) }
+    ensures world_labels { OnOk result (IsTrue (are_worlds_labelled resolve.now.definitions (interfaces_end 0 resolve.now.interfaces) resolve.now.worlds)) }
 {
     let decls = declarations(alloc, resolve)?;
     let mut types = Vec::new(alloc);

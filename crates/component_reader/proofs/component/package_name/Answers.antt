@@ -1,6 +1,5 @@
 use Rattle.std.proofs.Common.{refl, sym, ◌∙◌}
 use Rattle.atoms.specs.FullName.{full_name_text}
-use Rattle.tables.specs.PackageNames.{PackageParts}
 use Rattle.component_reader.specs.Names.{parts_view}
 use Rattle.component_reader.proofs.Cutting.{parts-cut}
 use Rattle.component_reader.proofs.ExportNames.{package-label}

@@ -1,6 +1,6 @@
-use Rattle.package_form.proofs.RowEntries.{passes}
+use Rattle.package_form.proofs.RowEntries.{worlds-pass}
 use Rattle.package_form.proofs.entries.passes_entries.Goals as goal
 
 pub returns-then-total-gt-MAX_ENTRIES : goal.returns-then-total-gt-MAX_ENTRIES
 returns-then-total-gt-MAX_ENTRIES c =
-    passes c.args.rows.now c.loop-row.row-index c.args.interfaces c.loop-row.total c.loop-row.invariant c.if-total-gt-MAX_ENTRIES.true
+    worlds-pass c.args.worlds.now c.args.rows.now c.loop-world.world-index c.args.interfaces c.loop-world.total c.loop-world.invariant c.if-total-gt-MAX_ENTRIES.true

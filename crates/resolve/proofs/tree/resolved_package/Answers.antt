@@ -53,7 +53,7 @@ returns-clause-ok c =
     let known = subst (λ (ts : List InterfaceTree). All (HasKnownNames ts) ts) (sym same) c.in_ok-all.ensures.faults.known in
     let resolves = table-resolves n is c.in_ok-order.order c.deref-4.result.now t placed types made labels known in
     ok-map c.finish.result _ _ (λ r h. is-package c.args.ast.now.«package» t r h f (header-is c.args.ast.now.«package» f refl refl refl)
-    (subst (λ (ts : List InterfaceTree). Resolves (map (full_interface n) ts) (package_in n t)) same resolves) made.postfix) c.finish.ensures.ok
+    (subst (λ (ts : List InterfaceTree). Resolves (map (full_interface n) ts) (package_in n t)) same resolves) made.postfix made.worlds made.own) c.finish.ensures.ok
 
 pub returns-clause-err : goal.returns-clause-err
 returns-clause-err c =

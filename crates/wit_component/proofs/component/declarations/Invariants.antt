@@ -1,14 +1,17 @@
-use Rattle.std.proofs.Common.{◌≡◌, ◌≤◌, ◌+◌, ◌++◌, IsTrue, map, drop, length}
+use Rattle.std.proofs.Common.{◌≡◌, ◌≤◌, ◌+◌, ◌++◌, map, drop, length}
 use Rattle.ctype_format.specs.View.{decl_view}
-use Rattle.package_form.specs.Ends.{is_parted}
-use Rattle.wit_component.specs.Component.{interfaces_declared, no_front}
-use Rattle.wit_component.specs.ToComponent.{are_labelled}
+use Rattle.package_form.specs.Ends.{interfaces_end}
+use Rattle.wit_component.specs.Component.{worlds_declared, package_declarations}
+use Rattle.wit_component.specs.ToComponent.{are_worlds_labelled}
+use Rattle.wit_component.proofs.WorldItems.{AreWorlds}
 use Rattle.wit_component.proofs.component.declarations.Given as goal
 
-abbrev pub invariant-loop-interface : goal.invariant-loop-interface
-invariant-loop-interface l = record {
-  declared : map decl_view l.decls.items ++ interfaces_declared l.fn.resolve l.place l.start (drop l.interface-index l.fn.resolve.interfaces) ≡ interfaces_declared l.fn.resolve no_front 0 l.fn.resolve.interfaces;
-  parted : IsTrue (is_parted (length l.fn.resolve.definitions) l.start (drop l.interface-index l.fn.resolve.interfaces));
-  types : l.place.types ≤ l.start + l.interface-index;
-  labelled : are_labelled l.fn.resolve.definitions l.start (drop l.interface-index l.fn.resolve.interfaces) ≡ are_labelled l.fn.resolve.definitions 0 l.fn.resolve.interfaces;
+abbrev pub invariant-loop-world : goal.invariant-loop-world
+invariant-loop-world l = record {
+  declared : map decl_view l.decls.items ++ worlds_declared l.fn.resolve l.place l.start (drop l.world-index l.fn.resolve.worlds) ≡ package_declarations l.fn.resolve;
+  are : AreWorlds l.fn.resolve.definitions (length l.fn.resolve.interfaces) l.world-index l.start (drop l.world-index l.fn.resolve.worlds);
+  instances : length l.place.instances ≡ length l.fn.resolve.interfaces;
+  start : l.start ≤ length l.fn.resolve.definitions;
+  types : l.place.types ≤ 131070 + l.world-index;
+  labelled : are_worlds_labelled l.fn.resolve.definitions l.start (drop l.world-index l.fn.resolve.worlds) ≡ are_worlds_labelled l.fn.resolve.definitions (interfaces_end 0 l.fn.resolve.interfaces) l.fn.resolve.worlds;
 }

@@ -31,7 +31,7 @@ returns-in_err-written-clause-err c =
 pub returns-then-branch-clause-ok : goal.returns-then-branch-clause-ok
 returns-then-branch-clause-ok c =
     let stands = c.in_ok-written.ensures.ok in
-    ∥∥₁_map (OnTrue_at c.if-branch.true c.in_ok-is_same.ensures.same) (λ same. record { component = same ∙ stands.component; form = stands.form; labels = stands.labels })
+    ∥∥₁_map (OnTrue_at c.if-branch.true c.in_ok-is_same.ensures.same) (λ same. record { component = same ∙ stands.component; form = stands.form; labels = stands.labels; world_labels = stands.world_labels })
 
 pub returns-then-branch-clause-form : goal.returns-then-branch-clause-form
 returns-then-branch-clause-form c = c.in_ok-written.ensures.ok.form

@@ -5,6 +5,7 @@ use Rattle.std.specs.Str.{bytes_eq}
 use Rattle.std.proofs.lemmas.Option.{slice_get_read}
 use Rattle.ctype_format.specs.declared.raw.RawAlias.{RawAlias}
 use Rattle.tables.specs.declared.tables.TypeId.{TypeId}
+use Rattle.tables.specs.declared.tables.InterfaceId.{InterfaceId}
 use Rattle.component_reader.specs.Component.{ComponentRead, alias_read, with_type}
 use Rattle.component_reader.specs.Readers.{component_view}
 use Rattle.component_reader.proofs.Instances.{type-found}
@@ -32,6 +33,16 @@ returns c =
     let there = ap (λ ms. slice_get ms i) (sym c.deref.ensures.value) ∙ slice_get_read c.deref.result.now _ i types refl at.3.0 at.1 in
     let found = type-found (λ m. m.entries) c.args.self.now.exports.items i types name there in
     let some = ap (λ (n : List ℕ). lookup (λ v. bytes_eq n v.items) types.entries) (sym c.as_bytes.ensures.is) ∙ sym c.in-Some-get.ensures.value in
-    let with_indices : List (Option TypeId) → Option ComponentRead =
-    λ indices. Some (record { rows = s.rows; interfaces = s.interfaces; exports = s.exports; indices = indices; awaited = s.awaited }) in
-    ap (λ (a : RawAlias). alias_read a s) c.in-InstanceExport.is ∙ ap (option_map (with_type s)) (found ∙ some) ∙ ap with_indices (sym c.in_ok-push.ensures.items)
+    let with_indices : List (Option TypeId) → List (Option InterfaceId) → Option ComponentRead =
+    λ indices instances.
+    Some (record {
+      rows = s.rows;
+      interfaces = s.interfaces;
+      exports = s.exports;
+      worlds = s.worlds;
+      indices = indices;
+      instances = instances;
+      awaited = s.awaited;
+      awaited_world = s.awaited_world;
+    }) in
+    ap (λ (a : RawAlias). alias_read a s) c.in-InstanceExport.is ∙ ap (option_map (with_type s)) (found ∙ some) ∙ (λ j. with_indices (sym c.in_ok-push.ensures.items j) (sym c.in_ok-push-2.ensures.items j))

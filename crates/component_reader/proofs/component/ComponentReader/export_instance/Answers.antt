@@ -25,6 +25,6 @@ returns c =
     ∙ map-append (λ m. names_view m.entries) own.exports.items (c.into_interface-interface.result.1 ∷ [])
     ∙ ap (λ m. s.exports ++ names_view m.entries ∷ []) c.into_interface-interface.ensures.names in
     let last : option_map (read_with own.rows.items) c.take.new.self ≡ None = ap (option_map (read_with own.rows.items)) c.in-Some.ensures.after in
-    let made : with_interface text s i ≡ component_view (record { rows = own.rows; interfaces = c.push.new.self; exports = c.push-2.new.self; indices = own.indices; awaited = c.take.new.self; keyed = own.keyed }) =
-    sym (λ j. record { rows = s.rows; interfaces = interfaces j; exports = exports j; indices = s.indices; awaited = last j }) in
+    let made : with_interface text s i ≡ component_view (record { rows = own.rows; interfaces = c.push.new.self; exports = c.push-2.new.self; worlds = own.worlds; indices = own.indices; instances = own.instances; awaited = c.take.new.self; awaited_world = own.awaited_world; keyed = own.keyed }) =
+    sym (λ j. record { rows = s.rows; interfaces = interfaces j; exports = exports j; worlds = s.worlds; indices = s.indices; instances = s.instances; awaited = last j; awaited_world = s.awaited_world }) in
     ap (λ r. option_map (with_interface text s) (option_map (read_with own.rows.items) r)) (sym c.in-Some.ensures.value) ∙ ap (λ (x : ComponentRead). Some x) made

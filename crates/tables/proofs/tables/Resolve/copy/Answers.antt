@@ -10,4 +10,6 @@ invariant_of-result c =
       standard = rw rows r.standard;
       placed = rw (rows, c.in_ok-copied_all-2.ensures) r.placed;
       grouped = rw (c.in_ok-copied_all.ensures, c.in_ok-copied_all-2.ensures) r.grouped;
+      worlds_grouped = rw (c.in_ok-copied_all.ensures, c.in_ok-copied_all-3.ensures) r.worlds_grouped;
+      worlds_placed = rw (rows, c.in_ok-copied_all-2.ensures, c.in_ok-copied_all-3.ensures) r.worlds_placed;
     }

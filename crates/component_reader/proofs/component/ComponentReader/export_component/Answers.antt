@@ -1,0 +1,35 @@
+use Rattle.std.proofs.Common.{◌≡◌, List, ℕ, [], ◌∷◌, ◌++◌, None, Some, ap, sym, ◌∙◌}
+use Rattle.std.specs.Option.{option_map}
+use Rattle.atoms.specs.FullName.{full_name_text}
+use Rattle.tables.specs.declared.tables.World.{World}
+use Rattle.package_form.specs.Ids.{package_id}
+use Rattle.component_reader.specs.Component.{ComponentRead, with_world}
+use Rattle.component_reader.specs.Names.{parts_view}
+use Rattle.component_reader.specs.Readers.{world_with, component_view}
+use Rattle.component_reader.proofs.Cutting.{parts-cut}
+use Rattle.component_reader.proofs.component.ComponentReader.export_component.Goals as goal
+
+pub returns : goal.returns
+returns c =
+    let own = c.args.self.now in
+    let s = component_view own in
+    let parts = parts_view c.args.name in
+    let text = full_name_text parts in
+    let reader = c.in-Some.reader in
+    let w = world_with own.rows.items reader in
+    let named = c.in_ok-from_bytes.ensures ∙ sym (parts-cut text parts c.requires).2 in
+    let world = c.into_world-world.ensures ∙ ap (λ (n : List ℕ). record { «package» = package_id 0; name = n; items = w.items }) named in
+    let worlds = c.in_ok-push.ensures.items ∙ ap (λ (x : World). own.worlds.items ++ x ∷ []) world in
+    let last : option_map (world_with own.rows.items) c.take.new.self ≡ None = ap (option_map (world_with own.rows.items)) c.in-Some.ensures.after in
+    let made : with_world text s w ≡ component_view (record { rows = own.rows; interfaces = own.interfaces; exports = own.exports; worlds = c.push.new.self; indices = own.indices; instances = own.instances; awaited = own.awaited; awaited_world = c.take.new.self; keyed = own.keyed }) =
+    sym (λ j. record {
+      rows = s.rows;
+      interfaces = s.interfaces;
+      exports = s.exports;
+      worlds = worlds j;
+      indices = s.indices;
+      instances = s.instances;
+      awaited = s.awaited;
+      awaited_world = last j;
+    }) in
+    ap (λ r. option_map (with_world text s) (option_map (world_with own.rows.items) r)) (sym c.in-Some.ensures.value) ∙ ap (λ (x : ComponentRead). Some x) made
