@@ -1,3 +1,6 @@
+pub mod Texts
+pub mod Lists
+pub mod Results
 mod Written
 mod Fronts
 mod Standing

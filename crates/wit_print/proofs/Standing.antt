@@ -15,6 +15,7 @@ use Rattle.wit_tokens.specs.Lexing.{front_of, punctuation_front, at_front, versi
 use Rattle.wit_print.specs.Words.{Word, text_of, mark_text, mark_word, keyword_word, name_word, version_word}
 use Rattle.wit_print.specs.Printable.{IsPrintableVersion}
 use Rattle.wit_print.proofs.Fronts.{breaks, word_stands, escaped_stands}
+use Rattle.wit_print.proofs.Texts.{text-append}
 
 abbrev pub IsSpace : List ℕ → Type 0
 IsSpace space = list_all is_blank space ≡ true
@@ -33,10 +34,6 @@ AllStand (w ∷ ws) rest = WordStands w (text_of ws rest) × AllStand ws rest
 -- wherever the text breaks behind them
 abbrev pub StandEverywhere : List Word → Type 0
 StandEverywhere ws = (rest : List ℕ) → breaks rest ≡ true → AllStand ws rest
-
-pub text-append : (ws vs : List Word) (rest : List ℕ) → text_of (ws ++ vs) rest ≡ text_of ws (text_of vs rest)
-text-append [] vs rest = refl
-text-append (w ∷ ws) vs rest = ap (λ t. w.space ++ (w.bytes ++ t)) (text-append ws vs rest)
 
 stand-append : (ws vs : List Word) (rest : List ℕ) → AllStand ws (text_of vs rest) → AllStand vs rest → AllStand (ws ++ vs) rest
 stand-append [] vs rest h k = k

@@ -68,11 +68,15 @@ abbrev mutual
 abbrev pub member_words : List ℕ → Member → List Word
 member_words space m = name_word space m.name ∷ mark_word [] mark.Colon ∷ ty_words blank m.ty
 
+-- with commas between them, and this word behind the last
+abbrev pub listed_words : {X : Type 0} → (List ℕ → X → List Word) → Word → List ℕ → List X → List Word
+listed_words words end space [] = end ∷ []
+listed_words words end space (x ∷ []) = words space x ++ end ∷ []
+listed_words words end space (x ∷ y ∷ xs) = words space x ++ mark_word [] mark.Comma ∷ listed_words words end blank (y ∷ xs)
+
 -- parameters, with the `)` behind them
 abbrev pub parameter_words : List ℕ → List Member → List Word
-parameter_words space [] = mark_word [] mark.CloseParenthesis ∷ []
-parameter_words space (m ∷ []) = member_words space m ++ mark_word [] mark.CloseParenthesis ∷ []
-parameter_words space (m ∷ p ∷ ms) = member_words space m ++ mark_word [] mark.Comma ∷ parameter_words blank (p ∷ ms)
+parameter_words = listed_words member_words (mark_word [] mark.CloseParenthesis)
 
 abbrev pub result_words : Option Ty → List Word
 result_words None = []
@@ -122,9 +126,7 @@ used_words space u = name_word space u.name ∷ local_words u.local
 
 -- used names, with the `}` behind them
 abbrev pub uses_words : List ℕ → List UsedAs → List Word
-uses_words space [] = mark_word [] mark.CloseBrace ∷ []
-uses_words space (u ∷ []) = used_words space u ++ mark_word [] mark.CloseBrace ∷ []
-uses_words space (u ∷ v ∷ us) = used_words space u ++ mark_word [] mark.Comma ∷ uses_words blank (v ∷ us)
+uses_words = listed_words used_words (mark_word [] mark.CloseBrace)
 
 abbrev pub path_name : PathTo → List ℕ
 path_name (Local n) = n

@@ -3,3 +3,5 @@ pub mod Canonical
 pub mod Printable
 pub mod Unplaced
 pub mod Laws
+pub mod Pieces
+pub mod Adding

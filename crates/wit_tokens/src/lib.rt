@@ -10,6 +10,7 @@ mod lexer;
 mod token;
 
 pub use error::{Expected, Feature, TextError};
+pub use keyword::{keyword_of, spelling};
 pub use laws::texts_have_one_lexing;
 pub use lexer::lex;
 pub use token::{Keyword, Punctuation, Span, Token, TokenKind};

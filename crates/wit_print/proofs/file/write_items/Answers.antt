@@ -1,0 +1,12 @@
+use Rattle.std.proofs.Common.{List, map, arith}
+use Rattle.wit_syntax.specs.declared.ast.Item.{Item}
+use Rattle.wit_syntax.specs.View.{item_view}
+use Rattle.wit_print.specs.Canonical.{items_words}
+use Rattle.wit_print.proofs.Texts.{leaves_then}
+use Rattle.wit_print.proofs.Lists.{left-next}
+use Rattle.wit_print.proofs.file.write_items.Goals as goal
+
+pub loop-item-preserved : goal.loop-item-preserved
+loop-item-preserved c =
+    let left = left-next (λ (xs : List Item). items_words (map item_view xs)) c.args.items.now c.loop-item.item-index c.item-item.result (omega arith) c.item-item.is c.loop-item.invariant in
+    leaves_then left c.in_ok-write_item.ensures

@@ -1,0 +1,25 @@
+-- Pieces of lists and of results, as a writer puts them one behind the other.
+use Rattle.std.specs.Prelude.{ℕ, zero, suc, List, [], ◌∷◌, ◌++◌}
+use Rattle.wit_tokens.specs.declared.token.Punctuation.TheVariants as mark
+use Rattle.wit_syntax.specs.Syntax.{MaybeTy, Absent, Present}
+use Rattle.wit_print.specs.Words.{Word, mark_word}
+use Rattle.wit_print.specs.Canonical.{blank, ty_words}
+
+-- what stands before an entry of a list with commas, by its place
+abbrev pub comma_at : ℕ → List Word
+comma_at zero = []
+comma_at (suc i) = mark_word [] mark.Comma ∷ []
+
+abbrev pub space_at : ℕ → List ℕ
+space_at zero = []
+space_at (suc i) = blank
+
+-- what stands behind `result` where it has no type of an error
+abbrev pub ok_alone : MaybeTy → List Word
+ok_alone Absent = []
+ok_alone (Present t) = mark_word [] mark.Less ∷ (ty_words [] t ++ mark_word [] mark.Greater ∷ [])
+
+-- .. and what stands there up to the comma, where it has one
+abbrev pub ok_before : MaybeTy → List Word
+ok_before Absent = mark_word [] mark.Less ∷ mark_word [] mark.Underscore ∷ []
+ok_before (Present t) = mark_word [] mark.Less ∷ ty_words [] t
