@@ -1,11 +1,11 @@
 #!/usr/bin/env python3
-"""Times storing and loading against plain Rust, and prints the table of docs/BENCHMARKS.md.
+"""Times storing and loading, and calls, against plain Rust, and prints the tables of docs/BENCHMARKS.md.
 
-usage: bench/run.py [FOLDER]
+usage: bench/run.py [FOLDER] [--only values|calls]
 
-Copies `lift_lower` and the crates below it, with what their checks have kept, to a folder outside the repository (FOLDER, which
-stays for the next run, or a temporary one), proves and builds the library there, and runs bench/main.rs against it.
-It needs `rt` and `rustc` 1.88 or later on the path. Where no check has kept anything, it proves all these crates first.
+Copies `adapter` and the crates below it, with what their checks have kept, to a folder outside the repository (FOLDER, which
+stays for the next run, or a temporary one), proves and builds two libraries there, and runs bench/main.rs and bench/calls.rs against
+them. It needs `rt` and `rustc` 1.88 or later on the path. Where no check has kept anything, it proves all these crates first.
 """
 import datetime
 import os
@@ -18,6 +18,13 @@ import tempfile
 
 TOP = pathlib.Path(__file__).resolve().parent.parent
 LIBRARIES = ["atoms", "canonical_abi", "tables", "layout", "memory", "lift_lower"]
+CALLS = ["atoms", "canonical_abi", "tables", "layout", "lift_lower", "adapter"]
+
+# of each table: its library's crate and that crate's source, what it stands on, and the program over it
+TABLES = {
+    "values": ("bench", "library.rt.in", LIBRARIES, "main.rs"),
+    "calls": ("calls_bench", "calls.rt.in", CALLS, "calls.rs"),
+}
 
 
 def lines_of_crates():
@@ -78,46 +85,55 @@ def processor():
     return names[0] if names else "an unnamed processor"
 
 
-def build(folder):
+def build(folder, crate, program):
     """Proves and builds the library, and the program over it."""
-    crate = folder / "crates/bench"
-    subprocess.run(["rt", "lib"], cwd=crate, check=True, stdout=sys.stderr)
+    out = folder / "crates" / crate / "out"
+    subprocess.run(["rt", "lib"], cwd=out.parent, check=True, stdout=sys.stderr)
     kit = pathlib.Path(answer_of("rt", "doc")).parent
-    program = folder / "bench"
-    words = ["rustc", "--edition", "2024", "-O", "-o", program, TOP / "bench/main.rs"]
-    words += ["-L", f"native={crate / 'out'}", "-L", f"native={kit / 'c'}"]
+    binary = folder / crate
+    words = ["rustc", "--edition", "2024", "-O", "-o", binary, TOP / "bench" / program]
+    words += ["-L", f"native={out}", "-L", f"native={kit / 'c'}"]
     if platform.machine() == "x86_64":
         # what `rt lib` builds for
         words += ["-C", "target-cpu=x86-64-v2"]
-    subprocess.run(words + ["-l", "static=bench", "-l", "static=libc_c"], check=True)
-    return program
+    subprocess.run(words + ["-l", f"static={crate}", "-l", "static=libc_c"], check=True)
+    return binary
 
 
-def run_in(folder):
-    """Builds in this folder, and prints the table and what it was measured on."""
-    fill(folder)
-    program = build(folder)
-    before = os.getloadavg()[0]
-    table = answer_of(program)
-    after = os.getloadavg()[0]
-    print(f"{datetime.date.today()}, {processor()}, {os.cpu_count()} cores, load {before:.1f} before and {after:.1f} after;")
-    print(f"{answer_of('rt', 'version')}; {answer_of('rustc', '--version')}.")
-    print()
-    print(table)
+def run_in(folder, tables):
+    """Builds in this folder, and prints each table and what it was measured on."""
+    for name in tables:
+        crate, source, libraries, program = TABLES[name]
+        fill(folder, libraries, crate, source)
+        binary = build(folder, crate, program)
+        before = os.getloadavg()[0]
+        table = answer_of(binary)
+        after = os.getloadavg()[0]
+        print(f"{datetime.date.today()}, {processor()}, {os.cpu_count()} cores, load {before:.1f} before and {after:.1f} after;")
+        print(f"{answer_of('rt', 'version')}; {answer_of('rustc', '--version')}.")
+        print()
+        print(table)
+        print()
 
 
 def main():
-    if len(sys.argv) > 2 or sys.argv[1:] in (["-h"], ["--help"]):
+    words = sys.argv[1:]
+    tables = list(TABLES)
+    if "--only" in words:
+        at = words.index("--only")
+        tables = words[at + 1 : at + 2]
+        del words[at : at + 2]
+    if len(words) > 1 or words in (["-h"], ["--help"]) or not set(tables) <= set(TABLES) or not tables:
         sys.exit(__doc__)
-    if len(sys.argv) == 2:
-        folder = pathlib.Path(sys.argv[1]).resolve()
+    if words:
+        folder = pathlib.Path(words[0]).resolve()
         if folder == TOP or TOP in folder.parents:
             sys.exit("bench/run.py: the folder has to be outside the repository")
         folder.mkdir(parents=True, exist_ok=True)
-        run_in(folder)
+        run_in(folder, tables)
         return
     with tempfile.TemporaryDirectory() as folder:
-        run_in(pathlib.Path(folder))
+        run_in(pathlib.Path(folder), tables)
 
 
 if __name__ == "__main__":

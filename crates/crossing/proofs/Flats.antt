@@ -1,5 +1,5 @@
 -- The scripts of flat values, by those of their parts, and how a way over them goes on.
-use Rattle.std.proofs.Common.{◌≡◌, ◌⊎◌, inl, inr, ℕ, zero, suc, ◌+◌, ◌*◌, ◌^◌, ◌<◌, ◌≤◌, true, List, [], ◌∷◌, ◌++◌, length, drop, Option, Some, None, Result, Ok, Err, refl, sym, ap, ◌∙◌, subst, append_assoc, append-nil, arith}
+use Rattle.std.proofs.Common.{◌≡◌, inl, inr, ℕ, zero, suc, ◌+◌, ◌*◌, ◌^◌, ◌<◌, ◌≤◌, true, List, [], ◌∷◌, ◌++◌, length, drop, Option, Some, None, Result, Ok, Err, refl, sym, ap, ◌∙◌, subst, append_assoc, append-nil, arith}
 use Rattle.std.proofs.lemmas.Option.{same_Some}
 use Rattle.std.specs.Prelude.{OnOk, IfErr}
 use Rattle.std.specs.Str.{is_utf8}
@@ -8,11 +8,11 @@ use Rattle.canonical_abi.specs.Types.{ClosedType, Prim, prim_type, string_type, 
 use Rattle.canonical_abi.specs.Values.{Value, values_of, string_value, list_value, record_value, plain_value, payload_value}
 use Rattle.canonical_abi.specs.Layout.{align, size, flat_kinds, payload_kinds}
 use Rattle.canonical_abi.specs.Memory.{BlockHolds, TextHolds}
-use Rattle.canonical_abi.specs.Flat.{Lifts, CaseLifts, FieldsLift}
-use Rattle.canonical_abi.specs.Lowering.{joined_flats, Lowers, CaseLowers}
+use Rattle.canonical_abi.specs.Flat.{Lifts, CaseLifts}
+use Rattle.canonical_abi.specs.Lowering.{joined_flats}
 use Rattle.canonical_abi.specs.Reading.{low_bits, lifting_fields}
 use Rattle.canonical_abi.specs.Requests.{text_of}
-use Rattle.canonical_abi.specs.Script.{LowersUntil, FieldsLowerUntil, CaseLowersUntil}
+use Rattle.canonical_abi.specs.Script.{LowersUntil, CaseLowersUntil}
 use Rattle.canonical_abi.specs.Storing.{IsBlock}
 use Rattle.canonical_abi.specs.Trace.{Grant, Event, node, grant, write, EventLeads, RequestFails}
 use Rattle.canonical_abi.specs.declared.flat.Flat.{Flat}

@@ -3,3 +3,4 @@ pub mod ByShape
 pub mod Nodes
 pub mod Flats
 pub mod Passing
+pub mod Ahead

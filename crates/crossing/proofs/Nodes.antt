@@ -1,5 +1,5 @@
 -- One node of a way: what was done before it, what it did, and what is left.
-use Rattle.std.proofs.Common.{◌≡◌, inl, inr, ℕ, suc, ◌+◌, ◌-◌, ◌*◌, ◌^◌, ◌<◌, ◌≤◌, true, List, [], ◌∷◌, ◌++◌, length, Option, Some, None, Result, refl, sym, ap, subst, arith}
+use Rattle.std.proofs.Common.{◌≡◌, ℕ, suc, ◌+◌, ◌-◌, ◌*◌, ◌^◌, ◌<◌, ◌≤◌, true, List, [], ◌∷◌, ◌++◌, length, Option, Some, None, Result, refl, sym, ap, subst, arith}
 use Rattle.std.specs.Int.{w32, next_multiple_of}
 use Rattle.std.specs.Str.{is_utf8}
 use Rattle.canonical_abi.specs.Guest.{Memory, Allocation}
@@ -50,14 +50,6 @@ module _ (allocates : Allocation) where
 
     abbrev pub EachFrom : ℕ → Option TrapKind → List Event → Type 0
     EachFrom i = EachWalks t m (a + i * size t) (at + i * size t) (n - i)
-
-    pub each-start : (old : Memory) (k : ℕ) → IsBegun allocates EachScript (EachFrom 0) old k old k
-    each-start old k =
-        let e : a + 0 * size t ≡ a = omega arith in
-        let f : at + 0 * size t ≡ at = omega arith in
-        let h : n - 0 ≡ n = omega arith in
-        begun-as allocates EachScript EachScript (EachFrom 0) old old k k (λ o es v.
-        subst (λ j. EachWalks t m a at j o es) h (subst (λ q. EachWalks t m a q (n - 0) o es) f (subst (λ p. EachWalks t m p (at + 0 * size t) (n - 0) o es) e v))) (begun allocates EachScript old k)
 
     each-one : (i : ℕ) → i < n → (first : List Event) (o : Option TrapKind) (rest : List Event) → Walks t m (a + i * size t) (at + i * size t) None first → EachFrom (i + 1) o rest → EachFrom i o (first ++ rest)
     each-one i below first o rest h v =

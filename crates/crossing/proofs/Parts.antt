@@ -1,7 +1,7 @@
 -- How the parts of a way follow one another.
-use Rattle.std.proofs.Common.{◌≡◌, ℕ, ◌+◌, ◌^◌, ◌<◌, ◌≤◌, List, [], ◌∷◌, ◌++◌, length, Option, Some, None, Result, Ok, Err, refl, sym, subst, append_assoc, append-nil, arith}
+use Rattle.std.proofs.Common.{◌≡◌, ℕ, ◌≤◌, List, [], ◌∷◌, ◌++◌, length, Option, Some, None, Result, Ok, Err, refl, sym, subst, append_assoc, append-nil, arith}
 use Rattle.canonical_abi.specs.Guest.{Memory, Allocation}
-use Rattle.canonical_abi.specs.Trace.{Grant, Event, node, grant, write, nodes_of, EventLeads, TraceLeads, RequestFails}
+use Rattle.canonical_abi.specs.Trace.{Grant, Event, node, grant, write, EventLeads, TraceLeads, RequestFails}
 use Rattle.canonical_abi.specs.declared.trap.TrapKind.{TrapKind}
 use Rattle.canonical_abi.proofs.Fine.{leads-both}
 use Rattle.canonical_abi.proofs.Visited.{visited-both}

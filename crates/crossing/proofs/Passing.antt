@@ -1,8 +1,7 @@
 -- The scripts of a whole way, by those of its values.
-use Rattle.std.proofs.Common.{◌≡◌, ◌⊎◌, inl, inr, ℕ, ◌+◌, ◌^◌, ◌<◌, ◌≤◌, true, false, List, [], ◌∷◌, ◌++◌, length, map, Option, Some, None, Result, Ok, Err, refl, sym, subst}
+use Rattle.std.proofs.Common.{◌≡◌, inl, inr, ℕ, ◌^◌, ◌<◌, ◌≤◌, true, false, List, [], ◌∷◌, length, map, Option, Some, None, Err, refl, sym, subst}
 use Rattle.canonical_abi.specs.Guest.{Memory, Allocation}
 use Rattle.canonical_abi.specs.Types.{Fields, record_type}
-use Rattle.canonical_abi.specs.Values.{Value}
 use Rattle.canonical_abi.specs.Layout.{align, size, fits_flat, passed_kinds}
 use Rattle.canonical_abi.specs.Memory.{BlockHolds, FieldsHold}
 use Rattle.canonical_abi.specs.Lowering.{FieldsLower}
@@ -14,9 +13,8 @@ use Rattle.canonical_abi.specs.Laws.{ReadsExactly}
 use Rattle.canonical_abi.specs.declared.flat.Flat.{Flat}
 use Rattle.canonical_abi.specs.declared.flat.Flat.TheVariants.{I32}
 use Rattle.canonical_abi.specs.declared.trap.TrapKind.{TrapKind}
-use Rattle.arrayvec.specs.ArrayVec.{ArrayVec}
 use Rattle.lift_lower.specs.Loading.{AreBytes}
-use Rattle.crossing.specs.Outcome.{Script, FlatScript, FieldsFlatWalk, FieldsWalk, FlatEnds, IsDone, WasRefused, HasStopped}
+use Rattle.crossing.specs.Outcome.{FlatScript, FieldsFlatWalk, FieldsWalk, IsDone, WasRefused, HasStopped}
 use Rattle.crossing.specs.Ways.{ParamsWalk, ResultWalk, WayEnds}
 use Rattle.crossing.specs.declared.stopped.Stopped.{Stopped}
 use Rattle.crossing.specs.declared.stopped.Stopped.TheVariants as stopped

@@ -1,5 +1,5 @@
 -- CanonicalABI.md, "Lifting and Lowering Values": a whole way of a call, of parameters or of a result, and how it ended.
-use Rattle.std.specs.Prelude.{◌≡◌, ◌⊎◌, ℕ, List, [], Option, Some, None, Result, Ok, Err}
+use Rattle.std.specs.Prelude.{◌≡◌, ◌⊎◌, ℕ, List, Some, None, Result, Ok, Err}
 use Rattle.arrayvec.specs.ArrayVec.{ArrayVec}
 use Rattle.canonical_abi.specs.Types.{Fields}
 use Rattle.canonical_abi.specs.Values.{Value}

@@ -7,8 +7,10 @@ ghost use Rattle.lift_lower.specs.Types.{IsInside};
 ghost use Rattle.tables.specs.Closed.{closed_type};
 ghost use Rattle.crossing.specs.Outcome.{Walks, FieldsWalk, EachWalks, Behind, Ends};
 
+use crate::fronts::cross_front;
 use crate::leaves::{cross_flags, cross_primitive, cross_text};
 use crate::stopped::Stopped;
+use crate::texts::cross_texts;
 use canonical_abi::{Guest, TrapKind};
 use layout::Shape;
 use lift_lower::Types;
@@ -98,7 +100,7 @@ fn cross_list<G: Guest>(
     cross_elements(table, element, source, start, count, guest, place, nodes)
 }
 
-/// Crosses so many elements one after another.
+/// Crosses so many elements one after another: those of the front many at a time, the others node by node.
 #[cycle(cross)]
 pub(crate) fn cross_elements<G: Guest>(
     table: &Types,
@@ -119,8 +121,12 @@ pub(crate) fn cross_elements<G: Guest>(
         (G.memory guest.old) nodes.old result (G.memory guest.new) nodes.new }
 {
     canonical_abi::laws::reads_exactly();
+    if let Shape::String = table.shape_of(element) {
+        return cross_texts(source, from, count, guest, to, nodes);
+    }
     let step = table.size_of(element);
-    for index in 0..count {
+    let crossed = cross_front(table, element, source, from, count, guest, to, nodes);
+    for index in crossed..count {
         let ahead = index * step;
         cross_at(
             table,

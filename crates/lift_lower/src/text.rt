@@ -31,7 +31,12 @@ pub fn text_in(memory: &[u8], at: usize, len: usize) -> Result<&str, TrapKind>
     if end > memory.len() {
         return Err(TrapKind::Bounds);
     }
-    match simdutf8::compat::from_utf8(&memory[at..end]) {
+    let bytes = &memory[at..end];
+    if bytes.is_ascii() {
+        // SAFETY: bytes below 128 are UTF-8.
+        return Ok(unsafe { str::from_utf8_unchecked(bytes) });
+    }
+    match simdutf8::compat::from_utf8(bytes) {
         Ok(text) => Ok(text),
         Err(_) => Err(TrapKind::Utf8),
     }

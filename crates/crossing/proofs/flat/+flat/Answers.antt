@@ -1,4 +1,4 @@
-use Rattle.std.proofs.Common.{◌≡◌, suc, ◌+◌, ◌-◌, ◌<◌, ◌≤◌, [], ◌∷◌, ◌++◌, List, length, map, take, drop, Some, None, Ok, Err, option_map, refl, sym, ap, ◌∙◌, subst, arith}
+use Rattle.std.proofs.Common.{◌≡◌, suc, ◌+◌, ◌-◌, [], ◌∷◌, length, map, take, drop, Some, None, option_map, refl, sym, ap, ◌∙◌, subst, arith}
 use Rattle.std.proofs.lemmas.List.{length-append}
 use Rattle.std.proofs.lemmas.Result.{err_from_is_err_and}
 use Rattle.canonical_abi.specs.Types.{ClosedType, flags_type, record_type, record_fields, variant_type, variant_cases, nth_case}
@@ -15,8 +15,8 @@ use Rattle.lift_lower.proofs.FlatSteps.{kinds-next, payload-kinds, rest-numbers,
 use Rattle.lift_lower.proofs.Lowerings.{lowers-length, behind-first, joined-told}
 use Rattle.lift_lower.proofs.Steps.{nth_field-some}
 use Rattle.lift_lower.proofs.TypesExtents.{member-depth, case-depth}
-use Rattle.crossing.specs.Outcome.{FlatWalks, FieldsFlatWalk, FlatBehind, FlatEnds, IsDone, HasStopped}
-use Rattle.crossing.proofs.Flats.{flat-node, flat-record, leaf-done, primitive-ends, carrying-begun, carrying-next, carrying-stopped, carrying-done, missing-fault, plain-done, payload-done, payload-stopped}
+use Rattle.crossing.specs.Outcome.{FlatWalks, FlatEnds}
+use Rattle.crossing.proofs.Flats.{flat-node, flat-record, leaf-done, primitive-ends, carrying-next, carrying-stopped, carrying-done, missing-fault, plain-done, payload-done, payload-stopped}
 use Rattle.crossing.proofs.flat.+flat.Goals as goal
 
 -- ---- the node itself

@@ -1,4 +1,4 @@
-use Rattle.std.proofs.Common.{◌≡◌, ◌+◌, ◌*◌, ◌≤◌, map, length}
+use Rattle.std.proofs.Common.{◌+◌, ◌*◌, ◌≤◌, map, length}
 use Rattle.canonical_abi.specs.Types.{depth, fields_depth}
 use Rattle.canonical_abi.specs.Layout.{field_kinds}
 use Rattle.canonical_abi.specs.Reading.{number_of}

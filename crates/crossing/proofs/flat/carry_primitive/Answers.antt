@@ -1,4 +1,4 @@
-use Rattle.std.proofs.Common.{[], ◌∷◌, map, refl, subst}
+use Rattle.std.proofs.Common.{[], ◌∷◌, map, refl}
 use Rattle.canonical_abi.specs.Reading.{number_of, low_bits, flat_bits}
 use Rattle.lift_lower.specs.Scalar.{value_in}
 use Rattle.lift_lower.proofs.Denoted.{prim-typed, lifted-number}

@@ -14,9 +14,10 @@ use Rattle.lift_lower.proofs.TypesExtents.{member-depth, case-depth, payload-pla
 use Rattle.lift_lower.proofs.Steps.{fields-inside, fields-end, nth_field-some}
 use Rattle.lift_lower.proofs.Unlimited.{request-fails}
 use Rattle.crossing.specs.Outcome.{Walks, EachWalks, Ends}
+use Rattle.crossing.proofs.Ahead.{each-ahead}
 use Rattle.crossing.proofs.Parts.{begun}
 use Rattle.crossing.proofs.ByShape.{told_case, plain-walks, missing-walks}
-use Rattle.crossing.proofs.Nodes.{granted-led, each-start, at-node, at-record, each-next, each-stopped, each-done, field-next, field-stopped, fields-done, list-refused, list-ends, variant-ends}
+use Rattle.crossing.proofs.Nodes.{granted-led, at-node, at-record, each-next, each-stopped, each-done, field-next, field-stopped, fields-done, list-refused, list-ends, variant-ends}
 use Rattle.crossing.proofs.walk.+cross.Goals as goal
 
 -- ---- the node itself
@@ -69,9 +70,13 @@ cross_at-returns-in-Variant g t c =
 
 -- ---- elements
 
+pub cross_elements-returns-in-String : goal.cross_elements-returns-in-String
+cross_elements-returns-in-String g t c = rw c.in-String.ensures.shape.0 c.cross_texts.ensures
+
 pub cross_elements-loop-index-init : goal.cross_elements-loop-index-init
 cross_elements-loop-index-init g t c =
-    each-start g.G.Guest.allocates (closed_type c.args.table.now c.args.element) c.args.source.now c.args.from c.args.to c.args.count (g.G.Guest.memory c.args.guest.now) c.args.nodes.now
+    each-ahead g.G.Guest.allocates (closed_type c.args.table.now c.args.element) c.args.source.now c.args.from c.args.to c.args.count c.cross_front-crossed.result c.cross_front-crossed.ensures.few
+    (g.G.Guest.memory c.args.guest.now) (g.G.Guest.memory c.cross_front-crossed.new.guest) c.args.nodes.now c.cross_front-crossed.new.nodes c.cross_front-crossed.ensures.crossed
 
 pub cross_elements-returns-in_err-cross_at : goal.cross_elements-returns-in_err-cross_at
 cross_elements-returns-in_err-cross_at g t c =

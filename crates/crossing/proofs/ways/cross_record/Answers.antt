@@ -1,6 +1,6 @@
-use Rattle.std.proofs.Common.{◌≡◌, inr, ℕ, ◌+◌, ◌^◌, ◌<◌, [], ◌∷◌, ◌++◌, List, Err, map, refl, sym, ap, ◌∙◌, subst, arith}
+use Rattle.std.proofs.Common.{◌≡◌, inr, ℕ, ◌^◌, ◌<◌, [], ◌∷◌, ◌++◌, sym, ap, ◌∙◌, subst, arith}
 use Rattle.std.proofs.lemmas.Result.{err_from_is_err_and}
-use Rattle.canonical_abi.specs.Types.{ClosedType, record_type, record_fields}
+use Rattle.canonical_abi.specs.Types.{record_type, record_fields}
 use Rattle.canonical_abi.specs.Layout.{size, align, max_flat_params}
 use Rattle.canonical_abi.specs.Script.{AddressFaulty}
 use Rattle.canonical_abi.specs.declared.flat.Flat.TheVariants.{I32}

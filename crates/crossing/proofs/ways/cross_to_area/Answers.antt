@@ -1,7 +1,7 @@
-use Rattle.std.proofs.Common.{◌≡◌, ℕ, [], List, Option, Err, map, refl, sym, ap, ◌∙◌, subst, arith}
+use Rattle.std.proofs.Common.{[]}
 use Rattle.std.proofs.lemmas.Result.{err_from_is_err_and}
 use Rattle.canonical_abi.specs.Types.{record_type}
-use Rattle.canonical_abi.specs.Layout.{size, align, max_flat_results}
+use Rattle.canonical_abi.specs.Layout.{max_flat_results}
 use Rattle.canonical_abi.specs.Script.{AddressFaulty}
 use Rattle.lift_lower.specs.Crossing.{fields_of_types}
 use Rattle.lift_lower.proofs.Denoting.{count-types}

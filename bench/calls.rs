@@ -1,0 +1,556 @@
+//! Times calls of one parameter from one memory into another: `Link::call`, and for each type loops that are written for it alone,
+//! of which the fastest counts.
+//!
+//! Each run checks that both write the same bytes over a target that was filled with others.
+
+use std::hint::black_box;
+
+/// The length of each memory.
+const LEN: usize = 16_777_216;
+/// The bytes of a small value.
+const SMALL: usize = 262_144;
+/// How many times each time is taken; the least counts.
+const RUNS: usize = 15;
+/// What a target is filled with.
+const FILLING: u8 = 0xee;
+/// The characters or elements that are tested before they are written.
+const CHUNK: usize = 1024;
+
+/// `struct timespec` of a 64-bit Linux.
+#[derive(Default)]
+#[repr(C)]
+struct Timespec {
+    seconds: i64,
+    nanoseconds: i64,
+}
+
+/// `CLOCK_THREAD_CPUTIME_ID`.
+const THREAD_CPUTIME: i32 = 3;
+
+unsafe extern "C" {
+    fn clock_gettime(clock: i32, time: &mut Timespec) -> i32;
+    fn bench_call(
+        kind: u32,
+        count: u32,
+        rounds: u32,
+        source: *const u8,
+        source_len: usize,
+        target: *mut u8,
+        target_len: usize,
+    ) -> bool;
+}
+
+/// The nanoseconds of processor time that this thread has had.
+fn now() -> f64 {
+    let mut time = Timespec::default();
+    // SAFETY: the place is that of one `timespec` of a 64-bit Linux, borrowed for the call.
+    let status = unsafe { clock_gettime(THREAD_CPUTIME, &mut time) };
+    assert!(status == 0, "no clock of the thread's processor time");
+    time.seconds as f64 * 1e9 + time.nanoseconds as f64
+}
+
+/// The nanoseconds of processor time that something takes.
+fn time_of(run: impl FnOnce()) -> f64 {
+    let start = now();
+    run();
+    now() - start
+}
+
+fn number(index: usize) -> u32 {
+    (index as u32).wrapping_mul(2_654_435_761)
+}
+
+// The values, each from address 0 on.
+
+fn fill_numbers(source: &mut [u8], count: usize) {
+    for (index, place) in source.as_chunks_mut().0.iter_mut().take(count).enumerate() {
+        *place = number(index).to_le_bytes();
+    }
+}
+
+fn fill_bytes(source: &mut [u8], count: usize) {
+    fill_numbers(source, count.div_ceil(4));
+}
+
+fn fill_longs(source: &mut [u8], count: usize) {
+    fill_numbers(source, 2 * count);
+}
+
+fn fill_ascii(source: &mut [u8], count: usize) {
+    for (index, byte) in source.iter_mut().take(count).enumerate() {
+        *byte = b' ' + (number(index) >> 8) as u8 % 94;
+    }
+}
+
+/// Characters of one to four bytes in turn, ten bytes in all.
+fn fill_mixed(source: &mut [u8], count: usize) {
+    for (place, byte) in source.iter_mut().zip("aß€😀".bytes().cycle()).take(count) {
+        *place = byte;
+    }
+}
+
+fn fill_chars(source: &mut [u8], count: usize) {
+    for (index, place) in source.as_chunks_mut().0.iter_mut().take(count).enumerate() {
+        let code = number(index) % 0xd800;
+        *place = code.to_le_bytes();
+    }
+}
+
+fn fill_bools(source: &mut [u8], count: usize) {
+    for (index, byte) in source.iter_mut().take(count).enumerate() {
+        *byte = (number(index) >> 16) as u8 % 2;
+    }
+}
+
+/// Elements of so many bytes, of numbers, the first byte of each a number below `cases`.
+fn fill_elements(source: &mut [u8], count: usize, size: usize, cases: u32) {
+    fill_numbers(source, count * size / 4);
+    for (index, place) in source.chunks_exact_mut(size).take(count).enumerate() {
+        place[0] = ((number(index) >> 16) % cases) as u8;
+    }
+}
+
+fn fill_rows(source: &mut [u8], count: usize) {
+    fill_elements(source, count, 12, 256);
+}
+
+fn fill_options(source: &mut [u8], count: usize) {
+    fill_elements(source, count, 8, 2);
+}
+
+fn fill_choices(source: &mut [u8], count: usize) {
+    fill_elements(source, count, 8, 3);
+}
+
+/// Texts or lists behind the block of their addresses and lengths.
+fn fill_parts(source: &mut [u8], count: usize, len: impl Fn(usize) -> usize) {
+    let mut at = count * 8;
+    for index in 0..count {
+        let len = len(index);
+        source[index * 8..index * 8 + 4].copy_from_slice(&(at as u32).to_le_bytes());
+        source[index * 8 + 4..index * 8 + 8].copy_from_slice(&(len as u32).to_le_bytes());
+        fill_ascii(&mut source[at..], len);
+        at += len;
+    }
+}
+
+fn fill_texts(source: &mut [u8], count: usize) {
+    fill_parts(source, count, |index| {
+        4 + (number(index) >> 16) as usize % 8
+    });
+}
+
+fn fill_lists(source: &mut [u8], count: usize) {
+    fill_parts(source, count, |_| 16);
+}
+
+// The loops that are written for one type. Each tells whether the value passed its tests.
+
+fn copy(source: &[u8], target: &mut [u8], len: usize) -> bool {
+    target[..len].copy_from_slice(&source[..len]);
+    true
+}
+
+fn copy_bytes(source: &[u8], count: usize, target: &mut [u8]) -> bool {
+    copy(source, target, count)
+}
+
+fn copy_numbers(source: &[u8], count: usize, target: &mut [u8]) -> bool {
+    copy(source, target, 4 * count)
+}
+
+fn copy_longs(source: &[u8], count: usize, target: &mut [u8]) -> bool {
+    copy(source, target, 8 * count)
+}
+
+fn copy_text(source: &[u8], count: usize, target: &mut [u8]) -> bool {
+    str::from_utf8(&source[..count]).is_ok() && copy(source, target, count)
+}
+
+fn is_char(place: &[u8; 4]) -> bool {
+    let code = u32::from_le_bytes(*place);
+    code < 0xd800 || (0xdfff < code && code < 0x11_0000)
+}
+
+fn copy_chars(source: &[u8], count: usize, target: &mut [u8]) -> bool {
+    let source = &source.as_chunks::<4>().0[..count];
+    let target = &mut target.as_chunks_mut::<4>().0[..count];
+    for (places, copies) in source.chunks(CHUNK).zip(target.chunks_mut(CHUNK)) {
+        if places.iter().filter(|place| !is_char(place)).count() > 0 {
+            return false;
+        }
+        copies.copy_from_slice(places);
+    }
+    true
+}
+
+fn copy_chars_one_by_one(source: &[u8], count: usize, target: &mut [u8]) -> bool {
+    let source = &source.as_chunks::<4>().0[..count];
+    let target = &mut target.as_chunks_mut::<4>().0[..count];
+    for (place, copied) in source.iter().zip(target) {
+        if !is_char(place) {
+            return false;
+        }
+        *copied = *place;
+    }
+    true
+}
+
+fn copy_bools(source: &[u8], count: usize, target: &mut [u8]) -> bool {
+    for (byte, copied) in source[..count].iter().zip(&mut target[..count]) {
+        *copied = u8::from(*byte != 0);
+    }
+    true
+}
+
+fn copy_rows(source: &[u8], count: usize, target: &mut [u8]) -> bool {
+    let source = &source.as_chunks::<12>().0[..count];
+    let target = &mut target.as_chunks_mut::<12>().0[..count];
+    for (place, copied) in source.iter().zip(target) {
+        copied[0] = place[0];
+        copied[4..8].copy_from_slice(&place[4..8]);
+        copied[8..10].copy_from_slice(&place[8..10]);
+    }
+    true
+}
+
+fn copy_options(source: &[u8], count: usize, target: &mut [u8]) -> bool {
+    let source = &source.as_chunks::<8>().0[..count];
+    let target = &mut target.as_chunks_mut::<8>().0[..count];
+    for (place, copied) in source.iter().zip(target) {
+        match place[0] {
+            0 => copied[0] = 0,
+            1 => {
+                copied[0] = 1;
+                copied[4..8].copy_from_slice(&place[4..8]);
+            }
+            _ => return false,
+        }
+    }
+    true
+}
+
+/// Without a branch on the case: each element's bytes are those that were there, or the new ones.
+fn copy_by_masks(source: &[u8], count: usize, target: &mut [u8], masks: &[u64]) -> bool {
+    let source = &source.as_chunks::<8>().0[..count];
+    let target = &mut target.as_chunks_mut::<8>().0[..count];
+    for (places, copies) in source.chunks(CHUNK).zip(target.chunks_mut(CHUNK)) {
+        if places.iter().any(|place| place[0] as usize >= masks.len()) {
+            return false;
+        }
+        for (place, copied) in places.iter().zip(copies) {
+            let mask = masks[place[0] as usize];
+            let word = u64::from_le_bytes(*place) & mask | u64::from_le_bytes(*copied) & !mask;
+            *copied = word.to_le_bytes();
+        }
+    }
+    true
+}
+
+const NONE: u64 = 0xff;
+const WORD: u64 = 0xffff_ffff_0000_00ff;
+const BYTE: u64 = 0x0000_00ff_0000_00ff;
+
+fn copy_options_by_masks(source: &[u8], count: usize, target: &mut [u8]) -> bool {
+    copy_by_masks(source, count, target, &[NONE, WORD])
+}
+
+/// The masks of two cases by arithmetic.
+fn copy_options_by_choice(source: &[u8], count: usize, target: &mut [u8]) -> bool {
+    let source = &source.as_chunks::<8>().0[..count];
+    let target = &mut target.as_chunks_mut::<8>().0[..count];
+    for (places, copies) in source.chunks(CHUNK).zip(target.chunks_mut(CHUNK)) {
+        let mut bad = 0;
+        for (place, copied) in places.iter().zip(&mut *copies) {
+            bad += u32::from(place[0] > 1);
+            let mask = if place[0] == 0 { NONE } else { WORD };
+            let word = u64::from_le_bytes(*place) & mask | u64::from_le_bytes(*copied) & !mask;
+            *copied = word.to_le_bytes();
+        }
+        if bad > 0 {
+            return false;
+        }
+    }
+    true
+}
+
+fn copy_choices(source: &[u8], count: usize, target: &mut [u8]) -> bool {
+    let source = &source.as_chunks::<8>().0[..count];
+    let target = &mut target.as_chunks_mut::<8>().0[..count];
+    for (place, copied) in source.iter().zip(target) {
+        match place[0] {
+            0 => copied[4..8].copy_from_slice(&place[4..8]),
+            1 => copied[4] = place[4],
+            2 => {}
+            _ => return false,
+        }
+        copied[0] = place[0];
+    }
+    true
+}
+
+fn copy_choices_by_masks(source: &[u8], count: usize, target: &mut [u8]) -> bool {
+    copy_by_masks(source, count, target, &[WORD, BYTE, NONE])
+}
+
+fn copy_pairs(source: &[u8], count: usize, target: &mut [u8]) -> bool {
+    copy(source, target, 8 * count)
+}
+
+/// Each part gets a block of its own behind the block of their headers.
+fn copy_parts(
+    source: &[u8],
+    count: usize,
+    target: &mut [u8],
+    is_good: impl Fn(&[u8]) -> bool,
+) -> bool {
+    let mut top = 8 * count;
+    for index in 0..count {
+        let at = index * 8;
+        let Some([a, b, c, d, e, f, g, h]) = source.get(at..at + 8) else {
+            return false;
+        };
+        let start = u32::from_le_bytes([*a, *b, *c, *d]) as usize;
+        let len = u32::from_le_bytes([*e, *f, *g, *h]) as usize;
+        let Some(part) = source.get(start..start + len) else {
+            return false;
+        };
+        if !is_good(part) {
+            return false;
+        }
+        let Some(place) = target.get_mut(top..top + len) else {
+            return false;
+        };
+        place.copy_from_slice(part);
+        target[at..at + 4].copy_from_slice(&(top as u32).to_le_bytes());
+        target[at + 4..at + 8].copy_from_slice(&(len as u32).to_le_bytes());
+        top += len;
+    }
+    true
+}
+
+fn copy_texts(source: &[u8], count: usize, target: &mut [u8]) -> bool {
+    copy_parts(source, count, target, |part| str::from_utf8(part).is_ok())
+}
+
+fn copy_ascii_first(source: &[u8], count: usize, target: &mut [u8]) -> bool {
+    copy_parts(source, count, target, |part| {
+        part.is_ascii() || str::from_utf8(part).is_ok()
+    })
+}
+
+fn copy_lists(source: &[u8], count: usize, target: &mut [u8]) -> bool {
+    copy_parts(source, count, target, |_| true)
+}
+
+// What is measured.
+
+type Loop = fn(&[u8], usize, &mut [u8]) -> bool;
+
+/// A type of the one parameter.
+struct Shape {
+    name: &'static str,
+    /// Its function's number in the library.
+    kind: u32,
+    /// The bytes that an element takes, with those of its own block.
+    size: usize,
+    fill: fn(&mut [u8], usize),
+    loops: &'static [Loop],
+}
+
+const SHAPES: [Shape; 13] = [
+    Shape {
+        name: "`list<u8>`",
+        kind: 1,
+        size: 1,
+        fill: fill_bytes,
+        loops: &[copy_bytes],
+    },
+    Shape {
+        name: "`list<u32>`",
+        kind: 2,
+        size: 4,
+        fill: fill_numbers,
+        loops: &[copy_numbers],
+    },
+    Shape {
+        name: "`list<u64>`",
+        kind: 3,
+        size: 8,
+        fill: fill_longs,
+        loops: &[copy_longs],
+    },
+    Shape {
+        name: "`string`, ASCII",
+        kind: 0,
+        size: 1,
+        fill: fill_ascii,
+        loops: &[copy_text],
+    },
+    Shape {
+        name: "`string`, mixed",
+        kind: 0,
+        size: 10,
+        fill: |source, count| fill_mixed(source, 10 * count),
+        loops: &[|source, count, target| copy_text(source, 10 * count, target)],
+    },
+    Shape {
+        name: "`list<char>`",
+        kind: 4,
+        size: 4,
+        fill: fill_chars,
+        loops: &[copy_chars, copy_chars_one_by_one],
+    },
+    Shape {
+        name: "`list<bool>`",
+        kind: 5,
+        size: 1,
+        fill: fill_bools,
+        loops: &[copy_bools],
+    },
+    Shape {
+        name: "`list<row>`",
+        kind: 6,
+        size: 12,
+        fill: fill_rows,
+        loops: &[copy_rows],
+    },
+    Shape {
+        name: "`list<option<u32>>`",
+        kind: 7,
+        size: 8,
+        fill: fill_options,
+        loops: &[copy_options, copy_options_by_masks, copy_options_by_choice],
+    },
+    Shape {
+        name: "`list<choice>`",
+        kind: 8,
+        size: 8,
+        fill: fill_choices,
+        loops: &[copy_choices, copy_choices_by_masks],
+    },
+    Shape {
+        name: "`list<tuple<u32, u32>>`",
+        kind: 9,
+        size: 8,
+        fill: fill_longs,
+        loops: &[copy_pairs],
+    },
+    Shape {
+        name: "`list<string>`",
+        kind: 10,
+        size: 19,
+        fill: fill_texts,
+        loops: &[copy_texts, copy_ascii_first],
+    },
+    Shape {
+        name: "`list<list<u8>>`",
+        kind: 11,
+        size: 24,
+        fill: fill_lists,
+        loops: &[copy_lists],
+    },
+];
+
+/// Calls the export. A string's count is one of bytes.
+fn call(shape: &Shape, count: usize, rounds: u32, source: &[u8], target: &mut [u8]) {
+    let units = if shape.kind == 0 { shape.size } else { 1 };
+    // SAFETY: the export requires nothing of its arguments, and the slices are borrowed for the call.
+    let done = unsafe {
+        bench_call(
+            shape.kind,
+            (count * units) as u32,
+            rounds,
+            source.as_ptr(),
+            source.len(),
+            target.as_mut_ptr(),
+            target.len(),
+        )
+    };
+    assert!(done, "the library refuses {}", shape.name);
+}
+
+/// The nanoseconds of a call, without what it takes to make none.
+fn time_of_calls(
+    shape: &Shape,
+    count: usize,
+    rounds: u32,
+    source: &[u8],
+    target: &mut [u8],
+) -> f64 {
+    let (mut none, mut all) = (f64::INFINITY, f64::INFINITY);
+    for _ in 0..RUNS {
+        none = none.min(time_of(|| call(shape, count, 0, source, target)));
+        all = all.min(time_of(|| call(shape, count, rounds, source, target)));
+    }
+    (all - none) / f64::from(rounds)
+}
+
+/// The nanoseconds of a loop.
+fn time_of_loop(one: Loop, count: usize, rounds: u32, source: &[u8], target: &mut [u8]) -> f64 {
+    let mut all = f64::INFINITY;
+    for _ in 0..RUNS {
+        all = all.min(time_of(|| {
+            for _ in 0..rounds {
+                assert!(one(black_box(source), black_box(count), black_box(target)));
+            }
+        }));
+    }
+    all / f64::from(rounds)
+}
+
+/// One row of the table: a value of so many bytes.
+fn row(shape: &Shape, bytes: usize) -> String {
+    let count = bytes / shape.size;
+    let rounds = if bytes < LEN { 1024 } else { 8 };
+    let mut source = vec![0; LEN];
+    (shape.fill)(&mut source, count);
+    let mut target = vec![FILLING; LEN];
+    let ours = time_of_calls(shape, count, rounds, &source, &mut target);
+    let mut native = f64::INFINITY;
+    for one in shape.loops {
+        let mut copied = vec![FILLING; LEN];
+        native = native.min(time_of_loop(*one, count, rounds, &source, &mut copied));
+        assert!(copied == target, "other bytes: {}", shape.name);
+    }
+    let each = count as f64;
+    format!(
+        "| {} | {} | {:.3} | {:.3} | {:.2} |",
+        shape.name,
+        count,
+        ours / each,
+        native / each,
+        ours / native
+    )
+}
+
+/// The nanoseconds of a call of a number, and of one of a string of five bytes.
+fn time_of_short_calls() -> (f64, f64) {
+    let shape = |kind| Shape {
+        name: "a short call",
+        kind,
+        size: 1,
+        fill: fill_ascii,
+        loops: &[],
+    };
+    let mut source = vec![0; 64];
+    fill_ascii(&mut source, 64);
+    let mut target = vec![FILLING; 64];
+    let mut time = |kind| time_of_calls(&shape(kind), 5, 100_000, &source, &mut target);
+    (time(12), time(0))
+}
+
+fn main() {
+    println!("| type | elements | witcall | loop | witcall / loop |");
+    println!("|---|---|---|---|---|");
+    for shape in &SHAPES {
+        for bytes in [SMALL, LEN] {
+            println!("{}", row(shape, bytes));
+        }
+    }
+    let (number, text) = time_of_short_calls();
+    println!();
+    println!(
+        "A call with one `u32`: {number:.0} nanoseconds; with a string of five bytes: {text:.0}."
+    );
+}

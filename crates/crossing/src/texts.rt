@@ -1,0 +1,33 @@
+//! Texts of a list, one after another.
+ghost use Rattle.std.specs.Prelude.{ℕ, ◌+◌, ◌*◌, ◌^◌, ◌<◌, ◌≤◌, length};
+ghost use Rattle.canonical_abi.specs.Types.{string_type};
+ghost use Rattle.crossing.specs.Outcome.{EachWalks, Ends};
+
+use crate::leaves::cross_text;
+use crate::stopped::Stopped;
+use canonical_abi::Guest;
+
+/// Crosses so many texts one after another: a loop by itself, with no look at their type for each.
+pub(crate) fn cross_texts<G: Guest>(
+    source: &[u8],
+    from: usize,
+    count: usize,
+    guest: &mut G,
+    to: usize,
+    nodes: &mut u64,
+) -> Result<(), Stopped>
+    requires short { length source.now < 2 ^ 32 }
+    requires fits { from + count * 8 ≤ length source.now }
+    requires room { to + count * 8 ≤ length (G.memory guest.old).bytes }
+    requires small { to + count * 8 < 2 ^ 32 }
+    ensures { Ends G.allocates (EachWalks string_type source.now from to count)
+        (G.memory guest.old) nodes.old result (G.memory guest.new) nodes.new }
+{
+    canonical_abi::laws::reads_exactly();
+    for index in 0..count {
+        let ahead = index * 8;
+        *nodes = nodes.saturating_add(1);
+        cross_text(source, from + ahead, guest, to + ahead)?;
+    }
+    Ok(())
+}

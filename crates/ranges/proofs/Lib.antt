@@ -1,0 +1,10 @@
+pub mod Puts
+pub mod Capped
+pub mod Leaves
+pub mod Parts
+pub mod Fronts
+pub mod Appends
+pub mod ByCase
+pub mod Whole
+pub mod Filled
+pub mod Filling

@@ -1,0 +1,107 @@
+//! The caps of a type's bytes.
+ghost use Rattle.std.specs.Prelude.{◌≡◌, ◌≢◌, ℕ, ◌+◌, ◌*◌, ◌<◌, ◌≤◌, List, length, get_or, IsTrue, IfSome};
+ghost use Rattle.canonical_abi.specs.Types.{prim_type, flags_type, record_type, record_fields, field_count, scalar_value};
+ghost use Rattle.canonical_abi.specs.Layout.{size, end_from, field_extents};
+ghost use Rattle.lift_lower.specs.Types.{IsInside};
+ghost use Rattle.ranges.specs.Bytewise.{IsBytewise, IsTested, HasCaps, caps, nodes_at};
+ghost use Rattle.ranges.specs.Plan.{IsBlank, Fills};
+ghost use Rattle.tables.specs.Closed.{closed_type, prim_of};
+
+use crate::blend::Caps;
+use layout::Shape;
+use lift_lower::Types;
+use lift_lower::nodes::Members;
+use tables::{Primitive, ValType};
+
+/// The most bytes of an element that has caps.
+const MOST: usize = 64;
+
+/// How the bytes of a type's values cross, where they do so byte by byte with no tests: numbers, bools, flags of 8, 16 or
+/// 32 labels and records of these, within 64 bytes and 255 nodes.
+pub fn caps_of(table: &Types, ty: ValType) -> Option<Caps>
+    requires inside { IsInside table.now ty }
+    ensures bytewise { IfSome result (λ _. IsBytewise (closed_type table.now ty)) }
+    ensures tested { IfSome result (λ _. (m : List ℕ) (a : ℕ) → IsTested (closed_type table.now ty) m a) }
+    ensures caps { IfSome result (λ c. HasCaps (closed_type table.now ty) c.size c.bytes) }
+    ensures nodes { IfSome result (λ c. (m : List ℕ) (a : ℕ) → nodes_at (closed_type table.now ty) m a ≡ c.nodes) }
+    ensures some { IfSome result (λ c. 0 < c.size) }
+    ensures few { IfSome result (λ c. c.size ≤ 64) }
+{
+    let size = table.size_of(ty);
+    if size == 0 || size > MOST {
+        return None;
+    }
+    let mut bytes = [0; 256];
+    let nodes = fill(table, ty, &mut bytes, 0)?;
+    Some(Caps { size, nodes, bytes })
+}
+
+/// Puts one cap for so many bytes.
+pub(crate) fn put(bytes: &mut [u8; 256], at: usize, width: usize, cap: u8)
+    requires room { at + width ≤ 256 }
+    requires blank { IsBlank bytes.old at }
+    ensures put { (i : ℕ) → get_or bytes.new (at + i) 0 ≡ caps width cap i }
+    ensures below { (i : ℕ) → i < at → get_or bytes.new i 0 ≡ get_or bytes.old i 0 }
+{
+    for i in at..at + width {
+        bytes[i] = cap;
+    }
+}
+
+/// Puts the caps of a type's values at a place, and answers the nodes of a value. None for a type that has none.
+#[cycle(fill)]
+pub(crate) fn fill(table: &Types, ty: ValType, bytes: &mut [u8; 256], at: usize) -> Option<u8>
+    requires inside { IsInside table.now ty }
+    requires room { at + size (closed_type table.now ty) ≤ 256 }
+    requires blank { IsBlank bytes.old at }
+    ensures { IfSome result (λ k. Fills (closed_type table.now ty) at bytes.old bytes.new k) }
+{
+    match table.shape_of(ty) {
+        Shape::Primitive(Primitive::Char) => None,
+        Shape::Primitive(primitive) => {
+            let cap = if primitive == Primitive::Bool { 1 } else { 255 };
+            put(bytes, at, table.size_of(ty), cap);
+            Some(1)
+        }
+        Shape::Record(count) => fill_fields(table, ty, count, bytes, at),
+        Shape::Flags(labels) => {
+            let size = table.size_of(ty);
+            if labels != 8 * size {
+                return None;
+            }
+            put(bytes, at, size, 255);
+            Some(1)
+        }
+        _ => None,
+    }
+}
+
+/// Puts the caps of a record's fields, and answers its nodes.
+#[cycle(fill)]
+fn fill_fields(
+    table: &Types,
+    ty: ValType,
+    count: usize,
+    bytes: &mut [u8; 256],
+    at: usize,
+) -> Option<u8>
+    requires inside { IsInside table.now ty }
+    requires record { record_type (record_fields (closed_type table.now ty)) ≡ closed_type table.now ty }
+    requires counted { field_count (record_fields (closed_type table.now ty)) ≡ count }
+    requires room { at + size (closed_type table.now ty) ≤ 256 }
+    requires blank { IsBlank bytes.old at }
+    ensures { IfSome result (λ k. Fills (closed_type table.now ty) at bytes.old bytes.new k) }
+{
+    let mut end: usize = 0;
+    let mut nodes: u8 = 1;
+    for index in 0..count {
+        let Some(member) = table.member_type(&Members::Of(ty), index) else {
+            unreachable!()
+        };
+        let place = end.next_multiple_of(table.align_of(member));
+        let inner = fill(table, member, bytes, at + place)?;
+        nodes = nodes.checked_add(inner)?;
+        end = place + table.size_of(member);
+    }
+    Some(nodes)
+}

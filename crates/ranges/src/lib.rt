@@ -1,0 +1,20 @@
+//! Elements of a list that cross from one linear memory to another many at a time.
+//!
+//! Where a type has no texts and no lists, each byte of a value's place either is the value's own and crosses under a cap,
+//! or is padding and keeps what the target had there. So many elements cross in one loop over bytes, once they have
+//! passed their tests; nothing is written of a part of which an element doesn't.
+#![tactic(auto)]
+
+mod blend;
+mod bools;
+mod caps;
+mod cases;
+mod chars;
+mod rows;
+
+pub use blend::{Caps, cross_capped};
+pub use bools::cross_bools;
+pub use caps::caps_of;
+pub use cases::cross_cases;
+pub use chars::cross_chars;
+pub use rows::{Rows, rows_of};
