@@ -18,12 +18,12 @@ fn main(rt: HostRuntime) -> ExitCode {
     }
 }
 
-/// Does what the words ask for. Only binaries and calls are made for now: any other command is a usage fault.
+/// Does what the words ask for. Canonical text is not written for now: `text` is a usage fault.
 fn execute(rt: &HostRuntime) -> Result<(), Refused> {
     let words = words(rt)?;
     match command(rt.alloc(), words.as_slice())? {
-        Command::Convert(Job::Bin, file) => convert(rt, Job::Bin, file.as_str()),
-        Command::Convert(_job, _file) => Err(Refused::Words(WordsError::Usage)),
+        Command::Convert(Job::Text, _file) => Err(Refused::Words(WordsError::Usage)),
+        Command::Convert(job, file) => convert(rt, job, file.as_str()),
         Command::Call {
             file,
             interface,

@@ -245,9 +245,9 @@ fn refused(alloc: Global, job: Job, reader: &mut Drip) -> Result<String, Fail>
 }
 
 /// What a job writes, or nothing where it is refused.
-fn made(alloc: Global, bytes: &[u8]) -> Result<Vec<u8>, Fail> {
+fn made(alloc: Global, job: Job, bytes: &[u8]) -> Result<Vec<u8>, Fail> {
     let mut output = Watched::new(Vec::new(alloc));
-    match run(alloc, Job::Bin, &mut Watched::new(bytes), &mut output) {
+    match run(alloc, job, &mut Watched::new(bytes), &mut output) {
         Ok(()) => Ok(output.into_inner()),
         Err(_refused) => Ok(Vec::new(alloc)),
     }
@@ -256,8 +256,56 @@ fn made(alloc: Global, bytes: &[u8]) -> Result<Vec<u8>, Fail> {
 #[test]
 fn binaries_are_made(rt: HostRuntime) -> Result<(), Fail> {
     let alloc = rt.alloc();
-    assert!(rt; made(alloc, P1.as_bytes())?.as_slice() == SMALLEST.as_slice());
-    assert!(rt; made(alloc, &SMALLEST)?.as_slice() == SMALLEST.as_slice());
+    assert!(rt; made(alloc, Job::Bin, P1.as_bytes())?.as_slice() == SMALLEST.as_slice());
+    assert!(rt; made(alloc, Job::Bin, &SMALLEST)?.as_slice() == SMALLEST.as_slice());
+    Ok(())
+}
+
+/// Three interfaces, of which two use a name.
+const THREE: &str =
+    "package a:b; interface x { use y.{t as u}; f: func(p: u) -> u; } interface y { type t = u16; } interface z { use x.{u}; g: func(q: u) -> u; }";
+
+/// Sixteen parameters of a kind each, and seventeen.
+const SPILLED: &str = "package a:b@1.0.0-rc.1; interface c { type t = u32; flags w { a, b } \
+    f: func(a: t, b: t, c: t, d: t, e: t, f: t, g: t, h: t, i: t, j: t, k: t, l: t, m: t, n: t, o: t, p: t) -> string; \
+    g: func(a: t, b: t, c: t, d: t, e: t, f: t, g: t, h: t, i: t, j: t, k: t, l: t, m: t, n: t, o: t, p: t, q: u64) -> string; \
+    h: func(a: option<u64>, b: w); }";
+
+/// Texts, and what a job makes of each.
+static OUTPUTS: [(Job, &str, &str); 4] = [
+    (
+        Job::Show,
+        THREE,
+        "package a:b\ninterface y uses 0 types 1 funcs 0\ninterface x uses 1 types 0 funcs 1\ninterface z uses 1 types 0 funcs 1\n",
+    ),
+    (
+        Job::Show,
+        SPILLED,
+        "package a:b@1.0.0-rc.1\ninterface c uses 0 types 2 funcs 3\n",
+    ),
+    (
+        Job::Layout,
+        THREE,
+        "type a:b/y t size 2 align 2\ntype a:b/x u size 2 align 2\nfunc a:b/x f lift (i32) -> (i32) lower (i32) -> (i32)\n\
+        type a:b/z u size 2 align 2\nfunc a:b/z g lift (i32) -> (i32) lower (i32) -> (i32)\n",
+    ),
+    (
+        Job::Layout,
+        SPILLED,
+        "type a:b/c@1.0.0-rc.1 t size 4 align 4\ntype a:b/c@1.0.0-rc.1 w size 1 align 1\n\
+        func a:b/c@1.0.0-rc.1 f lift (i32 i32 i32 i32 i32 i32 i32 i32 i32 i32 i32 i32 i32 i32 i32 i32) -> (i32) \
+        lower (i32 i32 i32 i32 i32 i32 i32 i32 i32 i32 i32 i32 i32 i32 i32 i32 i32) -> ()\n\
+        func a:b/c@1.0.0-rc.1 g lift (i32) -> (i32) lower (i32 i32) -> ()\n\
+        func a:b/c@1.0.0-rc.1 h lift (i32 i64 i32) -> () lower (i32 i64 i32) -> ()\n",
+    ),
+];
+
+#[test]
+fn outputs_are_made(rt: HostRuntime) -> Result<(), Fail> {
+    for (job, text, wanted) in OUTPUTS.as_slice() {
+        let output = made(rt.alloc(), *job, text.as_bytes())?;
+        assert!(rt; output.as_slice() == wanted.as_bytes(), "{text}");
+    }
     Ok(())
 }
 
@@ -282,16 +330,16 @@ fn binaries_that_are_cut(rt: HostRuntime) -> Result<(), Fail> {
 
 #[test]
 fn a_job_whose_input_fails(rt: HostRuntime) -> Result<(), Fail> {
-    let line = refused(rt.alloc(), Job::Bin, &mut dripping(Some(20)))?;
-    assert_line(&rt, line.as_str(), "error 20 read at 20");
+    for job in [Job::Show, Job::Bin, Job::Layout] {
+        let line = refused(rt.alloc(), job, &mut dripping(Some(20)))?;
+        assert_line(&rt, line.as_str(), "error 20 read at 20");
+    }
     Ok(())
 }
 
 #[test]
 fn jobs_that_are_refused(rt: HostRuntime) -> Result<(), Fail> {
-    for job in [Job::Show, Job::Text, Job::Layout] {
-        let line = refused(rt.alloc(), job, &mut dripping(Some(0)))?;
-        assert!(rt; line.as_str().starts_with("usage: witcall"), "{line}");
-    }
+    let line = refused(rt.alloc(), Job::Text, &mut dripping(Some(0)))?;
+    assert!(rt; line.as_str().starts_with("usage: witcall"), "{line}");
     Ok(())
 }

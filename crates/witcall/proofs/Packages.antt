@@ -1,5 +1,5 @@
 -- The same package as one that is within the limits is laid out too, and in the form of packages where that one is.
-use Rattle.std.proofs.Common.{◌≡◌, ◌≤◌, ◌<◌, ℕ, length, sym, ap, subst, ◌∙◌}
+use Rattle.std.proofs.Common.{◌≡◌, ◌≤◌, ◌<◌, ◌+◌, ℕ, length, sym, ap, subst, ◌∙◌}
 use Rattle.std.specs.Prelude.{slice_index_or}
 use Rattle.canonical_abi.specs.Types.{string_type}
 use Rattle.tables.specs.Closed.{closed_types}
@@ -8,8 +8,8 @@ use Rattle.tables.specs.declared.tables.Definition.{Definition}
 use Rattle.tables.specs.declared.tables.Resolve.{Resolve}
 use Rattle.package_form.specs.Postfix.{IsPostfix}
 use Rattle.package_form.specs.Entries.{type_entries, table_of}
-use Rattle.package_form.specs.Ends.{is_parted}
-use Rattle.package_form.specs.Form.{IsInPackageForm, has_full_names, are_interfaces}
+use Rattle.package_form.specs.Ends.{interfaces_end, is_parted}
+use Rattle.package_form.specs.Form.{IsInPackageForm, has_full_names, are_interfaces, have_items}
 use Rattle.layout.specs.Layout.{IsWithin, AreWithin}
 
 same_types : (a b : Resolve) → IsSamePackage a b → closed_types a ≡ closed_types b
@@ -28,14 +28,24 @@ same_full_names a b same = cc
 same_entries : (a b : Resolve) → IsSamePackage a b → type_entries (table_of a) ≡ type_entries (table_of b)
 same_entries a b same = cc
 
+same_count : (a b : Resolve) → IsSamePackage a b → length a.interfaces + length a.worlds ≡ length b.interfaces + length b.worlds
+same_count a b same = cc
+
+same_parts : (a b : Resolve) → IsSamePackage a b → is_parted (length a.definitions) 0 a.interfaces a.worlds ≡ is_parted (length b.definitions) 0 b.interfaces b.worlds
+same_parts a b same = cc
+
+same_items : (a b : Resolve) → IsSamePackage a b
+    → have_items a.definitions 0 (interfaces_end 0 a.interfaces) a.worlds ≡ have_items b.definitions 0 (interfaces_end 0 b.interfaces) b.worlds
+same_items a b same = cc
+
 pub same_form : (a b : Resolve) → IsSamePackage a b → IsInPackageForm b → IsInPackageForm a
 same_form a b same form = record {
-  some = λ e. form.some (sym same.interfaces ∙ e);
-  worlds = same.worlds ∙ form.worlds;
+  some = subst (λ n. 0 < n) (sym (same_count a b same)) form.some;
   alone = ap length same.packages ∙ form.alone;
   names = same_full_names a b same ∙ form.names;
-  parted = ap (λ ds. is_parted (length ds) 0 a.interfaces) same.definitions ∙ (ap (is_parted (length b.definitions) 0) same.interfaces ∙ form.parted);
+  parted = same_parts a b same ∙ form.parted;
   interfaces = ap (λ ds. are_interfaces ds 0 0 a.interfaces) same.definitions ∙ (ap (are_interfaces b.definitions 0 0) same.interfaces ∙ form.interfaces);
+  worlds = same_items a b same ∙ form.worlds;
   postfix = subst IsPostfix (sym same.definitions) form.postfix;
   entries = subst (λ n. n ≤ 65535) (sym (same_entries a b same)) form.entries;
 }

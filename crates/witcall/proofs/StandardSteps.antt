@@ -1,17 +1,17 @@
 -- The steps of a package's session are such as the laws of sessions speak of, so these hold of them.
-use Rattle.std.proofs.Common.{List, [], ◌∷◌, map}
+use Rattle.std.proofs.Common.{List, [], ◌∷◌, map, Ok, arith}
 use Rattle.std.specs.List.{All}
 use Rattle.std.proofs.lemmas.List.Elements.{All-head, All-tail}
 use Rattle.canonical_abi.specs.Call.{Parties, exact}
 use Rattle.canonical_abi.specs.Guest.{Allocation, Release}
 use Rattle.canonical_abi.specs.Keeping.{AreStandardSteps}
 use Rattle.canonical_abi.proofs.Keeping.{held-stays-held}
-use Rattle.canonical_abi.proofs.Placing.{placed-is-read}
+use Rattle.canonical_abi.proofs.Placing.{placed-is-held, placed-is-read, placed-limited}
 use Rattle.canonical_abi.proofs.ToldCalls.{callee-is-told}
 use Rattle.tables.specs.Closed.{closed_type}
 use Rattle.tables.specs.declared.tables.Resolve.{Resolve}
 use Rattle.tables.proofs.Standards.{function-standard, type-standard}
-use Rattle.witcall.specs.Laws.{StepsKeepHeld, StepsReadPlaced, StepsTellCallee}
+use Rattle.witcall.specs.Laws.{PlacesHeld, StepsKeepHeld, StepsReadPlaced, StepsTellCallee}
 use Rattle.witcall.specs.Steps.{IsStep, step_of}
 use Rattle.witcall.specs.declared.steps.Step.{Step}
 use Rattle.witcall.specs.declared.steps.Step.TheVariants as step
@@ -28,6 +28,11 @@ module _ (parties : Parties) (caller_releases callee_releases : Release) (r : Re
   pub keep_held : StepsKeepHeld parties caller_releases callee_releases r
   keep_held t a v before old steps answers new ran honest limited all stays =
       held-stays-held parties caller_releases callee_releases exact t a v before old (map (step_of r) steps) answers new ran honest limited (are_standard r steps all) stays
+
+  pub place_held : PlacesHeld parties caller_releases callee_releases r
+  place_held ty v held old placed honest limited is places =
+      let few = placed-limited parties.caller_allocates caller_releases honest.caller limited.caller_keeps (closed_type r ty) v old.caller placed.caller (Ok held) limited.caller places in
+      (placed-is-held parties.caller_allocates caller_releases honest.caller).placed (closed_type r ty) v old.caller placed.caller held (type-standard r ty is) (omega arith) places
 
   pub read_placed : StepsReadPlaced parties caller_releases callee_releases r
   read_placed ty v held before old placed steps answers new answer honest limited is all places ran misses reads =

@@ -7,7 +7,7 @@ use Rattle.canonical_abi.specs.Call.{Parties, World, exact}
 use Rattle.canonical_abi.specs.Footprint.{Reads}
 use Rattle.canonical_abi.specs.Guest.{Allocation, Release}
 use Rattle.canonical_abi.specs.Headline.{AreHonest, AreLimited}
-use Rattle.canonical_abi.specs.Keeping.{IsKept, ReadAnswers, ReleasesMiss, StaysLive}
+use Rattle.canonical_abi.specs.Keeping.{IsKept, IsPlaced, ReadAnswers, ReleasesMiss, StaysLive}
 use Rattle.canonical_abi.specs.Told.{AllocatesInOneWay, AreAnswered, IgnoresBytes, RunsInOneWay, SameCallee, calls_of, otherwise}
 use Rattle.canonical_abi.specs.Session.{Held, PlacesValue, ReadsStep, RunsSession, SessionAnswer}
 use Rattle.tables.specs.Closed.{closed_type}
@@ -30,6 +30,14 @@ module _ (parties : Parties) (caller_releases callee_releases : Release) (r : Re
       (ran : Ran before old steps answers new)
       → AreHonest parties caller_releases callee_releases → AreLimited parties old → All (IsStep r) steps
       → StaysLive parties caller_releases exact t a v before old (map (step_of r) steps) answers new ran → IsKept t a v old.caller new.caller
+
+  -- what is placed is held, and live, in blocks that it asked for and that were free, and nothing else is changed
+  abbrev pub PlacesHeld : Type 0
+  PlacesHeld =
+      (ty : ValType) (v : Value) (held : Held) (old placed : World)
+      → AreHonest parties caller_releases callee_releases → AreLimited parties old → IsTypeOf r ty
+      → PlacesValue parties.caller_allocates (closed_type r ty) v old.caller (Ok held) placed.caller
+      → IsPlaced parties.caller_allocates (closed_type r ty) held.at v old.caller placed.caller
 
   -- so what was placed is read, or the host has no memory, until a release ends life in what it stands in
   abbrev pub StepsReadPlaced : Type 0

@@ -8,7 +8,7 @@ ghost use Rattle.tables.specs.declared.tables.ValType.{ValType};
 ghost use Rattle.package_form.specs.Laws.{HasOneOfEachName};
 ghost use Rattle.value_json.specs.Apart.{HasApartLabels};
 ghost use Rattle.value_json.specs.Json.{HasDistinctLabels};
-ghost use Rattle.witcall.specs.Laws.{StepsKeepHeld, StepsReadPlaced, StepsTellCallee};
+ghost use Rattle.witcall.specs.Laws.{PlacesHeld, StepsKeepHeld, StepsReadPlaced, StepsTellCallee};
 
 use crate::package::Package;
 use crate::session::Session;
@@ -39,12 +39,17 @@ pub fn has_labels_apart(package: &Package)
     labels_are_apart(package.resolve());
 }
 
-/// Over every list of steps of a session, traps among them, a value that a component holds at some moment is held with
-/// the same footprint: in the caller while its footprint is live, so that what was placed is read, or the host has no
+/// What is placed is held in live blocks of its own, and nothing else is changed. Over every list of steps of a session,
+/// traps among them, a value that a component holds at some moment is held with the same footprint: in the caller while its footprint is live, so that what was placed is read, or the host has no
 /// memory, until a release ends life in it; in the callee where no run of the body or of its post-return changed a byte of
 /// the footprint or ended its life.
 pub fn keeps_held<C: Guest, E: Guest, B: Body<E>>(_session: &Session<'_, C, E, B>)
     ensures caller { StepsKeepHeld
+        (record { caller_allocates = C.allocates; callee_allocates = E.allocates; runs = B.runs _session.now.body; posts = B.posts _session.now.body })
+        C.releases
+        E.releases
+        _session.now.package.now.resolve }
+    ensures placed { PlacesHeld
         (record { caller_allocates = C.allocates; callee_allocates = E.allocates; runs = B.runs _session.now.body; posts = B.posts _session.now.body })
         C.releases
         E.releases

@@ -1,0 +1,39 @@
+-- How much a package has, in lines: WIT.md, "Package Names", "Interfaces", "Worlds".
+use Rattle.std.specs.Prelude.{ℕ, Bool, true, false, List, ◌++◌, length, flat_map, codes}
+use Rattle.std.specs.List.{count_by}
+use Rattle.std.specs.Fmt.{decimal}
+use Rattle.atoms.specs.FullName.{version_suffix}
+use Rattle.tables.specs.PackageNames.{PackageParts}
+use Rattle.tables.specs.declared.tables.Direction.{Direction}
+use Rattle.tables.specs.declared.tables.Direction.TheVariants.{Import, Export}
+use Rattle.tables.specs.declared.tables.WorldItem.{WorldItem}
+use Rattle.tables.specs.declared.tables.Interface.{Interface}
+use Rattle.tables.specs.declared.tables.World.{World}
+use Rattle.tables.specs.declared.tables.Resolve.{Resolve}
+
+abbrev pub is_same : Direction → Direction → Bool
+is_same Import Import = true
+is_same Import Export = false
+is_same Export Import = false
+is_same Export Export = true
+
+abbrev pub package_line : PackageParts → List ℕ
+package_line p = codes "package " ++ (p.namespace ++ (codes ":" ++ (p.name ++ (version_suffix p.version ++ codes "\n"))))
+
+abbrev pub interface_line : Interface → List ℕ
+interface_line i =
+    codes "interface " ++ (i.name ++ (codes " uses " ++ (decimal (length i.uses) ++ (codes " types " ++ (decimal (length i.types)
+    ++ (codes " funcs " ++ (decimal (length i.functions) ++ codes "\n")))))))
+
+-- whether an item crosses in this direction
+abbrev pub crosses : Direction → WorldItem → Bool
+crosses way i = is_same way i.direction
+
+abbrev pub world_line : World → List ℕ
+world_line w =
+    codes "world " ++ (w.name ++ (codes " imports " ++ (decimal (count_by (crosses Import) w.items) ++ (codes " exports "
+    ++ (decimal (count_by (crosses Export) w.items) ++ codes "\n")))))
+
+-- the package, its interfaces in order, and its worlds
+abbrev pub shown : Resolve → List ℕ
+shown r = flat_map package_line r.packages ++ (flat_map interface_line r.interfaces ++ flat_map world_line r.worlds)

@@ -1,0 +1,61 @@
+-- How a package is laid out, in lines: CanonicalABI.md, "Alignment", "Element Size" and "Flattening" of its named types and functions.
+use Rattle.std.specs.Prelude.{ℕ, List, [], ◌++◌, flat_map, codes, Option, None, Some, slice_get}
+use Rattle.std.specs.List.{join_by}
+use Rattle.std.specs.Fmt.{decimal}
+use Rattle.canonical_abi.specs.Layout.{size, align, CoreSignature, lifted_signature, lowered_signature}
+use Rattle.canonical_abi.specs.declared.flat.CoreKind.{CoreKind}
+use Rattle.canonical_abi.specs.declared.flat.CoreKind.TheVariants.{I32, I64}
+use Rattle.tables.specs.Closed.{closed_type, function_at, function_type}
+use Rattle.tables.specs.Names.{full_name}
+use Rattle.tables.specs.Tables.{type_of}
+use Rattle.tables.specs.declared.tables.TypeId.{TypeId}
+use Rattle.tables.specs.declared.tables.FunctionId.{FunctionId}
+use Rattle.tables.specs.declared.tables.TypeName.{TypeName}
+use Rattle.tables.specs.declared.tables.TypeDef.{TypeDef}
+use Rattle.tables.specs.declared.tables.Function.{Function}
+use Rattle.tables.specs.declared.tables.ValType.TheVariants as val
+use Rattle.tables.specs.declared.tables.Interface.{Interface}
+use Rattle.tables.specs.declared.tables.Resolve.{Resolve}
+
+abbrev pub kind_word : CoreKind → List ℕ
+kind_word I32 = codes "i32"
+kind_word I64 = codes "i64"
+
+-- the kinds in parentheses, with a space between each two
+abbrev pub kinds_text : List CoreKind → List ℕ
+kinds_text ks = codes "(" ++ (join_by kind_word (codes " ") ks ++ codes ")")
+
+abbrev pub signature_text : CoreSignature → List ℕ
+signature_text s = kinds_text s.params ++ (codes " -> " ++ kinds_text s.results)
+
+-- the label of a type; one that stands inside another has none
+abbrev pub label_in : Option TypeName → List ℕ
+label_in None = []
+label_in (Some n) = n.name
+
+abbrev pub label_of : Option TypeDef → List ℕ
+label_of None = []
+label_of (Some d) = label_in d.name
+
+abbrev pub function_label : Option Function → List ℕ
+function_label None = []
+function_label (Some f) = f.name
+
+-- a type of the interface of this full name
+abbrev pub type_line : Resolve → List ℕ → TypeId → List ℕ
+type_line r interface id =
+    codes "type " ++ (interface ++ (codes " " ++ (label_of (type_of (slice_get r.definitions id.0))
+    ++ (codes " size " ++ (decimal (size (closed_type r (val.Id id))) ++ (codes " align " ++ (decimal (align (closed_type r (val.Id id))) ++ codes "\n")))))))
+
+-- a function of it, as the callee's core function and as the caller's import
+abbrev pub function_line : Resolve → List ℕ → FunctionId → List ℕ
+function_line r interface id =
+    codes "func " ++ (interface ++ (codes " " ++ (function_label (function_at r id)
+    ++ (codes " lift " ++ (signature_text (lifted_signature (function_type r id)) ++ (codes " lower " ++ (signature_text (lowered_signature (function_type r id)) ++ codes "\n")))))))
+
+-- an interface's used names, its types, and its functions
+abbrev pub lines_of : Resolve → List ℕ → Interface → List ℕ
+lines_of r name i = flat_map (type_line r name) i.uses ++ (flat_map (type_line r name) i.types ++ flat_map (function_line r name) i.functions)
+
+abbrev pub laid_out : Resolve → List ℕ
+laid_out r = flat_map (λ i. lines_of r (full_name r i) i) r.interfaces
