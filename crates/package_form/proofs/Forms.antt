@@ -61,12 +61,9 @@ in-form r h =
       entries = subst (λ (n : ℕ). n ≤ 65535) (sym (entries-same r)) (entries-few r h);
     }
 
--- a package has few interfaces and few rows, since each takes a type entry
+-- a package has few rows, since each takes a type entry
 entries-told : (r : Resolve) → IsInPackageForm r → entries-in r ≤ 65535
 entries-told r f = subst (λ (n : ℕ). n ≤ 65535) (entries-same r) f.entries
-
-pub interfaces-few : (r : Resolve) → IsInPackageForm r → length r.interfaces ≤ 65535
-interfaces-few r f = let rest = sum (map world_entries r.worlds) + sum (map entries_of r.definitions) in omega (arith, entries-told r f)
 
 pub rows-few : (r : Resolve) → IsInPackageForm r → length r.definitions ≤ 65535
 rows-few r f = few-rows r.worlds r.definitions (length r.interfaces) (entries-told r f)

@@ -11,6 +11,6 @@ pub mod Forms
 pub mod OnePackage
 pub mod OneRow
 pub mod Scopes
-pub mod Sides
+pub mod WorldItems
 pub mod OneFunction
 pub mod DistinctTypes

@@ -154,14 +154,29 @@ fn meet_interfaces(
 
 /// The names of a world's imports and of its exports.
 #[derive(Drop)]
-struct Sides {
+pub struct Sides {
     imports: Scope,
     exports: Scope,
 }
 
 impl Sides {
+    /// No names; those that are met are told apart by hashers with this key.
+    pub fn new(alloc: Global, keyed: KeyedState) -> Sides
+        ensures { AreMetOnSides [] result }
+    {
+        Sides {
+            imports: Scope::new(alloc, keyed),
+            exports: Scope::new(alloc, keyed),
+        }
+    }
+
     /// Meets the name of an item. 40 where its side has it before.
-    fn meet(&mut self, alloc: Global, direction: Direction, name: Name) -> Result<(), ResolveError>
+    pub fn meet(
+        &mut self,
+        alloc: Global,
+        direction: Direction,
+        name: Name,
+    ) -> Result<(), ResolveError>
         ensures ok { OnOk result ((items : List ItemMeaning) (i : ItemMeaning) → item_direction i ≡ direction → item_name i ≡ name
             → AreMetOnSides items self.old → AreMetOnSides (items ++ i ∷ []) self.new) }
         ensures err { IfErr result (λ e. (items : List ItemMeaning) (i : ItemMeaning) → item_direction i ≡ direction → item_name i ≡ name
@@ -243,10 +258,7 @@ fn distinct_items(
     ensures ok { OnOk result (All AreDistinct (world_scopes (world_meaning (interface_names resolve.now) (trees resolve.now) resolve.now.definitions [] world.now))) }
     ensures err { IfErr result (RefusesScopes (world_scopes (world_meaning (interface_names resolve.now) (trees resolve.now) resolve.now.definitions [] world.now))) }
 {
-    let mut sides = Sides {
-        imports: Scope::new(alloc, keyed),
-        exports: Scope::new(alloc, keyed),
-    };
+    let mut sides = Sides::new(alloc, keyed);
     for item in world.items.as_slice() {
         distinct_item(alloc, keyed, resolve, place, *item)?;
         meet_item(alloc, resolve, place, &mut sides, *item)?;

@@ -15,7 +15,7 @@ mod references;
 mod scope;
 mod unused;
 
-pub use distinct::distinct_names;
+pub use distinct::{Sides, distinct_names};
 pub use ends::{end_of, interfaces_end, world_end};
 pub use entries::passes_entries;
 pub use form::is_in_form;

@@ -61,9 +61,6 @@ crosses-both t m a n k allocates old at mid new c d =
       visited = omega (arith, visited-both c.events d.events, c.visited, d.visited, nodes-both t m a n k);
     }
 
-pub crosses-none : (t : ClosedType) (m : List ℕ) (a : ℕ) (allocates : Allocation) (old : Memory) (at : ℕ) → Crosses t m a 0 allocates old at old
-crosses-none t m a allocates old at = record { values = []; held = refl; events = []; stored = refl; leads = refl; visited = refl }
-
 -- where some elements crossed and one of those behind them is at fault, the events of both come before that fault
 pub stops-behind : (t : ClosedType) (m : List ℕ) (a at n r : ℕ) (k : TrapKind) (vs : List Value) (es fs : List Event) → EachHolds (Holds t m) (size t) a n vs → EachStores (Stores t) (size t) at vs es
     → EachStops (Holds t m) (Stores t) (StoresUntil t m) (size t) (a + n * size t) (at + n * size t) r k fs

@@ -66,10 +66,6 @@ module _ (t : ClosedType) (step cases : ℕ) (caps nodes m : List ℕ) (few : ca
 pub element-fits : (i n step : ℕ) → i < n → i * step + step ≤ n * step
 element-fits i n step h = let g : suc i * step ≤ n * step = mul-le-mul_right step h in omega (arith, g)
 
-pub few-elements : (n step : ℕ) → 0 < step → n ≤ n * step
-few-elements zero step some = omega arith
-few-elements (suc n) step some = let h = few-elements n step some in omega (arith, h)
-
 -- the nodes of elements that have one of two cases: so many have the first, and so many the second
 pub pair-nodes : (case : ℕ) → case < 2 → (nodes : List ℕ) (i z s r n : ℕ) → z + s ≡ i → r ≡ z * get_or nodes 0 0 + s * get_or nodes 1 0 → get_or nodes (case % 16) 0 ≡ n
     → (y : ℕ) × (y + (s + case) ≡ suc i) × (r + n ≡ y * get_or nodes 0 0 + (s + case) * get_or nodes 1 0)

@@ -22,17 +22,6 @@ pub record Filled (fs : Fields) (k end at : ℕ) (old now : List ℕ) (seen : �
   -- with the record itself
   pub visited : (m : List ℕ) (a : ℕ) → 1 + nodes_in fs m a 0 ≡ seen + nodes_in (fields_from k fs) m a end
 
-pub filled-none : (fs : Fields) (at : ℕ) (old : List ℕ) → IsBlank old at → Filled fs 0 0 at old old 1
-filled-none fs at old blank = record {
-  bytewise = λ b. b;
-  tested = λ t. t;
-  caps = λ m a i h. absurd (omega (arith, h));
-  others = λ m a i h. refl;
-  blank = λ i h. blank i (omega (arith, h));
-  below = λ i h. refl;
-  visited = λ m a. refl;
-}
-
 module _ (fs : Fields) (k end at : ℕ) (old now new : List ℕ) (seen more : ℕ) (t : ClosedType) (next : nth_field fs k ≡ Some t) where
   abbrev start : ℕ
   start = next_multiple_of end (align t)

@@ -3,7 +3,6 @@ use Rattle.std.proofs.Common.{◌≡◌, inl, inr, ℕ, zero, suc, ◌+◌, ◌-
 use Rattle.std.specs.Prelude.{nat_lt, slice_range}
 use Rattle.std.proofs.lemmas.Bool.{cases_lt, lt-ltb, le-ltb}
 use Rattle.std.proofs.lemmas.List.{ext_get_or, get_or-take, get_or-append-add, length-take-le}
-use Rattle.std.proofs.lemmas.Nat.{div-add-mod'}
 use Rattle.std.proofs.Math.Nat.{mod-lt, mod-eq_of_lt, add-mod_left, mul-le-mul_right}
 use Rattle.canonical_abi.specs.Types.{ClosedType}
 use Rattle.canonical_abi.specs.Layout.{size}
@@ -194,9 +193,6 @@ pub chunk-caps : (t : ClosedType) (m : List ℕ) (step : ℕ) (bytes caps : List
     → ((i : ℕ) → i < len → get_or caps i 0 ≡ get_or bytes (i % step) 0) → i < n * step → n * step ≤ len → get_or caps i 0 ≡ each_cap t m a n i
 chunk-caps t m step bytes caps len n a i some has repeated below few =
     repeated i (omega (arith, below, few)) ∙ sym (same-caps t m step bytes some has n a i ∙ upto-in (periodic bytes step) (n * step) i below)
-
-pub chunk-fits : (k step : ℕ) → k ≤ 2048 / step → k * step ≤ 2048
-chunk-fits k step h = let e = div-add-mod' 2048 step in let g : k * step ≤ 2048 / step * step = mul-le-mul_right step h in omega (arith, e, g)
 
 -- ---- a whole range
 

@@ -13,7 +13,7 @@ use Rattle.canonical_abi.specs.Trace.{Event, node, write, nodes_of}
 use Rattle.canonical_abi.specs.Storing.{Stores, FieldsStore, CaseStores, EachStores}
 use Rattle.canonical_abi.proofs.Bytes.{length-le_bytes}
 use Rattle.canonical_abi.proofs.Places.{le-next_multiple_of}
-use Rattle.canonical_abi.proofs.Sizes.{end-le, greatest-le}
+use Rattle.canonical_abi.proofs.Sizes.{stepped, end-le, greatest-le}
 use Rattle.lift_lower.specs.Loading.{AreBytes}
 use Rattle.ranges.specs.Bytewise.{caps, cap_at, fields_cap, case_cap, each_cap, each_nodes, nodes_at, nodes_in, nodes_of_case, IsBytewise, AreBytewise, AreBytewiseCases, IsTested, AreTested, IsTestedCase, Blends}
 use Rattle.canonical_abi.proofs.Visited.{visited-both}
@@ -22,9 +22,6 @@ use Rattle.ranges.proofs.Capped.{tag-below, payload-inside, blends-nothing, blen
 use Rattle.ranges.proofs.Leaves.{number-small, number-blends, prim-crosses}
 
 -- ---- discriminants and flags are numbers of 1, 2 or 4 bytes
-
-abbrev stepped : Bool → Bool → ℕ
-stepped b c = cond b 1 (cond c 2 4)
 
 -- a number of so many bytes
 record IsSized (k : ℕ) : Type 0 where

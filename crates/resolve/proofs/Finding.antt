@@ -7,10 +7,9 @@ use Rattle.wit_syntax.specs.Syntax.{Entry, Uses, Defines, Declares}
 use Rattle.resolve.specs.Declarations.{TypeItem, FunctionItem, InterfaceTree, interface_names, interface_name, interface_tree, interface_at, no_interface, entry_uses, entry_types, entry_functions, used_item, type_names, named_definition, named_function}
 use Rattle.resolve.specs.Knowing.{KnowsEntry, LacksEntry, LacksAny}
 use Rattle.resolve.specs.Lent.{lent}
-use Rattle.wit_syntax.specs.declared.ast.Interface.{Interface}
 use Rattle.std.proofs.lemmas.List.{get_or-map, length-map}
 use Rattle.resolve.proofs.Using.{place-below}
-use Rattle.resolve.specs.Sources.{declared_tree, interface_syntax}
+use Rattle.resolve.specs.Sources.{declared_tree}
 use Rattle.resolve.specs.Resolves.{place_of, IsKnownUse, IsUnknownName, IsUnknownIn, HasKnownNames}
 use Rattle.resolve.specs.declared.declared.Declarations.{Declarations}
 use Rattle.package_form.proofs.Lists.{contains-here, contains-later, contains-flat, all-none, all-cons, all-head, all-tail, all-append}
@@ -132,12 +131,6 @@ module _ (is : List InterfaceTree) (i : InterfaceTree) where
 
   pub interface-lacks : (n : List ℕ) (es : List Entry) (m : List ℕ) → i ≡ interface_tree n es → LacksAny is i es m → IsUnknownIn is i m
   interface-lacks n es m same l = lacks-by n es m l.0 same l.1 l.2
-
-pub same-at : (all : List Declarations) (is : List (Bor Interface)) (k : ℕ) (d : Declarations) (x : Bor Interface) → map declared_tree all ≡ map interface_syntax is → k < length all → k < length is
-    → d ≡ get_or all k d → x ≡ get_or is k x → declared_tree d ≡ interface_syntax x
-same-at all is k d x same l m isd isx =
-    ap declared_tree isd ∙ sym (get_or-map declared_tree all k d no_interface l) ∙ ap (λ ts. get_or ts k no_interface) same ∙ get_or-map interface_syntax is k x no_interface m
-    ∙ ap interface_syntax (sym isx)
 
 pub tree-at : (all : List Declarations) (k : ℕ) (d : Declarations) → k < length all → d ≡ get_or all k d → interface_at (map declared_tree all) k ≡ declared_tree d
 tree-at all k d l is = get_or-map declared_tree all k d no_interface l ∙ ap declared_tree (sym is)

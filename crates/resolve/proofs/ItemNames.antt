@@ -2,7 +2,9 @@
 use Rattle.std.proofs.Common.{◌≡◌, ℕ, List, [], ◌∷◌, ◌++◌, map, flat_map, filter_map, refl, ap, sym, subst, append_assoc, All}
 use Rattle.wit_syntax.specs.Syntax.{PathTo, Local, UsedAs, Entry, Uses, Defines, Declares, FileEntry, AnInterface, AWorld}
 use Rattle.package_form.specs.Scope.{AreDistinct}
-use Rattle.resolve.specs.Declarations.{UsedItem, TypeItem, FunctionItem, InterfaceTree, local_name, used_item, entry_uses, entry_types, entry_functions, interface_of, use_local, type_name, member_name, definition_scopes, entry_names, entry_scopes, interface_scopes}
+use Rattle.resolve.specs.Declarations.{UsedItem, TypeItem, FunctionItem, InterfaceTree, local_name, used_item, entry_uses, entry_types, entry_functions, interface_of, use_local, type_name, member_name, definition_scopes, entry_names, entry_scopes}
+use Rattle.resolve.specs.Scopes.{interface_scopes}
+use Rattle.tables.specs.PackageNames.{PackageParts}
 use Rattle.package_form.proofs.Lists.{all-head, all-tail, all-none, all-cons, all-left, all-right}
 use Rattle.resolve.proofs.Referring.{Every, every-append, every-front, every-back}
 use Rattle.resolve.proofs.Apart.{AreOthers, IsFresh, AreApart, are-apart, apart-back, apart-insert, apart-exchange}
@@ -79,10 +81,10 @@ functions-distinct (Declares at n f ∷ es) h =
     all-cons (λ (g : FunctionItem). AreDistinct (map member_name g.function.params)) (record { name = n; function = f }) (flat_map entry_functions es)
     (all-head AreDistinct (map member_name f.params) (flat_map entry_scopes es) h) (functions-distinct es (all-tail AreDistinct (map member_name f.params) (flat_map entry_scopes es) h))
 
-pub interfaces-distinct : (es : List FileEntry) → All AreDistinct (flat_map interface_scopes es) → All HasDistinctParts (filter_map interface_of es)
-interfaces-distinct [] h = all-none HasDistinctParts
-interfaces-distinct (AnInterface n xs ∷ es) h =
-    let here = all-left AreDistinct (interface_scopes (AnInterface n xs)) (flat_map interface_scopes es) h in
+pub interfaces-distinct : (p : PackageParts) (es : List FileEntry) → All AreDistinct (flat_map (interface_scopes p) es) → All HasDistinctParts (filter_map interface_of es)
+interfaces-distinct p [] h = all-none HasDistinctParts
+interfaces-distinct p (AnInterface n xs ∷ es) h =
+    let here = all-left AreDistinct (interface_scopes p (AnInterface n xs)) (flat_map (interface_scopes p) es) h in
     let members = all-tail AreDistinct (flat_map entry_names xs) (flat_map entry_scopes xs) here in
     all-cons HasDistinctParts _ (filter_map interface_of es)
     (record {
@@ -90,5 +92,6 @@ interfaces-distinct (AnInterface n xs ∷ es) h =
       types = types-distinct xs members;
       functions = functions-distinct xs members;
     })
-    (interfaces-distinct es (all-right AreDistinct (interface_scopes (AnInterface n xs)) (flat_map interface_scopes es) h))
-interfaces-distinct (AWorld at n ws ∷ es) h = interfaces-distinct es h
+    (interfaces-distinct p es (all-right AreDistinct (interface_scopes p (AnInterface n xs)) (flat_map (interface_scopes p) es) h))
+interfaces-distinct p (AWorld at n ws ∷ es) h =
+    interfaces-distinct p es (all-right AreDistinct (interface_scopes p (AWorld at n ws)) (flat_map (interface_scopes p) es) h)

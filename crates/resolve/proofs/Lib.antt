@@ -14,10 +14,13 @@ pub mod Using
 pub mod Packaging
 pub mod Finishing
 pub mod FullNames
+pub mod WorldScopes
+pub mod FileEntries
+pub mod Referring
+pub mod Apart
 pub mod Placed
 pub mod Renaming
 pub mod Trees
-pub mod Referring
 pub mod Segments
 pub mod Owning
 pub mod Homes
@@ -28,7 +31,6 @@ pub mod Forming
 pub mod RowNames
 pub mod Folding
 pub mod TreeForms
-pub mod Apart
 pub mod Members
 pub mod ItemNames
 pub mod TreeNames

@@ -1,11 +1,11 @@
 -- Types that stand in a table, when more rows come behind it.
-use Rattle.std.proofs.Common.{◌≡◌, ℕ, zero, suc, ◌+◌, ◌<◌, Bool, true, List, [], ◌∷◌, ◌++◌, Option, None, Some, map, flat_map, take, length, get_or, refl, ap, sym, ◌∙◌, subst, arith, rules, Box, Global, Vec, All}
+use Rattle.std.proofs.Common.{◌≡◌, ℕ, zero, suc, ◌+◌, ◌<◌, Bool, true, List, [], ◌∷◌, ◌++◌, Option, None, Some, map, flat_map, take, length, get_or, refl, ap, sym, ◌∙◌, subst, arith, All}
 use Rattle.std.specs.List.{list_all}
 use Rattle.std.specs.Option.{option_map}
 use Rattle.std.proofs.lemmas.List.{map-append}
-use Rattle.wit_syntax.specs.Syntax.{Ty, Prim, Named, ListOf, OptionOf, TupleOf, ResultOf, tys_of}
-use Rattle.wit_syntax.specs.View.{ty_view, boxed_view}
-use Rattle.wit_syntax.specs.declared.ast.TypeExpression.{TypeExpression, Named as Name, List as Listed, Option as Optional, Tuple, Result as Either, the_lemmas}
+use Rattle.wit_syntax.specs.Syntax.{Ty, tys_of}
+use Rattle.wit_syntax.specs.View.{ty_view}
+use Rattle.wit_syntax.specs.declared.ast.TypeExpression.{TypeExpression}
 use Rattle.tables.specs.Tables.{is_type, option_all}
 use Rattle.tables.specs.Package.{Tree, Reference, ListTree, IsType, read_val, read_tuple, read_fields, read_params, read_cases, read_choice, read_kind, Fields, field, Choices, RecordTree, VariantTree, Plain, AsTuple}
 use Rattle.package_form.specs.Postfix.{unnamed, unnamed_if, unnamed_field, unnamed_case, unnamed_parameter}
@@ -26,25 +26,6 @@ use Rattle.tables.specs.declared.tables.TypeDefKind.TheVariants as kind
 use Rattle.tables.proofs.Rows.{split, both}
 use Rattle.package_form.proofs.Lists.{all-left, all-right, flat_map-append, flat_map-one}
 use Rattle.resolve.proofs.Reading.{stands-later, extends-trans, extends-none, read_val-same, typed-stays, unnamed-same}
-
--- what an expression stands for
-pub view-Named : (n : List ℕ) → ty_view (Name n) ≡ Named n
-view-Named n = search (rules, the_lemmas)
-
-pub view-List : (b : Box TypeExpression Global) → ty_view (Listed b) ≡ ListOf (ty_view b.value)
-view-List b = search (rules, the_lemmas)
-
-pub view-Option : (b : Box TypeExpression Global) → ty_view (Optional b) ≡ OptionOf (ty_view b.value)
-view-Option b = search (rules, the_lemmas)
-
-pub view-Tuple : (v : Vec TypeExpression Global) → ty_view (Tuple v) ≡ TupleOf (tys_of (map ty_view v.items))
-view-Tuple v = search (rules, the_lemmas)
-
-pub view-Result : (ok error : Option (Box TypeExpression Global)) → ty_view (Either ok error) ≡ ResultOf (boxed_view ok) (boxed_view error)
-view-Result None None = search (rules, the_lemmas)
-view-Result None (Some e) = search (rules, the_lemmas)
-view-Result (Some t) None = search (rules, the_lemmas)
-view-Result (Some t) (Some e) = search (rules, the_lemmas)
 
 -- ---- scopes
 

@@ -19,10 +19,12 @@ use Rattle.tables.specs.declared.error.ResolveError.TheVariants as error
 use Rattle.package_form.specs.Scope.{AreDistinct}
 use Rattle.resolve.specs.Order.{IsPlacement}
 use Rattle.package_form.specs.Postfix.{IsPostfix}
-use Rattle.resolve.specs.Declarations.{UsedItem, InterfaceTree, interfaces, package_named, full_interface, full_interfaces, interface_at, interface_names, interface_name, type_names, named_definition, named_function, scopes}
-use Rattle.resolve.specs.Resolves.{HasPackage, IsTooLarge, Resolves, full_names, package_in, interface_uses, type_uses, PassesLimit, HasDuplicate, HasDistinctNames, IsKnownUse, IsUnknownUse, IsUnknownIn, HasUnknown, HasKnownNames, HasCycle, IsPackageOf, HasNoFaults, ResolveRefuses, AnswersOnly}
+use Rattle.resolve.specs.Declarations.{UsedItem, InterfaceTree, ItemTree, InterfaceNamed, FunctionOf, WorldTree, interfaces, worlds, package_named, full_interface, full_interfaces, full_world, full_worlds, interface_at, interface_names, interface_name, type_names, named_definition, named_function}
+use Rattle.resolve.specs.Resolved as tree
+use Rattle.resolve.specs.Scopes.{scopes}
+use Rattle.resolve.specs.Resolves.{HasPackage, IsTooLarge, Resolves, full_names, package_in, interface_uses, type_uses, PassesLimit, HasDuplicate, HasDistinctNames, IsKnownUse, IsUnknownUse, IsUnknownIn, HasUnknown, HasKnownNames, IsKnownItem, IsKnownWorld, IsUnknownItem, HasCycle, IsPackageOf, HasNoFaults, ResolveRefuses, AnswersOnly}
 use Rattle.package_form.specs.Entries.{world_entries, Table, table_of, entries_of, type_entries}
-use Rattle.resolve.proofs.Trees.{distinct-interfaces}
+use Rattle.resolve.proofs.Trees.{distinct-interfaces, none-declared}
 use Rattle.package_form.proofs.OneRow.{same-place}
 use Rattle.package_form.proofs.Lists.{contains-map, get-front}
 use Rattle.resolve.proofs.Typing.{definition-grows}
@@ -61,11 +63,11 @@ no-unknown-use is u n d (j, c, e, has) (inl x) = x.1 (subst (Contains (interface
 no-unknown-use is u n d (j, c, e, has) (inr (same, x)) =
     x.3 (subst (λ i. Contains (type_names i) n) (one-interface is j x.0 d c x.1 (e ∙ sym x.2)) (subst (Contains (type_names j)) (sym same) has))
 
-no-unknown : (f : File) (n : List ℕ) → HasNoFaults f → HasUnknown f n → ⊥
-no-unknown f n h (i, c, x) = by x
+no-unknown-in : (f : File) (n : List ℕ) → HasNoFaults f → (i : InterfaceTree) → Contains (interfaces f) i → IsUnknownIn (interfaces f) i n → ⊥
+no-unknown-in f n h i c x = by x
   where
     known : HasKnownNames (interfaces f) i
-    known = All-contains (HasKnownNames (interfaces f)) (interfaces f) i h.known c
+    known = All-contains (HasKnownNames (interfaces f)) (interfaces f) i h.known.in_interfaces c
 
     distinct : AreDistinct (interface_names (interfaces f))
     distinct = distinct-interfaces f h
@@ -77,9 +79,22 @@ no-unknown f n h (i, c, x) = by x
     by (inr (inr (g, b, y))) =
         y.1 (All-contains (Contains (type_names i)) (named_function g.function) n (All-contains (λ g. All (Contains (type_names i)) (named_function g.function)) i.functions g known.functions b) y.0)
 
+no-unknown-item : (names : List (List ℕ)) (i : ItemTree) (n : List ℕ) → IsKnownItem names i → IsUnknownItem names i n → ⊥
+no-unknown-item names (InterfaceNamed way j) n known x = x.1 (subst (Contains names) (sym x.0) known)
+no-unknown-item names (FunctionOf way g) n known x =
+    let c = subst (λ (ns : List (List ℕ)). Contains ns n) known x in
+    absurd (omega (arith, c.1))
+
+no-unknown : (f : File) (n : List ℕ) → HasNoFaults f → HasUnknown f n → ⊥
+no-unknown f n h (inl (i, c, x)) = no-unknown-in f n h i c x
+no-unknown f n h (inr (w, c, (i, d, x))) =
+    let names = interface_names (interfaces f) in
+    let known = All-contains (IsKnownWorld names) (worlds f) w h.known.in_worlds c in
+    no-unknown-item names i n (All-contains (IsKnownItem names) w.items i known d) x
+
 -- ---- cycles
 
-no-cycle-in : (f : File) (p : Package) → Resolves (full_interfaces f) p → HasCycle f → ⊥
+no-cycle-in : (f : File) (p : Package) → Resolves (full_interfaces f) (full_worlds f) p → HasCycle f → ⊥
 no-cycle-in f p r (inl c) =
     no-cycle (interface_uses (interfaces f)) r.order (subst (λ (us : List (List ℕ)). IsPlacement us r.order) (uses-full (package_named f) (interfaces f)) r.placed) c.0 c.1
 no-cycle-in f p r (inr (i, b, c)) =
@@ -141,8 +156,8 @@ same-limits t u ns ms long_t long_u names none_t none_u meant a p b q within sta
 not-too-large : (f : File) (r : Resolve) → IsPackageOf f r → IsTooLarge f → ⊥
 not-too-large f r h x =
     let n = package_named f in
-    let same = one-package (full_interfaces f) (package_of r) (package_in n x.table) h.resolves x.resolves in
-    let none : x.table.worlds ≡ [] = map-none _ x.table.worlds x.resolves.worlds in
+    let same = one-package (full_interfaces f) (full_worlds f) (package_of r) (package_in n x.table) h.resolves x.resolves in
+    let none : x.table.worlds ≡ [] = map-none _ x.table.worlds (x.resolves.worlds ∙ ap (λ (ws : List WorldTree). map tree.world_meaning (map (full_world n) ws)) (none-declared f r h)) in
     let meant =
     sym (all-are (names_in r) [] r.definitions (none-of r.definitions r.worlds h.worlds h.items)) ∙ ap (λ (p : Package). p.definitions) same
     ∙ all-are (full_names n x.table) [] x.table.rows (none-of x.table.rows x.table.worlds none x.items) in
@@ -154,8 +169,8 @@ not-too-large f r h x =
 
 -- Where a tree has a package, the only refusal is for memory.
 only-memory : (f : File) (r : Resolve) (e : ResolveError) → HasPackage f r → ResolveRefuses f e → e ≡ error.NoMemory
-only-memory f r error.EmptyPackage h x = absurd (h.faults.interfaces.some x)
-only-memory f r error.NotThisShape h x = absurd (h.faults.interfaces.alone x)
+only-memory f r error.EmptyPackage h x = absurd (h.faults.some x)
+only-memory f r error.NotThisShape h x = absurd (x.1 (none-declared f r h.resolved))
 only-memory f r (error.Duplicate n) h x = absurd (no-duplicate f n h.faults.distinct x.1)
 only-memory f r (error.Unknown n) h x = absurd (no-unknown f n h.faults x.2)
 only-memory f r error.Cycle h x = absurd (no-cycle-in f (package_of r) h.resolved.resolves x.1)
@@ -165,7 +180,7 @@ only-memory f r error.NoMemory h x = refl
 
 -- .. and packages of one tree are one
 same-package : (f : File) (r s : Resolve) → IsPackageOf f r → IsPackageOf f s → package_of r ≡ package_of s
-same-package f r s a b = one-package (full_interfaces f) (package_of r) (package_of s) a.resolves b.resolves
+same-package f r s a b = one-package (full_interfaces f) (full_worlds f) (package_of r) (package_of s) a.resolves b.resolves
 
 pub answers-only : (f : File) (answer : Result Resolve ResolveError) → IfOk answer (IsPackageOf f) → IfErr answer (ResolveRefuses f) → AnswersOnly f answer
 answers-only f (Ok p) ok err = λ r h. same-package f p r ok h.resolved

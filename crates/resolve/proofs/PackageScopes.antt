@@ -17,11 +17,12 @@ use Rattle.package_form.specs.Ends.{end_of, rows_of}
 use Rattle.package_form.specs.Ids.{interface_in, interfaces_from}
 use Rattle.package_form.proofs.OnePackage.{one-full-name}
 use Rattle.resolve.specs.Order.{IsPlacement}
-use Rattle.resolve.specs.Declarations.{InterfaceTree, interfaces, package_named, full_interface, type_name, interface_at, no_interface, interface_name, interface_names, file_name, interface_scopes}
+use Rattle.resolve.specs.Declarations.{InterfaceTree, interfaces, package_named, full_interface, type_name, interface_at, no_interface, interface_name, interface_names}
+use Rattle.resolve.specs.Scopes.{file_name, interface_scopes}
 use Rattle.resolve.specs.Resolves.{uses_of_interface, interface_uses, names_in_order, HasNoFaults, IsPackageOf}
 use Rattle.package_form.proofs.Lists.{all-tail, all-cons, all-append, all-none, all-contained}
 use Rattle.resolve.proofs.Packaging.{interface-name}
-use Rattle.resolve.proofs.Trees.{distinct-interfaces, full-kept}
+use Rattle.resolve.proofs.Trees.{distinct-interfaces, full-kept, no-worlds}
 use Rattle.resolve.proofs.Placed.{same-map}
 use Rattle.resolve.proofs.FullNames.{locals-full, interface-full, uses-full}
 use Rattle.package_form.specs.Naming.{row_members, rows_scopes, interfaces_scopes, label_of, world_scopes, package_scopes}
@@ -95,7 +96,7 @@ module _ (f : File) (r : Resolve) (h : HasNoFaults f) (full : IsTrue (has_full_n
       subst HasDistinctParts (sym (interface-full (package_named f) own k m))
       (parts-full (package_named f) (interface_at own k)
       (all-contained HasDistinctParts own (interface_at own k)
-      (interfaces-distinct f.entries (all-tail AreDistinct (map file_name f.entries) (flat_map interface_scopes f.entries) h.distinct))
+      (interfaces-distinct (package_named f) f.entries (all-tail AreDistinct (map file_name f.entries) (flat_map (interface_scopes (package_named f)) f.entries) h.distinct))
       (k, m, get_or_default own k (interface_at own k) no_interface m)))
 
   keys-distinct : Every HasDistinctKeys bs
@@ -149,7 +150,7 @@ module _ (f : File) (r : Resolve) (h : HasNoFaults f) (full : IsTrue (has_full_n
       let all = scoped (names_in r) rows (table f r h full p) rows-members 0 bs [] rows refl (λ k l. tt) (defined f r h full p) (used f r h full p) (are-all f r h full p) keys-distinct in
       let named : labels_of r.interfaces ++ map label_of r.worlds ≡ labels_of r.interfaces = ap (λ (ws : List World). labels_of r.interfaces ++ map label_of ws) p.worlds ∙ append-nil (labels_of r.interfaces) in
       let none : interfaces_scopes rows 0 r.interfaces ++ flat_map world_scopes (worlds r) ≡ interfaces_scopes rows 0 r.interfaces =
-      ap (λ (ms : List WorldMeaning). interfaces_scopes rows 0 r.interfaces ++ flat_map world_scopes ms) p.resolves.worlds ∙ append-nil (interfaces_scopes rows 0 r.interfaces) in
+      ap (λ (ms : List WorldMeaning). interfaces_scopes rows 0 r.interfaces ++ flat_map world_scopes ms) (no-worlds r p.worlds) ∙ append-nil (interfaces_scopes rows 0 r.interfaces) in
       subst (All AreDistinct) (sym (ap (λ (ss : List (List (List ℕ))). (labels_of r.interfaces ++ map label_of r.worlds) ∷ ss) none ∙ ap (λ (ns : List (List ℕ)). ns ∷ interfaces_scopes rows 0 r.interfaces) named))
       (all-cons AreDistinct (labels_of r.interfaces) (interfaces_scopes rows 0 r.interfaces) interfaces-named
       (subst (λ (js : List Interface). All AreDistinct (interfaces_scopes rows 0 js)) (sym p.ids)

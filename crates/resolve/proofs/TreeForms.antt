@@ -15,7 +15,7 @@ use Rattle.tables.specs.declared.tables.Interface.{Interface}
 use Rattle.tables.specs.declared.tables.Resolve.{Resolve}
 use Rattle.resolve.specs.Order.{IsPlacement, is_among}
 use Rattle.package_form.specs.Scope.{AreDistinct}
-use Rattle.resolve.specs.Declarations.{UsedItem, FunctionItem, InterfaceTree, interfaces, package_named, full_interface, full_interfaces, interface_of, interface_at, no_interface, interface_name, interface_names, use_interface}
+use Rattle.resolve.specs.Declarations.{UsedItem, FunctionItem, InterfaceTree, interfaces, package_named, full_interface, full_interfaces, interface_of, world_of, interface_at, no_interface, interface_name, interface_names, use_interface}
 use Rattle.resolve.specs.Resolved.{use_meaning, type_meaning, function_meaning, in_order, interface_meaning, no_type, definition_meaning, fields_of, member_meaning, resolved_if}
 use Rattle.resolve.specs.Resolves.{place_of, uses_of_interface, interface_uses, names_in_order, IsKnownUse, HasKnownNames, HasNoFaults, IsPackageOf}
 use Rattle.package_form.specs.Entries.{labels_of}
@@ -24,7 +24,7 @@ use Rattle.package_form.proofs.Lists.{all-at, all-contained, contains-map, conta
 use Rattle.resolve.proofs.Placing.{all-from, place-found, all-places, among-at}
 use Rattle.package_form.proofs.OneRow.{same-place}
 use Rattle.resolve.proofs.Packaging.{interface-name, name-in-order}
-use Rattle.resolve.proofs.Trees.{distinct-interfaces}
+use Rattle.resolve.proofs.Trees.{distinct-interfaces, none-declared}
 use Rattle.resolve.proofs.FullNames.{interface-full, distinct-full, known-full}
 use Rattle.package_form.specs.Form.{have_items, IsInPackageForm, is_package_name, is_local, has_ids, are_interfaces, has_full_names as has_names}
 use Rattle.tables.proofs.Rows.{split, both}
@@ -228,10 +228,10 @@ some-order : (uses : List (List ℕ)) (order : List ℕ) → IsPlacement uses or
 some-order uses [] placed l = absurd (let e = placed.complete 0 l in cc)
 some-order uses (k ∷ order) placed l = omega arith
 
-some-interface : (es : List FileEntry) → es ≢ [] → ((at : _) (n : List ℕ) (ws : _) → Contains es (AWorld at n ws) → ⊥) → 0 < length (filter_map interface_of es)
+some-interface : (es : List FileEntry) → es ≢ [] → filter_map world_of es ≡ [] → 0 < length (filter_map interface_of es)
 some-interface [] some h = absurd (some refl)
 some-interface (AnInterface n xs ∷ es) some h = omega arith
-some-interface (AWorld at n ws ∷ es) some h = absurd (h at n ws (contains-here (AWorld at n ws) es))
+some-interface (AWorld at n ws ∷ es) some h = absurd (cc)
 
 module _ (f : File) (r : Resolve) (h : HasNoFaults f) (full : IsTrue (has_full_names f)) (p : IsPackageOf f r) where
   abbrev pub trees : List InterfaceTree
@@ -245,9 +245,6 @@ module _ (f : File) (r : Resolve) (h : HasNoFaults f) (full : IsTrue (has_full_n
 
   abbrev pub blocks : List Block
   blocks = map (block trees types) order
-
-  alone : (at : _) (n : List ℕ) (ws : _) → Contains f.entries (AWorld at n ws) → ⊥
-  alone at n ws c = h.interfaces.alone (at, n, ws, c)
 
   names-split : IsTrue (is_package_label f.namespace) × (IsTrue (is_package_label f.name) × IsTrue (is_version_or_none f.version))
   names-split =
@@ -274,7 +271,7 @@ module _ (f : File) (r : Resolve) (h : HasNoFaults f) (full : IsTrue (has_full_n
   are-all =
       subst (λ (ns : List (List ℕ)). AreBlocks ns 0 blocks) (sym named)
       (all-blocks trees types order p.resolves.placed (distinct-full (package_named f) (interfaces f) (distinct-interfaces f h)) some-name
-      (known-full (package_named f) (interfaces f) h.known))
+      (known-full (package_named f) (interfaces f) h.known.in_interfaces))
 
   pub defined : all_from (names_in r) [] r.definitions ≡ blocks_definitions blocks
   defined =
@@ -300,7 +297,7 @@ module _ (f : File) (r : Resolve) (h : HasNoFaults f) (full : IsTrue (has_full_n
   some-interfaces : 0 < length r.interfaces
   some-interfaces =
       let counted : length (names_in r) ≡ length r.interfaces = length-map r.interfaces (full_name r) in
-      let many : 0 < length trees = omega (arith, some-interface f.entries h.interfaces.some alone, length-map (interfaces f) (full_interface (package_named f))) in
+      let many : 0 < length trees = omega (arith, some-interface f.entries h.some (none-declared f r p), length-map (interfaces f) (full_interface (package_named f))) in
       let uses : 0 < length (interface_uses trees) = omega (arith, many, length-map trees (uses_of_interface (interface_names trees))) in
       let placed = some-order (interface_uses trees) order p.resolves.placed uses in
       omega (arith, counted, placed, ap length named, length-map order (λ (k : ℕ). (interface_at trees k).name))

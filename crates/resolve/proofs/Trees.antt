@@ -1,7 +1,8 @@
 -- The interfaces of a file, and its package.
-use Rattle.std.proofs.Common.{◌≡◌, ◌≢◌, ◌⊎◌, inl, inr, ℕ, ◌+◌, ◌<◌, ◌≤◌, List, [], ◌∷◌, Result, Ok, Err, IfOk, IfErr, Option, None, Some, map, flat_map, length, get_or, slice_get, refl, ap, sym, ◌∙◌, subst, arith, All, Contains, Bor}
+use Rattle.std.proofs.Common.{◌≡◌, ◌≢◌, ◌⊎◌, ◌↔◌, Bool, false, IsTrue, inl, inr, ℕ, ◌+◌, ◌<◌, ◌≤◌, List, [], ◌∷◌, Result, Ok, Err, IfOk, IfErr, Option, None, Some, map, flat_map, length, get_or, slice_get, refl, ap, sym, ◌∙◌, subst, arith, All, Contains}
 use Rattle.std.specs.List.{filter_map}
 use Rattle.std.proofs.lemmas.List.{length-map, get_or_default}
+use Rattle.std.proofs.lemmas.Bool.{false≢true}
 use Rattle.std.proofs.lemmas.Simd.{map-map}
 use Rattle.atoms.specs.Label.{IsLabel, is_label}
 use Rattle.tables.specs.PackageNames.{PackageParts, own_name}
@@ -10,25 +11,24 @@ use Rattle.std.specs.Option.{option_map}
 use Rattle.std.specs.String.{string_bytes}
 use Rattle.std.specs.declared.string.String.{String}
 use Rattle.std.specs.declared.alloc.Global.{Global}
-use Rattle.wit_tokens.specs.declared.token.Span.{Span}
-use Rattle.wit_syntax.specs.Syntax.{FileEntry, AnInterface, AWorld, WorldEntry, File}
+use Rattle.wit_syntax.specs.Syntax.{FileEntry, AnInterface, AWorld, File}
 use Rattle.wit_syntax.specs.View.{version_view}
-use Rattle.wit_syntax.specs.declared.ast.Interface.{Interface as Syntax}
 use Rattle.wit_syntax.specs.declared.ast.PackageId.{PackageId}
 use Rattle.resolve.specs.Order.{IsPlacement}
 use Rattle.package_form.specs.Scope.{AreDistinct}
-use Rattle.tables.specs.Package.{WorldMeaning, worlds, trees, world_meaning, references, package_of, interface_names as names_in, definitions_from}
+use Rattle.tables.specs.Package.{Package, WorldMeaning, worlds as worlds_in, trees, world_meaning, references, package_of, interface_names as names_in, definitions_from}
 use Rattle.resolve.specs.Resolved.{interface_meaning}
-use Rattle.resolve.specs.Declarations.{UsedItem, InterfaceTree, interface_of, interfaces, package_named, full_use, full_interface, full_interfaces, no_interface, interface_at, interface_name, interface_names, file_name}
+use Rattle.resolve.specs.Resolved as tree
+use Rattle.resolve.specs.Declarations.{UsedItem, InterfaceTree, WorldTree, interface_of, interfaces, worlds, package_named, full_use, full_interface, full_interfaces, full_world, full_worlds, no_interface, interface_at, interface_name, interface_names}
+use Rattle.resolve.specs.Scopes.{file_name, scopes}
+use Rattle.package_form.specs.Distinct.{RefusesScopes}
 use Rattle.package_form.specs.Entries.{Table, table_of, labels_of, type_entries}
-use Rattle.resolve.specs.Resolves.{Resolves, full_names, package_in, names_in_order, uses_of_interface, IsKnownUse, HasKnownNames, interface_uses, type_uses, PassesLimit, IsOfInterfaces, HasNoFaults, HasDistinctNames, HasCycle, IsPackageOf, ResolveRefuses}
+use Rattle.resolve.specs.Resolves.{Resolves, full_names, package_in, names_in_order, uses_of_interface, IsKnownUse, HasKnownNames, interface_uses, type_uses, PassesLimit, HasEntries, HasNoFaults, HasDistinctNames, HasCycle, IsPackageOf, ResolveRefuses}
 use Rattle.package_form.specs.Ids.{interfaces_from, interfaces_in}
 use Rattle.resolve.specs.Building.{HasNoWorlds, DefinesPackage, table_definitions}
 use Rattle.resolve.specs.Finished.{IsFinished, header}
 use Rattle.resolve.specs.Knowing.{RefusesUnknown}
-use Rattle.resolve.specs.Shape.{HasInterfaces}
 use Rattle.package_form.specs.Postfix.{IsPostfix}
-use Rattle.resolve.specs.Sources.{interface_entry, interface_syntax}
 use Rattle.tables.specs.declared.error.ResolveError.{ResolveError}
 use Rattle.tables.specs.declared.error.ResolveError.TheVariants as error
 use Rattle.tables.specs.declared.tables.Interface.{Interface}
@@ -36,43 +36,43 @@ use Rattle.tables.specs.declared.tables.Definition.{Definition}
 use Rattle.tables.specs.declared.tables.Resolve.{Resolve}
 use Rattle.package_form.proofs.Lists.{all-contained, contains-map, contains-unmap, contains-here, contains-later, all-head}
 use Rattle.resolve.proofs.Packaging.{interface-name}
-use Rattle.resolve.proofs.AllDefinitions.{items-none}
+use Rattle.resolve.proofs.Apart.{AreOthers, AreApart, apart-distinct, are-apart}
+use Rattle.resolve.proofs.Referring.{Every}
+use Rattle.resolve.proofs.AllDefinitions.{items-none, map-none}
 use Rattle.resolve.proofs.Placed.{same-map, same-flat}
 use Rattle.resolve.proofs.FullNames.{uses-full, interface-full}
 use Rattle.resolve.proofs.Renaming.{renamed_definition, used_under, interface_under, definitions-same, meaning-renamed, flat-renamed}
 
-no-world : (i : Bor Syntax) (at : Span) (n : List ℕ) (ws : List WorldEntry) → interface_entry i ≡ AWorld at n ws → ⊥
-no-world i at n ws e = absurd (cc)
+-- ---- names of a file
 
-pub of-interfaces : (f : File) (is : List (Bor Syntax)) → map interface_entry is ≡ f.entries → 0 < length f.entries → HasInterfaces f (map interface_entry is)
-of-interfaces f is e l = record {
-  alone = record {
-    some = λ none. let z = ap length none in absurd (omega (arith, l, z));
-    alone = λ w.
-        let c = subst (λ (es : List FileEntry). Contains es (AWorld w.0 w.1 w.2)) (sym e) w.3 in
-        let i = contains-unmap interface_entry is (AWorld w.0 w.1 w.2) c in
-        no-world i.0 w.0 w.1 w.2 i.2;
-  };
-  entries = e;
-}
+-- the names of interfaces are some of the names of the file
+names-among : (P : List ℕ → Type 0) (es : List FileEntry) → Every P (map file_name es) → Every P (map interface_name (filter_map interface_of es))
+names-among P [] h = tt
+names-among P (AnInterface n xs ∷ es) h = (h.0, names-among P es h.1)
+names-among P (AWorld at n ws ∷ es) h = names-among P es h.1
 
-pub file-interfaces : (is : List (Bor Syntax)) → filter_map interface_of (map interface_entry is) ≡ map interface_syntax is
-file-interfaces [] = refl
-file-interfaces (i ∷ is) = ap (λ (ts : List InterfaceTree). interface_syntax i ∷ ts) (file-interfaces is)
-
-names-of : (es : List FileEntry) → ((at : Span) (n : List ℕ) (ws : List WorldEntry) → Contains es (AWorld at n ws) → ⊥) → map interface_name (filter_map interface_of es) ≡ map file_name es
-names-of [] h = refl
-names-of (AnInterface n xs ∷ es) h = ap (λ (ns : List (List ℕ)). n ∷ ns) (names-of es (λ at m ws c. h at m ws (contains-later (AnInterface n xs) (AWorld at m ws) es c)))
-names-of (AWorld at n ws ∷ es) h = absurd (h at n ws (contains-here (AWorld at n ws) es))
+interfaces-apart : (es : List FileEntry) → AreApart (map file_name es) → AreApart (map interface_name (filter_map interface_of es))
+interfaces-apart [] h = tt
+interfaces-apart (AnInterface n xs ∷ es) h = (names-among (AreOthers n) es h.0, interfaces-apart es h.1)
+interfaces-apart (AWorld at n ws ∷ es) h = interfaces-apart es h.1
 
 pub distinct-interfaces : (f : File) → HasNoFaults f → AreDistinct (interface_names (interfaces f))
 distinct-interfaces f h =
-    subst AreDistinct (sym (names-of f.entries (λ at n ws c. h.interfaces.alone (at, n, ws, c)))) (all-head AreDistinct _ _ h.distinct)
+    apart-distinct (interface_names (interfaces f)) (interfaces-apart f.entries (are-apart (map file_name f.entries) (all-head AreDistinct _ _ h.distinct)))
 
-pub refuses-unknown : (f : File) (is : List InterfaceTree) (e : ResolveError) → is ≡ interfaces f → IsOfInterfaces f → HasDistinctNames f → RefusesUnknown is e → ResolveRefuses f e
-refuses-unknown f is (error.Unknown n) same alone distinct h = (alone, distinct, subst (λ ts. RefusesUnknown ts (error.Unknown n)) same h)
-refuses-unknown f is error.NoMemory same alone distinct h = tt
-refuses-unknown f is _ same alone distinct h = absurd h
+pub has-entries : {A B : Type 0} (g : A → B) (xs : List A) → 0 < length xs → map g xs ≢ []
+has-entries g [] l e = absurd (omega (arith, l))
+has-entries g (x ∷ xs) l e = absurd (cc)
+
+pub refuses-duplicate : (f : File) (e : ResolveError) → HasEntries f → RefusesScopes (scopes f) e → ResolveRefuses f e
+refuses-duplicate f (error.Duplicate n) some h = (some, h)
+refuses-duplicate f error.NoMemory some h = tt
+refuses-duplicate f _ some h = absurd h
+
+pub refuses-unknown : (f : File) (is : List InterfaceTree) (e : ResolveError) → is ≡ interfaces f → HasEntries f → HasDistinctNames f → RefusesUnknown is (worlds f) e → ResolveRefuses f e
+refuses-unknown f is (error.Unknown n) same some distinct h = (some, distinct, subst (λ ts. RefusesUnknown ts (worlds f) (error.Unknown n)) same h)
+refuses-unknown f is error.NoMemory same some distinct h = tt
+refuses-unknown f is _ same some distinct h = absurd h
 
 pub refuses-cycle : (f : File) (e : ResolveError) → HasNoFaults f → (e ≡ error.NoMemory) ⊎ ((e ≡ error.Cycle) × HasCycle f) → ResolveRefuses f e
 refuses-cycle f e h (inl q) = subst (ResolveRefuses f) (sym q) tt
@@ -113,6 +113,10 @@ under-is p i some h = let a = full-is p i.name some in let b = by i.uses h in rw
         let b = by us (λ v c. h v (contains-later u v us c)) in
         ap (λ (n : List ℕ). record { interface = n; name = u.name; local = u.local } ∷ map (used_under (full_if p) (none-full p)) us) a
         ∙ ap (λ (vs : List UsedItem). full_use p u ∷ vs) b
+
+-- where a file has no worlds
+pub without-worlds : (f : File) (q : Package) → worlds f ≡ [] → Resolves (full_interfaces f) [] q → Resolves (full_interfaces f) (full_worlds f) q
+without-worlds f q none h = subst (λ (ws : List WorldTree). Resolves (full_interfaces f) (map (full_world (package_named f)) ws) q) (sym none) h
 
 -- The table that interfaces define is that of their package, whose names are full names.
 module _ (p : PackageParts) (is : List InterfaceTree) (order : List ℕ) (orders : List (List ℕ)) (t : Table) (placed : IsPlacement (interface_uses is) order)
@@ -158,7 +162,7 @@ module _ (p : PackageParts) (is : List InterfaceTree) (order : List ℕ) (orders
       ∙ same-flat (λ k. map (renamed_definition (full_if p) (none-full p)) (interface_meaning (interface_at is k) (get_or orders k [])))
       (λ k. interface_meaning (interface_at (map (full_interface p) is) k) (get_or orders k [])) order (λ k l. meaning-here (get_or order k 0) (below k l))
 
-  pub table-resolves : Resolves (map (full_interface p) is) (package_in p t)
+  pub table-resolves : Resolves (map (full_interface p) is) [] (package_in p t)
   table-resolves = record {
     order = order;
     placed = subst (λ (us : List (List ℕ)). IsPlacement us order) (sym (uses-full p is)) placed;
@@ -171,14 +175,15 @@ module _ (p : PackageParts) (is : List InterfaceTree) (order : List ℕ) (orders
     definitions = definitions-ordered;
   }
 
-  pub refuses-limit : (f : File) (e : ResolveError) → p ≡ package_named f → is ≡ interfaces f → HasNoFaults f → (e ≡ error.NoMemory) ⊎ ((e ≡ error.Limit) × PassesLimit t) → ResolveRefuses f e
-  refuses-limit f e named same h (inl q) = subst (ResolveRefuses f) (sym q) tt
-  refuses-limit f e named same h (inr q) = subst (ResolveRefuses f) (sym q.0) (inr (
+  pub refuses-limit : (f : File) (e : ResolveError) → p ≡ package_named f → is ≡ interfaces f → worlds f ≡ [] → HasNoFaults f → (e ≡ error.NoMemory) ⊎ ((e ≡ error.Limit) × PassesLimit t) → ResolveRefuses f e
+  refuses-limit f e named same none h (inl q) = subst (ResolveRefuses f) (sym q) tt
+  refuses-limit f e named same none h (inr q) = subst (ResolveRefuses f) (sym q.0) (inr (
     h,
     record {
       table = t;
-      resolves = subst (λ (ts : List InterfaceTree). Resolves (map (full_interface (package_named f)) ts) (package_in (package_named f) t)) same
-          (subst (λ (q : PackageParts). Resolves (map (full_interface q) is) (package_in q t)) named table-resolves);
+      resolves = without-worlds f (package_in (package_named f) t) none
+          (subst (λ (ts : List InterfaceTree). Resolves (map (full_interface (package_named f)) ts) [] (package_in (package_named f) t)) same
+          (subst (λ (q : PackageParts). Resolves (map (full_interface q) is) [] (package_in q t)) named table-resolves));
       postfix = d.postfix;
       items = items-none t.rows t.worlds d.worlds d.own;
       earlier = d.earlier;
@@ -202,40 +207,55 @@ pub full-kept : (p : PackageParts) (rows : List Definition) (i : ℕ) (ns : List
 full-kept p rows i [] = refl
 full-kept p rows i (n ∷ ns) = ap (λ (ms : List (List ℕ)). own_name p n ∷ ms) (full-kept p rows (i + 1) ns)
 
-module _ (id : PackageId) (t : Table) (r : Resolve) (f : IsFinished id t r) where
+module _ (p : PackageParts) (t : Table) (r : Resolve) (f : IsFinished p t r) where
   labels-same : labels_of r.interfaces ≡ t.interfaces
   labels-same = ap labels_of f.interfaces ∙ names-kept t.rows 0 t.interfaces
 
   table-same : table_of r ≡ t
   table-same = rw (labels-same, f.worlds, f.definitions) refl
 
-  names-same : names_in r ≡ full_names (header id) t
+  names-same : names_in r ≡ full_names (p) t
   names-same =
       ap (λ (ps : List PackageParts). map (λ (x : Interface). full_name_in (slice_get ps x.«package».0) x.name) r.interfaces) f.packages
-      ∙ ap (map (λ (x : Interface). full_name_in (slice_get (header id ∷ []) x.«package».0) x.name)) f.interfaces
-      ∙ full-kept (header id) t.rows 0 t.interfaces
+      ∙ ap (map (λ (x : Interface). full_name_in (slice_get (p ∷ []) x.«package».0) x.name)) f.interfaces
+      ∙ full-kept (p) t.rows 0 t.interfaces
 
-  package-same : t.worlds ≡ [] → package_of r ≡ package_in (header id) t
+  package-same : t.worlds ≡ [] → package_of r ≡ package_in (p) t
   package-same none =
-      let here : worlds r ≡ [] = ap (map (λ w. world_meaning (names_in r) (trees r) r.definitions (world_name r w) w)) (f.worlds ∙ none) in
-      let there : (package_in (header id) t).worlds ≡ [] =
-      ap (map (λ w. world_meaning (full_names (header id) t) (references (full_names (header id) t) [] t.rows) t.rows (own_name (header id) w.name) w)) none in
-      let definitions : (package_of r).definitions ≡ (package_in (header id) t).definitions =
-      ap (λ (ns : List (List ℕ)). definitions_from ns [] r.definitions) names-same ∙ ap (definitions_from (full_names (header id) t) []) f.definitions in
-      ap (λ (ns : List (List ℕ)). record { interfaces = ns; worlds = worlds r; definitions = (package_of r).definitions }) names-same
-      ∙ ap (λ (ws : List WorldMeaning). record { interfaces = full_names (header id) t; worlds = ws; definitions = (package_of r).definitions }) (here ∙ sym there)
-      ∙ ap (λ ds. record { interfaces = full_names (header id) t; worlds = (package_in (header id) t).worlds; definitions = ds }) definitions
+      let here : worlds_in r ≡ [] = ap (map (λ w. world_meaning (names_in r) (trees r) r.definitions (world_name r w) w)) (f.worlds ∙ none) in
+      let there : (package_in (p) t).worlds ≡ [] =
+      ap (map (λ w. world_meaning (full_names (p) t) (references (full_names (p) t) [] t.rows) t.rows (own_name (p) w.name) w)) none in
+      let definitions : (package_of r).definitions ≡ (package_in (p) t).definitions =
+      ap (λ (ns : List (List ℕ)). definitions_from ns [] r.definitions) names-same ∙ ap (definitions_from (full_names (p) t) []) f.definitions in
+      ap (λ (ns : List (List ℕ)). record { interfaces = ns; worlds = worlds_in r; definitions = (package_of r).definitions }) names-same
+      ∙ ap (λ (ws : List WorldMeaning). record { interfaces = full_names (p) t; worlds = ws; definitions = (package_of r).definitions }) (here ∙ sym there)
+      ∙ ap (λ ds. record { interfaces = full_names (p) t; worlds = (package_in (p) t).worlds; definitions = ds }) definitions
 
-  pub is-package : (g : File) → header id ≡ package_named g → Resolves (full_interfaces g) (package_in (package_named g) t) → IsPostfix t.rows → t.worlds ≡ [] → HasNoWorlds t.rows → IsPackageOf g r
-  is-package g named resolves postfix none own = record {
-    packages = f.packages ∙ ap (λ (p : PackageParts). p ∷ []) named;
+  pub is-package : (g : File) → p ≡ package_named g → worlds g ≡ [] → Resolves (full_interfaces g) [] (package_in (package_named g) t) → IsPostfix t.rows → t.worlds ≡ [] → HasNoWorlds t.rows
+      → IsPackageOf g r
+  is-package g named unworldly resolves postfix none own = record {
+    packages = f.packages ∙ ap (λ (q : PackageParts). q ∷ []) named;
     worlds = f.worlds ∙ none;
-    resolves = subst (Resolves (full_interfaces g)) (ap (λ (p : PackageParts). package_in p t) (sym named) ∙ sym (package-same none)) resolves;
+    resolves = without-worlds g (package_of r) unworldly
+        (subst (Resolves (full_interfaces g) []) (ap (λ (q : PackageParts). package_in q t) (sym named) ∙ sym (package-same none)) resolves);
     postfix = subst IsPostfix (sym f.definitions) postfix;
     items = items-none r.definitions r.worlds (f.worlds ∙ none) (subst HasNoWorlds (sym f.definitions) own);
     ids = f.interfaces ∙ ap interfaces_in (sym table-same);
     within = subst (λ (x : Table). type_entries x ≤ 65535) (sym table-same) f.within;
   }
+
+-- a package without worlds is of a file without
+pub no-worlds : (r : Resolve) → r.worlds ≡ [] → worlds_in r ≡ []
+no-worlds r e = ap (map (λ w. world_meaning (names_in r) (trees r) r.definitions (world_name r w) w)) e
+
+pub none-declared : (f : File) (r : Resolve) → IsPackageOf f r → worlds f ≡ []
+none-declared f r p =
+    map-none (full_world (package_named f)) (worlds f) (map-none tree.world_meaning (full_worlds f) (sym p.resolves.worlds ∙ no-worlds r p.worlds))
+
+-- the test for worlds finds none
+pub no-world-there : (b : Bool) (ws : List WorldTree) → (IsTrue b ↔ (ws ≢ [])) → b ≡ false → ws ≡ []
+no-world-there b [] h e = refl
+no-world-there b (w ∷ ws) h e = absurd (false≢true (sym e ∙ h.1 (λ q. cc)))
 
 pub ok-map : {T E : Type 0} (r : Result T E) (P Q : T → Type 0) → ((x : T) → P x → Q x) → IfOk r P → IfOk r Q
 ok-map (Ok x) P Q f h = f x h

@@ -1,7 +1,9 @@
--- What the interfaces of a syntax tree declare: used names, types and functions, each in source order; and what they name.
+-- What the interfaces of a syntax tree declare: used names, types and functions, each in source order; what its worlds import and export;
+-- and what they name.
 use Rattle.std.specs.Prelude.{ℕ, List, [], ◌∷◌, ◌++◌, map, flat_map, filter_map, Option, None, Some, slice_index_or}
-use Rattle.wit_syntax.specs.Syntax.{Ty, Prim, Named, ListOf, OptionOf, TupleOf, ResultOf, Tys, none, more, MaybeTy, Absent, Present, Definition, Alias, Record, Variant, Enumeration, FlagSet, Function, Member, CaseOf, PathTo, Local, UsedAs, Entry, Uses, Defines, Declares, FileEntry, AnInterface, AWorld, File}
+use Rattle.wit_syntax.specs.Syntax.{Ty, Prim, Named, ListOf, OptionOf, TupleOf, ResultOf, Tys, none, more, MaybeTy, Absent, Present, Definition, Alias, Record, Variant, Enumeration, FlagSet, Function, Member, CaseOf, PathTo, Local, UsedAs, Entry, Uses, Defines, Declares, WorldEntry, Whole, Single, FileEntry, AnInterface, AWorld, File}
 use Rattle.tables.specs.PackageNames.{PackageParts, own_name}
+use Rattle.wit_syntax.specs.declared.ast.Direction.{Direction}
 
 -- `use interface.{name as local}`
 pub record UsedItem : Type 0 where
@@ -64,6 +66,30 @@ interface_of (AWorld at n es) = None
 abbrev pub interfaces : File → List InterfaceTree
 interfaces f = filter_map interface_of f.entries
 
+-- an item of a world: an interface by its name, or a function of its own
+pub data ItemTree : Type 0 where
+  InterfaceNamed : Direction → List ℕ → ItemTree
+  FunctionOf : Direction → FunctionItem → ItemTree
+
+pub record WorldTree : Type 0 where
+  pub name : List ℕ
+  pub items : List ItemTree
+
+abbrev pub item_tree : WorldEntry → ItemTree
+item_tree (Whole way (Local i)) = InterfaceNamed way i
+item_tree (Single way at n f) = FunctionOf way (record { name = n; function = f })
+
+abbrev pub world_tree : List ℕ → List WorldEntry → WorldTree
+world_tree n es = record { name = n; items = map item_tree es }
+
+abbrev pub world_of : FileEntry → Option WorldTree
+world_of (AnInterface n es) = None
+world_of (AWorld at n es) = Some (world_tree n es)
+
+-- the worlds of a file
+abbrev pub worlds : File → List WorldTree
+worlds f = filter_map world_of f.entries
+
 -- ---- WIT.md, "Package Names": full names
 
 -- the name of a tree's package
@@ -77,6 +103,17 @@ full_use p u = record { interface = own_name p u.interface; name = u.name; local
 -- an interface under its full name
 abbrev pub full_interface : PackageParts → InterfaceTree → InterfaceTree
 full_interface p i = record { name = own_name p i.name; uses = map (full_use p) i.uses; types = i.types; functions = i.functions }
+
+-- a world under its full name, and so each interface among its items
+abbrev pub full_item : PackageParts → ItemTree → ItemTree
+full_item p (InterfaceNamed way i) = InterfaceNamed way (own_name p i)
+full_item p (FunctionOf way f) = FunctionOf way f
+
+abbrev pub full_world : PackageParts → WorldTree → WorldTree
+full_world p w = record { name = own_name p w.name; items = map (full_item p) w.items }
+
+abbrev pub full_worlds : File → List WorldTree
+full_worlds f = map (full_world (package_named f)) (worlds f)
 
 -- the interfaces of a file under their full names
 abbrev pub full_interfaces : File → List InterfaceTree
@@ -181,18 +218,3 @@ entry_scopes (Declares at n f) = map member_name f.params ∷ []
 -- an interface's uses, types and functions share one scope
 abbrev pub item_scopes : List Entry → List (List (List ℕ))
 item_scopes es = flat_map entry_names es ∷ flat_map entry_scopes es
-
-abbrev pub interface_scopes : FileEntry → List (List (List ℕ))
-interface_scopes (AnInterface n es) = item_scopes es
-interface_scopes (AWorld at n es) = []
-
-abbrev pub file_name : FileEntry → List ℕ
-file_name (AnInterface n es) = n
-file_name (AWorld at n es) = n
-
--- interfaces and worlds share one scope
-abbrev pub scopes_in : List FileEntry → List (List (List ℕ))
-scopes_in es = map file_name es ∷ flat_map interface_scopes es
-
-abbrev pub scopes : File → List (List (List ℕ))
-scopes f = scopes_in f.entries

@@ -42,8 +42,8 @@ with_row k (row.Function f) i = record { «package» = i.«package»; name = i.n
 abbrev pub header : PackageId → PackageParts
 header p = record { namespace = p.namespace; name = p.name; version = option_map string_bytes p.version }
 
-pub record IsFinished (p : PackageId) (t : Table) (r : Resolve) : Type 0 where
-  pub packages : r.packages ≡ header p ∷ []
+pub record IsFinished (p : PackageParts) (t : Table) (r : Resolve) : Type 0 where
+  pub packages : r.packages ≡ p ∷ []
   pub worlds : r.worlds ≡ t.worlds
   pub interfaces : r.interfaces ≡ interfaces_in t
   pub definitions : r.definitions ≡ t.rows

@@ -1,10 +1,10 @@
 -- Names that stand for something, item by item.
-use Rattle.std.specs.Prelude.{◌≡◌, ℕ, List, map, All, Contains}
+use Rattle.std.specs.Prelude.{◌≡◌, ◌⊎◌, ℕ, List, map, All, Contains}
 use Rattle.std.specs.Map.{lookup}
 use Rattle.std.specs.Str.{bytes_eq}
-use Rattle.wit_syntax.specs.Syntax.{Entry, Uses, Defines, Declares}
-use Rattle.resolve.specs.Declarations.{UsedItem, InterfaceTree, used_item, type_names, named_definition, named_function}
-use Rattle.resolve.specs.Resolves.{place_of, IsKnownUse, IsUnknownUse, IsUnknownName, IsUnknownIn}
+use Rattle.wit_syntax.specs.Syntax.{Entry, Uses, Defines, Declares, FileEntry, AnInterface, AWorld}
+use Rattle.resolve.specs.Declarations.{UsedItem, InterfaceTree, ItemTree, WorldTree, interface_tree, world_tree, interface_names, used_item, type_names, named_definition, named_function}
+use Rattle.resolve.specs.Resolves.{place_of, IsKnownUse, IsUnknownUse, IsUnknownName, IsUnknownIn, HasKnownNames, IsUnknownItem, IsUnknownInWorld, IsKnownWorld}
 use Rattle.tables.specs.declared.error.ResolveError.{ResolveError}
 use Rattle.tables.specs.declared.error.ResolveError.TheVariants as error
 
@@ -24,10 +24,23 @@ LacksEntry is i (Declares at n f) m = IsUnknownName i (named_function f) m
 abbrev pub LacksAny : List InterfaceTree → InterfaceTree → List Entry → List ℕ → Type 0
 LacksAny is i es m = (e : Entry) × Contains es e × LacksEntry is i e m
 
-abbrev pub RefusesUnknown : List InterfaceTree → ResolveError → Type 0
-RefusesUnknown is (error.Unknown n) = (i : InterfaceTree) × Contains is i × IsUnknownIn is i n
-RefusesUnknown is error.NoMemory = Unit {0}
-RefusesUnknown is _ = ⊥
+abbrev pub LacksItem : List (List ℕ) → List ItemTree → List ℕ → Type 0
+LacksItem names is m = (i : ItemTree) × Contains is i × IsUnknownItem names i m
+
+-- an interface or a world of a file
+abbrev pub KnowsFileEntry : List InterfaceTree → FileEntry → Type 0
+KnowsFileEntry is (AnInterface n es) = HasKnownNames is (interface_tree n es)
+KnowsFileEntry is (AWorld at n es) = IsKnownWorld (interface_names is) (world_tree n es)
+
+abbrev pub LacksFileEntry : List InterfaceTree → FileEntry → List ℕ → Type 0
+LacksFileEntry is (AnInterface n es) m = IsUnknownIn is (interface_tree n es) m
+LacksFileEntry is (AWorld at n es) m = IsUnknownInWorld (interface_names is) (world_tree n es) m
+
+abbrev pub RefusesUnknown : List InterfaceTree → List WorldTree → ResolveError → Type 0
+RefusesUnknown is ws (error.Unknown n) =
+    ((i : InterfaceTree) × Contains is i × IsUnknownIn is i n) ⊎ ((w : WorldTree) × Contains ws w × IsUnknownInWorld (interface_names is) w n)
+RefusesUnknown is ws error.NoMemory = Unit {0}
+RefusesUnknown is ws _ = ⊥
 
 -- the entries give each name its first place
 abbrev pub TellsPlaces : {V : Type 0} → (V → List ℕ) → List (V × ℕ) → List (List ℕ) → Type 0

@@ -2,10 +2,10 @@ pub mod Order
 pub mod Waiting
 pub mod Declarations
 pub mod Resolved
+pub mod Scopes
 pub mod Resolves
 pub mod Building
 pub mod Sources
 pub mod Knowing
 pub mod Lent
 pub mod Finished
-pub mod Shape

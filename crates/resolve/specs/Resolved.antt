@@ -1,14 +1,18 @@
 -- What the syntax stands for in an interface: each name for that name of the interface's scope.
 use Rattle.std.specs.Prelude.{ℕ, List, [], ◌∷◌, ◌++◌, map, slice_index_or, Option, None, Some}
 use Rattle.wit_syntax.specs.Syntax.{Ty, Prim, Named, ListOf, OptionOf, TupleOf, ResultOf, Tys, none, more, MaybeTy, Absent, Present, Definition, Alias, Record, Variant, Enumeration, FlagSet, Member, CaseOf}
+use Rattle.wit_syntax.specs.declared.ast.Direction.{Direction as Syntax}
+use Rattle.wit_syntax.specs.declared.ast.Direction.TheVariants as syntax
 use Rattle.wit_syntax.specs.declared.ast.Primitive.{Primitive as Keyword}
 use Rattle.wit_syntax.specs.declared.ast.Primitive.TheVariants as keyword
 use Rattle.canonical_abi.specs.Labelled.{none_label, some_label, ok_label, error_label}
+use Rattle.tables.specs.declared.tables.Direction.{Direction}
+use Rattle.tables.specs.declared.tables.Direction.TheVariants as direction
 use Rattle.tables.specs.declared.tables.Primitive.TheVariants as primitive
 use Rattle.tables.specs.declared.tables.ValType.{ValType}
 use Rattle.tables.specs.declared.tables.ValType.TheVariants as val
-use Rattle.tables.specs.Package.{Tree, PrimTree, TextTree, Reference, ListTree, RecordTree, VariantTree, FlagsTree, Fields, no_fields, field, Choices, no_choices, empty, holding, Plain, AsTuple, AsEnum, AsOption, AsResult, NamedDefinition, IsUse, IsType, IsFunction, read_enum}
-use Rattle.resolve.specs.Declarations.{UsedItem, TypeItem, FunctionItem, InterfaceTree}
+use Rattle.tables.specs.Package.{Tree, PrimTree, TextTree, Reference, ListTree, RecordTree, VariantTree, FlagsTree, Fields, no_fields, field, Choices, no_choices, empty, holding, Plain, AsTuple, AsEnum, AsOption, AsResult, NamedDefinition, IsUse, IsType, IsFunction, ItemMeaning, WithInterface, WithFunction, WorldMeaning, read_enum}
+use Rattle.resolve.specs.Declarations.{UsedItem, TypeItem, FunctionItem, InterfaceTree, ItemTree, InterfaceNamed, FunctionOf, WorldTree}
 
 abbrev pub primitive_tree : Keyword → Tree
 primitive_tree keyword.Bool = PrimTree primitive.Bool
@@ -135,3 +139,19 @@ in_order i types order = map (λ k. type_meaning i (slice_index_or types k no_ty
 abbrev pub interface_meaning : InterfaceTree → List ℕ → List NamedDefinition
 interface_meaning i order =
     map (use_meaning i.name) i.uses ++ (in_order i.name i.types order ++ map (function_meaning i.name) i.functions)
+
+-- ---- worlds
+
+abbrev pub direction_meaning : Syntax → Direction
+direction_meaning syntax.Import = direction.Import
+direction_meaning syntax.Export = direction.Export
+
+-- a function of a world names no type, so the interface of its references is none
+abbrev pub item_meaning : ItemTree → ItemMeaning
+item_meaning (InterfaceNamed way i) = WithInterface (direction_meaning way) i
+item_meaning (FunctionOf way f) =
+    WithFunction (direction_meaning way) f.name (fields_of (map (member_meaning []) f.function.params)) (resolved_if [] f.function.result)
+
+-- a world under its name, its items in order
+abbrev pub world_meaning : WorldTree → WorldMeaning
+world_meaning w = record { name = w.name; items = map item_meaning w.items }

@@ -3,21 +3,21 @@ use Rattle.std.specs.Prelude.{◌≡◌, ◌≢◌, ◌<◌, ◌≤◌, ℕ, suc
 use Rattle.std.specs.List.{list_all}
 use Rattle.std.specs.Option.{option_map}
 use Rattle.std.specs.Str.{bytes_eq}
-use Rattle.wit_tokens.specs.declared.token.Span.{Span}
-use Rattle.wit_syntax.specs.Syntax.{Ty, depth, Member, CaseOf, Definition as Body, Alias, Record, Variant, Enumeration, FlagSet, Function as Signature, Entry, Uses, Defines, Declares, WorldEntry, FileEntry, AnInterface, AWorld, File}
+use Rattle.wit_syntax.specs.Syntax.{Ty, depth, Member, CaseOf, Definition as Body, Alias, Record, Variant, Enumeration, FlagSet, Function as Signature, Entry, Uses, Defines, Declares, WorldEntry, Whole, Single, FileEntry, AnInterface, AWorld, File}
 use Rattle.tables.specs.PackageNames.{PackageParts, own_name}
 use Rattle.package_form.specs.Scope.{AreDistinct, IsDuplicate}
 use Rattle.resolve.specs.Order.{IsPlacement, IsCycle}
 use Rattle.tables.specs.Tables.{are_earlier, name_types, are_standard}
-use Rattle.tables.specs.Package.{Package, references, definitions_from, world_meaning, package_of}
+use Rattle.tables.specs.Package.{Package, references, definitions_from, world_meaning as table_world, package_of}
 use Rattle.package_form.specs.Entries.{Table, table_of, type_entries}
 use Rattle.package_form.specs.Ids.{is_world_function, places_where, interfaces_in}
 use Rattle.package_form.specs.Form.{functions_of}
 use Rattle.tables.specs.declared.tables.World.{World}
 use Rattle.tables.specs.declared.tables.Definition.{Definition}
 use Rattle.package_form.specs.Postfix.{IsPostfix}
-use Rattle.resolve.specs.Declarations.{UsedItem, TypeItem, FunctionItem, InterfaceTree, interfaces, full_interfaces, package_named, interface_at, interface_names, use_interface, type_names, own_types, named_definition, named_function, scopes}
-use Rattle.resolve.specs.Resolved.{interface_meaning}
+use Rattle.resolve.specs.Declarations.{UsedItem, TypeItem, FunctionItem, InterfaceTree, ItemTree, InterfaceNamed, FunctionOf, WorldTree, interfaces, worlds, full_interfaces, full_worlds, package_named, interface_at, interface_names, use_interface, type_names, own_types, named_definition, named_function}
+use Rattle.resolve.specs.Scopes.{scopes}
+use Rattle.resolve.specs.Resolved.{interface_meaning, world_meaning}
 use Rattle.tables.specs.declared.error.ResolveError.{ResolveError}
 use Rattle.tables.specs.declared.error.ResolveError.TheVariants as error
 use Rattle.tables.specs.declared.tables.Resolve.{Resolve}
@@ -54,13 +54,13 @@ names_in_order is order = map (λ k. (interface_at is k).name) order
 
 -- The package has the interfaces in the order in which each is placed, and each one's uses, its types in the order in which each is
 -- placed, and its functions.
-pub record Resolves (is : List InterfaceTree) (p : Package) : Type 0 where
+pub record Resolves (is : List InterfaceTree) (ws : List WorldTree) (p : Package) : Type 0 where
   pub order : List ℕ
   pub placed : IsPlacement (interface_uses is) order
   pub types : ℕ → List ℕ
   pub types_placed : (k : ℕ) → k < length is → IsPlacement (type_uses (interface_at is k)) (types k)
   pub names : p.interfaces ≡ names_in_order is order
-  pub worlds : p.worlds ≡ []
+  pub worlds : p.worlds ≡ map world_meaning ws
   pub definitions : p.definitions ≡ flat_map (λ k. interface_meaning (interface_at is k) (types k)) order
 
 -- the full names of a table's interfaces
@@ -71,7 +71,7 @@ full_names p t = map (own_name p) t.interfaces
 abbrev pub package_in : PackageParts → Table → Package
 package_in p t = record {
   interfaces = full_names p t;
-  worlds = map (λ w. world_meaning (full_names p t) (references (full_names p t) [] t.rows) t.rows (own_name p w.name) w) t.worlds;
+  worlds = map (λ w. table_world (full_names p t) (references (full_names p t) [] t.rows) t.rows (own_name p w.name) w) t.worlds;
   definitions = definitions_from (full_names p t) [] t.rows;
 }
 
@@ -87,8 +87,9 @@ PassesLimit t = (65535 < type_entries t) ⊎ (are_standard t.rows ≡ false)
 
 -- ---- faults
 
+-- worlds are not made yet
 abbrev pub HasWorld : File → Type 0
-HasWorld f = (at : Span) × (n : List ℕ) × (es : List WorldEntry) × Contains f.entries (AWorld at n es)
+HasWorld f = worlds f ≢ []
 
 abbrev pub HasDuplicate : File → List ℕ → Type 0
 HasDuplicate f n = (ns : List (List ℕ)) × Contains (scopes f) ns × IsDuplicate ns n
@@ -117,17 +118,35 @@ IsUnknownIn is i n =
     ⊎ (((t : TypeItem) × Contains i.types t × IsUnknownName i (named_definition t.definition) n)
     ⊎ ((f : FunctionItem) × Contains i.functions f × IsUnknownName i (named_function f.function) n))
 
+-- an item of a world names an interface that is none of these, or a type, of which a world declares none
+abbrev pub IsUnknownItem : List (List ℕ) → ItemTree → List ℕ → Type 0
+IsUnknownItem names (InterfaceNamed way i) n = (n ≡ i) × (¬ Contains names n)
+IsUnknownItem names (FunctionOf way f) n = Contains (named_function f.function) n
+
+abbrev pub IsUnknownInWorld : List (List ℕ) → WorldTree → List ℕ → Type 0
+IsUnknownInWorld names w n = (i : ItemTree) × Contains w.items i × IsUnknownItem names i n
+
 abbrev pub HasUnknown : File → List ℕ → Type 0
-HasUnknown f n = (i : InterfaceTree) × Contains (interfaces f) i × IsUnknownIn (interfaces f) i n
+HasUnknown f n =
+    ((i : InterfaceTree) × Contains (interfaces f) i × IsUnknownIn (interfaces f) i n)
+    ⊎ ((w : WorldTree) × Contains (worlds f) w × IsUnknownInWorld (interface_names (interfaces f)) w n)
 
 pub record HasKnownNames (is : List InterfaceTree) (i : InterfaceTree) : Type 0 where
   pub uses : All (IsKnownUse is) i.uses
   pub types : All (λ t. All (Contains (type_names i)) (named_definition t.definition)) i.types
   pub functions : All (λ f. All (Contains (type_names i)) (named_function f.function)) i.functions
 
+abbrev pub IsKnownItem : List (List ℕ) → ItemTree → Type 0
+IsKnownItem names (InterfaceNamed way i) = Contains names i
+IsKnownItem names (FunctionOf way f) = named_function f.function ≡ []
+
+abbrev pub IsKnownWorld : List (List ℕ) → WorldTree → Type 0
+IsKnownWorld names w = All (IsKnownItem names) w.items
+
 -- each name stands for something
-abbrev pub KnowsAll : File → Type 0
-KnowsAll f = All (HasKnownNames (interfaces f)) (interfaces f)
+pub record KnowsAll (f : File) : Type 0 where
+  pub in_interfaces : All (HasKnownNames (interfaces f)) (interfaces f)
+  pub in_worlds : All (IsKnownWorld (interface_names (interfaces f))) (worlds f)
 
 -- interfaces that use each other, or types of one interface that name each other
 abbrev pub HasCycle : File → Type 0
@@ -164,9 +183,13 @@ entry_fits (Uses at p us) = true
 entry_fits (Defines at n d) = body_fits d
 entry_fits (Declares at n f) = signature_fits f
 
+abbrev pub world_entry_fits : WorldEntry → Bool
+world_entry_fits (Whole way p) = true
+world_entry_fits (Single way at n f) = signature_fits f
+
 abbrev pub interface_fits : FileEntry → Bool
 interface_fits (AnInterface n es) = list_all entry_fits es
-interface_fits (AWorld at n es) = true
+interface_fits (AWorld at n es) = list_all world_entry_fits es
 
 abbrev pub file_fits : File → Bool
 file_fits f = list_all interface_fits f.entries
@@ -177,26 +200,25 @@ file_fits f = list_all interface_fits f.entries
 pub record IsPackageOf (f : File) (r : Resolve) : Type 0 where
   pub packages : r.packages ≡ package_named f ∷ []
   pub worlds : r.worlds ≡ []
-  pub resolves : Resolves (full_interfaces f) (package_of r)
+  pub resolves : Resolves (full_interfaces f) (full_worlds f) (package_of r)
   pub postfix : IsPostfix r.definitions
   pub items : HasItems r.definitions r.worlds
   pub ids : r.interfaces ≡ interfaces_in (table_of r)
   pub within : type_entries (table_of r) ≤ 65535
 
--- the tree has an interface, and interfaces alone
-pub record IsOfInterfaces (f : File) : Type 0 where
-  pub some : f.entries ≢ []
-  pub alone : HasWorld f → ⊥
+-- the tree has an interface or a world
+abbrev pub HasEntries : File → Type 0
+HasEntries f = f.entries ≢ []
 
 pub record HasNoFaults (f : File) : Type 0 where
-  pub interfaces : IsOfInterfaces f
+  pub some : HasEntries f
   pub distinct : HasDistinctNames f
   pub known : KnowsAll f
 
 -- a table that the tree resolves to passes a limit
 pub record IsTooLarge (f : File) : Type 0 where
   pub table : Table
-  pub resolves : Resolves (full_interfaces f) (package_in (package_named f) table)
+  pub resolves : Resolves (full_interfaces f) (full_worlds f) (package_in (package_named f) table)
   pub postfix : IsPostfix table.rows
   pub items : HasItems table.rows table.worlds
   pub earlier : IsTrue (are_earlier 0 table.rows)
@@ -206,11 +228,11 @@ pub record IsTooLarge (f : File) : Type 0 where
 -- a refusal: its cause stands, and no cause of an earlier class does
 abbrev pub ResolveRefuses : File → ResolveError → Type 0
 ResolveRefuses f error.EmptyPackage = f.entries ≡ []
-ResolveRefuses f error.NotThisShape = HasWorld f
-ResolveRefuses f (error.Duplicate n) = IsOfInterfaces f × HasDuplicate f n
-ResolveRefuses f (error.Unknown n) = IsOfInterfaces f × HasDistinctNames f × HasUnknown f n
+ResolveRefuses f error.NotThisShape = HasNoFaults f × HasWorld f
+ResolveRefuses f (error.Duplicate n) = HasEntries f × HasDuplicate f n
+ResolveRefuses f (error.Unknown n) = HasEntries f × HasDistinctNames f × HasUnknown f n
 ResolveRefuses f error.Cycle = HasNoFaults f × HasCycle f
-ResolveRefuses f error.Limit = (IsOfInterfaces f × (file_fits f ≡ false)) ⊎ (HasNoFaults f × IsTooLarge f)
+ResolveRefuses f error.Limit = (HasEntries f × (file_fits f ≡ false)) ⊎ (HasNoFaults f × IsTooLarge f)
 ResolveRefuses f error.NoMemory = Unit {0}
 
 -- the tree has no faults, is nested as a text, and has this package

@@ -1,20 +1,22 @@
 -- What is declared by parts of a syntax tree that are lent.
-use Rattle.std.specs.Prelude.{ℕ, List, map}
+use Rattle.std.specs.Prelude.{ℕ, List, [], map}
 use Rattle.std.specs.Borrow.{Bor}
-use Rattle.wit_syntax.specs.Syntax.{FileEntry, AnInterface}
-use Rattle.wit_syntax.specs.View.{function_view, entry_view}
-use Rattle.wit_syntax.specs.declared.ast.Interface.{Interface as InterfaceSyntax}
+use Rattle.wit_syntax.specs.View.{function_view, world_entry_view}
+use Rattle.wit_syntax.specs.declared.ast.WorldItem.{WorldItem}
+use Rattle.tables.specs.PackageNames.{PackageParts}
 use Rattle.wit_syntax.specs.declared.ast.Func.{Func}
-use Rattle.tables.specs.Package.{Key}
-use Rattle.resolve.specs.Declarations.{UsedItem, FunctionItem, InterfaceTree, interface_tree}
+use Rattle.tables.specs.Package.{Key, ItemMeaning, WorldMeaning}
+use Rattle.resolve.specs.Resolved.{item_meaning}
+use Rattle.resolve.specs.Declarations.{UsedItem, FunctionItem, InterfaceTree, item_tree, full_item}
 use Rattle.resolve.specs.Lent.{declared_type, used_item_of}
 use Rattle.resolve.specs.declared.declared.Declarations.{Declarations}
 
-abbrev pub interface_entry : Bor InterfaceSyntax → FileEntry
-interface_entry i = AnInterface i.now.name (map entry_view i.now.items.items)
+-- an item of a world of this package, and a world of these items, under full names
+abbrev pub item_in : PackageParts → WorldItem → ItemMeaning
+item_in p i = item_meaning (full_item p (item_tree (world_entry_view i)))
 
-abbrev pub interface_syntax : Bor InterfaceSyntax → InterfaceTree
-interface_syntax i = interface_tree i.now.name (map entry_view i.now.items.items)
+abbrev pub world_in : PackageParts → List WorldItem → WorldMeaning
+world_in p is = record { name = []; items = map (item_in p) is }
 
 abbrev pub use_of : List ℕ → List ℕ → UsedItem
 use_of i n = record { interface = i; name = n; local = n }

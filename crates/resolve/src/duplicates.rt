@@ -1,17 +1,24 @@
 //! 40: names of one scope differ in more than the case of their letters.
-ghost use Rattle.std.specs.Prelude.{◌≡◌, ◌++◌, ◌⊎◌, List, ℕ, map, All, IfErr, OnOk};
-ghost use Rattle.wit_syntax.specs.View.{used_view, field_view, case_view, definition_view, entry_view};
-ghost use Rattle.resolve.specs.Declarations.{local_name, member_name, case_name, definition_scopes, entry_names, entry_scopes, item_scopes, scopes_in};
-ghost use Rattle.resolve.specs.Sources.{interface_entry};
-ghost use Rattle.package_form.specs.Distinct.{AreMet, RefusesNames, RefusesScopes};
+ghost use Rattle.std.specs.Prelude.{◌≡◌, ◌++◌, ◌∷◌, [], ◌⊎◌, List, ℕ, map, All, IfOk, IfErr, OnOk};
+ghost use Rattle.wit_syntax.specs.View.{used_view, field_view, case_view, definition_view, entry_view, item_view};
+ghost use Rattle.tables.specs.PackageNames.{PackageParts};
+ghost use Rattle.tables.specs.Package.{ItemMeaning};
+ghost use Rattle.resolve.specs.Declarations.{local_name, member_name, case_name, definition_scopes, entry_names, entry_scopes, item_scopes};
+ghost use Rattle.resolve.specs.Resolved.{direction_meaning};
+ghost use Rattle.resolve.specs.Scopes.{file_name, interface_scopes, scopes_in};
+ghost use Rattle.resolve.specs.Sources.{item_in, world_in};
+ghost use Rattle.package_form.specs.Naming.{item_name, item_parameters, world_scopes};
+ghost use Rattle.package_form.specs.Distinct.{AreMet, AreMetOnSides, RefusesNames, RefusesSides, RefusesScopes};
 ghost use Rattle.package_form.specs.Scope.{AreDistinct};
 
 use crate::declare::local_name;
 use atoms::{KeyedState, Label};
-use package_form::Scope;
-use std::alloc::Global;
-use tables::ResolveError;
-use wit_syntax::{Case, Field, Interface, InterfaceItem, TypeDefKind, UsedName};
+use package_form::{Scope, Sides};
+use std::alloc::{AllocError, Global};
+use tables::{Direction, Name, PackageName, ResolveError};
+use wit_syntax::{
+    Case, Field, InterfaceItem, Item, TypeDefKind, UsedName, WorldItem, WorldItemKind,
+};
 
 fn distinct_labels(alloc: Global, keyed: KeyedState, labels: &[Label]) -> Result<(), ResolveError>
     ensures ok { OnOk result (AreDistinct labels.now) }
@@ -111,19 +118,116 @@ fn distinct_items(
     Ok(())
 }
 
+/// On which side of its world an item stands.
+fn side_of(direction: wit_syntax::Direction) -> Direction
+    ensures { result ≡ direction_meaning direction }
+{
+    match direction {
+        wit_syntax::Direction::Import => Direction::Import,
+        wit_syntax::Direction::Export => Direction::Export,
+    }
+}
+
+/// The name under which an item stands in its world: of an interface its full name.
+fn world_item_name(
+    alloc: Global,
+    package: &PackageName,
+    item: &WorldItem,
+) -> Result<Name, AllocError>
+    ensures { IfOk result (λ n. n ≡ item_name (item_in «package».now item.now)) }
+{
+    match &item.kind {
+        WorldItemKind::Interface(path) => package.full_name(alloc, &path.name),
+        WorldItemKind::Func(function) => Name::of(alloc, &function.name),
+    }
+}
+
+/// Whether the parameters of an item differ.
+fn distinct_item_parameters(
+    alloc: Global,
+    keyed: KeyedState,
+    item: &WorldItem,
+) -> Result<(), ResolveError>
+    ensures ok { (p : PackageParts) → OnOk result (AreDistinct (item_parameters (item_in p item.now))) }
+    ensures err { (p : PackageParts) → IfErr result (RefusesNames (item_parameters (item_in p item.now))) }
+{
+    match &item.kind {
+        WorldItemKind::Interface(_) => Ok(()),
+        WorldItemKind::Func(function) => distinct_fields(alloc, keyed, &function.ty.params),
+    }
+}
+
+/// Meets the name of an item on its side.
+fn meet_world_item(
+    alloc: Global,
+    package: &PackageName,
+    sides: &mut Sides,
+    item: &WorldItem,
+) -> Result<(), ResolveError>
+    ensures ok { OnOk result ((items : List ItemMeaning) → AreMetOnSides items sides.old → AreMetOnSides (items ++ item_in «package».now item.now ∷ []) sides.new) }
+    ensures err { IfErr result (λ e. (items : List ItemMeaning) → AreMetOnSides items sides.old → RefusesSides (items ++ item_in «package».now item.now ∷ []) e) }
+{
+    let name = world_item_name(alloc, package, item)?;
+    sides.meet(alloc, side_of(item.direction), name)
+}
+
+fn distinct_world_items(
+    alloc: Global,
+    keyed: KeyedState,
+    package: &PackageName,
+    items: &[WorldItem],
+) -> Result<(), ResolveError>
+    ensures ok { OnOk result (All AreDistinct (world_scopes (world_in «package».now items.now))) }
+    ensures err { IfErr result (RefusesScopes (world_scopes (world_in «package».now items.now))) }
+{
+    let mut sides = Sides::new(alloc, keyed);
+    for item in items {
+        meet_world_item(alloc, package, &mut sides, item)?;
+        distinct_item_parameters(alloc, keyed, item)?;
+    }
+    Ok(())
+}
+
+/// The name of an interface or a world.
+fn file_name(item: &Item) -> &Label
+    ensures { result.now ≡ file_name (item_view item.now) }
+{
+    match item {
+        Item::Interface(interface) => &interface.name,
+        Item::World(world) => &world.name,
+    }
+}
+
+/// Tests the scopes in an interface or a world.
+fn distinct_inside(
+    alloc: Global,
+    keyed: KeyedState,
+    package: &PackageName,
+    item: &Item,
+) -> Result<(), ResolveError>
+    ensures ok { OnOk result (All AreDistinct (interface_scopes «package».now (item_view item.now))) }
+    ensures err { IfErr result (RefusesScopes (interface_scopes «package».now (item_view item.now))) }
+{
+    match item {
+        Item::Interface(interface) => distinct_items(alloc, keyed, &interface.items),
+        Item::World(world) => distinct_world_items(alloc, keyed, package, &world.items),
+    }
+}
+
 /// 40 for the first name in the source that its scope has before.
 pub fn distinct_names(
     alloc: Global,
     keyed: KeyedState,
-    interfaces: &[&Interface],
+    package: &PackageName,
+    items: &[Item],
 ) -> Result<(), ResolveError>
-    ensures ok { OnOk result (All AreDistinct (scopes_in (map interface_entry interfaces.now))) }
-    ensures err { IfErr result (RefusesScopes (scopes_in (map interface_entry interfaces.now))) }
+    ensures ok { OnOk result (All AreDistinct (scopes_in «package».now (map item_view items.now))) }
+    ensures err { IfErr result (RefusesScopes (scopes_in «package».now (map item_view items.now))) }
 {
     let mut scope = Scope::new(alloc, keyed);
-    for interface in interfaces {
-        scope.meet(alloc, &interface.name)?;
-        distinct_items(alloc, keyed, &interface.items)?;
+    for item in items {
+        scope.meet(alloc, file_name(item))?;
+        distinct_inside(alloc, keyed, package, item)?;
     }
     Ok(())
 }

@@ -83,7 +83,7 @@ fn interfaces_in(
 }
 
 /// The name of the package that a tree's header gives.
-fn package_name(alloc: Global, id: &wit_syntax::PackageId) -> Result<PackageName, AllocError>
+pub fn package_name(alloc: Global, id: &wit_syntax::PackageId) -> Result<PackageName, AllocError>
     ensures { IfOk result (λ p. p ≡ header id.now) }
 {
     Ok(PackageName {
@@ -97,18 +97,17 @@ fn package_name(alloc: Global, id: &wit_syntax::PackageId) -> Result<PackageName
 pub fn finish(
     alloc: Global,
     builder: Builder,
-    id: &wit_syntax::PackageId,
+    package: PackageName,
 ) -> Result<Resolve, ResolveError>
     requires earlier { IsTrue (are_earlier 0 builder.rows) }
     requires typed { IsTrue (name_types builder.rows) }
-    ensures ok { IfOk result (IsFinished id.now builder) }
+    ensures ok { IfOk result (IsFinished «package» builder) }
     ensures err { IfErr result (λ e. (e ≡ ResolveError.NoMemory) ⊎ ((e ≡ ResolveError.Limit) × PassesLimit builder)) }
 {
     let (names, rows) = builder.into_parts();
     if passes_entries(names.len(), &[], &rows) || !are_standard(&rows) {
         return Err(ResolveError::Limit);
     }
-    let package = package_name(alloc, id)?;
     Ok(Resolve {
         packages: Sequence::new(vec![in alloc; package]?),
         interfaces: interfaces_in(alloc, &rows, &names)?,

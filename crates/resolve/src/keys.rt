@@ -1,7 +1,10 @@
 //! The key of a syntax tree's names.
 use crate::declare::local_name;
 use atoms::{KeyedState, Label, NameKey};
-use wit_syntax::{Ast, Case, Field, InterfaceItem, Item, TypeDefKind, UsedName};
+use wit_syntax::{
+    Ast, Case, Field, InterfaceItem, Item, PackageId, TypeDefKind, UsedName, WorldItem,
+    WorldItemKind,
+};
 
 fn write_labels(key: &mut NameKey, labels: &[Label]) {
     for label in labels {
@@ -57,14 +60,44 @@ fn write_items(key: &mut NameKey, items: &[InterfaceItem]) {
     }
 }
 
+/// Writes the names that stand in a world, an interface's without its package.
+fn write_world_items(key: &mut NameKey, items: &[WorldItem]) {
+    for item in items {
+        match &item.kind {
+            WorldItemKind::Interface(path) => key.write(path.name.as_bytes()),
+            WorldItemKind::Func(function) => {
+                key.write(function.name.as_bytes());
+                write_fields(key, &function.ty.params);
+            }
+        }
+    }
+}
+
+fn write_package(key: &mut NameKey, id: &PackageId) {
+    key.write(id.namespace.as_bytes());
+    key.write(id.name.as_bytes());
+}
+
+/// Writes the name of an interface or a world, and those that stand in it.
+fn write_entry(key: &mut NameKey, item: &Item) {
+    match item {
+        Item::Interface(interface) => {
+            key.write(interface.name.as_bytes());
+            write_items(key, &interface.items);
+        }
+        Item::World(world) => {
+            key.write(world.name.as_bytes());
+            write_world_items(key, &world.items);
+        }
+    }
+}
+
 /// Hashers of names, with a key made of all names in the scopes of a tree.
 pub fn keyed_by_tree(ast: &Ast) -> KeyedState {
     let mut key = NameKey::new();
+    write_package(&mut key, &ast.package);
     for item in &ast.items {
-        if let Item::Interface(interface) = item {
-            key.write(interface.name.as_bytes());
-            write_items(&mut key, &interface.items);
-        }
+        write_entry(&mut key, item);
     }
     key.state()
 }

@@ -2,10 +2,13 @@
 ghost use Rattle.std.specs.Prelude.{◌≡◌, nat_le, map};
 ghost use Rattle.std.specs.List.{list_all};
 ghost use Rattle.wit_syntax.specs.Syntax.{depth, depth_all, depth_maybe, tys_of};
-ghost use Rattle.wit_syntax.specs.View.{ty_view, boxed_view, optional_view, field_view, case_view, definition_view, function_view, entry_view};
-ghost use Rattle.resolve.specs.Resolves.{fits_if, member_fits, case_fits, body_fits, signature_fits, entry_fits};
+ghost use Rattle.wit_syntax.specs.View.{ty_view, boxed_view, optional_view, field_view, case_view, definition_view, function_view, entry_view, world_entry_view, item_view};
+ghost use Rattle.resolve.specs.Resolves.{fits_if, member_fits, case_fits, body_fits, signature_fits, entry_fits, world_entry_fits, interface_fits};
 
-use wit_syntax::{Case, Field, FuncType, InterfaceItem, TypeDefKind, TypeExpression};
+use wit_syntax::{
+    Case, Field, FuncType, InterfaceItem, Item, TypeDefKind, TypeExpression, WorldItem,
+    WorldItemKind,
+};
 
 /// The deepest that a type is nested, a type by itself being 1.
 const MAX_NESTING: usize = 64;
@@ -108,12 +111,52 @@ fn is_item_nested(item: &InterfaceItem) -> bool
     }
 }
 
-/// Whether the types of these items are nested no deeper than the limit.
-pub fn are_items_nested(items: &[InterfaceItem]) -> bool
+fn are_items_nested(items: &[InterfaceItem]) -> bool
     ensures { result ≡ list_all entry_fits (map entry_view items.now) }
 {
     for item in items {
         if !is_item_nested(item) {
+            return false;
+        }
+    }
+    true
+}
+
+fn is_world_item_nested(item: &WorldItem) -> bool
+    ensures { result ≡ world_entry_fits (world_entry_view item.now) }
+{
+    match &item.kind {
+        WorldItemKind::Interface(_) => true,
+        WorldItemKind::Func(function) => is_function_nested(&function.ty),
+    }
+}
+
+fn are_world_items_nested(items: &[WorldItem]) -> bool
+    ensures { result ≡ list_all world_entry_fits (map world_entry_view items.now) }
+{
+    for item in items {
+        if !is_world_item_nested(item) {
+            return false;
+        }
+    }
+    true
+}
+
+fn is_entry_nested(item: &Item) -> bool
+    ensures { result ≡ interface_fits (item_view item.now) }
+{
+    match item {
+        Item::Interface(interface) => are_items_nested(&interface.items),
+        Item::World(world) => are_world_items_nested(&world.items),
+    }
+}
+
+/// Whether the types of these interfaces and worlds are nested no deeper than the limit.
+pub fn are_nested(items: &[Item]) -> bool
+    ensures { result ≡ list_all interface_fits (map item_view items.now) }
+{
+    for item in items {
+        if !is_entry_nested(item) {
             return false;
         }
     }

@@ -1,92 +1,79 @@
 //! The package of a syntax tree.
-ghost use Rattle.std.specs.Prelude.{◌≡◌, map, All, IsTrue, IfOk, IfErr};
-ghost use Rattle.std.specs.List.{list_all};
+ghost use Rattle.std.specs.Prelude.{◌≡◌, ◌≢◌, ◌↔◌, [], map, filter_map, All, IsTrue, IfOk, IfErr};
 ghost use Rattle.atoms.specs.Label.{IsLabel};
-ghost use Rattle.wit_syntax.specs.View.{file_view};
+ghost use Rattle.wit_syntax.specs.View.{item_view, file_view};
 ghost use Rattle.wit_syntax.specs.FullNames.{has_full_names};
 ghost use Rattle.package_form.specs.Form.{IsInPackageForm};
 ghost use Rattle.package_form.specs.Naming.{package_scopes};
 ghost use Rattle.package_form.specs.Scope.{AreDistinct};
-ghost use Rattle.resolve.specs.Declarations.{interfaces, interface_names};
-ghost use Rattle.resolve.specs.Resolves.{interface_fits, IsPackageOf, ResolveRefuses, HasNoFaults, AnswersOnly};
-ghost use Rattle.resolve.specs.Sources.{declared_tree, interface_entry, interface_syntax};
-ghost use Rattle.resolve.specs.Shape.{HasInterfaces, RefusesShape};
+ghost use Rattle.resolve.specs.Declarations.{interface_of, world_of, interfaces, interface_names, package_named};
+ghost use Rattle.resolve.specs.Resolves.{IsPackageOf, ResolveRefuses, HasNoFaults, AnswersOnly};
+ghost use Rattle.resolve.specs.Sources.{declared_tree};
 
 use crate::assembly::define_package;
 use crate::declared::Declarations;
 use crate::duplicates::distinct_names;
-use crate::finish::finish;
+use crate::finish::{finish, package_name};
 use crate::graphs::{interface_order, type_orders};
 use crate::keys::keyed_by_tree;
-use crate::nested::are_items_nested;
+use crate::nested::are_nested;
 use crate::unknown::known_names;
 use atoms::KeyedState;
 use std::alloc::{AllocError, Global};
-use tables::{Resolve, ResolveError};
-use wit_syntax::{Ast, Interface, Item};
-
-/// The interfaces of a tree that has no worlds. 43 where it has neither, 44 where it has a world.
-fn interfaces(alloc: Global, ast: &Ast) -> Result<Vec<&Interface>, ResolveError>
-    ensures ok { IfOk result (λ is. HasInterfaces (file_view ast.now) (map interface_entry is.items)) }
-    ensures err { IfErr result (RefusesShape (file_view ast.now)) }
-{
-    if ast.items.is_empty() {
-        return Err(ResolveError::EmptyPackage);
-    }
-    let mut interfaces = Vec::new(alloc);
-    for item in &ast.items {
-        match item {
-            Item::Interface(interface) => interfaces.push(interface)?,
-            Item::World(_) => return Err(ResolveError::NotThisShape),
-        }
-    }
-    Ok(interfaces)
-}
-
-fn are_nested(interfaces: &[&Interface]) -> bool
-    ensures { result ≡ list_all interface_fits (map interface_entry interfaces.now) }
-{
-    for interface in interfaces {
-        if !are_items_nested(&interface.items) {
-            return false;
-        }
-    }
-    true
-}
+use tables::{PackageName, Resolve, ResolveError};
+use wit_syntax::{Ast, Item};
 
 fn all_declarations<'a>(
     alloc: Global,
     keyed: KeyedState,
-    interfaces: &[&'a Interface],
+    items: &'a [Item],
 ) -> Result<Vec<Declarations<'a>>, AllocError>
-    ensures { IfOk result (λ ds. map declared_tree ds.items ≡ map interface_syntax interfaces.now) }
+    ensures { IfOk result (λ ds. map declared_tree ds.items ≡ filter_map interface_of (map item_view items.now)) }
 {
     let mut all = Vec::new(alloc);
-    for interface in interfaces {
-        all.push(Declarations::of(alloc, keyed, interface)?)?;
+    for item in items {
+        if let Item::Interface(interface) = item {
+            all.push(Declarations::of(alloc, keyed, interface)?)?;
+        }
     }
     Ok(all)
 }
 
-/// What the interfaces of a tree declare, where each name stands for something.
-fn declarations(
+/// What the interfaces of a tree declare, where each name of the tree stands for something.
+fn declarations<'a>(
     alloc: Global,
     keyed: KeyedState,
-    ast: &Ast,
-) -> Result<Vec<Declarations>, ResolveError>
+    package: &PackageName,
+    ast: &'a Ast,
+) -> Result<Vec<Declarations<'a>>, ResolveError>
+    requires { «package».now ≡ package_named (file_view ast.now) }
     ensures faults { IfOk result (λ _. HasNoFaults (file_view ast.now)) }
     ensures ok { IfOk result (λ ds. map declared_tree ds.items ≡ interfaces (file_view ast.now)) }
     ensures labels { IfOk result (λ _. All IsLabel (interface_names (interfaces (file_view ast.now)))) }
     ensures err { IfErr result (ResolveRefuses (file_view ast.now)) }
 {
-    let interfaces = interfaces(alloc, ast)?;
-    if !are_nested(&interfaces) {
+    if ast.items.is_empty() {
+        return Err(ResolveError::EmptyPackage);
+    }
+    if !are_nested(&ast.items) {
         return Err(ResolveError::Limit);
     }
-    distinct_names(alloc, keyed, &interfaces)?;
-    let all = all_declarations(alloc, keyed, &interfaces)?;
-    known_names(alloc, keyed, &all, &interfaces)?;
+    distinct_names(alloc, keyed, package, &ast.items)?;
+    let all = all_declarations(alloc, keyed, &ast.items)?;
+    known_names(alloc, keyed, &all, &ast.items)?;
     Ok(all)
+}
+
+/// Whether one of these is a world.
+fn has_world(items: &[Item]) -> bool
+    ensures { IsTrue result ↔ (filter_map world_of (map item_view items.now) ≢ []) }
+{
+    for item in items {
+        if let Item::World(_) = item {
+            return true;
+        }
+    }
+    false
 }
 
 /// The package of a syntax tree, whose answer `from_ast` weighs.
@@ -96,17 +83,21 @@ fn resolved_package(alloc: Global, ast: &Ast) -> Result<Resolve, ResolveError>
     ensures err { IfErr result (ResolveRefuses (file_view ast.now)) }
 {
     let keyed = keyed_by_tree(ast);
-    let all = declarations(alloc, keyed, ast)?;
+    let package = package_name(alloc, &ast.package)?;
+    let all = declarations(alloc, keyed, &package, ast)?;
+    if has_world(&ast.items) {
+        return Err(ResolveError::NotThisShape);
+    }
     let order = interface_order(alloc, keyed, &all)?;
     let orders = type_orders(alloc, keyed, &all)?;
     let builder = define_package(alloc, keyed, &all, order.as_slice(), &orders)?;
-    finish(alloc, builder, &ast.package)
+    finish(alloc, builder, package)
 }
 
 /// The package of a syntax tree. Its definitions stand in package order, in which each interface comes after
 /// those that it uses, and within an interface uses, types and functions; types that stand inside a definition
-/// stand before it, inner ones first. 43 where the tree has neither interface nor world, 44 where it has a
-/// world, 40 where a name stands twice in a scope, 41 where a name stands for nothing, 42 where interfaces use
+/// stand before it, inner ones first. 43 where the tree has neither interface nor world, 40 where a name stands
+/// twice in a scope, 41 where a name stands for nothing, 44 where the tree has a world, 42 where interfaces use
 /// each other or types name each other, 45 where the package passes a limit, in this order; 45 also where a
 /// type is nested more than 64 deep or has no members, as in no text; 46 where memory is wanting. Where the
 /// tree's names make full names, as those of every text do, the package is in the form that packages have, and in

@@ -1,12 +1,12 @@
 //! 41: each name stands for something. Names are exact in case.
-ghost use Rattle.std.specs.Prelude.{◌≡◌, All, Contains, IfOk, IfErr, OnOk, IfSome, IfNone, MatchOption, map};
+ghost use Rattle.std.specs.Prelude.{◌≡◌, ◌<◌, All, Contains, IfOk, IfErr, OnOk, IfSome, IfNone, MatchOption, map, filter_map, length};
 ghost use Rattle.atoms.specs.Label.{IsLabel};
-ghost use Rattle.wit_syntax.specs.View.{entry_view, path_view, used_view};
-ghost use Rattle.resolve.specs.Declarations.{used_item, interface_names};
-ghost use Rattle.resolve.specs.Resolves.{IsKnownUse, IsUnknownUse, HasKnownNames};
+ghost use Rattle.wit_syntax.specs.View.{entry_view, path_view, used_view, world_entry_view, item_view};
+ghost use Rattle.resolve.specs.Declarations.{InterfaceTree, used_item, item_tree, interface_of, world_of, interface_at, interface_names};
+ghost use Rattle.resolve.specs.Resolves.{IsKnownUse, IsUnknownUse, HasKnownNames, IsKnownItem, IsUnknownItem, IsKnownWorld};
 ghost use Rattle.resolve.specs.Lent.{lent};
-ghost use Rattle.resolve.specs.Sources.{declared_tree, interface_syntax, use_of};
-ghost use Rattle.resolve.specs.Knowing.{KnowsEntry, LacksEntry, LacksUse, LacksAny, RefusesUnknown};
+ghost use Rattle.resolve.specs.Sources.{declared_tree, use_of};
+ghost use Rattle.resolve.specs.Knowing.{KnowsEntry, LacksEntry, LacksUse, LacksAny, LacksItem, KnowsFileEntry, LacksFileEntry, RefusesUnknown};
 
 use crate::declare::interface_names;
 use crate::declared::Declarations;
@@ -15,7 +15,7 @@ use crate::names::Names;
 use atoms::{KeyedState, Label};
 use std::alloc::{AllocError, Global};
 use tables::ResolveError;
-use wit_syntax::{Interface, InterfaceItem, Use};
+use wit_syntax::{InterfaceItem, Item, Use, WorldItem, WorldItemKind};
 
 /// The first of these names that isn't known.
 fn first_unknown<'a>(known: &Names, names: &[&'a Label]) -> Option<&'a Label>
@@ -122,22 +122,90 @@ fn unknown_in_items<'a>(
     Ok(None)
 }
 
+/// The interface that an item of a world names where it isn't there, or the first type that it names: a world
+/// declares none.
+fn unknown_in_world_item<'a>(
+    alloc: Global,
+    names: &Names,
+    item: &'a WorldItem,
+) -> Result<Option<&'a Label>, AllocError>
+    ensures none { IfOk result (λ o. IfNone o (IsKnownItem names.now (item_tree (world_entry_view item.now)))) }
+    ensures some { IfOk result (λ o. IfSome o (λ m. IsUnknownItem names.now (item_tree (world_entry_view item.now)) m.now)) }
+{
+    match &item.kind {
+        WorldItemKind::Interface(path) => match names.place_of(&path.name) {
+            Some(_) => Ok(None),
+            None => Ok(Some(&path.name)),
+        },
+        WorldItemKind::Func(function) => {
+            let named = function_names(alloc, &function.ty)?;
+            if named.is_empty() {
+                Ok(None)
+            } else {
+                Ok(Some(named[0]))
+            }
+        }
+    }
+}
+
+fn unknown_in_world<'a>(
+    alloc: Global,
+    names: &Names,
+    items: &'a [WorldItem],
+) -> Result<Option<&'a Label>, AllocError>
+    ensures none { IfOk result (λ o. IfNone o (All (IsKnownItem names.now) (map item_tree (map world_entry_view items.now)))) }
+    ensures some { IfOk result (λ o. IfSome o (λ m. LacksItem names.now (map item_tree (map world_entry_view items.now)) m.now)) }
+{
+    for item in items {
+        if let Some(name) = unknown_in_world_item(alloc, names, item)? {
+            return Ok(Some(name));
+        }
+    }
+    Ok(None)
+}
+
+/// A name of an interface, whose declarations stand at this place, or of a world that stands for nothing.
+fn unknown_in_entry<'a>(
+    alloc: Global,
+    all: &[Declarations],
+    names: &Names,
+    place: usize,
+    item: &'a Item,
+) -> Result<Option<&'a Label>, AllocError>
+    requires names { names.now ≡ interface_names (map declared_tree all.now) }
+    requires place { (i : InterfaceTree) → interface_of (item_view item.now) ≡ Some i → (place < length all.now) × (interface_at (map declared_tree all.now) place ≡ i) }
+    ensures none { IfOk result (λ o. IfNone o (KnowsFileEntry (map declared_tree all.now) (item_view item.now))) }
+    ensures some { IfOk result (λ o. IfSome o (λ m. LacksFileEntry (map declared_tree all.now) (item_view item.now) m.now)) }
+{
+    match item {
+        Item::Interface(interface) => {
+            unknown_in_items(alloc, all, names, &all[place], &interface.items)
+        }
+        Item::World(world) => unknown_in_world(alloc, names, &world.items),
+    }
+}
+
 /// 41 for the first name in the source that stands for nothing.
 pub fn known_names(
     alloc: Global,
     keyed: KeyedState,
     all: &[Declarations],
-    interfaces: &[&Interface],
+    items: &[Item],
 ) -> Result<(), ResolveError>
-    requires { map declared_tree all.now ≡ map interface_syntax interfaces.now }
+    requires { map declared_tree all.now ≡ filter_map interface_of (map item_view items.now) }
     ensures ok { OnOk result (All (HasKnownNames (map declared_tree all.now)) (map declared_tree all.now)) }
+    ensures worlds { OnOk result (All (IsKnownWorld (interface_names (map declared_tree all.now))) (filter_map world_of (map item_view items.now))) }
     ensures labels { OnOk result (All IsLabel (interface_names (map declared_tree all.now))) }
-    ensures err { IfErr result (RefusesUnknown (map declared_tree all.now)) }
+    ensures err { IfErr result (RefusesUnknown (map declared_tree all.now) (filter_map world_of (map item_view items.now))) }
 {
     let names = interface_names(alloc, keyed, all)?;
-    for (place, interface) in interfaces.iter().enumerate() {
-        if let Some(name) = unknown_in_items(alloc, all, &names, &all[place], &interface.items)? {
+    let mut place = 0;
+    for item in items {
+        if let Some(name) = unknown_in_entry(alloc, all, &names, place, item)? {
             return Err(ResolveError::Unknown(name.copy(alloc)?));
+        }
+        if let Item::Interface(_) = item {
+            place += 1;
         }
     }
     Ok(())

@@ -1,19 +1,14 @@
 -- The words of a result, with a type of an error and without.
-use Rattle.std.proofs.Common.{◌≡◌, ℕ, List, [], ◌∷◌, ◌++◌, Option, Some, None, Box, Global, refl, ap, sym, ◌∙◌, rules}
-use Rattle.wit_syntax.specs.declared.ast.TypeExpression.{TypeExpression, Result as Either, the_lemmas}
+use Rattle.std.proofs.Common.{◌≡◌, ℕ, List, [], ◌∷◌, ◌++◌, Option, Some, None, Box, Global, refl, ap, sym, ◌∙◌}
+use Rattle.wit_syntax.specs.declared.ast.TypeExpression.{TypeExpression, Result as Either}
 use Rattle.wit_syntax.specs.Syntax.{Ty, MaybeTy, Absent, Present, ResultOf}
 use Rattle.wit_syntax.specs.View.{ty_view, boxed_view}
 use Rattle.wit_tokens.specs.declared.token.Keyword.TheVariants as kw
 use Rattle.wit_tokens.specs.declared.token.Punctuation.TheVariants as mark
+use Rattle.wit_syntax.proofs.Views.{view-Result}
 use Rattle.wit_print.specs.Words.{mark_word, keyword_word}
 use Rattle.wit_print.specs.Canonical.{blank, ty_words}
 use Rattle.wit_print.specs.Pieces.{ok_alone, ok_before}
-
-result-view : (ok error : Option (Box TypeExpression Global)) → ty_view (Either ok error) ≡ ResultOf (boxed_view ok) (boxed_view error)
-result-view None None = search (rules, the_lemmas)
-result-view None (Some e) = search (rules, the_lemmas)
-result-view (Some t) None = search (rules, the_lemmas)
-result-view (Some t) (Some e) = search (rules, the_lemmas)
 
 alone : (space : List ℕ) (ok : MaybeTy) → ty_words space (ResultOf ok Absent) ≡ keyword_word space kw.Result ∷ ok_alone ok
 alone space Absent = refl
@@ -27,12 +22,12 @@ pub words-alone : (space : List ℕ) (ty : TypeExpression) (ok error : Option (B
     → ty_words space (ty_view ty) ≡ keyword_word space kw.Result ∷ ok_alone (boxed_view ok)
 words-alone space ty ok error t e =
     ap (λ (x : TypeExpression). ty_words space (ty_view x)) t
-    ∙ (ap (ty_words space) (result-view ok error) ∙ (ap (λ (x : Option (Box TypeExpression Global)). ty_words space (ResultOf (boxed_view ok) (boxed_view x))) e ∙ alone space (boxed_view ok)))
+    ∙ (ap (ty_words space) (view-Result ok error) ∙ (ap (λ (x : Option (Box TypeExpression Global)). ty_words space (ResultOf (boxed_view ok) (boxed_view x))) e ∙ alone space (boxed_view ok)))
 
 pub words-with : (space : List ℕ) (ty : TypeExpression) (ok error : Option (Box TypeExpression Global)) (b : Box TypeExpression Global) (u : TypeExpression) → ty ≡ Either ok error → error ≡ Some b → u ≡ b.value
     → ty_words space (ty_view ty) ≡ keyword_word space kw.Result ∷ (ok_before (boxed_view ok) ++ mark_word [] mark.Comma ∷ (ty_words blank (ty_view u) ++ mark_word [] mark.Greater ∷ []))
 words-with space ty ok error b u t e d =
     ap (λ (x : TypeExpression). ty_words space (ty_view x)) t
-    ∙ (ap (ty_words space) (result-view ok error)
+    ∙ (ap (ty_words space) (view-Result ok error)
     ∙ (ap (λ (x : Option (Box TypeExpression Global)). ty_words space (ResultOf (boxed_view ok) (boxed_view x))) e
     ∙ (ap (λ (x : TypeExpression). ty_words space (ResultOf (boxed_view ok) (Present (ty_view x)))) (sym d) ∙ before space (boxed_view ok) (ty_view u))))

@@ -12,7 +12,8 @@ use Rattle.wit_tokens.specs.declared.token.TokenKind.TheVariants as kind
 use Rattle.wit_tokens.specs.declared.lexer.Front.TheVariants as front
 use Rattle.wit_tokens.specs.Keywords.{spelling, keywords, keyword_of}
 use Rattle.wit_tokens.specs.Lexing.{front_of, punctuation_front, at_front, version_run, dotted, is_in_version, begins_digit, word_kind, keyword_kind, is_blank}
-use Rattle.wit_print.specs.Words.{Word, text_of, mark_text, mark_word, keyword_word, name_word, version_word}
+use Rattle.wit_tokens.specs.Marks.{mark_text}
+use Rattle.wit_print.specs.Words.{Word, text_of, mark_word, keyword_word, name_word, version_word}
 use Rattle.wit_print.specs.Printable.{IsPrintableVersion}
 use Rattle.wit_print.proofs.Fronts.{breaks, word_stands, escaped_stands}
 use Rattle.wit_print.proofs.Texts.{text-append}

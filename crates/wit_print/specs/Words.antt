@@ -2,10 +2,10 @@
 use Rattle.std.specs.Prelude.{ℕ, List, [], ◌∷◌, ◌++◌, is_some, if◌then◌else◌}
 use Rattle.wit_tokens.specs.declared.token.Keyword.{Keyword}
 use Rattle.wit_tokens.specs.declared.token.Punctuation.{Punctuation}
-use Rattle.wit_tokens.specs.declared.token.Punctuation.TheVariants as mark
 use Rattle.wit_tokens.specs.declared.token.TokenKind.{TokenKind}
 use Rattle.wit_tokens.specs.declared.token.TokenKind.TheVariants as kind
 use Rattle.wit_tokens.specs.Keywords.{spelling, keyword_of}
+use Rattle.wit_tokens.specs.Marks.{mark_text}
 
 pub record Word : Type 0 where
   pub space : List ℕ
@@ -16,23 +16,6 @@ pub record Word : Type 0 where
 abbrev pub text_of : List Word → List ℕ → List ℕ
 text_of [] rest = rest
 text_of (w ∷ ws) rest = w.space ++ (w.bytes ++ text_of ws rest)
-
-abbrev pub mark_text : Punctuation → List ℕ
-mark_text mark.Arrow = 45 ∷ 62 ∷ []
-mark_text mark.Colon = 58 ∷ []
-mark_text mark.Semicolon = 59 ∷ []
-mark_text mark.Comma = 44 ∷ []
-mark_text mark.Dot = 46 ∷ []
-mark_text mark.OpenBrace = 123 ∷ []
-mark_text mark.CloseBrace = 125 ∷ []
-mark_text mark.OpenParenthesis = 40 ∷ []
-mark_text mark.CloseParenthesis = 41 ∷ []
-mark_text mark.Less = 60 ∷ []
-mark_text mark.Greater = 62 ∷ []
-mark_text mark.Equals = 61 ∷ []
-mark_text mark.Slash = 47 ∷ []
-mark_text mark.At = 64 ∷ []
-mark_text mark.Underscore = 95 ∷ []
 
 -- a name that is spelled as a keyword has `%` before it
 abbrev pub escaped : List ℕ → List ℕ

@@ -1,33 +1,11 @@
 //! Single words of a text, each behind the blanks before it.
-ghost use Rattle.std.specs.Prelude.{◌≡◌, ◌∷◌, [], ◌++◌, OnOk};
-ghost use Rattle.wit_print.specs.Words.{mark_text, mark_word, keyword_word, name_word, version_word};
+ghost use Rattle.std.specs.Prelude.{◌∷◌, [], OnOk};
+ghost use Rattle.wit_print.specs.Words.{mark_word, keyword_word, name_word, version_word};
 ghost use Rattle.wit_print.specs.Adding.{Adds};
 
 use atoms::Label;
 use std::alloc::AllocError;
-use wit_tokens::{Keyword, Punctuation, keyword_of, spelling};
-
-fn mark_text(mark: Punctuation) -> &'static str
-    ensures { result.now ≡ mark_text mark }
-{
-    match mark {
-        Punctuation::Arrow => "->",
-        Punctuation::Colon => ":",
-        Punctuation::Semicolon => ";",
-        Punctuation::Comma => ",",
-        Punctuation::Dot => ".",
-        Punctuation::OpenBrace => "{",
-        Punctuation::CloseBrace => "}",
-        Punctuation::OpenParenthesis => "(",
-        Punctuation::CloseParenthesis => ")",
-        Punctuation::Less => "<",
-        Punctuation::Greater => ">",
-        Punctuation::Equals => "=",
-        Punctuation::Slash => "/",
-        Punctuation::At => "@",
-        Punctuation::Underscore => "_",
-    }
-}
+use wit_tokens::{Keyword, Punctuation, keyword_of, mark_text, spelling};
 
 /// Puts a mark behind the text.
 pub(crate) fn write_mark(out: &mut String, space: &str, mark: Punctuation) -> Result<(), AllocError>

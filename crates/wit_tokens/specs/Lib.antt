@@ -1,4 +1,5 @@
 pub mod Keywords
+pub mod Marks
 pub mod Lexing
 pub mod Tokens
 pub mod Laws

@@ -7,10 +7,12 @@ mod error;
 mod keyword;
 mod laws;
 mod lexer;
+mod mark;
 mod token;
 
 pub use error::{Expected, Feature, TextError};
 pub use keyword::{keyword_of, spelling};
 pub use laws::texts_have_one_lexing;
 pub use lexer::lex;
+pub use mark::mark_text;
 pub use token::{Keyword, Punctuation, Span, Token, TokenKind};

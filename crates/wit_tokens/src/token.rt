@@ -69,28 +69,6 @@ pub enum Punctuation {
     Underscore,
 }
 
-impl fmt::Display for Punctuation {
-    fn fmt<W: fmt::Write>(&self, f: &mut fmt::Formatter<W>) -> fmt::Result {
-        f.write_str(match self {
-            Punctuation::Arrow => "->",
-            Punctuation::Colon => ":",
-            Punctuation::Semicolon => ";",
-            Punctuation::Comma => ",",
-            Punctuation::Dot => ".",
-            Punctuation::OpenBrace => "{",
-            Punctuation::CloseBrace => "}",
-            Punctuation::OpenParenthesis => "(",
-            Punctuation::CloseParenthesis => ")",
-            Punctuation::Less => "<",
-            Punctuation::Greater => ">",
-            Punctuation::Equals => "=",
-            Punctuation::Slash => "/",
-            Punctuation::At => "@",
-            Punctuation::Underscore => "_",
-        })
-    }
-}
-
 #[derive(Clone, Copy, Debug, PartialEq, Eq)]
 pub enum TokenKind {
     /// A word that is no keyword, or any word behind `%`.

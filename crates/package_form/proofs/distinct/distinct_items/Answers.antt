@@ -4,11 +4,11 @@ use Rattle.tables.specs.Package.{item_meaning, interface_names, trees}
 use Rattle.tables.specs.declared.tables.WorldItem.{WorldItem}
 use Rattle.package_form.specs.Scope.{AreDistinct}
 use Rattle.package_form.proofs.Lists.{all-none}
-use Rattle.package_form.proofs.Sides.{sides-met-none, refused-name-at, refused-parameters-at, sides-more, parameters-more, whole-world}
+use Rattle.package_form.proofs.WorldItems.{refused-name-at, refused-parameters-at, sides-more, parameters-more, whole-world}
 use Rattle.package_form.proofs.distinct.distinct_items.Goals as goal
 
 pub loop-item-init : goal.loop-item-init
-loop-item-init c = record { met = sides-met-none _ c.new.ensures c.new-2.ensures; parts = all-none AreDistinct }
+loop-item-init c = record { met = c.new-sides.ensures; parts = all-none AreDistinct }
 
 pub returns-in_err-distinct_item-clause-err : goal.returns-in_err-distinct_item-clause-err
 returns-in_err-distinct_item-clause-err c =

@@ -1,12 +1,12 @@
 use Rattle.std.proofs.Common.{map, flat_map, take, All}
-use Rattle.resolve.specs.Declarations.{file_name, interface_scopes}
-use Rattle.resolve.specs.Sources.{interface_entry}
+use Rattle.wit_syntax.specs.View.{item_view}
+use Rattle.resolve.specs.Scopes.{file_name, interface_scopes}
 use Rattle.package_form.specs.Scope.{AreDistinct}
 use Rattle.package_form.specs.Distinct.{AreMet}
 use Rattle.resolve.proofs.duplicates.distinct_names.Given as goal
 
-abbrev pub invariant-loop-interface : goal.invariant-loop-interface
-invariant-loop-interface l = record {
-  names : AreMet (map file_name (map interface_entry (take l.interface-index l.interfaces))) l.scope;
-  parts : All AreDistinct (flat_map interface_scopes (map interface_entry (take l.interface-index l.interfaces)));
+abbrev pub invariant-loop-item : goal.invariant-loop-item
+invariant-loop-item l = record {
+  names : AreMet (map file_name (map item_view (take l.item-index l.items))) l.scope;
+  parts : All AreDistinct (flat_map (interface_scopes l.«package») (map item_view (take l.item-index l.items)));
 }

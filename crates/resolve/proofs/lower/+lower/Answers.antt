@@ -9,7 +9,8 @@ use Rattle.resolve.specs.Declarations.{named_maybe}
 use Rattle.resolve.specs.Resolved.{resolved, resolved_maybe}
 use Rattle.resolve.specs.Building.{LowersIf, LowersInner, KnowsNames, scope_name, scope_names}
 use Rattle.package_form.proofs.Lists.{all-head, all-left, all-right}
-use Rattle.resolve.proofs.Lowering.{view-Named, view-List, view-Option, view-Tuple, view-Result, known-by, inner-by, scope-later, same_name, lowers-list, lowers-option, lowers-tuple, lowers-result, lowers-some, lowers_each-more, val-stays, resolved_all-more, all_named-at}
+use Rattle.wit_syntax.proofs.Views.{view-Named, view-List, view-Option, view-Tuple, view-Result}
+use Rattle.resolve.proofs.Lowering.{known-by, inner-by, scope-later, same_name, lowers-list, lowers-option, lowers-tuple, lowers-result, lowers-some, lowers_each-more, val-stays, resolved_all-more, all_named-at}
 use Rattle.resolve.proofs.lower.+lower.Goals as goal
 
 pub lower_kind-get-requires : goal.lower_kind-get-requires

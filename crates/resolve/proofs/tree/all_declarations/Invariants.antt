@@ -1,6 +1,9 @@
 use Rattle.std.proofs.Common.{◌≡◌, map, take}
-use Rattle.resolve.specs.Sources.{declared_tree, interface_syntax}
+use Rattle.std.specs.List.{filter_map}
+use Rattle.wit_syntax.specs.View.{item_view}
+use Rattle.resolve.specs.Declarations.{interface_of}
+use Rattle.resolve.specs.Sources.{declared_tree}
 use Rattle.resolve.proofs.tree.all_declarations.Given as goal
 
-abbrev pub invariant-loop-interface : goal.invariant-loop-interface
-invariant-loop-interface l = map declared_tree l.all.items ≡ map interface_syntax (take l.interface-index l.interfaces)
+abbrev pub invariant-loop-item : goal.invariant-loop-item
+invariant-loop-item l = map declared_tree l.all.items ≡ filter_map interface_of (map item_view (take l.item-index l.items))

@@ -1,52 +1,80 @@
-use Rattle.std.proofs.Common.{◌<◌, List, ℕ, Bor, IfSome, inl, inr, map, length, ap, sym, subst, ◌∙◌, arith}
+use Rattle.std.proofs.Common.{◌≡◌, ◌+◌, ◌<◌, ◌∙◌, [], List, ℕ, Bor, All, IfSome, IfNone, map, take, length, length-append, get_or, ap, sym, subst, arith}
 use Rattle.std.specs.declared.option.Option.{Option}
-use Rattle.std.proofs.lemmas.List.{length-map, get_or_default}
-use Rattle.wit_syntax.specs.View.{entry_view}
-use Rattle.wit_syntax.specs.declared.ast.InterfaceItem.{InterfaceItem}
-use Rattle.resolve.specs.Declarations.{interface_at, interface_tree, no_interface}
-use Rattle.resolve.specs.Resolves.{IsUnknownIn, HasKnownNames}
-use Rattle.resolve.specs.Sources.{declared_tree, interface_syntax}
-use Rattle.resolve.specs.Knowing.{LacksAny}
-use Rattle.package_form.proofs.Lists.{contains-map, contains-at}
-use Rattle.resolve.proofs.Finding.{if-none, interface-known, interface-lacks, same-at, tree-at}
-use Rattle.package_form.proofs.Meeting.{below_or_at}
+use Rattle.std.specs.List.{cons_option, filter_map}
+use Rattle.std.proofs.lemmas.List.{length-map}
+use Rattle.wit_syntax.specs.View.{item_view}
+use Rattle.wit_syntax.specs.declared.ast.Item.{Item}
+use Rattle.tables.specs.declared.error.ResolveError.TheVariants as error
+use Rattle.resolve.specs.Declarations.{InterfaceTree, no_interface, interface_of, world_of}
+use Rattle.resolve.specs.Resolves.{HasKnownNames}
+use Rattle.resolve.specs.Sources.{declared_tree}
+use Rattle.resolve.specs.Knowing.{KnowsFileEntry, LacksFileEntry, RefusesUnknown}
+use Rattle.package_form.proofs.Lists.{contains-map, contains-at, all-append, all-cons, all-none, map-more}
+use Rattle.package_form.proofs.Meeting.{all-taken}
+use Rattle.resolve.proofs.FileEntries.{given-at, given-next, interfaces-known, worlds-known, entry-lacks}
 use Rattle.resolve.proofs.unknown.known_names.Goals as goal
+use Rattle.resolve.proofs.unknown.known_names.Goals.{in-Interface, in_default-item}
+
+pub unknown_in_entry-requires-clause-place : goal.unknown_in_entry-requires-clause-place
+unknown_in_entry-requires-clause-place c = λ i e.
+    let all = c.args.all.now in
+    let xs = c.args.items.now in
+    let x = c.item-item.result in
+    let at = given-at interface_of item_view xs c.loop-item.item-index x i no_interface (omega arith) c.item-item.is e in
+    let here = c.loop-item.invariant.place_is in (
+      omega (arith, at.0, here, ap length c.requires, length-map all declared_tree),
+      ap (λ (ts : List InterfaceTree). get_or ts c.loop-item.place no_interface) c.requires
+          ∙ ap (λ (n : ℕ). get_or (filter_map interface_of (map item_view xs)) n no_interface) here ∙ at.1,
+    )
 
 pub returns-in-Some-clause-err : goal.returns-in-Some-clause-err
 returns-in-Some-clause-err c =
-    let all = c.args.all.now in
-    let is = map declared_tree all in
-    let k = c.loop-place.place in
-    let d = c.index-all-place.result in
-    let x = c.index-interfaces-place.result in
-    let l : k < length all = omega (arith, ap length c.requires, length-map all declared_tree, length-map c.args.interfaces.now interface_syntax) in
-    let same = same-at all c.args.interfaces.now k d x c.requires l (omega arith) c.index-all-place.is c.index-interfaces-place.is
-    ∙ ap (λ (items : List InterfaceItem). interface_tree x.now.name (map entry_view items)) (sym c.deref.ensures.value) in
-    let lacks = subst (λ (o : Option (Bor (List ℕ))). IfSome o (λ m. LacksAny is (declared_tree d) (map entry_view c.deref.result.now) m.now)) c.in-Some.is c.in_ok-name.ensures.some in (
-      declared_tree d,
-      contains-map declared_tree all d (contains-at all k d l c.index-all-place.is),
-      subst (IsUnknownIn is (declared_tree d)) (sym c.in_ok-copy.ensures) (interface-lacks is (declared_tree d) x.now.name (map entry_view c.deref.result.now) c.in-Some.name.now same lacks),
-    )
-
-pub loop-place-preserved : goal.loop-place-preserved
-loop-place-preserved c = λ j q.
-    let all = c.args.all.now in
-    let is = map declared_tree all in
-    let k = c.loop-place.place in
-    let d = c.index-all-place.result in
-    let x = c.index-interfaces-place.result in
-    let l : k < length all = omega (arith, ap length c.requires, length-map all declared_tree, length-map c.args.interfaces.now interface_syntax) in
-    let same = same-at all c.args.interfaces.now k d x c.requires l (omega arith) c.index-all-place.is c.index-interfaces-place.is
-    ∙ ap (λ (items : List InterfaceItem). interface_tree x.now.name (map entry_view items)) (sym c.deref.ensures.value) in
-    let none = if-none c.in_ok-name.field-0 _ (λ n e. c.in_default.not-Some n e) c.in_ok-name.ensures.none in
-    let here = interface-known is (declared_tree d) x.now.name (map entry_view c.deref.result.now) same none in
-    elim (below_or_at j k (omega (arith, q))) [
-      | inl r ↦ c.loop-place.invariant j r
-      | inr e ↦ subst (λ (n : ℕ). HasKnownNames is (interface_at is n)) (sym e) (subst (HasKnownNames is) (sym (tree-at all k d l c.index-all-place.is)) here)
-    ]
+    let is = map declared_tree c.args.all.now in
+    let xs = c.args.items.now in
+    let x = c.item-item.result in
+    let there = contains-map item_view xs x (contains-at xs c.loop-item.item-index x (omega arith) c.item-item.is) in
+    let lacks = subst (λ (o : Option (Bor (List ℕ))). IfSome o (λ m. LacksFileEntry is (item_view x) m.now)) c.in-Some.is c.in_ok-name.ensures.some in
+    subst (λ (n : List ℕ). RefusesUnknown is (filter_map world_of (map item_view xs)) (error.Unknown n)) (sym c.in_ok-copy.ensures)
+    (entry-lacks is (map item_view xs) (item_view x) c.in-Some.name.now (sym c.requires) there lacks)
 
 pub returns-clause-ok : goal.returns-clause-ok
-returns-clause-ok c = λ k t l.
+returns-clause-ok c =
     let is = map declared_tree c.args.all.now in
-    let q : k < c.loop-place.place = omega (arith, l, ap length c.requires, length-map c.args.interfaces.now interface_syntax) in
-    subst (HasKnownNames is) (get_or_default is k no_interface t l) (c.loop-place.invariant k q)
+    let known = all-taken (λ (xs : List Item). All (KnowsFileEntry is) (map item_view xs)) c.args.items.now c.loop-item.item-index (omega arith) c.loop-item.invariant.known in
+    subst (All (HasKnownNames is)) (sym c.requires) (interfaces-known is (map item_view c.args.items.now) known)
+
+pub returns-clause-worlds : goal.returns-clause-worlds
+returns-clause-worlds c =
+    let is = map declared_tree c.args.all.now in
+    let known = all-taken (λ (xs : List Item). All (KnowsFileEntry is) (map item_view xs)) c.args.items.now c.loop-item.item-index (omega arith) c.loop-item.invariant.known in
+    worlds-known is (map item_view c.args.items.now) known
+
+pub loop-item-preserved : goal.loop-item-preserved
+loop-item-preserved c =
+    let P = KnowsFileEntry (map declared_tree c.args.all.now) in
+    let xs = c.args.items.now in
+    let k = c.loop-item.item-index in
+    let x = c.item-item.result in
+    let here = subst (λ (o : Option (Bor (List ℕ))). IfNone o (P (item_view x))) c.in_default.is c.in_ok-name.ensures.none in
+    let known = subst (All P) (sym (map-more item_view xs k x (omega arith) c.item-item.is)) (all-append P _ _ c.loop-item.invariant.known (all-cons P (item_view x) [] here (all-none P))) in
+    let so_far = filter_map interface_of (map item_view (take k xs)) in
+    let last = cons_option (interface_of (item_view x)) [] in
+    let count : length (filter_map interface_of (map item_view (take (k + 1) xs))) ≡ length so_far + length last =
+    ap length (given-next interface_of item_view xs k x (omega arith) c.item-item.is) ∙ length-append so_far last in
+    let before = c.loop-item.invariant.place_is in
+    elim c.match-item.branch [
+      | in-Interface w ↦
+          let one : length (cons_option (interface_of (item_view x)) []) ≡ 1 = ap (λ (y : Item). length (cons_option (interface_of (item_view y)) [])) w.in-Interface.is in
+          record { place_is = omega (arith, count, before, one, w.place-is); known = known }
+      | in_default-item w ↦
+          let none : length (cons_option (interface_of (item_view x)) []) ≡ 0 = ap (λ (y : Item). length (cons_option (interface_of (item_view y)) [])) w.in_default-item.is in
+          record { place_is = omega (arith, count, before, none, w.place-is); known = known }
+    ]
+
+pub overflow_add-place : goal.overflow_add-place
+overflow_add-place c =
+    let all = c.args.all.now in
+    let x = c.item-item.result in
+    let at = given-at interface_of item_view c.args.items.now c.loop-item.item-index x _ no_interface (omega arith) c.item-item.is (ap (λ (y : Item). interface_of (item_view y)) c.in-Interface.is) in
+    let l : c.loop-item.place < length all = omega (arith, at.0, c.loop-item.invariant.place_is, ap length c.requires, length-map all declared_tree) in
+    omega (arith, l)

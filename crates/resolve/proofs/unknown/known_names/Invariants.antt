@@ -1,8 +1,13 @@
-use Rattle.std.proofs.Common.{ℕ, ◌<◌, map}
-use Rattle.resolve.specs.Declarations.{interface_at}
-use Rattle.resolve.specs.Resolves.{HasKnownNames}
+use Rattle.std.proofs.Common.{◌≡◌, All, map, take, length}
+use Rattle.std.specs.List.{filter_map}
+use Rattle.wit_syntax.specs.View.{item_view}
+use Rattle.resolve.specs.Declarations.{interface_of}
+use Rattle.resolve.specs.Knowing.{KnowsFileEntry}
 use Rattle.resolve.specs.Sources.{declared_tree}
 use Rattle.resolve.proofs.unknown.known_names.Given as goal
 
-abbrev pub invariant-loop-place : goal.invariant-loop-place
-invariant-loop-place l = (k : ℕ) → k < l.place → HasKnownNames (map declared_tree l.all) (interface_at (map declared_tree l.all) k)
+abbrev pub invariant-loop-item : goal.invariant-loop-item
+invariant-loop-item l = record {
+  place_is : l.place ≡ length (filter_map interface_of (map item_view (take l.item-index l.items)));
+  known : All (KnowsFileEntry (map declared_tree l.all)) (map item_view (take l.item-index l.items));
+}

@@ -1,4 +1,4 @@
-use Rattle.package_form.proofs.Sides.{import-met, import-refused, export-met, export-refused}
+use Rattle.package_form.proofs.WorldItems.{import-met, import-refused, export-met, export-refused}
 use Rattle.package_form.proofs.distinct.Sides.meet.Goals as goal
 
 pub returns-in-Import-clause-ok : goal.returns-in-Import-clause-ok

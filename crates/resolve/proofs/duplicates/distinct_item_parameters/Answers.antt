@@ -1,0 +1,27 @@
+use Rattle.std.proofs.Common.{List, ℕ, OnOk, IfErr, map, sym, subst}
+use Rattle.wit_syntax.specs.View.{field_view}
+use Rattle.wit_syntax.specs.declared.ast.Field.{Field}
+use Rattle.wit_syntax.specs.declared.ast.WorldItemKind.{WorldItemKind}
+use Rattle.package_form.specs.Scope.{AreDistinct}
+use Rattle.package_form.specs.Distinct.{RefusesNames}
+use Rattle.package_form.specs.Naming.{item_parameters}
+use Rattle.resolve.specs.Declarations.{member_name}
+use Rattle.resolve.specs.Sources.{item_in}
+use Rattle.resolve.proofs.WorldScopes.{labels-meant}
+use Rattle.resolve.proofs.duplicates.distinct_item_parameters.Goals as goal
+
+pub returns-in-Func-clause-ok : goal.returns-in-Func-clause-ok
+returns-in-Func-clause-ok c = λ p.
+    let r = c.distinct_fields.result in
+    let ps = c.in-Func.function.ty.params.items in
+    subst (λ (k : WorldItemKind). OnOk r (AreDistinct (item_parameters (item_in p (record { direction = c.args.item.now.direction; kind = k }))))) (sym c.in-Func.is)
+    (subst (λ (ns : List (List ℕ)). OnOk r (AreDistinct ns)) (sym (labels-meant _ (map field_view ps)))
+    (subst (λ (fs : List Field). OnOk r (AreDistinct (map member_name (map field_view fs)))) c.deref.ensures.value c.distinct_fields.ensures.ok))
+
+pub returns-in-Func-clause-err : goal.returns-in-Func-clause-err
+returns-in-Func-clause-err c = λ p.
+    let r = c.distinct_fields.result in
+    let ps = c.in-Func.function.ty.params.items in
+    subst (λ (k : WorldItemKind). IfErr r (RefusesNames (item_parameters (item_in p (record { direction = c.args.item.now.direction; kind = k }))))) (sym c.in-Func.is)
+    (subst (λ (ns : List (List ℕ)). IfErr r (RefusesNames ns)) (sym (labels-meant _ (map field_view ps)))
+    (subst (λ (fs : List Field). IfErr r (RefusesNames (map member_name (map field_view fs)))) c.deref.ensures.value c.distinct_fields.ensures.err))

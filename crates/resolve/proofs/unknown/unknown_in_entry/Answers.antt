@@ -1,0 +1,62 @@
+use Rattle.std.proofs.Common.{◌≡◌, List, ℕ, Bor, All, IfOk, IfNone, IfSome, map, ap, sym, subst, ◌∙◌, arith}
+use Rattle.std.specs.declared.option.Option.{Option}
+use Rattle.wit_syntax.specs.View.{item_view, entry_view, world_entry_view}
+use Rattle.wit_syntax.specs.declared.ast.Item.{Item}
+use Rattle.wit_syntax.specs.declared.ast.InterfaceItem.{InterfaceItem}
+use Rattle.wit_syntax.specs.declared.ast.WorldItem.{WorldItem}
+use Rattle.resolve.specs.Declarations.{InterfaceTree, interface_of, interface_tree, interface_names, item_tree}
+use Rattle.resolve.specs.Resolves.{HasKnownNames, IsUnknownIn, IsKnownItem}
+use Rattle.resolve.specs.Knowing.{KnowsFileEntry, LacksFileEntry, LacksItem}
+use Rattle.resolve.specs.Sources.{declared_tree}
+use Rattle.resolve.proofs.Finding.{interface-known, interface-lacks, none-map, some-map, tree-at}
+use Rattle.resolve.proofs.Trees.{ok-map}
+use Rattle.resolve.proofs.unknown.unknown_in_entry.Goals as goal
+
+pub bounds-all-place : goal.bounds-all-place
+bounds-all-place c = (c.requires.place _ (ap (λ (i : Item). interface_of (item_view i)) c.in-Interface.is)).0
+
+pub offset_bounds-all-place : goal.offset_bounds-all-place
+offset_bounds-all-place c = let l = (c.requires.place _ (ap (λ (i : Item). interface_of (item_view i)) c.in-Interface.is)).0 in omega (arith, l)
+
+pub returns-in-Interface-clause-none : goal.returns-in-Interface-clause-none
+returns-in-Interface-clause-none c =
+    let is = map declared_tree c.args.all.now in
+    let x = c.in-Interface.interface in
+    let d = c.index-all-place.result in
+    let p = c.requires.place _ (ap (λ (i : Item). interface_of (item_view i)) c.in-Interface.is) in
+    let here : declared_tree d ≡ interface_tree x.name (map entry_view x.items.items) = sym (tree-at c.args.all.now c.args.place d p.0 c.index-all-place.is) ∙ p.1 in
+    let same = here ∙ ap (λ (es : List InterfaceItem). interface_tree x.name (map entry_view es)) (sym c.deref.ensures.value) in
+    subst (λ (i : Item). IfOk c.unknown_in_items.result (λ o. IfNone o (KnowsFileEntry is (item_view i)))) (sym c.in-Interface.is)
+    (ok-map c.unknown_in_items.result _ _
+    (λ o h. none-map o _ _ (λ k. subst (HasKnownNames is) here (interface-known is (declared_tree d) x.name (map entry_view c.deref.result.now) same k)) h)
+    c.unknown_in_items.ensures.none)
+
+pub returns-in-Interface-clause-some : goal.returns-in-Interface-clause-some
+returns-in-Interface-clause-some c =
+    let is = map declared_tree c.args.all.now in
+    let x = c.in-Interface.interface in
+    let d = c.index-all-place.result in
+    let p = c.requires.place _ (ap (λ (i : Item). interface_of (item_view i)) c.in-Interface.is) in
+    let here : declared_tree d ≡ interface_tree x.name (map entry_view x.items.items) = sym (tree-at c.args.all.now c.args.place d p.0 c.index-all-place.is) ∙ p.1 in
+    let same = here ∙ ap (λ (es : List InterfaceItem). interface_tree x.name (map entry_view es)) (sym c.deref.ensures.value) in
+    subst (λ (i : Item). IfOk c.unknown_in_items.result (λ o. IfSome o (λ m. LacksFileEntry is (item_view i) m.now))) (sym c.in-Interface.is)
+    (ok-map c.unknown_in_items.result _ _
+    (λ o h. some-map o _ _
+    (λ (m : Bor (List ℕ)) k. subst (λ (t : InterfaceTree). IsUnknownIn is t m.now) here (interface-lacks is (declared_tree d) x.name (map entry_view c.deref.result.now) m.now same k)) h)
+    c.unknown_in_items.ensures.some)
+
+pub returns-in-World-clause-none : goal.returns-in-World-clause-none
+returns-in-World-clause-none c =
+    let is = map declared_tree c.args.all.now in
+    let r = c.unknown_in_world.result in
+    subst (λ (i : Item). IfOk r (λ o. IfNone o (KnowsFileEntry is (item_view i)))) (sym c.in-World.is)
+    (subst (λ (ns : List (List ℕ)). IfOk r (λ o. IfNone o (All (IsKnownItem ns) (map item_tree (map world_entry_view c.in-World.world.items.items))))) c.requires.names
+    (subst (λ (ws : List WorldItem). IfOk r (λ o. IfNone o (All (IsKnownItem c.args.names.now) (map item_tree (map world_entry_view ws))))) c.deref-in-World.ensures.value c.unknown_in_world.ensures.none))
+
+pub returns-in-World-clause-some : goal.returns-in-World-clause-some
+returns-in-World-clause-some c =
+    let is = map declared_tree c.args.all.now in
+    let r = c.unknown_in_world.result in
+    subst (λ (i : Item). IfOk r (λ o. IfSome o (λ m. LacksFileEntry is (item_view i) m.now))) (sym c.in-World.is)
+    (subst (λ (ns : List (List ℕ)). IfOk r (λ o. IfSome o (λ m. LacksItem ns (map item_tree (map world_entry_view c.in-World.world.items.items)) m.now))) c.requires.names
+    (subst (λ (ws : List WorldItem). IfOk r (λ o. IfSome o (λ m. LacksItem c.args.names.now (map item_tree (map world_entry_view ws)) m.now))) c.deref-in-World.ensures.value c.unknown_in_world.ensures.some))
