@@ -1,4 +1,3 @@
-pub mod Links
 pub mod Functions
 pub mod Signatures
 pub mod Crossings

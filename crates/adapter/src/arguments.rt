@@ -4,42 +4,15 @@ ghost use Rattle.tables.specs.Closed.{IsFunction, function_type};
 ghost use Rattle.adapter.specs.Crossing.{guests, memories, HasEntered, EntryFails};
 
 use crate::fault::{fault_of, trap};
-use crate::scalars::carry_arguments;
 use canonical_abi::{Fault, Flat, Guest, Step, TrapKind};
 use crossing::cross_params;
 use lift_lower::{Flats, Types, are_kinds};
 use tables::{FunctionId, TypeId, ValType};
 
 /// Puts the arguments, as the caller holds them, into the callee: the flat values that carry them there, and in `nodes` how
-/// many nodes were visited, those up to the fault where there was one. Takes no memory of the host.
+/// many nodes were visited, those up to the fault where there was one. The kinds of all flat values come first. Takes no memory of
+/// the host.
 pub(crate) fn pass_arguments<C: Guest, E: Guest>(
-    table: &Types,
-    func: FunctionId,
-    flats: &[Flat],
-    caller: &C,
-    callee: &mut E,
-    nodes: &mut u64,
-) -> Result<Flats, Fault>
-    requires function { IsFunction table.now func }
-    requires fresh { nodes.old ≡ 0 }
-    ensures entered { IfOk result (λ handed. HasEntered (guests C.allocates E.allocates) (function_type table.now func) flats.now
-        (memories (C.memory caller.now) (E.memory callee.old)) handed.items (memories (C.memory caller.now) (E.memory callee.new)) nodes.new) }
-    ensures fault { IfErr result (λ fault. EntryFails (guests C.allocates E.allocates) (function_type table.now func) flats.now
-        (memories (C.memory caller.now) (E.memory callee.old)) fault (memories (C.memory caller.now) (E.memory callee.new)) nodes.new) }
-{
-    let resolve = table.resolve();
-    if resolve.is_scalar(func) {
-        if let Some(handed) = carry_arguments(resolve, func, flats) {
-            // Each of these carries a value of one node.
-            *nodes = handed.len() as u64;
-            return Ok(handed);
-        }
-    }
-    pass_values(table, func, flats, caller, callee, nodes)
-}
-
-/// Puts arguments of any types into the callee. The kinds of all flat values come first.
-fn pass_values<C: Guest, E: Guest>(
     table: &Types,
     func: FunctionId,
     flats: &[Flat],

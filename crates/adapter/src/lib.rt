@@ -10,7 +10,6 @@ mod body;
 mod fault;
 mod link;
 mod results;
-mod scalars;
 mod signature;
 
 pub use body::{Body, BoxedBody, Export, Stopped};

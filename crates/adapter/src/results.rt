@@ -6,45 +6,15 @@ ghost use Rattle.tables.specs.Closed.{IsFunction, function_type};
 ghost use Rattle.adapter.specs.Crossing.{guests, memories, HasReturned, ReturnFails};
 
 use crate::fault::{fault_of, trap};
-use crate::scalars::carry_answer;
 use canonical_abi::{Fault, Flat, Guest, Step, TrapKind};
 use crossing::cross_result;
 use lift_lower::{Flats, Types, are_kinds, low_word};
 use tables::FunctionId;
 
 /// Puts the body's answer, as the callee holds it, into the caller: the flat values that carry it there, and in `nodes` how
-/// many nodes were visited, those up to the fault where there was one. Takes no memory of the host.
+/// many nodes were visited, those up to the fault where there was one. The kinds of its flat values come first. Takes no memory of
+/// the host.
 pub(crate) fn pass_answer<C: Guest, E: Guest>(
-    table: &Types,
-    func: FunctionId,
-    flats: &[Flat],
-    answer: &[Flat],
-    caller: &mut C,
-    callee: &E,
-    nodes: &mut u64,
-) -> Result<Flats, Fault>
-    requires within { ∥ AreWithin table.now ∥₁ }
-    requires function { IsFunction table.now func }
-    requires fresh { nodes.old ≡ 0 }
-    ensures returned { IfOk result (λ back. HasReturned (guests C.allocates E.allocates) (function_type table.now func) flats.now
-        (memories (C.memory caller.old) (E.memory callee.now)) answer.now back.items (memories (C.memory caller.new) (E.memory callee.now)) nodes.new) }
-    ensures fault { IfErr result (λ fault. ReturnFails (guests C.allocates E.allocates) (function_type table.now func) flats.now
-        (memories (C.memory caller.old) (E.memory callee.now)) answer.now fault (memories (C.memory caller.new) (E.memory callee.now)) nodes.new) }
-    ensures no_shorter { IfOk result (λ _. length (C.memory caller.old).bytes ≤ length (C.memory caller.new).bytes) }
-{
-    let resolve = table.resolve();
-    if resolve.is_scalar(func) {
-        if let Some(back) = carry_answer(resolve, func, answer) {
-            // Each of these carries a value of one node.
-            *nodes = back.len() as u64;
-            return Ok(back);
-        }
-    }
-    pass_value(table, func, flats, answer, caller, callee, nodes)
-}
-
-/// Puts an answer of any type into the caller. The kinds of its flat values come first.
-fn pass_value<C: Guest, E: Guest>(
     table: &Types,
     func: FunctionId,
     flats: &[Flat],

@@ -5,14 +5,11 @@ use Rattle.std.specs.List.{list_all}
 use Rattle.std.proofs.lemmas.Bool.{le-leb}
 use borrow.Author.Gap.{read_sfits}
 use Rattle.canonical_abi.specs.Types.{Prim, boolean, unsigned, signed, scalar_value, IntWidth, int8, int16, int32, int64, width_of, bits, ClosedType}
-use Rattle.canonical_abi.specs.Values.{Value, unsigned_value, signed_value, char_value, HasPrimType, HaveTypes}
+use Rattle.canonical_abi.specs.Values.{Value, HasPrimType, HaveTypes}
 use Rattle.canonical_abi.specs.Layout.{prim_kind, field_kinds, fits_flat, passed_kinds}
 use Rattle.canonical_abi.specs.Reading.{kind_of, number_of, flat_bits, low_bits}
 use Rattle.canonical_abi.specs.Memory.{PrimIs, PrimFaulty}
 use Rattle.canonical_abi.specs.Flat.{FieldsLift, FieldsLiftFaulty}
-use Rattle.canonical_abi.specs.Guest.{Memory, Allocation}
-use Rattle.canonical_abi.specs.Trace.{Event, node, grant, write, TraceLeads}
-use Rattle.canonical_abi.specs.Lowering.{core_of}
 use Rattle.canonical_abi.specs.declared.flat.CoreKind.{CoreKind}
 use Rattle.canonical_abi.specs.declared.flat.Flat.{Flat}
 use Rattle.canonical_abi.specs.declared.trap.TrapKind.{TrapKind}
@@ -20,8 +17,8 @@ use Rattle.canonical_abi.specs.declared.trap.TrapKind.TheVariants as trap
 use Rattle.tables.specs.Closed.{prim_of, is_scalar}
 use Rattle.tables.specs.declared.tables.ValType.{ValType}
 use Rattle.tables.specs.declared.tables.ValType.TheVariants as val
-use Rattle.lift_lower.specs.Scalar.{prim_in, value_in, core_in, ScalarIs}
-use Rattle.lift_lower.specs.Scalars.{AreScalar, fields_in, prim_of_type, KindsFit, ScalarsStand, FirstFault, StandFor, FailAs, IsQuiet, AreCarried}
+use Rattle.lift_lower.specs.Scalar.{value_in, ScalarIs}
+use Rattle.lift_lower.specs.Scalars.{AreScalar, fields_in, prim_of_type, KindsFit, ScalarsStand, FirstFault, StandFor, FailAs}
 use Rattle.lift_lower.specs.declared.scalar.Scalar.{Scalar}
 use Rattle.lift_lower.specs.declared.scalar.Scalar.TheVariants as scalar
 
@@ -152,59 +149,3 @@ lifted_fault types flats k scalar kinds h rows limit m few =
 pub other_kinds : (types : List ValType) (flats : List Flat) → AreScalar types → (KindsFit types flats → ⊥) → FailAs types flats trap.CoreSignature
 other_kinds types flats scalar other rows limit m few =
     inl (λ kinds. other (kinds ∙ passed_kinds-scalars rows types limit scalar.primitive few), refl)
-
--- ---- lowering
-
--- the type that a primitive's value is of
-abbrev prim_of_value : Value → Prim
-prim_of_value (unsigned_value w n) = unsigned w
-prim_of_value (signed_value w n) = signed w
-prim_of_value (char_value code) = scalar_value
-prim_of_value _ = boolean
-
-typed_prim : (v : Value) (p : Prim) → HasPrimType v p → prim_of_value v ≡ p
-typed_prim v boolean (b, is) = ap prim_of_value is
-typed_prim v (unsigned w) (n, fits, is) = ap prim_of_value is
-typed_prim v (signed w) (n, fits, is) = ap prim_of_value is
-typed_prim v scalar_value (code, fits, is) = ap prim_of_value is
-
-own_prim : (s : Scalar) → prim_of_value (value_in s) ≡ prim_in s
-own_prim (scalar.Bool b) = refl
-own_prim (scalar.S8 n) = refl
-own_prim (scalar.U8 n) = refl
-own_prim (scalar.S16 n) = refl
-own_prim (scalar.U16 n) = refl
-own_prim (scalar.S32 n) = refl
-own_prim (scalar.U32 n) = refl
-own_prim (scalar.S64 n) = refl
-own_prim (scalar.U64 n) = refl
-own_prim (scalar.Char code) = refl
-
--- a scalar has one type
-pub prim_in-typed : (s : Scalar) (p : Prim) → HasPrimType (value_in s) p → prim_in s ≡ p
-prim_in-typed s p h = sym (own_prim s) ∙ typed_prim (value_in s) p h
-
--- scalars of these types are carried by their core values
-pub carried : (rows : List ClosedType) (types : List ValType) (ss : List Scalar) → list_all is_scalar types ≡ true → HaveTypes (map value_in ss) (fields_in rows types) → AreCarried (fields_in rows types) (map value_in ss) (map core_in ss)
-carried rows [] [] a h = ([], tt, (refl, refl, refl))
-carried rows [] (s ∷ ss) a h = cc
-carried rows (val.String ∷ types) ss a h = cc
-carried rows (val.Id t ∷ types) ss a h = cc
-carried rows (val.Primitive p ∷ types) [] a (v, rest, is, here, there) = cc
-carried rows (val.Primitive p ∷ types) (s ∷ ss) a (v, rest, is, here, there) =
-    let first : value_in s ≡ v = cc in
-    let others : map value_in ss ≡ rest = cc in
-    let typed : HasPrimType (value_in s) (prim_of p) = rw first here in
-    let next = carried rows types ss a (rw others there) in
-    let kinds = ap (λ q. core_of (prim_kind q) (value_in s) ∷ []) (prim_in-typed s (prim_of p) typed) in
-    (node ∷ next.0, next.1, (value_in s, map value_in ss, node ∷ [], next.0, core_in s ∷ [], map core_in ss, refl, refl, refl, (typed, refl, kinds), next.2))
-
--- ---- typed values
-
--- ---- nothing happens in memory
-
-pub quiet_leads : (allocates : Allocation) (m : Memory) (es : List Event) → IsQuiet es → TraceLeads allocates m es m
-quiet_leads allocates m [] h = refl
-quiet_leads allocates m (node ∷ es) h = (m, refl, quiet_leads allocates m es h)
-quiet_leads allocates m (grant g ∷ es) h = absurd h
-quiet_leads allocates m (write at part ∷ es) h = absurd h

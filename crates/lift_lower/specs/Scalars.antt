@@ -7,8 +7,6 @@ use Rattle.canonical_abi.specs.Layout.{prim_kind}
 use Rattle.canonical_abi.specs.Reading.{kind_of, number_of, flat_bits}
 use Rattle.canonical_abi.specs.Memory.{PrimFaulty}
 use Rattle.canonical_abi.specs.Flat.{Denotes, DenotesFault}
-use Rattle.canonical_abi.specs.Trace.{Event, node}
-use Rattle.canonical_abi.specs.Lowering.{FieldsLower}
 use Rattle.canonical_abi.specs.declared.flat.Flat.{Flat}
 use Rattle.canonical_abi.specs.declared.trap.TrapKind.{TrapKind}
 use Rattle.tables.specs.Closed.{prim_of, closed_val, is_scalar}
@@ -61,13 +59,3 @@ FirstFault (t ∷ types) (f ∷ flats) k =
     PrimFaulty (prim_of_type t) (number_of f % 2 ^ flat_bits (prim_of_type t)) k
     ⊎ ((s : Scalar) × ScalarIs (prim_of_type t) (number_of f) s × FirstFault types flats k)
 FirstFault _ _ k = ⊥
-
--- events that ask for nothing and write nothing: nodes alone
-abbrev pub IsQuiet : List Event → Type 0
-IsQuiet [] = Unit {0}
-IsQuiet (node ∷ es) = IsQuiet es
-IsQuiet _ = ⊥
-
--- these core values carry the values of these fields, and nothing happens in memory
-abbrev pub AreCarried : Fields → List Value → List Flat → Type 0
-AreCarried ts vs flats = (es : List Event) × IsQuiet es × FieldsLower ts vs es flats

@@ -31,7 +31,7 @@ pub use loading::load;
 pub use lowering::{lower, lower_answer};
 pub use placing::{ask_area, lower_arguments, take_result};
 pub use scalar::{Scalar, core_kind, lift_scalar, lower_scalar};
-pub use scalars::{Flats, Scalars, lift_scalars, lower_scalars};
+pub use scalars::{Flats, Scalars, lift_scalars};
 pub use storing::store;
 pub use text::str_at;
 pub use types::Types;

@@ -1,13 +1,11 @@
 //! Lists of values of primitive types: parameters and results that need no memory.
-ghost use Rattle.std.specs.Prelude.{◌≡◌, ◌≤◌, ◌↔◌, List, IsTrue, IfOk, IfErr, length, map};
-ghost use Rattle.canonical_abi.specs.Types.{ClosedType};
-ghost use Rattle.canonical_abi.specs.Values.{HaveTypes};
+ghost use Rattle.std.specs.Prelude.{◌≡◌, ◌↔◌, IsTrue, IfOk, IfErr, map};
 ghost use Rattle.tables.specs.Closed.{prim_of, is_scalar};
 ghost use Rattle.tables.specs.declared.tables.ValType.{ValType};
-ghost use Rattle.lift_lower.specs.Scalar.{value_in, core_in};
-ghost use Rattle.lift_lower.specs.Scalars.{AreScalar, fields_in, prim_of_type, KindsFit, ScalarsStand, FirstFault, StandFor, FailAs, AreOfTypes, AreCarried};
+ghost use Rattle.lift_lower.specs.Scalar.{value_in};
+ghost use Rattle.lift_lower.specs.Scalars.{AreScalar, prim_of_type, KindsFit, ScalarsStand, FirstFault, StandFor, FailAs, AreOfTypes};
 
-use crate::scalar::{Scalar, core_kind, lift_scalar, lower_scalar};
+use crate::scalar::{Scalar, core_kind, lift_scalar};
 use arrayvec::ArrayVec;
 use canonical_abi::{Flat, TrapKind};
 use tables::{Primitive, ValType};
@@ -30,21 +28,6 @@ pub fn lift_scalars(types: &[ValType], flats: &[Flat]) -> Result<Scalars, TrapKi
         return Err(TrapKind::CoreSignature);
     }
     lift_each(types, flats)
-}
-
-/// The core values that carry these.
-pub fn lower_scalars(values: &[Scalar]) -> Flats
-    requires { length values.now ≤ 16 }
-    ensures items { result.items ≡ map core_in values.now }
-    ensures carried { (rows : List ClosedType) (types : List ValType) → AreScalar types
-        → HaveTypes (map value_in values.now) (fields_in rows types)
-        → AreCarried (fields_in rows types) (map value_in values.now) result.items }
-{
-    let mut flats = Flats::new();
-    for value in values {
-        flats.push(lower_scalar(*value));
-    }
-    flats
 }
 
 /// Whether the core values have the number and the kinds that the types ask for.

@@ -1,15 +1,71 @@
-use Rattle.std.proofs.Common.{◌∙◌, sym, arith}
-use Rattle.tables.specs.Closed.{closed_types, function_at, function_type}
-use Rattle.adapter.specs.Carrying.{params_of, results_of}
-use Rattle.adapter.proofs.Functions.{types_fit}
-use Rattle.adapter.proofs.Links.{enters}
+use Rattle.std.proofs.Common.{◌≡◌, inl, inr, Ok, Err, List, map, refl, sym, ap, ◌∙◌, subst, arith, rules}
+use Rattle.canonical_abi.specs.Types.{ClosedType, Fields, record_type, record_fields}
+use Rattle.canonical_abi.specs.Layout.{max_flat_params, passed_kinds}
+use Rattle.canonical_abi.specs.Reading.{kind_of}
+use Rattle.canonical_abi.specs.Script.{AddressFaulty}
+use Rattle.canonical_abi.specs.Call.{argument_flats, KindsFit}
+use Rattle.canonical_abi.specs.declared.flat.Flat.{Flat}
+use Rattle.layout.specs.Layout.{signature_of}
+use Rattle.tables.specs.Closed.{closed_type, function_type}
+use Rattle.crossing.specs.Ways.{ParamsWalk, WayEnds}
+use Rattle.adapter.proofs.Signatures.{function-stands, params-row, params-inside}
+use Rattle.adapter.proofs.Crossings.{argument-kinds, same-arguments, EndsArguments, arguments-end}
 use Rattle.adapter.proofs.arguments.pass_arguments.Goals as goal
 
-pub returns-in-Some-clause-entered : goal.returns-in-Some-clause-entered
-returns-in-Some-clause-entered g c =
-    let r = c.resolve-resolve.result.now in
-    let o = function_at r c.args.func in
+pub lowered-requires : goal.lowered-requires
+lowered-requires g c = function-stands c.args.table.now c.layouts-layouts.result.now c.args.func c.layouts-layouts.ensures c.requires.function
+
+pub lifted-requires : goal.lifted-requires
+lifted-requires g c = function-stands c.args.table.now c.layouts-layouts.result.now c.args.func c.layouts-layouts.ensures c.requires.function
+
+pub cross_params-crossed-requires-clause-inside : goal.cross_params-crossed-requires-clause-inside
+cross_params-crossed-requires-clause-inside g c = params-inside c.args.table.now c.args.func c.requires.function _ refl
+
+pub cross_params-crossed-requires-clause-is_record : goal.cross_params-crossed-requires-clause-is_record
+cross_params-crossed-requires-clause-is_record g c =
+    let row = params-row c.args.table.now c.args.func c.requires.function _ refl in
+    row ∙ sym (ap (λ t. record_type (record_fields t)) row)
+
+pub cross_params-crossed-requires-clause-kinds : goal.cross_params-crossed-requires-clause-kinds
+cross_params-crossed-requires-clause-kinds g c =
+    let r = c.args.table.now in
     let f = function_type r c.args.func in
-    let fits = types_fit (closed_types r) o (sym c.is_scalar.ensures ∙ c.if-is_scalar.true) in
-    rw (← c.resolve-resolve.ensures) (enters g.C.Guest.allocates g.E.Guest.allocates f c.args.flats.now (closed_types r) (params_of o) (results_of o) fits (g.C.Guest.memory c.args.caller.now) (g.E.Guest.memory c.args.callee.now)
-    c.in-Some.handed.items c.len.result c.in-Some.ensures c.len.ensures.value (omega arith))
+    let flats = c.args.flats.now in
+    let row = params-row r c.args.func c.requires.function _ refl in
+    let kinds : KindsFit f flats = search rules in
+    let same = same-arguments f flats _ c.len-count.result (signature_of c.lifted.result) refl c.len-count.ensures.value (c.lifted.ensures r c.layouts-layouts.ensures c.requires.function) in
+    ap (map kind_of) same ∙ argument-kinds f flats kinds ∙ sym (ap (λ t. passed_kinds max_flat_params (record_fields t)) row)
+
+pub returns-in-Ok-clause-entered : goal.returns-in-Ok-clause-entered
+returns-in-Ok-clause-entered g c =
+    let r = c.args.table.now in
+    let f = function_type r c.args.func in
+    let flats = c.args.flats.now in
+    let CA = g.C.Guest.allocates in
+    let EA = g.E.Guest.allocates in
+    let caller = g.C.Guest.memory c.args.caller.now in
+    let callee = g.E.Guest.memory c.args.callee.now in
+    let callee' = g.E.Guest.memory c.cross_params-crossed.new.guest in
+    let row = params-row r c.args.func c.requires.function _ refl in
+    let kinds : KindsFit f flats = search rules in
+    let same = same-arguments f flats _ c.len-count.result (signature_of c.lifted.result) refl c.len-count.ensures.value (c.lifted.ensures r c.layouts-layouts.ensures c.requires.function) in
+    let ends = rw (row, same, c.bytes.ensures) at c.cross_params-crossed.ensures in
+    let told = arguments-end CA EA f flats caller callee kinds _ c.cross_params-crossed.result callee' _ c.requires.fresh (omega arith) ends in
+    subst (EndsArguments CA EA f flats caller callee callee' c.cross_params-crossed.new.nodes) c.in-Ok.is told
+
+pub returns-in-Err-clause-fault : goal.returns-in-Err-clause-fault
+returns-in-Err-clause-fault g c =
+    let r = c.args.table.now in
+    let f = function_type r c.args.func in
+    let flats = c.args.flats.now in
+    let CA = g.C.Guest.allocates in
+    let EA = g.E.Guest.allocates in
+    let caller = g.C.Guest.memory c.args.caller.now in
+    let callee = g.E.Guest.memory c.args.callee.now in
+    let callee' = g.E.Guest.memory c.cross_params-crossed.new.guest in
+    let row = params-row r c.args.func c.requires.function _ refl in
+    let kinds : KindsFit f flats = search rules in
+    let same = same-arguments f flats _ c.len-count.result (signature_of c.lifted.result) refl c.len-count.ensures.value (c.lifted.ensures r c.layouts-layouts.ensures c.requires.function) in
+    let ends = rw (row, same, c.bytes.ensures) at c.cross_params-crossed.ensures in
+    let told = arguments-end CA EA f flats caller callee kinds _ c.cross_params-crossed.result callee' _ c.requires.fresh (omega arith) ends in
+    rw c.fault_of.ensures (subst (EndsArguments CA EA f flats caller callee callee' c.cross_params-crossed.new.nodes) c.in-Err.is told)

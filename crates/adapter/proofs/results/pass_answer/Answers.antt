@@ -1,15 +1,66 @@
-use Rattle.std.proofs.Common.{◌∙◌, sym, arith}
-use Rattle.tables.specs.Closed.{closed_types, function_at, function_type}
-use Rattle.adapter.specs.Carrying.{params_of, results_of}
-use Rattle.adapter.proofs.Functions.{types_fit}
-use Rattle.adapter.proofs.Links.{returned}
+use Rattle.std.proofs.Common.{◌≡◌, ◌≤◌, ℕ, Ok, Err, List, map, refl, sym, ap, ◌∙◌, subst, arith, rules}
+use Rattle.canonical_abi.specs.Types.{Fields, record_type, result_fields}
+use Rattle.canonical_abi.specs.Layout.{size, max_flat_results, passed_kinds}
+use Rattle.canonical_abi.specs.Reading.{kind_of}
+use Rattle.canonical_abi.specs.Call.{area_of}
+use Rattle.layout.specs.Layout.{signature_of}
+use Rattle.tables.specs.Closed.{closed_type, function_type}
+use Rattle.lift_lower.specs.Crossing.{fields_of_types}
+use Rattle.lift_lower.specs.Members.{AreAllInside}
+use Rattle.adapter.proofs.Functions.{same_types}
+use Rattle.adapter.proofs.Signatures.{function-stands, result-known, result-inside, result-is, result-fields, all-inside, result-small}
+use Rattle.adapter.proofs.Crossings.{area-is, EndsResult, result-ends}
 use Rattle.adapter.proofs.results.pass_answer.Goals as goal
 
-pub returns-in-Some-clause-returned : goal.returns-in-Some-clause-returned
-returns-in-Some-clause-returned g c =
-    let r = c.resolve-resolve.result.now in
-    let o = function_at r c.args.func in
+pub lifted-signature-requires : goal.lifted-signature-requires
+lifted-signature-requires g c = function-stands c.args.table.now c.layouts.result.now c.args.func c.layouts.ensures c.requires.function
+
+pub cross_result-crossed-requires-clause-inside : goal.cross_result-crossed-requires-clause-inside
+cross_result-crossed-requires-clause-inside g c =
+    let r = c.args.table.now in
+    let s = c.signature.result.now in
+    let known = result-inside r c.args.func c.requires.function s (rw c.resolve.ensures at c.signature.ensures) in
+    subst (AreAllInside r) (sym (same_types s.result _ c.as_slice-types.ensures)) (all-inside r s.result known)
+
+pub cross_result-crossed-requires-clause-small : goal.cross_result-crossed-requires-clause-small
+cross_result-crossed-requires-clause-small g c =
+    let r = c.args.table.now in
+    let s = c.signature.result.now in
+    let known = result-known r c.args.func c.requires.function s (rw c.resolve.ensures at c.signature.ensures) in
+    subst (λ ts. size (record_type (fields_of_types r ts)) ≤ 16777216) (sym (same_types s.result _ c.as_slice-types.ensures)) (result-small r c.requires.within s.result known)
+
+pub returns-in-Ok-clause-returned : goal.returns-in-Ok-clause-returned
+returns-in-Ok-clause-returned g c =
+    let r = c.args.table.now in
     let f = function_type r c.args.func in
-    let fits = types_fit (closed_types r) o (sym c.is_scalar.ensures ∙ c.if-is_scalar.true) in
-    rw (← c.resolve-resolve.ensures) (returned g.C.Guest.allocates g.E.Guest.allocates f c.args.flats.now (closed_types r) (params_of o) (results_of o) fits (g.C.Guest.memory c.args.caller.now) (g.E.Guest.memory c.args.callee.now) c.args.answer.now
-    c.in-Some.back.items c.len.result c.in-Some.ensures c.len.ensures.value (omega arith))
+    let flats = c.args.flats.now in
+    let CA = g.C.Guest.allocates in
+    let EA = g.E.Guest.allocates in
+    let caller = g.C.Guest.memory c.args.caller.now in
+    let caller' = g.C.Guest.memory c.cross_result-crossed.new.guest in
+    let callee = g.E.Guest.memory c.args.callee.now in
+    let s = c.signature.result.now in
+    let is = result-is r c.args.func c.requires.function s (rw c.resolve.ensures at c.signature.ensures) in
+    let own : fields_of_types r c.as_slice-types.result.now ≡ result_fields f.result = ap (fields_of_types r) (same_types s.result _ c.as_slice-types.ensures) ∙ result-fields r s.result ∙ ap result_fields (sym is) in
+    let area = area-is f flats c.area_in-area.result c.len.result (signature_of c.lifted-signature.result) c.area_in-area.ensures c.len.ensures.value (c.lifted-signature.ensures r c.layouts.ensures c.requires.function) in
+    let ends = rw (own, area, c.bytes.ensures) at c.cross_result-crossed.ensures in
+    let told = result-ends CA EA f flats caller callee c.args.answer.now _ c.cross_result-crossed.result caller' _ c.requires.fresh (omega arith) ends in
+    subst (EndsResult CA EA f flats caller callee c.args.answer.now caller' c.cross_result-crossed.new.nodes) c.in-Ok.is told
+
+pub returns-in-Err-clause-fault : goal.returns-in-Err-clause-fault
+returns-in-Err-clause-fault g c =
+    let r = c.args.table.now in
+    let f = function_type r c.args.func in
+    let flats = c.args.flats.now in
+    let CA = g.C.Guest.allocates in
+    let EA = g.E.Guest.allocates in
+    let caller = g.C.Guest.memory c.args.caller.now in
+    let caller' = g.C.Guest.memory c.cross_result-crossed.new.guest in
+    let callee = g.E.Guest.memory c.args.callee.now in
+    let s = c.signature.result.now in
+    let is = result-is r c.args.func c.requires.function s (rw c.resolve.ensures at c.signature.ensures) in
+    let own : fields_of_types r c.as_slice-types.result.now ≡ result_fields f.result = ap (fields_of_types r) (same_types s.result _ c.as_slice-types.ensures) ∙ result-fields r s.result ∙ ap result_fields (sym is) in
+    let area = area-is f flats c.area_in-area.result c.len.result (signature_of c.lifted-signature.result) c.area_in-area.ensures c.len.ensures.value (c.lifted-signature.ensures r c.layouts.ensures c.requires.function) in
+    let ends = rw (own, area, c.bytes.ensures) at c.cross_result-crossed.ensures in
+    let told = result-ends CA EA f flats caller callee c.args.answer.now _ c.cross_result-crossed.result caller' _ c.requires.fresh (omega arith) ends in
+    rw c.fault_of.ensures (subst (EndsResult CA EA f flats caller callee c.args.answer.now caller' c.cross_result-crossed.new.nodes) c.in-Err.is told)
