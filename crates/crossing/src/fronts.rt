@@ -7,12 +7,15 @@ ghost use Rattle.canonical_abi.specs.Layout.{size};
 ghost use Rattle.canonical_abi.specs.Types.{prim_type, boolean, scalar_value, variant_type, variant_cases, case_count};
 ghost use Rattle.crossing.specs.Outcome.{EachWalks, IsDone};
 ghost use Rattle.lift_lower.specs.Types.{IsInside};
-ghost use Rattle.tables.specs.Closed.{closed_type};
+ghost use Rattle.tables.specs.Closed.{closed_type, prim_of};
 
 use canonical_abi::Guest;
 use layout::Shape;
 use lift_lower::Types;
-use ranges::{caps_of, cross_bools, cross_capped, cross_cases, cross_chars, rows_of};
+use ranges::{
+    caps_of, cross_bools, cross_capped, cross_cases, cross_chars, cross_numbers, number_width,
+    rows_of,
+};
 use tables::{Primitive, ValType};
 
 /// Shorter lists cross node by node.
@@ -47,7 +50,10 @@ pub(crate) fn cross_front<G: Guest>(
         Shape::Primitive(Primitive::Bool) => {
             front_of_bools(source, from, count, guest, to, nodes)
         }
-        Shape::Primitive(_) | Shape::Record(_) | Shape::Flags(_) => {
+        Shape::Primitive(primitive) => {
+            front_of_numbers(primitive, source, from, count, guest, to, nodes)
+        }
+        Shape::Record(_) | Shape::Flags(_) => {
             front_of_bytes(table, element, source, from, count, guest, to, nodes)
         }
         Shape::Variant(cases) => {
@@ -95,6 +101,31 @@ fn front_of_bools<G: Guest>(
         (G.memory guest.old) nodes.old (G.memory guest.new) nodes.new }
 {
     cross_bools(source, from, count, guest, to);
+    *nodes = nodes.saturating_add(count as u64);
+    count
+}
+
+/// Crosses numbers, and answers how many: all, or none where the primitive is no number.
+fn front_of_numbers<G: Guest>(
+    primitive: Primitive,
+    source: &[u8],
+    from: usize,
+    count: usize,
+    guest: &mut G,
+    to: usize,
+    nodes: &mut u64,
+) -> usize
+    requires fits { from + count * size (prim_type (prim_of primitive)) ≤ length source.now }
+    requires room { to + count * size (prim_type (prim_of primitive)) ≤ length (G.memory guest.old).bytes }
+    requires small { to + count * size (prim_type (prim_of primitive)) < 2 ^ 32 }
+    ensures few { result ≤ count }
+    ensures crossed { IsDone G.allocates (EachWalks (prim_type (prim_of primitive)) source.now from to result)
+        (G.memory guest.old) nodes.old (G.memory guest.new) nodes.new }
+{
+    let Some(width) = number_width(primitive) else {
+        return 0;
+    };
+    cross_numbers(width, source, from, count, guest, to);
     *nodes = nodes.saturating_add(count as u64);
     count
 }

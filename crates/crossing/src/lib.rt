@@ -9,6 +9,7 @@
 mod flat;
 mod fronts;
 mod leaves;
+mod lists;
 mod stopped;
 mod texts;
 mod walk;

@@ -9,6 +9,7 @@ ghost use Rattle.crossing.specs.Outcome.{Walks, FieldsWalk, EachWalks, Behind, E
 
 use crate::fronts::cross_front;
 use crate::leaves::{cross_flags, cross_primitive, cross_text};
+use crate::lists::{cross_lists, listed_number};
 use crate::stopped::Stopped;
 use crate::texts::cross_texts;
 use canonical_abi::{Guest, TrapKind};
@@ -123,6 +124,9 @@ pub(crate) fn cross_elements<G: Guest>(
     canonical_abi::laws::reads_exactly();
     if let Shape::String = table.shape_of(element) {
         return cross_texts(source, from, count, guest, to, nodes);
+    }
+    if let Some(primitive) = listed_number(table, element) {
+        return cross_lists(primitive, source, from, count, guest, to, nodes);
     }
     let step = table.size_of(element);
     let crossed = cross_front(table, element, source, from, count, guest, to, nodes);

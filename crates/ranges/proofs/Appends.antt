@@ -1,6 +1,6 @@
 -- Elements that crossed, and those behind them.
 use Rattle.std.proofs.Common.{◌≡◌, inr, ℕ, zero, suc, ◌+◌, ◌*◌, List, [], ◌∷◌, ◌++◌, length, refl, sym, ap, ◌∙◌, subst, arith, append_assoc}
-use Rattle.canonical_abi.specs.Types.{ClosedType, prim_type, boolean, scalar_value}
+use Rattle.canonical_abi.specs.Types.{Prim, ClosedType, prim_type}
 use Rattle.canonical_abi.specs.Values.{Value}
 use Rattle.canonical_abi.specs.Layout.{size}
 use Rattle.canonical_abi.specs.Memory.{Holds, EachHolds}
@@ -91,8 +91,6 @@ pub same-visited : (t : ClosedType) (m : List ℕ) (k : ℕ) → ((a : ℕ) → 
 same-visited t m k each zero a = omega arith
 same-visited t m k each (suc n) a = let h = same-visited t m k each n (a + size t) in let e = each a in omega (arith, h, e)
 
-pub bools-visited : (m : List ℕ) (a n : ℕ) → each_nodes (prim_type boolean) m a n ≡ n
-bools-visited m a n = same-visited (prim_type boolean) m 1 (λ a. refl) n a ∙ (let e : n * 1 ≡ n = omega arith in e)
-
-pub chars-visited : (m : List ℕ) (a n : ℕ) → each_nodes (prim_type scalar_value) m a n ≡ n
-chars-visited m a n = same-visited (prim_type scalar_value) m 1 (λ a. refl) n a ∙ (let e : n * 1 ≡ n = omega arith in e)
+-- a primitive is one node
+pub prims-visited : (p : Prim) (m : List ℕ) (a n : ℕ) → each_nodes (prim_type p) m a n ≡ n
+prims-visited p m a n = same-visited (prim_type p) m 1 (λ a. refl) n a ∙ (let e : n * 1 ≡ n = omega arith in e)

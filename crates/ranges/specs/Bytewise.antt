@@ -22,6 +22,12 @@ prim_cap (unsigned w) = 255
 prim_cap (signed w) = 255
 prim_cap scalar_value = 255
 
+-- a number: each of its bytes crosses as it is, and any bits stand for one
+abbrev pub IsNumber : Prim → Type 0
+IsNumber (unsigned w) = Unit {0}
+IsNumber (signed w) = Unit {0}
+IsNumber _ = ⊥
+
 -- the first n bytes under this cap
 abbrev pub caps : ℕ → ℕ → ℕ → ℕ
 caps n cap i = cond (nat_lt i n) cap 0

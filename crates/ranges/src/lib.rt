@@ -10,6 +10,7 @@ mod bools;
 mod caps;
 mod cases;
 mod chars;
+mod numbers;
 mod rows;
 
 pub use blend::{Caps, cross_capped};
@@ -17,4 +18,5 @@ pub use bools::cross_bools;
 pub use caps::caps_of;
 pub use cases::cross_cases;
 pub use chars::cross_chars;
+pub use numbers::{cross_numbers, number_width};
 pub use rows::{Rows, rows_of};

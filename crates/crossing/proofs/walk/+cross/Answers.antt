@@ -73,6 +73,9 @@ cross_at-returns-in-Variant g t c =
 pub cross_elements-returns-in-String : goal.cross_elements-returns-in-String
 cross_elements-returns-in-String g t c = rw c.in-String.ensures.shape.0 c.cross_texts.ensures
 
+pub cross_elements-returns-in-Some : goal.cross_elements-returns-in-Some
+cross_elements-returns-in-Some g t c = rw c.in-Some.ensures.list c.cross_lists.ensures
+
 pub cross_elements-loop-index-init : goal.cross_elements-loop-index-init
 cross_elements-loop-index-init g t c =
     each-ahead g.G.Guest.allocates (closed_type c.args.table.now c.args.element) c.args.source.now c.args.from c.args.to c.args.count c.cross_front-crossed.result c.cross_front-crossed.ensures.few

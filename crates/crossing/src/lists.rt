@@ -1,0 +1,96 @@
+//! Lists of numbers in a list, one after another.
+ghost use Rattle.std.specs.Prelude.{◌≡◌, ◌+◌, ◌*◌, ◌^◌, ◌<◌, ◌≤◌, length, IfSome};
+ghost use Rattle.canonical_abi.specs.Types.{prim_type, list_type};
+ghost use Rattle.crossing.specs.Outcome.{Walks, EachWalks, Behind, Ends};
+ghost use Rattle.lift_lower.specs.Types.{IsInside};
+ghost use Rattle.ranges.specs.Bytewise.{IsNumber};
+ghost use Rattle.tables.specs.Closed.{closed_type, prim_of};
+
+use crate::stopped::Stopped;
+use canonical_abi::Guest;
+use layout::Shape;
+use lift_lower::Types;
+use lift_lower::nodes::{ask_block, test_block, u32_at, write_header};
+use ranges::{cross_numbers, number_width};
+use tables::{Primitive, ValType};
+
+/// The number that a type is a list of.
+pub(crate) fn listed_number(table: &Types, ty: ValType) -> Option<Primitive>
+    requires { IsInside table.now ty }
+    ensures number { IfSome result (λ p. IsNumber (prim_of p)) }
+    ensures list { IfSome result (λ p. closed_type table.now ty ≡ list_type (prim_type (prim_of p))) }
+{
+    let Shape::List(element) = table.shape_of(ty) else {
+        return None;
+    };
+    let Shape::Primitive(primitive) = table.shape_of(element) else {
+        return None;
+    };
+    number_width(primitive)?;
+    Some(primitive)
+}
+
+/// Crosses a list of numbers: its block is tested, one of the same size is asked for, and then its header and its numbers are
+/// written, these as one range.
+fn cross_listed<G: Guest>(
+    primitive: Primitive,
+    source: &[u8],
+    from: usize,
+    guest: &mut G,
+    to: usize,
+    nodes: &mut u64,
+) -> Result<(), Stopped>
+    requires number { IsNumber (prim_of primitive) }
+    requires short { length source.now < 2 ^ 32 }
+    requires fits { from + 8 ≤ length source.now }
+    requires room { to + 8 ≤ length (G.memory guest.old).bytes }
+    requires small { to + 8 < 2 ^ 32 }
+    ensures { Ends G.allocates (Behind (Walks (list_type (prim_type (prim_of primitive))) source.now from to))
+        (G.memory guest.old) nodes.old result (G.memory guest.new) nodes.new }
+{
+    canonical_abi::laws::reads_exactly();
+    let Some(width) = number_width(primitive) else {
+        unreachable!()
+    };
+    let start = u32_at(source, from) as usize;
+    let count = u32_at(source, from + 4) as usize;
+    let size = count * width;
+    if let Err(kind) = test_block(source.len(), start, width, size) {
+        return Err(Stopped::Source(kind));
+    }
+    let place = match ask_block(guest, u32::MAX, width, size) {
+        Ok(place) => place,
+        Err(kind) => return Err(Stopped::Target(kind)),
+    };
+    write_header(guest, to, place, count);
+    cross_numbers(width, source, start, count, guest, place);
+    *nodes = nodes.saturating_add(count as u64);
+    Ok(())
+}
+
+/// Crosses so many lists of numbers one after another: a loop by itself, with no look at their type for each.
+pub(crate) fn cross_lists<G: Guest>(
+    primitive: Primitive,
+    source: &[u8],
+    from: usize,
+    count: usize,
+    guest: &mut G,
+    to: usize,
+    nodes: &mut u64,
+) -> Result<(), Stopped>
+    requires number { IsNumber (prim_of primitive) }
+    requires short { length source.now < 2 ^ 32 }
+    requires fits { from + count * 8 ≤ length source.now }
+    requires room { to + count * 8 ≤ length (G.memory guest.old).bytes }
+    requires small { to + count * 8 < 2 ^ 32 }
+    ensures { Ends G.allocates (EachWalks (list_type (prim_type (prim_of primitive))) source.now from to count)
+        (G.memory guest.old) nodes.old result (G.memory guest.new) nodes.new }
+{
+    canonical_abi::laws::reads_exactly();
+    for index in 0..count {
+        let ahead = index * 8;
+        *nodes = nodes.saturating_add(1);
+        cross_listed(primitive, source, from + ahead, guest, to + ahead, nodes)?;
+    }
+    Ok(())
+}

@@ -1,0 +1,41 @@
+//! Numbers, which cross as they are.
+ghost use Rattle.std.specs.Prelude.{◌≡◌, ◌+◌, ◌*◌, ◌^◌, ◌<◌, ◌≤◌, length, MatchOption};
+ghost use Rattle.canonical_abi.specs.Types.{Prim, prim_type};
+ghost use Rattle.canonical_abi.specs.Layout.{size};
+ghost use Rattle.ranges.specs.Bytewise.{IsNumber, Crosses};
+ghost use Rattle.tables.specs.Closed.{prim_of};
+
+use canonical_abi::Guest;
+use tables::Primitive;
+
+/// The bytes of a number: none of a bool or a char, whose bits are tested or made anew.
+pub fn number_width(primitive: Primitive) -> Option<usize>
+    ensures { MatchOption result (¬ IsNumber (prim_of primitive)) (λ width. IsNumber (prim_of primitive) × (width ≡ size (prim_type (prim_of primitive)))) }
+{
+    match primitive {
+        Primitive::S8 | Primitive::U8 => Some(1),
+        Primitive::S16 | Primitive::U16 => Some(2),
+        Primitive::S32 | Primitive::U32 => Some(4),
+        Primitive::S64 | Primitive::U64 => Some(8),
+        Primitive::Bool | Primitive::Char => None,
+    }
+}
+
+/// Crosses numbers of so many bytes each, as one range.
+pub fn cross_numbers<G: Guest>(
+    width: usize,
+    source: &[u8],
+    from: usize,
+    count: usize,
+    guest: &mut G,
+    to: usize,
+)
+    requires inside { from + count * width ≤ length source.now }
+    requires room { to + count * width ≤ length (G.memory guest.old).bytes }
+    requires small { to + count * width < 2 ^ 32 }
+    ensures crosses { (p : Prim) → IsNumber p → width ≡ size (prim_type p) → Crosses (prim_type p) source.now from count G.allocates (G.memory guest.old) to (G.memory guest.new) }
+    ensures same_length { length (G.memory guest.new).bytes ≡ length (G.memory guest.old).bytes }
+{
+    let total = count * width;
+    guest.write(to as u32, &source[from..from + total]);
+}
