@@ -1,6 +1,6 @@
 -- The definitions of rows with the functions of worlds among them, as if these stood in an interface without a name; where there are none,
 -- they are the definitions of the rows.
-use Rattle.std.proofs.Common.{◌≡◌, ℕ, ◌+◌, Bool, true, false, not, cond, ◌&&◌, List, [], ◌∷◌, ◌++◌, get_or, refl, ap, sym, ◌∙◌, map, flat_map}
+use Rattle.std.proofs.Common.{◌≡◌, ℕ, ◌+◌, Bool, true, false, not, cond, ◌&&◌, List, [], ◌∷◌, ◌++◌, get_or, refl, ap, ◌∙◌}
 use Rattle.std.specs.List.{list_all}
 use Rattle.tables.specs.Package.{Tree, NamedDefinition, reference, read_params, read_val, named_by, named_function, function_meaning, definitions_from}
 use Rattle.tables.specs.Package as tree
@@ -11,10 +11,7 @@ use Rattle.tables.specs.declared.tables.Definition.{Definition}
 use Rattle.tables.specs.declared.tables.Definition.TheVariants as row
 use Rattle.tables.proofs.Rows.{split, both}
 use Rattle.package_form.specs.Ids.{is_world_function, places_where}
-use Rattle.package_form.specs.Form.{functions_of}
-use Rattle.tables.specs.declared.tables.World.{World}
-use Rattle.resolve.specs.Resolves.{HasItems}
-use Rattle.resolve.specs.Building.{HasNoWorlds}
+use Rattle.resolve.specs.Resolves.{HasNoWorlds}
 
 abbrev pub owner_name : List (List ℕ) → Owner → List ℕ
 owner_name interfaces (owner.Interface i) = get_or interfaces i.0 []
@@ -65,15 +62,3 @@ no-place n (d ∷ ds) h = by (is_world_function d) h (λ k. no-place (n + 1) ds 
         → cond b (n ∷ places_where is_world_function (n + 1) ds) (places_where is_world_function (n + 1) ds) ≡ []
     by false h later = later h
     by true h later = absurd (cc)
-
--- rows whose worlds' functions are the items of no world
-pub none-of : (rows : List Definition) (ws : List World) → ws ≡ [] → HasItems rows ws → HasNoWorlds rows
-none-of rows ws e h = none-there 0 rows (h ∙ ap (λ (vs : List World). flat_map functions_of vs) e)
-
-pub items-none : (rows : List Definition) (ws : List World) → ws ≡ [] → HasNoWorlds rows → HasItems rows ws
-items-none rows ws e h = no-place 0 rows h ∙ sym (ap (λ (vs : List World). flat_map functions_of vs) e)
-
--- worlds that mean none are none
-pub map-none : {A B : Type 0} (f : A → B) (xs : List A) → map f xs ≡ [] → xs ≡ []
-map-none f [] e = refl
-map-none f (x ∷ xs) e = absurd (cc)

@@ -2,8 +2,8 @@
 use Rattle.std.proofs.Common.{◌≡◌, ℕ, zero, suc, ◌+◌, ◌<◌, inl, inr, subst, List, [], ◌∷◌, ◌++◌, Option, None, Some, map, take, length, get_or, refl, ap, sym, ◌∙◌, arith, All, Contains}
 use Rattle.std.specs.List.{cons_option, filter_map}
 use Rattle.wit_syntax.specs.Syntax.{FileEntry, AnInterface, AWorld}
-use Rattle.resolve.specs.Declarations.{InterfaceTree, WorldTree, interface_tree, world_tree, interface_of, world_of, interface_names}
-use Rattle.resolve.specs.Resolves.{HasKnownNames, IsUnknownIn, IsKnownWorld, IsUnknownInWorld}
+use Rattle.resolve.specs.Declarations.{InterfaceTree, interface_tree, world_tree, interface_of, world_of, interface_names}
+use Rattle.resolve.specs.Resolves.{HasKnownNames, IsKnownWorld}
 use Rattle.resolve.specs.Sources.{declared_tree}
 use Rattle.resolve.specs.declared.declared.Declarations.{Declarations}
 use Rattle.resolve.specs.Knowing.{KnowsFileEntry, LacksFileEntry, RefusesUnknown}

@@ -20,7 +20,7 @@ use Rattle.tables.proofs.Rows.{both}
 use Rattle.package_form.proofs.Meeting.{take-more}
 
 module _ (is : Definition → Bool) where
-  places-end : (n : ℕ) (ds : List Definition) (d : Definition) → places_where is n (ds ++ d ∷ []) ≡ places_where is n ds ++ cond (is d) ((n + length ds) ∷ []) []
+  pub places-end : (n : ℕ) (ds : List Definition) (d : Definition) → places_where is n (ds ++ d ∷ []) ≡ places_where is n ds ++ cond (is d) ((n + length ds) ∷ []) []
   places-end n [] d = by (is d)
     where
       by : (b : Bool) → cond b (n ∷ []) [] ≡ cond b ((n + 0) ∷ []) []
@@ -162,7 +162,7 @@ get-here (x ∷ xs) ys y zero h = absurd (omega arith)
 get-here (x ∷ xs) ys y (suc n) h = get-here xs ys y n (omega arith)
 
 module _ (is : Definition → Bool) (kept : Option Definition → Bool) (right : (d : Definition) → is d ≡ true → kept (Some d) ≡ true) (rows : List Definition) where
-  kept-all : (pre ds : List Definition) (n : ℕ) → rows ≡ pre ++ ds → n ≡ length pre → list_all (λ m. kept (slice_get rows m)) (places_where is n ds) ≡ true
+  pub kept-all : (pre ds : List Definition) (n : ℕ) → rows ≡ pre ++ ds → n ≡ length pre → list_all (λ m. kept (slice_get rows m)) (places_where is n ds) ≡ true
   kept-all pre [] n e h = refl
   kept-all pre (d ∷ ds) n e h = by (is d) refl (kept-all (pre ++ d ∷ []) ds (n + 1) (e ∙ sym (append_assoc pre (d ∷ []) ds)) (omega (arith, h, length-append pre (d ∷ []))))
     where

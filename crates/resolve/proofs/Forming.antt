@@ -100,7 +100,7 @@ only-third A B C D E X a b c d e = rw (a, b, c, d, e) (append-nil X)
 only-fourth : (A B C D E X : List ℕ) → A ≡ [] → B ≡ [] → C ≡ [] → D ≡ X → E ≡ [] → A ++ (B ++ (C ++ (D ++ E))) ≡ X
 only-fourth A B C D E X a b c d e = rw (a, b, c, d, e) (append-nil X)
 
-same-bytes : (xs ys : List ℕ) → xs ≡ ys → bytes_eq xs ys ≡ true
+pub same-bytes : (xs ys : List ℕ) → xs ≡ ys → bytes_eq xs ys ≡ true
 same-bytes xs ys e = (bytes_eq-Decides xs ys).1 e
 
 -- rows in front of an interface's, its own, and those behind

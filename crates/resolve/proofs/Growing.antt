@@ -1,9 +1,9 @@
 -- The table and the scope of an interface, when a definition is put behind them.
-use Rattle.std.proofs.Common.{◌≡◌, ℕ, true, List, [], ◌∷◌, ◌++◌, Option, Some, map, length, get_or, refl, ap, sym, ◌∙◌, subst, All, Contains, append_assoc}
+use Rattle.std.proofs.Common.{◌≡◌, ℕ, true, List, [], ◌∷◌, ◌++◌, Option, Some, map, length, get_or, refl, ap, sym, ◌∙◌, subst, All, Contains, append_assoc, Result, Ok, Err, OnOk}
 use Rattle.std.proofs.lemmas.List.{map-append}
 use Rattle.std.specs.List.{list_all}
 use Rattle.tables.specs.Tables.{is_type, option_all, function_all}
-use Rattle.tables.specs.Package.{Tree, Reference, NamedDefinition, Meaning, IsFunction, definition_of, read_params}
+use Rattle.tables.specs.Package.{Tree, Reference, NamedDefinition, Meaning, IsUse, IsFunction, definition_of, read_params}
 use Rattle.package_form.specs.Postfix.{Leaves, whole, unnamed_if, unnamed_parameter}
 use Rattle.resolve.specs.Declarations.{UsedItem, TypeItem, FunctionItem, InterfaceTree, used_names}
 use Rattle.resolve.specs.Resolved.{Labelled, use_meaning, function_meaning, in_order, interface_meaning, no_type, fields_of}
@@ -19,14 +19,19 @@ use Rattle.tables.specs.declared.tables.InterfaceId.{InterfaceId}
 use Rattle.tables.specs.declared.tables.ValType.{ValType}
 use Rattle.tables.specs.declared.tables.ValType.TheVariants as val
 use Rattle.tables.specs.declared.tables.TypeDefKind.{TypeDefKind}
+use Rattle.tables.specs.declared.tables.TypeDefKind.TheVariants as kind
 use Rattle.tables.specs.declared.tables.Definition.{Definition}
 use Rattle.tables.specs.declared.tables.Definition.TheVariants as row
 use Rattle.tables.proofs.Rows.{both}
 use Rattle.package_form.proofs.Lists.{all-append, all-cons, all-none}
-use Rattle.resolve.proofs.Reading.{With, with-rows, with-front, with-definitions, with-stands, with-unnamed, front-trans, adds-trans, extends-trans}
+use Rattle.resolve.proofs.Reading.{With, with-rows, with-front, with-own, with-definitions, with-stands, with-unnamed, front-trans, adds-trans, extends-none, extends-trans}
 use Rattle.resolve.proofs.Lowering.{scope-later, same_name, all-stay, parameter-stays, parameters-read}
 
 -- ---- one definition
+
+pub on-ok : {T E : Type 0} (r : Result T E) (P Q : Type 0) → (P → Q) → OnOk r P → OnOk r Q
+on-ok (Ok x) P Q f h = f h
+on-ok (Err e) P Q f h = tt
 
 abbrev one : List ℕ → List ℕ → Meaning → List NamedDefinition
 one i n m = record { key = record { interface = i; name = n }; meaning = m } ∷ []
@@ -36,8 +41,12 @@ scope-push : (t : Table) (before after : KnownTypes) (e : Entry) → IsScope t b
 scope-push t before after e h p is =
     let P = IsEntry t (scope_name t before) in
     let made : IsScope t (record { interface = before.interface; entries = before.entries ++ e ∷ [] }) =
-    record { place = h.place; each = all-append P before.entries (e ∷ []) h.each (all-cons P e [] p (all-none P)) } in
+    record { each = all-append P before.entries (e ∷ []) h.each (all-cons P e [] p (all-none P)) } in
     subst (IsScope t) (sym is) made
+
+-- another name of a type needs no rows
+pub uses-kind : (t : Table) (target : TypeId) (tree : Tree) → TreeStands t (val.Id target) tree → LowersKind t t (kind.Use target) (IsUse tree)
+uses-kind t target tree s = record { extends = extends-none t; typed = s.typed; means = ap IsUse s.reads; names = refl }
 
 -- a row with a name behind the rows that it needs
 pub define-grows : (first mid new : Table) (before after : KnownTypes) (k : TypeDefKind) (n m name : List ℕ) (id : TypeId) (meaning : Meaning)
@@ -48,7 +57,7 @@ pub define-grows : (first mid new : Table) (before after : KnownTypes) (k : Type
     → Grows first before new after (one (scope_name first before) name meaning)
 define-grows first mid new before after k n m name id meaning en em at with is scope l =
     let d = row.Type (record { name = Some (record { interface = before.interface; name = n }); kind = k }) in
-    let front = with-front mid new d with l.typed refl in
+    let front = with-front mid new d with l.typed in
     let all = front-trans first mid new l.extends.front front in
     let defined : definition_of mid.interfaces (table_trees mid) d ≡ one (scope_name first before) name meaning = rw (l.means, en, l.extends.front.interfaces) refl in
     let stands = with-stands mid new d with id at refl in
@@ -60,6 +69,7 @@ define-grows first mid new before after k n m name id meaning en em at with is s
     record {
       adds = record {
         front = all;
+        own = with-own mid new d with refl ∙ l.extends.own;
         definitions = with-definitions mid new d with ∙ ap (λ (ds : List NamedDefinition). ds ++ definition_of mid.interfaces (table_trees mid) d) l.extends.same
             ∙ ap (λ (ds : List NamedDefinition). table_definitions first ++ ds) defined;
         postfix = λ h. subst (λ (ds : List Definition). Leaves ds []) (sym (with-rows mid new d with)) (whole mid.rows d refl l.names (l.extends.postfix [] h));
@@ -81,12 +91,13 @@ function-adds old mid last new i n name ps ls r t l m en with =
     let s = all-stay parameter_typed read_parameter unnamed_parameter parameter-stays mid last m.extends.front ps l.within in
     let extends = subst (λ (us : List ℕ). Extends old last (us ++ unnamed_if last.rows r)) (sym s.2) (extends-trans old mid last _ _ l.extends m.extends) in
     let typed : function_all (is_type last.rows) f ≡ true = both (list_all (parameter_typed last.rows) ps) (option_all (is_type last.rows) r) s.0 m.typed in
-    let front = with-front last new d with typed refl in
+    let front = with-front last new d with typed in
     let reads : read_params (table_trees last) ps ≡ fields_of ls = parameters-read (table_trees last) ps ∙ ap fields_of (s.1 ∙ l.reads) in
     let defined : definition_of last.interfaces (table_trees last) d ≡ one (name_at old i.0) name (IsFunction (fields_of ls) t) =
     rw (reads, m.reads, en, extends.front.interfaces) refl in
     record {
       front = front-trans old last new extends.front front;
+      own = with-own last new d with refl ∙ extends.own;
       definitions = with-definitions last new d with ∙ ap (λ (ds : List NamedDefinition). ds ++ definition_of last.interfaces (table_trees last) d) extends.same
           ∙ ap (λ (ds : List NamedDefinition). table_definitions old ++ ds) defined;
       postfix = λ h. subst (λ (ds : List Definition). Leaves ds []) (sym (with-rows last new d with)) (whole last.rows d refl refl (extends.postfix [] h));

@@ -6,6 +6,7 @@ pub mod Reading
 pub mod AllDefinitions
 pub mod Lowering
 pub mod Growing
+pub mod WorldRows
 pub mod Placing
 pub mod Scoping
 pub mod Nesting
@@ -30,6 +31,10 @@ pub mod Blocks
 pub mod Forming
 pub mod RowNames
 pub mod Folding
+pub mod TypedRows
+pub mod WorldTables
+pub mod WorldMeanings
+pub mod WorldForms
 pub mod TreeForms
 pub mod Members
 pub mod ItemNames

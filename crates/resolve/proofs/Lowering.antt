@@ -31,7 +31,6 @@ use Rattle.resolve.proofs.Reading.{stands-later, extends-trans, extends-none, re
 
 pub scope-later : (old new : Table) (s : KnownTypes) → Front old new → IsScope old s → IsScope new s
 scope-later old new s x h = record {
-  place = omega (arith, ap length x.interfaces, h.place);
   each = λ k d l.
       let e = get_or s.entries k d in
       let was = h.each k d l in
@@ -64,7 +63,7 @@ lowers-some a b v tree l = record { extends = l.extends; typed = l.stands.typed;
 
 -- ---- a type that may be left out
 
-option-stays : (old new : Table) → Front old new → (v : Option ValType) → option_all (is_type old.rows) v ≡ true
+pub option-stays : (old new : Table) → Front old new → (v : Option ValType) → option_all (is_type old.rows) v ≡ true
     → (option_all (is_type new.rows) v ≡ true) × (option_map (read_val (table_trees new)) v ≡ option_map (read_val (table_trees old)) v)
     × (unnamed_if new.rows v ≡ unnamed_if old.rows v)
 option-stays old new x None h = (refl, refl, refl)

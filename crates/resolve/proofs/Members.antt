@@ -1,5 +1,5 @@
 -- The names of the members of rows are those of what the rows define.
-use Rattle.std.proofs.Common.{◌≡◌, ℕ, zero, suc, true, cond, is_some, List, [], ◌∷◌, ◌++◌, map, take, drop, Option, None, Some, refl, ap, sym, subst, ◌∙◌, All}
+use Rattle.std.proofs.Common.{◌≡◌, ℕ, true, cond, is_some, List, [], ◌∷◌, ◌++◌, map, Option, None, Some, refl, ap, sym, subst, ◌∙◌, All}
 use Rattle.std.specs.List.{list_all}
 use Rattle.wit_syntax.specs.Syntax.{Ty, Prim, Named, ListOf, OptionOf, TupleOf, ResultOf, Definition as Body, Alias, Record, Variant, Enumeration, FlagSet, Member, CaseOf}
 use Rattle.wit_syntax.specs.declared.ast.Primitive.{Primitive as Keyword}
@@ -18,7 +18,7 @@ use Rattle.package_form.specs.Postfix.{is_inner}
 use Rattle.package_form.specs.Scope.{AreDistinct}
 use Rattle.resolve.specs.Declarations.{TypeItem, FunctionItem, member_name, case_name as name_of_case, definition_scopes}
 use Rattle.resolve.specs.Resolved.{primitive_tree, fields_of, choice, choices_of, resolved, resolved_if, member_meaning, case_meaning, definition_meaning, type_meaning, function_meaning}
-use Rattle.package_form.proofs.Lists.{all-head, all-tail, all-cons, all-none}
+use Rattle.package_form.proofs.Lists.{all-head, all-cons, all-none}
 use Rattle.package_form.specs.Naming.{field_name, case_name, parameter_name, kind_members, row_members}
 use Rattle.tables.proofs.Rows.{split}
 use Rattle.resolve.proofs.Segments.{RowsAre, TypeMeans, Means}
@@ -178,16 +178,3 @@ rows-distinct ns trees [] e h = all-none AreDistinct
 rows-distinct ns trees (d ∷ ds) e h =
     let s = split (is_inner_row d) (list_all is_inner_row ds) e in
     all-cons AreDistinct (row_members d) (map row_members ds) (row-distinct trees ns d s.0 h.0) (rows-distinct ns (trees ++ reference ns trees d ∷ []) ds s.1 h.1)
-
--- .. and in those of an interface
-pub drop-distinct : (n : ℕ) (ds : List Definition) → All AreDistinct (map row_members ds) → All AreDistinct (map row_members (drop n ds))
-drop-distinct zero ds h = h
-drop-distinct (suc n) [] h = h
-drop-distinct (suc n) (d ∷ ds) h = drop-distinct n ds (all-tail AreDistinct (row_members d) (map row_members ds) h)
-
-pub take-distinct : (n : ℕ) (ds : List Definition) → All AreDistinct (map row_members ds) → All AreDistinct (map row_members (take n ds))
-take-distinct zero ds h = all-none AreDistinct
-take-distinct (suc n) [] h = h
-take-distinct (suc n) (d ∷ ds) h =
-    all-cons AreDistinct (row_members d) (map row_members (take n ds)) (all-head AreDistinct (row_members d) (map row_members ds) h)
-    (take-distinct n ds (all-tail AreDistinct (row_members d) (map row_members ds) h))

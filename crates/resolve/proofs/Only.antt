@@ -1,45 +1,36 @@
 -- Where a tree without faults resolves to a package, each cause of a refusal is absurd; only memory can be wanting.
-use Rattle.std.proofs.Common.{◌≡◌, ◌≤◌, ◌<◌, inl, inr, ℕ, List, [], ◌∷◌, ◌++◌, length, length-append, slice_get, map, get_or, refl, sym, ap, subst, ◌∙◌, arith, Result, Ok, Err, IfOk, IfErr}
-use Rattle.std.specs.Prelude.{true, ◌&&◌, IsTrue, sum, All, Contains}
-use Rattle.std.proofs.lemmas.Bool.{and_parts, false≢true, ltb-true}
+use Rattle.std.proofs.Common.{◌≡◌, ◌≤◌, inl, inr, ℕ, List, [], ◌++◌, length, map, get_or, refl, sym, ap, subst, ◌∙◌, arith, Result, Ok, Err, IfOk, IfErr}
+use Rattle.std.specs.Prelude.{true, sum, All, Contains}
+use Rattle.std.proofs.lemmas.Bool.{false≢true}
 use Rattle.std.proofs.lemmas.List.Elements.{All-contains}
 use Rattle.wit_syntax.specs.Syntax.{File}
-use Rattle.std.specs.List.{list_all}
-use Rattle.tables.specs.Tables.{definition_all, is_below, definition_below, is_type, is_there, type_of, are_earlier, name_types, are_standard}
-use Rattle.tables.specs.declared.tables.ValType.{ValType}
-use Rattle.tables.specs.declared.tables.ValType.TheVariants as val
+use Rattle.tables.specs.Tables.{are_standard}
 use Rattle.tables.specs.PackageNames.{own_name}
-use Rattle.tables.specs.Names.{full_name}
+use Rattle.tables.specs.Names.{full_name, world_name}
 use Rattle.tables.specs.declared.tables.Interface.{Interface}
-use Rattle.tables.specs.Package.{Package, package_of, interface_names as names_in}
-use Rattle.tables.specs.declared.tables.Definition.{Definition}
+use Rattle.tables.specs.Package.{Package, package_of, references, trees as trees_in, interface_names as names_in}
 use Rattle.tables.specs.declared.tables.Resolve.{Resolve}
 use Rattle.tables.specs.declared.error.ResolveError.{ResolveError}
 use Rattle.tables.specs.declared.error.ResolveError.TheVariants as error
 use Rattle.package_form.specs.Scope.{AreDistinct}
 use Rattle.resolve.specs.Order.{IsPlacement}
 use Rattle.package_form.specs.Postfix.{IsPostfix}
-use Rattle.resolve.specs.Declarations.{UsedItem, InterfaceTree, ItemTree, InterfaceNamed, FunctionOf, WorldTree, interfaces, worlds, package_named, full_interface, full_interfaces, full_world, full_worlds, interface_at, interface_names, interface_name, type_names, named_definition, named_function}
-use Rattle.resolve.specs.Resolved as tree
+use Rattle.resolve.specs.Declarations.{UsedItem, InterfaceTree, ItemTree, InterfaceNamed, FunctionOf, interfaces, worlds, package_named, full_interface, full_interfaces, full_worlds, interface_at, interface_names, interface_name, type_names, named_definition, named_function}
 use Rattle.resolve.specs.Scopes.{scopes}
 use Rattle.resolve.specs.Resolves.{HasPackage, IsTooLarge, Resolves, full_names, package_in, interface_uses, type_uses, PassesLimit, HasDuplicate, HasDistinctNames, IsKnownUse, IsUnknownUse, IsUnknownIn, HasUnknown, HasKnownNames, IsKnownItem, IsKnownWorld, IsUnknownItem, HasCycle, IsPackageOf, HasNoFaults, ResolveRefuses, AnswersOnly}
 use Rattle.package_form.specs.Entries.{world_entries, Table, table_of, entries_of, type_entries}
-use Rattle.resolve.proofs.Trees.{distinct-interfaces, none-declared}
+use Rattle.resolve.proofs.Trees.{distinct-interfaces}
 use Rattle.package_form.proofs.OneRow.{same-place}
-use Rattle.package_form.proofs.Lists.{contains-map, get-front}
-use Rattle.resolve.proofs.Typing.{definition-grows}
-use Rattle.tables.proofs.Earlier.{definition-both}
-use Rattle.tables.proofs.Rows.{earlier-at}
+use Rattle.package_form.proofs.Lists.{contains-map}
 use Rattle.std.proofs.lemmas.List.{get_or-map, length-map, get_or_default}
-use Rattle.std.proofs.lemmas.List.Folds.{list_all-append}
-use Rattle.std.proofs.Math.Seq.{get_or-append_seam}
 use Rattle.resolve.proofs.Placed.{no-cycle, one-package}
 use Rattle.resolve.proofs.FullNames.{interface-full, uses-full}
 use Rattle.resolve.proofs.Counted.{entries, entries-by-name}
 use Rattle.resolve.proofs.Weighed.{IsTyped, sizes}
 use Rattle.resolve.proofs.StandardRows.{standard-by-name}
-use Rattle.resolve.proofs.AllDefinitions.{all_from, all-are, none-of, map-none}
-use Rattle.tables.specs.declared.tables.World.{World}
+use Rattle.resolve.proofs.AllDefinitions.{all_from}
+use Rattle.resolve.proofs.TypedRows.{earlier-typed}
+use Rattle.resolve.proofs.WorldMeanings.{worlds_definitions, world_size, all-told, functions-there, worlds-sized}
 
 -- a name that stands twice
 no-duplicate : (f : File) (n : List ℕ) → HasDistinctNames f → HasDuplicate f n → ⊥
@@ -105,42 +96,12 @@ no-cycle-in f p r (inr (i, b, c)) =
 
 -- ---- limits
 
--- rows that name earlier types alone are typed
-earlier-typed : (rows : List Definition) → IsTrue (are_earlier 0 rows) → IsTrue (name_types rows) → IsTyped rows
-earlier-typed rows earlier typed front d rest e = definition-grows (λ v. is_below (length front) v && is_type rows v) (is_type front) keep d both
-  where
-    inside : length front < length rows
-    inside = let a = ap length e in let b = length-append front (d ∷ rest) in omega (arith, a, b)
-
-    at : get_or rows (length front) d ≡ d
-    at = ap (λ xs. get_or xs (length front) d) e ∙ get_or-append_seam front d rest d
-
-    below : definition_below (length front) d ≡ true
-    below = let x = earlier-at 0 rows (length front) d earlier inside in subst (λ c. definition_below (length front) c ≡ true) at (subst (λ n. definition_below n (get_or rows (length front) d) ≡ true) (omega arith) x)
-
-    named : definition_all (is_type rows) d ≡ true
-    named =
-        let split = list_all-append (definition_all (is_type rows)) front (d ∷ rest) in
-        let all : list_all (definition_all (is_type rows)) (front ++ d ∷ rest) ≡ true = ap (list_all (definition_all (is_type rows))) (sym e) ∙ typed in
-        (and_parts (definition_all (is_type rows) d) (list_all (definition_all (is_type rows)) rest) (and_parts (list_all (definition_all (is_type rows)) front) (list_all (definition_all (is_type rows)) (d ∷ rest)) (sym split ∙ all)).1).0
-
-    both : definition_all (λ v. is_below (length front) v && is_type rows v) d ≡ true
-    both = definition-both (is_below (length front)) (is_type rows) d ∙ (ap (λ b. b && definition_all (is_type rows) d) below ∙ named)
-
-    keep : (v : ValType) → is_below (length front) v && is_type rows v ≡ true → is_type front v ≡ true
-    keep (val.Primitive p) h = refl
-    keep val.String h = refl
-    keep (val.Id t) h =
-        let l = ltb-true t.0 (length front) (and_parts (is_below (length front) (val.Id t)) (is_type rows (val.Id t)) h).0 in
-        let g : slice_get rows t.0 ≡ slice_get front t.0 = ap (λ xs. slice_get xs t.0) e ∙ get-front front (d ∷ rest) t.0 l in
-        subst (λ o. is_there (type_of o) ≡ true) g (and_parts (is_below (length front) (val.Id t)) (is_type rows (val.Id t)) h).1
-
--- Two tables of one package without worlds, whose rows name earlier types and stand in postfix order: both pass a limit or none does. `ns`
--- and `ms` are the full names of their interfaces.
-same-limits : (t u : Table) (ns ms : List (List ℕ)) → length ns ≡ length t.interfaces → length ms ≡ length u.interfaces → ns ≡ ms → t.worlds ≡ [] → u.worlds ≡ []
-    → all_from ns [] t.rows ≡ all_from ms [] u.rows → IsTyped t.rows → IsPostfix t.rows → IsTyped u.rows → IsPostfix u.rows
-    → type_entries t ≤ 65535 → are_standard t.rows ≡ true → PassesLimit u → ⊥
-same-limits t u ns ms long_t long_u names none_t none_u meant a p b q within standard passes = by passes
+-- Two tables of one package, whose rows name earlier types and stand in postfix order: both pass a limit or none does. `ns` and `ms` are
+-- the full names of their interfaces.
+same-limits : (t u : Table) (ns ms : List (List ℕ)) → length ns ≡ length t.interfaces → length ms ≡ length u.interfaces → ns ≡ ms
+    → sum (map world_entries t.worlds) ≡ sum (map world_entries u.worlds) → all_from ns [] t.rows ≡ all_from ms [] u.rows
+    → IsTyped t.rows → IsPostfix t.rows → IsTyped u.rows → IsPostfix u.rows → type_entries t ≤ 65535 → are_standard t.rows ≡ true → PassesLimit u → ⊥
+same-limits t u ns ms long_t long_u names worlds meant a p b q within standard passes = by passes
   where
     by : PassesLimit u → ⊥
     by (inl l) =
@@ -148,29 +109,31 @@ same-limits t u ns ms long_t long_u names none_t none_u meant a p b q within sta
         let y = entries-by-name ms u.rows (λ f d r z. b f d r z) q in
         let sums : sum (map entries_of t.rows) ≡ sum (map entries_of u.rows) = x ∙ (ap (sizes entries) meant ∙ sym y) in
         let counts = ap length names in
-        let first : sum (map world_entries t.worlds) ≡ 0 = ap (λ (ws : List World). sum (map world_entries ws)) none_t in
-        let second : sum (map world_entries u.worlds) ≡ 0 = ap (λ (ws : List World). sum (map world_entries ws)) none_u in
-        omega (arith, within, l, sums, counts, long_t, long_u, first, second)
+        omega (arith, within, l, sums, counts, long_t, long_u, worlds)
     by (inr h) = false≢true (sym h ∙ standard-by-name ns ms t.rows u.rows a p b q meant standard)
 
 not-too-large : (f : File) (r : Resolve) → IsPackageOf f r → IsTooLarge f → ⊥
 not-too-large f r h x =
     let n = package_named f in
-    let same = one-package (full_interfaces f) (full_worlds f) (package_of r) (package_in n x.table) h.resolves x.resolves in
-    let none : x.table.worlds ≡ [] = map-none _ x.table.worlds (x.resolves.worlds ∙ ap (λ (ws : List WorldTree). map tree.world_meaning (map (full_world n) ws)) (none-declared f r h)) in
-    let meant =
-    sym (all-are (names_in r) [] r.definitions (none-of r.definitions r.worlds h.worlds h.items)) ∙ ap (λ (p : Package). p.definitions) same
-    ∙ all-are (full_names n x.table) [] x.table.rows (none-of x.table.rows x.table.worlds none x.items) in
-    same-limits (table_of r) x.table (names_in r) (full_names n x.table) (length-map r.interfaces (full_name r) ∙ sym (length-map r.interfaces (λ (i : Interface). i.name))) (length-map x.table.interfaces (own_name n))
-    (ap (λ (p : Package). p.interfaces) same) h.worlds none meant
-    (earlier-typed r.definitions r.earlier r.typed) h.postfix (earlier-typed x.table.rows x.earlier x.typed) x.postfix h.within r.standard x.passes
+    let t = x.table in
+    let same = one-package (full_interfaces f) (full_worlds f) (package_of r) (package_in n t) h.resolves x.resolves in
+    let typed = earlier-typed r.definitions r.earlier r.typed in
+    let typed_too = earlier-typed t.rows x.earlier x.typed in
+    let first = all-told (names_in r) r.definitions typed r.earlier r.typed (world_name r) r.worlds h.behind h.items in
+    let second = all-told (full_names n t) t.rows typed_too x.earlier x.typed (λ w. own_name n w.name) t.worlds x.behind x.items in
+    let meant = first ∙ ap (λ (p : Package). p.definitions ++ worlds_definitions p.worlds) same ∙ sym second in
+    let sized = worlds-sized (names_in r) (trees_in r) r.definitions (world_name r) r.worlds (functions-there r.definitions r.worlds h.items) in
+    let sized_too = worlds-sized (full_names n t) (references (full_names n t) [] t.rows) t.rows (λ w. own_name n w.name) t.worlds (functions-there t.rows t.worlds x.items) in
+    let entries_same = sized ∙ ap (λ (p : Package). sum (map world_size p.worlds)) same ∙ sym sized_too in
+    same-limits (table_of r) t (names_in r) (full_names n t) (length-map r.interfaces (full_name r) ∙ sym (length-map r.interfaces (λ (i : Interface). i.name))) (length-map t.interfaces (own_name n))
+    (ap (λ (p : Package). p.interfaces) same) entries_same meant typed h.postfix typed_too x.postfix h.within r.standard x.passes
 
 -- ---- no refusal but for memory
 
 -- Where a tree has a package, the only refusal is for memory.
 only-memory : (f : File) (r : Resolve) (e : ResolveError) → HasPackage f r → ResolveRefuses f e → e ≡ error.NoMemory
 only-memory f r error.EmptyPackage h x = absurd (h.faults.some x)
-only-memory f r error.NotThisShape h x = absurd (x.1 (none-declared f r h.resolved))
+only-memory f r error.NotThisShape h x = absurd x
 only-memory f r (error.Duplicate n) h x = absurd (no-duplicate f n h.faults.distinct x.1)
 only-memory f r (error.Unknown n) h x = absurd (no-unknown f n h.faults x.2)
 only-memory f r error.Cycle h x = absurd (no-cycle-in f (package_of r) h.resolved.resolves x.1)

@@ -11,7 +11,7 @@ use Rattle.resolve.specs.Declarations.{UsedItem, InterfaceTree, interface_at, no
 use Rattle.resolve.specs.Resolved.{interface_meaning}
 use Rattle.package_form.specs.Entries.{Table}
 use Rattle.resolve.specs.Resolves.{interface_uses, uses_of_interface, type_uses, HasKnownNames, IsKnownUse, names_in_order, place_of}
-use Rattle.resolve.specs.Building.{HasNoWorlds, table_definitions, name_at, Adds, IsScope, scope_name, scope_names, CanUse, DefinesInterface, DefinesPackage, package_meaning}
+use Rattle.resolve.specs.Building.{world_functions, table_definitions, name_at, Adds, IsScope, scope_name, scope_names, CanUse, DefinesInterface, DefinesPackage, package_meaning}
 use Rattle.tables.specs.declared.tables.InterfaceId.{InterfaceId}
 use Rattle.tables.specs.declared.tables.Definition.{Definition}
 use Rattle.resolve.specs.declared.known.KnownTypes.{KnownTypes}
@@ -20,6 +20,7 @@ use Rattle.resolve.specs.Sources.{declared_tree}
 use Rattle.tables.proofs.Rows.{split}
 use Rattle.package_form.proofs.Lists.{all-append, all-cons, all-none, contains-map, flat_map-append, flat_map-one}
 use Rattle.package_form.proofs.OneRow.{same-place}
+use Rattle.package_form.specs.Ids.{is_world_function, places_where}
 use Rattle.package_form.proofs.Meeting.{below_or_at, take-more}
 use Rattle.resolve.proofs.Reading.{adds-none, adds-trans}
 use Rattle.resolve.proofs.Growing.{scopes-later}
@@ -153,13 +154,24 @@ defines-package is order orders empty t scopes k e l h =
     let all = take_all k order l in
     record {
       interfaces = h.adds.front.interfaces ∙ ap (λ (x : Table). x.interfaces) e;
-      worlds = h.adds.front.worlds ∙ ap (λ (x : Table). x.worlds) e;
-      own = h.adds.front.own (subst (λ (ds : List Definition). HasNoWorlds ds) (sym rows) refl);
       definitions = h.adds.definitions ∙ ap (λ (x : Table). table_definitions x ++ package_meaning is orders (take k order)) e ∙ ap (package_meaning is orders) all;
       postfix = h.adds.postfix (subst (λ (ds : List Definition). Leaves ds []) (sym rows) begin);
       earlier = h.adds.front.earlier (subst (λ (ds : List Definition). IsTrue (are_earlier 0 ds)) (sym rows) refl);
       typed = h.adds.front.typed (subst (λ (ds : List Definition). IsTrue (name_types ds)) (sym rows) refl);
     }
+
+-- no row is a function of a world
+pub no-functions : (is : List InterfaceTree) (order : List ℕ) (orders : List (List ℕ)) (empty t : Table) (scopes : List KnownTypes) (k : ℕ)
+    → empty ≡ record { interfaces = names_in_order is order; worlds = []; rows = [] } → PackageSoFar k is order orders empty t scopes → world_functions t ≡ []
+no-functions is order orders empty t scopes k e h = h.adds.own ∙ ap (λ (x : Table). places_where is_world_function 0 x.rows) e
+
+-- interfaces are known by their names in package order too
+pub ordered-has : (is : List InterfaceTree) (order : List ℕ) → IsPlacement (interface_uses is) order → (n : List ℕ) → Contains (interface_names is) n → Contains (names_in_order is order) n
+ordered-has is order placed n c =
+    let l : c.0 < length (interface_uses is) = omega (arith, c.1, length-map is interface_name, length-map is (uses_of_interface (interface_names is))) in
+    let m = among-at order c.0 (placed.complete c.0 l) in
+    let named : (interface_at is c.0).name ≡ n = interface-name is c.0 ∙ get_or_default (interface_names is) c.0 [] n c.1 ∙ c.2 in
+    subst (Contains (names_in_order is order)) named (contains-map (λ (k : ℕ). (interface_at is k).name) order c.0 m)
 
 abbrev pub table : List (List ℕ) → Table
 table ns = record { interfaces = ns; worlds = []; rows = [] }

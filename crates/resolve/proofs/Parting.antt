@@ -43,7 +43,7 @@ places-append P n (d ∷ ds) es =
     ap (λ (ps : List ℕ). cond (P d) (n ∷ ps) ps) (again ∙ ap (λ (k : ℕ). places_where P (n + 1) ds ++ places_where P k es) at)
     ∙ cond-append (P d) n (places_where P (n + 1) ds) (places_where P (n + suc (length ds)) es)
 
-get-seam : (xs : List Definition) (x : Definition) (ys : List Definition) → slice_get (xs ++ x ∷ ys) (length xs) ≡ Some x
+pub get-seam : (xs : List Definition) (x : Definition) (ys : List Definition) → slice_get (xs ++ x ∷ ys) (length xs) ≡ Some x
 get-seam [] x ys = refl
 get-seam (y ∷ xs) x ys = get-seam xs x ys
 
@@ -66,7 +66,7 @@ places-all rows P q pre (d ∷ S) T e h =
 
 -- ---- the place behind the last
 
-abbrev behind : ℕ → List ℕ → ℕ
+abbrev pub behind : ℕ → List ℕ → ℕ
 behind n [] = n
 behind n (p ∷ ps) = behind (p + 1) ps
 
@@ -88,7 +88,7 @@ behind-some n start d (e ∷ ds) h = by (is_named d)
     by true again = again (start + 1) ∙ omega arith
     by false again = again n ∙ omega arith
 
-behind-all : (start : ℕ) (ds : List Definition) → ends_named ds ≡ true → behind start (places_where is_named start ds) ≡ start + length ds
+pub behind-all : (start : ℕ) (ds : List Definition) → ends_named ds ≡ true → behind start (places_where is_named start ds) ≡ start + length ds
 behind-all start [] h = omega arith
 behind-all start (d ∷ ds) h = behind-some start start d ds h
 

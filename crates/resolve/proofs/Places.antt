@@ -41,7 +41,7 @@ place-end (m ∷ ns) x n = by (bytes_eq m n) (ap (option_map suc) (place-end ns 
     by true h = refl
     by false h = h
 
-same-bytes : (x y : List ℕ) → bytes_eq x y ≡ true → x ≡ y
+pub same-bytes : (x y : List ℕ) → bytes_eq x y ≡ true → x ≡ y
 same-bytes x y e = (bytes_eq-Decides x y).0 e
 
 bytes-same : (x : List ℕ) → bytes_eq x x ≡ true

@@ -1,13 +1,13 @@
 -- What a table's rows read as, when more rows come behind them.
-use Rattle.std.proofs.Common.{◌≡◌, ℕ, zero, suc, ◌+◌, ◌<◌, ◌≤◌, true, false, not, IsTrue, List, [], ◌∷◌, ◌++◌, length, get_or, slice_get, Option, Some, refl, ap, sym, subst, ◌∙◌, arith, append_assoc, append-nil}
+use Rattle.std.proofs.Common.{◌≡◌, ℕ, zero, suc, ◌+◌, ◌<◌, ◌≤◌, Bool, true, false, cond, IsTrue, List, [], ◌∷◌, ◌++◌, length, get_or, slice_get, Option, Some, refl, ap, sym, subst, ◌∙◌, arith, append_assoc, append-nil}
 use Rattle.std.proofs.lemmas.List.{length-append, get_or_append_left, get_or_at}
 use Rattle.std.proofs.lemmas.Bool.{ltb-true}
 use Rattle.tables.specs.Tables.{is_type, is_there, type_of, definition_all, definition_below, are_earlier, name_types}
 use Rattle.tables.specs.Package.{Tree, TextTree, NamedDefinition, Meaning, IsUse, IsType, IsFunction, references, reference, definitions_from, definition_of, read_val, read_kind, meaning_of}
 use Rattle.package_form.specs.Postfix.{Leaves, inner, unnamed, is_inner, is_unnamed, is_unnamed_row, one_if, inner_row}
-use Rattle.package_form.specs.Ids.{is_world_function}
+use Rattle.package_form.specs.Ids.{is_world_function, places_where}
 use Rattle.package_form.specs.Entries.{Table}
-use Rattle.resolve.specs.Building.{HasNoWorlds, table_trees, table_definitions, Front, Extends, Adds, TreeStands, Lowers, LowersInner, is_expressed}
+use Rattle.resolve.specs.Building.{world_functions, table_trees, table_definitions, Front, Extends, Adds, TreeStands, Lowers, LowersInner, is_expressed}
 use Rattle.tables.specs.declared.tables.ValType.{ValType}
 use Rattle.tables.specs.declared.tables.ValType.TheVariants as val
 use Rattle.tables.specs.declared.tables.TypeId.{TypeId}
@@ -18,6 +18,7 @@ use Rattle.tables.proofs.Rows.{split, both}
 use Rattle.tables.proofs.Standards.{type-below}
 use Rattle.resolve.proofs.Typing.{type-later, definition-grows, names-later}
 use Rattle.package_form.proofs.Lists.{get-front}
+use Rattle.resolve.proofs.Finishing.{places-end}
 
 references-append : (is : List (List ℕ)) (ts : List Tree) (ds es : List Definition) → references is ts (ds ++ es) ≡ references is (references is ts ds) es
 references-append is ts [] es = refl
@@ -58,7 +59,7 @@ read_val-same old new x (val.Id t) h =
     let l : t.0 < length (table_trees old) = omega (arith, trees-length old, ltb-true t.0 (length old.rows) (type-below old.rows (val.Id t) h)) in
     rw (trees-more old new x.rows.0 x.interfaces x.rows.1) (references-front old.interfaces (table_trees old) x.rows.0 t.0 TextTree l)
 
-get-end : {A : Type 0} (xs : List A) (y : A) (n : ℕ) → n ≡ length xs → slice_get (xs ++ y ∷ []) n ≡ Some y
+pub get-end : {A : Type 0} (xs : List A) (y : A) (n : ℕ) → n ≡ length xs → slice_get (xs ++ y ∷ []) n ≡ Some y
 get-end [] y n h = rw h refl
 get-end (x ∷ xs) y zero h = absurd (omega arith)
 get-end (x ∷ xs) y (suc n) h = get-end xs y n (omega arith)
@@ -80,7 +81,7 @@ stands-later old new v tree x s = record {
 -- ---- growth after growth
 
 pub front-none : (t : Table) → Front t t
-front-none t = record { interfaces = refl; rows = ([], sym (append-nil t.rows)); earlier = λ h. h; typed = λ h. h; own = λ h. h; worlds = refl }
+front-none t = record { interfaces = refl; rows = ([], sym (append-nil t.rows)); earlier = λ h. h; typed = λ h. h }
 
 pub front-trans : (a b c : Table) → Front a b → Front b c → Front a c
 front-trans a b c x y = record {
@@ -88,13 +89,12 @@ front-trans a b c x y = record {
   rows = (x.rows.0 ++ y.rows.0, y.rows.1 ∙ ap (λ ds. ds ++ y.rows.0) x.rows.1 ∙ append_assoc a.rows x.rows.0 y.rows.0);
   earlier = λ h. y.earlier (x.earlier h);
   typed = λ h. y.typed (x.typed h);
-  own = λ h. y.own (x.own h);
-  worlds = y.worlds ∙ x.worlds;
 }
 
 pub extends-none : (t : Table) → Extends t t []
 extends-none t = record {
   front = front-none t;
+  own = refl;
   same = refl;
   postfix = λ before h. subst (λ (us : List ℕ). Leaves t.rows us) (sym (append-nil before)) h;
 }
@@ -102,21 +102,23 @@ extends-none t = record {
 pub extends-trans : (a b c : Table) (us vs : List ℕ) → Extends a b us → Extends b c vs → Extends a c (us ++ vs)
 extends-trans a b c us vs x y = record {
   front = front-trans a b c x.front y.front;
+  own = y.own ∙ x.own;
   same = y.same ∙ x.same;
   postfix = λ before h. subst (λ (ws : List ℕ). Leaves c.rows ws) (append_assoc before us vs) (y.postfix (before ++ us) (x.postfix before h));
 }
 
 pub adds-none : (t : Table) → Adds t t []
-adds-none t = record { front = front-none t; definitions = sym (append-nil (table_definitions t)); postfix = λ h. h }
+adds-none t = record { front = front-none t; own = refl; definitions = sym (append-nil (table_definitions t)); postfix = λ h. h }
 
 pub adds-trans : (a b c : Table) (ds es : List NamedDefinition) → Adds a b ds → Adds b c es → Adds a c (ds ++ es)
 adds-trans a b c ds es x y = record {
   front = front-trans a b c x.front y.front;
+  own = y.own ∙ x.own;
   definitions = y.definitions ∙ ap (λ zs. zs ++ es) x.definitions ∙ append_assoc (table_definitions a) ds es;
   postfix = λ h. y.postfix (x.postfix h);
 }
 
-definitions-append : (is : List (List ℕ)) (ts : List Tree) (ds es : List Definition)
+pub definitions-append : (is : List (List ℕ)) (ts : List Tree) (ds es : List Definition)
     → definitions_from is ts (ds ++ es) ≡ definitions_from is ts ds ++ definitions_from is (references is ts ds) es
 definitions-append is ts [] es = refl
 definitions-append is ts (d ∷ ds) es =
@@ -136,10 +138,6 @@ definitions-more old new d is rows =
 abbrev pub With : Table → Definition → Table → Type 0
 With old d new = new ≡ record { interfaces = old.interfaces; worlds = old.worlds; rows = old.rows ++ d ∷ [] }
 
-owned-more : (ds : List Definition) (d : Definition) → HasNoWorlds ds → is_world_function d ≡ false → HasNoWorlds (ds ++ d ∷ [])
-owned-more [] d h e = rw e refl
-owned-more (c ∷ ds) d h e = let s = split (not (is_world_function c)) _ h in both _ _ s.0 (owned-more ds d s.1 e)
-
 earlier-more : (n : ℕ) (ds : List Definition) (d : Definition) → IsTrue (are_earlier n ds) → definition_below (n + length ds) d ≡ true → IsTrue (are_earlier n (ds ++ d ∷ []))
 earlier-more n [] d h b = let e : n + 0 ≡ n = omega arith in both (definition_below n d) true (rw e at b) refl
 earlier-more n (e ∷ ds) d h b =
@@ -154,8 +152,8 @@ module _ (old new : Table) (d : Definition) (is : With old d new) where
   pub with-names : new.interfaces ≡ old.interfaces
   with-names = ap (λ (t : Table). t.interfaces) is
 
-  pub with-front : definition_all (is_type old.rows) d ≡ true → is_world_function d ≡ false → Front old new
-  with-front typed own =
+  pub with-front : definition_all (is_type old.rows) d ≡ true → Front old new
+  with-front typed =
       let zero_plus : 0 + length old.rows ≡ length old.rows = omega arith in
       let below : definition_below (length old.rows) d ≡ true = definition-grows _ _ (type-below old.rows) d typed in
       record {
@@ -163,9 +161,18 @@ module _ (old new : Table) (d : Definition) (is : With old d new) where
         rows = (d ∷ [], with-rows);
         earlier = λ h. subst (λ (ds : List Definition). IsTrue (are_earlier 0 ds)) (sym with-rows) (earlier-more 0 old.rows d h (rw zero_plus below));
         typed = λ h. subst (λ (ds : List Definition). IsTrue (name_types ds)) (sym with-rows) (names-later old.rows d h typed);
-        own = λ h. subst (λ (ds : List Definition). HasNoWorlds ds) (sym with-rows) (owned-more old.rows d h own);
-        worlds = ap (λ (t : Table). t.worlds) is;
       }
+
+  pub with-functions : world_functions new ≡ world_functions old ++ cond (is_world_function d) (length old.rows ∷ []) []
+  with-functions =
+      let same : 0 + length old.rows ≡ length old.rows = omega arith in
+      ap (places_where is_world_function 0) with-rows ∙ places-end is_world_function 0 old.rows d
+      ∙ ap (λ (n : ℕ). places_where is_world_function 0 old.rows ++ cond (is_world_function d) (n ∷ []) []) same
+
+  -- a row that is no function of a world
+  pub with-own : is_world_function d ≡ false → world_functions new ≡ world_functions old
+  with-own other =
+      with-functions ∙ ap (λ (b : Bool). world_functions old ++ cond b (length old.rows ∷ []) []) other ∙ append-nil (world_functions old)
 
   pub with-definitions : table_definitions new ≡ table_definitions old ++ definition_of old.interfaces (table_trees old) d
   with-definitions = definitions-more old new d with-names with-rows
@@ -214,12 +221,13 @@ pub inner-lowers : (first old new : Table) (k : TypeDefKind) (id : TypeId) (tree
     → LowersInner first old k tree → Lowers first new (val.Id id) tree
 inner-lowers first old new k id tree at is isinner li =
     let l = li.lowers in
-    let front = with-front old new (inner_row k) is l.typed refl in
+    let front = with-front old new (inner_row k) is l.typed in
     let stands = with-stands old new (inner_row k) is id at refl in
     let own : unnamed new.rows (val.Id id) ≡ length old.rows ∷ [] = with-unnamed old new (inner_row k) is id at ∙ ap (λ (n : ℕ). n ∷ []) at in
     record {
       extends = record {
         front = front-trans first old new l.extends.front front;
+        own = with-own old new (inner_row k) is refl ∙ l.extends.own;
         same = with-definitions old new (inner_row k) is ∙ append-nil (table_definitions old) ∙ l.extends.same;
         postfix = λ before h. subst (λ (us : List ℕ). Leaves new.rows (before ++ us)) (sym own)
             (subst (λ (ds : List Definition). Leaves ds (before ++ length old.rows ∷ [])) (sym (with-rows old new (inner_row k) is)) (inner old.rows before k isinner (l.extends.postfix before h)));

@@ -1,12 +1,13 @@
 -- Interfaces that get other names: definitions by name get them too, whatever rows they are read from.
-use Rattle.std.proofs.Common.{◌≡◌, ℕ, zero, suc, List, [], ◌∷◌, ◌++◌, Option, None, Some, map, flat_map, get_or, refl, ap, sym, ◌∙◌}
+use Rattle.std.proofs.Common.{◌≡◌, ℕ, zero, suc, List, [], ◌∷◌, ◌++◌, Option, None, Some, map, flat_map, get_or, slice_get, refl, ap, sym, ◌∙◌}
 use Rattle.std.specs.Prelude.{slice_index_or}
 use Rattle.std.specs.Option.{option_map}
 use Rattle.std.proofs.lemmas.List.{map-append}
 use Rattle.wit_syntax.specs.Syntax.{Ty, Prim, Named, ListOf, OptionOf, TupleOf, ResultOf, Tys, none, more, MaybeTy, Absent, Present, Definition as Body, Alias, Record, Variant, Enumeration, FlagSet, Member, CaseOf}
 use Rattle.wit_syntax.specs.declared.ast.Primitive.{Primitive as Keyword}
 use Rattle.wit_syntax.specs.declared.ast.Primitive.TheVariants as keyword
-use Rattle.tables.specs.Package.{Key, key_of, Tree, PrimTree, TextTree, Reference, ListTree, RecordTree, VariantTree, FlagsTree, Fields, no_fields, field, Choices, no_choices, empty, holding, Plain, AsTuple, AsResult, AsEnum, Meaning, IsUse, IsType, IsFunction, NamedDefinition, read_val, read_choice, read_tuple, read_fields, read_params, read_cases, read_enum, read_kind, reference, reference_by, meaning_of, named_function, function_meaning as called, named_by, definition_of, definitions_from}
+use Rattle.tables.specs.Package.{Key, key_of, Tree, PrimTree, TextTree, Reference, ListTree, RecordTree, VariantTree, FlagsTree, Fields, no_fields, field, Choices, no_choices, empty, holding, Plain, AsTuple, AsResult, AsEnum, Meaning, IsUse, IsType, IsFunction, NamedDefinition, read_val, read_choice, read_tuple, read_fields, read_params, read_cases, read_enum, read_kind, reference, reference_by, meaning_of, named_function, function_meaning as called, named_by, definition_of, definitions_from, references, ItemMeaning, WithInterface, WithFunction, function_item, item_meaning}
+use Rattle.tables.specs.Tables.{function_of}
 use Rattle.tables.specs.declared.tables.ValType.{ValType}
 use Rattle.tables.specs.declared.tables.ValType.TheVariants as val
 use Rattle.tables.specs.declared.tables.TypeDefKind.{TypeDefKind}
@@ -17,10 +18,15 @@ use Rattle.tables.specs.declared.tables.Case.{Case}
 use Rattle.tables.specs.declared.tables.Parameter.{Parameter}
 use Rattle.tables.specs.declared.tables.Owner.{Owner}
 use Rattle.tables.specs.declared.tables.Owner.TheVariants as owner
+use Rattle.tables.specs.declared.tables.Function.{Function}
+use Rattle.tables.specs.declared.tables.Direction.{Direction}
+use Rattle.tables.specs.declared.tables.WorldItemKind.{WorldItemKind}
+use Rattle.tables.specs.declared.tables.WorldItemKind.TheVariants as item
+use Rattle.tables.specs.declared.tables.WorldItem.{WorldItem}
 use Rattle.tables.specs.declared.tables.Definition.{Definition}
 use Rattle.tables.specs.declared.tables.Definition.TheVariants as row
-use Rattle.resolve.specs.Declarations.{UsedItem, TypeItem, FunctionItem, InterfaceTree}
-use Rattle.resolve.specs.Resolved.{primitive_tree, fields_of, unlabelled, choice, choices_of, option_tree, resolved, resolved_all, resolved_maybe, resolved_if, member_meaning, case_meaning, definition_meaning, use_meaning, function_meaning, no_type, in_order, interface_meaning}
+use Rattle.resolve.specs.Declarations.{UsedItem, TypeItem, FunctionItem, InterfaceTree, ItemTree, InterfaceNamed, FunctionOf}
+use Rattle.resolve.specs.Resolved.{primitive_tree, fields_of, unlabelled, choice, choices_of, option_tree, resolved, resolved_all, resolved_maybe, resolved_if, member_meaning, case_meaning, definition_meaning, use_meaning, function_meaning, no_type, in_order, interface_meaning, direction_meaning, item_meaning as item_tree_meaning}
 
 -- each interface gets another name; none has none
 module _ (to : List ℕ → List ℕ) (none-kept : to [] ≡ []) where
@@ -152,6 +158,37 @@ module _ (to : List ℕ → List ℕ) (none-kept : to [] ≡ []) where
       let means : called (map renamed ts) f ≡ renamed_meaning (called ts f) = cc in
       ap (named_function (map to ns) f.owner f.name) means ∙ function-same ns f.owner f.name (called ts f)
 
+  pub references-same : (ns : List (List ℕ)) (ts : List Tree) (ds : List Definition) → references (map to ns) (map renamed ts) ds ≡ map renamed (references ns ts ds)
+  references-same ns ts [] = refl
+  references-same ns ts (d ∷ ds) =
+      let more : map renamed ts ++ reference (map to ns) (map renamed ts) d ∷ [] ≡ map renamed (ts ++ reference ns ts d ∷ []) =
+      ap (λ (t : Tree). map renamed ts ++ t ∷ []) (row-same ns ts d) ∙ sym (map-append renamed ts (reference ns ts d ∷ [])) in
+      ap (λ (us : List Tree). references (map to ns) us ds) more ∙ references-same ns (ts ++ reference ns ts d ∷ []) ds
+
+  -- ---- what items of worlds read as
+
+  abbrev pub renamed_item : ItemMeaning → ItemMeaning
+  renamed_item (WithInterface way n) = WithInterface way (to n)
+  renamed_item (WithFunction way n fs result) = WithFunction way n (renamed_fields fs) (option_map renamed result)
+
+  read-item : (ns : List (List ℕ)) (ts : List Tree) (rows : List Definition) (way : Direction) (k : WorldItemKind)
+      → item_meaning (map to ns) (map renamed ts) rows way k ≡ renamed_item (item_meaning ns ts rows way k)
+  read-item ns ts rows way (item.Interface i) = ap (WithInterface way) (name-at ns i.0)
+  read-item ns ts rows way (item.Function f) = by (function_of (slice_get rows f.0))
+    where
+      by : (o : Option Function) → function_item (map renamed ts) way o ≡ renamed_item (function_item ts way o)
+      by None = ap (WithInterface way) (sym none-kept)
+      by (Some g) =
+          ap (λ (fs : Fields). WithFunction way g.name fs (option_map (read_val (map renamed ts)) g.result)) (params-same ts g.params)
+          ∙ ap (WithFunction way g.name (renamed_fields (read_params ts g.params))) (if-same ts g.result)
+
+  pub read-items : (ns : List (List ℕ)) (ts : List Tree) (rows : List Definition) (is : List WorldItem)
+      → map (λ i. item_meaning (map to ns) (map renamed ts) rows i.direction i.kind) is ≡ map renamed_item (map (λ i. item_meaning ns ts rows i.direction i.kind) is)
+  read-items ns ts rows [] = refl
+  read-items ns ts rows (i ∷ is) =
+      ap (λ (m : ItemMeaning). m ∷ map (λ j. item_meaning (map to ns) (map renamed ts) rows j.direction j.kind) is) (read-item ns ts rows i.direction i.kind)
+      ∙ ap (λ (ms : List ItemMeaning). renamed_item (item_meaning ns ts rows i.direction i.kind) ∷ ms) (read-items ns ts rows is)
+
   pub definitions-same : (ns : List (List ℕ)) (ts : List Tree) (ds : List Definition) → definitions_from (map to ns) (map renamed ts) ds ≡ map renamed_definition (definitions_from ns ts ds)
   definitions-same ns ts [] = refl
   definitions-same ns ts (d ∷ ds) =
@@ -230,6 +267,22 @@ module _ (to : List ℕ → List ℕ) (none-kept : to [] ≡ []) where
   body-renamed i (Variant cs) = ap (VariantTree Plain) (cases-renamed i cs)
   body-renamed i (Enumeration ns) = ap (VariantTree AsEnum) (enumerated-same ns)
   body-renamed i (FlagSet ns) = refl
+
+  abbrev pub item_under : ItemTree → ItemTree
+  item_under (InterfaceNamed way i) = InterfaceNamed way (to i)
+  item_under (FunctionOf way f) = FunctionOf way f
+
+  -- a function of a world is of no interface
+  pub item-renamed : (i : ItemTree) → item_tree_meaning (item_under i) ≡ renamed_item (item_tree_meaning i)
+  item-renamed (InterfaceNamed way n) = refl
+  item-renamed (FunctionOf way f) =
+      let ms = f.function.params in
+      let params : fields_of (map (member_meaning []) ms) ≡ renamed_fields (fields_of (map (member_meaning []) ms)) =
+      ap (λ (i : List ℕ). fields_of (map (member_meaning i) ms)) (sym none-kept) ∙ members-renamed [] ms in
+      let result : resolved_if [] f.function.result ≡ option_map renamed (resolved_if [] f.function.result) =
+      ap (λ (i : List ℕ). resolved_if i f.function.result) (sym none-kept) ∙ if-renamed [] f.function.result in
+      ap (λ (fs : Fields). WithFunction (direction_meaning way) f.name fs (resolved_if [] f.function.result)) params
+      ∙ ap (WithFunction (direction_meaning way) f.name (renamed_fields (fields_of (map (member_meaning []) ms)))) result
 
   -- the interface, and those that it uses, under their new names
   abbrev pub used_under : UsedItem → UsedItem

@@ -96,7 +96,7 @@ module _ (trees : List Tree) where
   standard-top (kind.Enum ns) u a = ap (λ n. is_within n 100000) (sym (enum-long ns))
   standard-top (kind.Flags ns) u a = refl
 
-not-use : (k : TypeDefKind) → is_inner k ≡ true → is_use k ≡ false
+pub not-use : (k : TypeDefKind) → is_inner k ≡ true → is_use k ≡ false
 not-use (kind.Use t) h = absurd (false≢true h)
 not-use _ h = refl
 

@@ -1,43 +1,55 @@
 -- What a syntax tree resolves to is in package form.
-use Rattle.std.proofs.Common.{◌≡◌, ◌≢◌, ℕ, zero, suc, ◌+◌, ◌<◌, ◌≤◌, Bool, true, false, not, ◌||◌, ◌&&◌, ◌==◌, nat_le, nat_lt, IsTrue, List, [], ◌∷◌, ◌++◌, map, flat_map, filter_map, take, length, get_or, refl, ap, sym, subst, ◌∙◌, arith, All, Contains, inl, inr}
+use Rattle.std.proofs.Common.{◌≡◌, ◌≢◌, ◌⊎◌, Option, None, Some, is_some, append_assoc, ℕ, zero, suc, ◌+◌, ◌<◌, ◌≤◌, Bool, true, false, not, ◌||◌, ◌&&◌, ◌==◌, nat_le, nat_lt, IsTrue, List, [], ◌∷◌, ◌++◌, map, flat_map, filter_map, take, length, get_or, refl, ap, sym, subst, ◌∙◌, arith, All, Contains, inl, inr}
 use Rattle.std.specs.Prelude.{slice_index_or}
 use Rattle.std.specs.List.{list_all}
+use Rattle.std.proofs.lemmas.List.Folds.{list_all-append}
 use Rattle.std.proofs.lemmas.Bool.Decides.{nat_tests}
 use Rattle.std.proofs.lemmas.List.{length-map, length-take, get_or-take, get_or_default, get_or-map, get_or_past}
 use Rattle.atoms.specs.FullName.{is_package_label, is_version_or_none, package_text}
 use Rattle.tables.specs.PackageNames.{PackageParts, name_parts, own_name}
-use Rattle.tables.specs.Names.{full_name}
+use Rattle.tables.specs.Names.{full_name, world_name}
 use Rattle.wit_syntax.specs.Syntax.{FileEntry, AnInterface, AWorld, File}
 use Rattle.wit_syntax.specs.FullNames.{has_full_names}
-use Rattle.tables.specs.Package.{NamedDefinition, interface_names as names_in}
+use Rattle.tables.specs.Package.{Tree, NamedDefinition, named_by, reference, references, world_meaning as meaning_in, trees as trees_in, interface_names as names_in}
+use Rattle.tables.specs.declared.tables.TypeName.{TypeName}
+use Rattle.tables.specs.declared.tables.Owner.{Owner}
+use Rattle.tables.specs.declared.tables.Owner.TheVariants as owner
+use Rattle.tables.specs.declared.tables.World.{World}
 use Rattle.tables.specs.declared.tables.Definition.{Definition}
+use Rattle.tables.specs.declared.tables.Definition.TheVariants as row
 use Rattle.tables.specs.declared.tables.Interface.{Interface}
 use Rattle.tables.specs.declared.tables.Resolve.{Resolve}
 use Rattle.resolve.specs.Order.{IsPlacement, is_among}
 use Rattle.package_form.specs.Scope.{AreDistinct}
-use Rattle.resolve.specs.Declarations.{UsedItem, FunctionItem, InterfaceTree, interfaces, package_named, full_interface, full_interfaces, interface_of, world_of, interface_at, no_interface, interface_name, interface_names, use_interface}
-use Rattle.resolve.specs.Resolved.{use_meaning, type_meaning, function_meaning, in_order, interface_meaning, no_type, definition_meaning, fields_of, member_meaning, resolved_if}
-use Rattle.resolve.specs.Resolves.{place_of, uses_of_interface, interface_uses, names_in_order, IsKnownUse, HasKnownNames, HasNoFaults, IsPackageOf}
+use Rattle.resolve.specs.Declarations.{UsedItem, FunctionItem, InterfaceTree, interfaces, worlds, package_named, full_interface, full_interfaces, full_world, full_worlds, interface_of, world_of, interface_at, no_interface, interface_name, interface_names, use_interface}
+use Rattle.resolve.specs.Resolved.{use_meaning, type_meaning, function_meaning, in_order, interface_meaning, no_type, definition_meaning, fields_of, member_meaning, resolved_if, world_meaning}
+use Rattle.resolve.specs.Resolves.{place_of, uses_of_interface, interface_uses, names_in_order, IsKnownUse, HasKnownNames, HasNoFaults, is_behind, HasWorldsBehind, IsPackageOf}
 use Rattle.package_form.specs.Entries.{labels_of}
-use Rattle.package_form.specs.Ids.{interface_in, interfaces_from}
-use Rattle.package_form.proofs.Lists.{all-at, all-contained, contains-map, contains-unmap, contains-here, compared}
+use Rattle.package_form.specs.Ids.{is_of_worlds, is_world_function, interface_in, interfaces_from}
+use Rattle.package_form.proofs.Lists.{all-at, all-contained, contains-map, contains-unmap, compared}
 use Rattle.resolve.proofs.Placing.{all-from, place-found, all-places, among-at}
 use Rattle.package_form.proofs.OneRow.{same-place}
 use Rattle.resolve.proofs.Packaging.{interface-name, name-in-order}
-use Rattle.resolve.proofs.Trees.{distinct-interfaces, none-declared}
+use Rattle.resolve.proofs.Trees.{distinct-interfaces}
 use Rattle.resolve.proofs.FullNames.{interface-full, distinct-full, known-full}
-use Rattle.package_form.specs.Form.{have_items, IsInPackageForm, is_package_name, is_local, has_ids, are_interfaces, has_full_names as has_names}
+use Rattle.package_form.specs.Form.{is_named, have_items, IsInPackageForm, is_package_name, is_local, has_ids, are_interfaces, has_full_names as has_names}
 use Rattle.tables.proofs.Rows.{split, both}
 use Rattle.package_form.proofs.Postfix.{postfix-used}
 use Rattle.resolve.proofs.Referring.{if-refers, members-refer, body-refers}
 use Rattle.resolve.proofs.Locals.{is-that}
-use Rattle.package_form.specs.Ends.{interfaces_end, end_of, rows_of, is_parted}
+use Rattle.package_form.specs.Ends.{interfaces_end, end_of, rows_of, are_worlds_parted, is_parted}
 use Rattle.package_form.specs.Unused.{are_used}
 use Rattle.resolve.proofs.Homes.{IsPlace, MeansUse, MeansType, MeansFunction}
 use Rattle.resolve.proofs.Blocks.{Block, IsBlock, AreBlocks, blocks_definitions, block_names, used-inner}
 use Rattle.resolve.proofs.Forming.{IsTable}
-use Rattle.resolve.proofs.Folding.{formed}
-use Rattle.resolve.proofs.AllDefinitions.{all_from, all-are, none-of}
+use Rattle.resolve.proofs.Folding.{Formed, formed}
+use Rattle.resolve.proofs.AllDefinitions.{all_from}
+use Rattle.resolve.proofs.Segments.{rows-mean}
+use Rattle.resolve.proofs.Referring.{Every}
+use Rattle.resolve.proofs.Parting.{IsElsewhere, places-same}
+use Rattle.resolve.proofs.TypedRows.{earlier-typed}
+use Rattle.resolve.proofs.WorldMeanings.{worlds_definitions, front-told, items-behind, back-told}
+use Rattle.resolve.proofs.WorldForms.{RefersNowhere, worlds-nowhere, worlds-formed}
 
 -- ---- names
 
@@ -49,14 +61,20 @@ own-some p n = by p.namespace
     by (c ∷ ns) e = absurd (cc)
 
 -- rows are parted, and stand in their interfaces, whatever the names of these
-parted-so : (count : ℕ) (rows : List Definition) (start j : ℕ) (ns ms : List (List ℕ)) → length ns ≡ length ms
-    → is_parted count start (interfaces_from rows j ns) [] ≡ is_parted count start (interfaces_from rows j ms) []
-parted-so count rows start j [] [] e = refl
-parted-so count rows start j [] (m ∷ ms) e = absurd (omega (arith, e))
-parted-so count rows start j (n ∷ ns) [] e = absurd (omega (arith, e))
-parted-so count rows start j (n ∷ ns) (m ∷ ms) e =
+parted-so : (count : ℕ) (rows : List Definition) (ws : List World) (start j : ℕ) (ns ms : List (List ℕ)) → length ns ≡ length ms
+    → is_parted count start (interfaces_from rows j ns) ws ≡ is_parted count start (interfaces_from rows j ms) ws
+parted-so count rows ws start j [] [] e = refl
+parted-so count rows ws start j [] (m ∷ ms) e = absurd (omega (arith, e))
+parted-so count rows ws start j (n ∷ ns) [] e = absurd (omega (arith, e))
+parted-so count rows ws start j (n ∷ ns) (m ∷ ms) e =
     ap (λ (b : Bool). nat_le start (end_of start (interface_in rows j m)) && (nat_le (end_of start (interface_in rows j m)) count && b))
-    (parted-so count rows (end_of start (interface_in rows j m)) (j + 1) ns ms (omega (arith, e)))
+    (parted-so count rows ws (end_of start (interface_in rows j m)) (j + 1) ns ms (omega (arith, e)))
+
+end-so : (rows : List Definition) (start j : ℕ) (ns ms : List (List ℕ)) → length ns ≡ length ms → interfaces_end start (interfaces_from rows j ns) ≡ interfaces_end start (interfaces_from rows j ms)
+end-so rows start j [] [] e = refl
+end-so rows start j [] (m ∷ ms) e = absurd (omega (arith, e))
+end-so rows start j (n ∷ ns) [] e = absurd (omega (arith, e))
+end-so rows start j (n ∷ ns) (m ∷ ms) e = end-so rows (end_of start (interface_in rows j m)) (j + 1) ns ms (omega (arith, e))
 
 standing-so : (rows : List Definition) (k start j : ℕ) (ns ms : List (List ℕ)) → length ns ≡ length ms
     → are_interfaces rows k start (interfaces_from rows j ns) ≡ are_interfaces rows k start (interfaces_from rows j ms)
@@ -228,10 +246,49 @@ some-order : (uses : List (List ℕ)) (order : List ℕ) → IsPlacement uses or
 some-order uses [] placed l = absurd (let e = placed.complete 0 l in cc)
 some-order uses (k ∷ order) placed l = omega arith
 
-some-interface : (es : List FileEntry) → es ≢ [] → filter_map world_of es ≡ [] → 0 < length (filter_map interface_of es)
-some-interface [] some h = absurd (some refl)
-some-interface (AnInterface n xs ∷ es) some h = omega arith
-some-interface (AWorld at n ws ∷ es) some h = absurd (cc)
+some-entry : (es : List FileEntry) → es ≢ [] → (0 < length (filter_map interface_of es)) ⊎ (0 < length (filter_map world_of es))
+some-entry [] some = absurd (some refl)
+some-entry (AnInterface n xs ∷ es) some = inl (omega arith)
+some-entry (AWorld at n ws ∷ es) some = inr (omega arith)
+
+-- rows behind those of interfaces are of no interface, and have a name where they are functions of worlds
+behind-elsewhere : (ds : List Definition) → list_all is_behind ds ≡ true → (k : ℕ) → Every (IsElsewhere k) ds
+behind-elsewhere [] h k = tt
+behind-elsewhere (d ∷ ds) h k = let s = split (is_behind d) (list_all is_behind ds) h in (by d s.0, behind-elsewhere ds s.1 k)
+  where
+    by : (c : Definition) → is_behind c ≡ true → IsElsewhere k c
+    by (row.Type t) q = named t.name q
+      where
+        named : (n : Option TypeName) → not (is_some n) ≡ true → IsElsewhere k (row.Type (record { name = n; kind = t.kind }))
+        named None r = record { used = refl; typed = refl; function = refl }
+        named (Some n) r = absurd (cc)
+    by (row.Function g) q = owned g.owner q
+      where
+        owned : (o : Owner) → is_of_worlds o ≡ true → IsElsewhere k (row.Function (record { owner = o; name = g.name; params = g.params; result = g.result }))
+        owned (owner.Interface i) r = absurd (cc)
+        owned (owner.World w) r = record { used = refl; typed = refl; function = refl }
+
+behind-named : (ds : List Definition) → list_all is_behind ds ≡ true → Every (λ d. is_named d ≡ is_world_function d) ds
+behind-named [] h = tt
+behind-named (d ∷ ds) h = let s = split (is_behind d) (list_all is_behind ds) h in (by d s.0, behind-named ds s.1)
+  where
+    by : (c : Definition) → is_behind c ≡ true → is_named c ≡ is_world_function c
+    by (row.Type t) q = ap not q
+    by (row.Function g) q = sym q
+
+-- rows that define nothing have no name
+nothing-behind : (ns : List (List ℕ)) (trees : List Tree) (ds : List Definition) → all_from ns trees ds ≡ [] → list_all is_behind ds ≡ true
+nothing-behind ns trees [] e = refl
+nothing-behind ns trees (row.Type d ∷ ds) e = by d.name e (λ q. nothing-behind ns (trees ++ reference ns trees (row.Type d) ∷ []) ds q)
+  where
+    rest : List NamedDefinition
+    rest = all_from ns (trees ++ reference ns trees (row.Type d) ∷ []) ds
+
+    by : (o : Option TypeName) → named_by ns trees o d.kind ++ rest ≡ [] → (rest ≡ [] → list_all is_behind ds ≡ true)
+        → (not (is_some o) && list_all is_behind ds) ≡ true
+    by None q again = again q
+    by (Some n) q again = absurd (cc)
+nothing-behind ns trees (row.Function f ∷ ds) e = absurd (cc)
 
 module _ (f : File) (r : Resolve) (h : HasNoFaults f) (full : IsTrue (has_full_names f)) (p : IsPackageOf f r) where
   abbrev pub trees : List InterfaceTree
@@ -273,10 +330,14 @@ module _ (f : File) (r : Resolve) (h : HasNoFaults f) (full : IsTrue (has_full_n
       (all-blocks trees types order p.resolves.placed (distinct-full (package_named f) (interfaces f) (distinct-interfaces f h)) some-name
       (known-full (package_named f) (interfaces f) h.known.in_interfaces))
 
-  pub defined : all_from (names_in r) [] r.definitions ≡ blocks_definitions blocks
-  defined =
-      sym (all-are (names_in r) [] r.definitions (none-of r.definitions r.worlds p.worlds p.items))
-      ∙ p.resolves.definitions ∙ sym (definitions-are trees types order)
+  abbrev pub front : List Definition
+  front = p.behind.front
+
+  abbrev pub back : List Definition
+  back = p.behind.back
+
+  pub defined : all_from (names_in r) [] front ≡ blocks_definitions blocks
+  defined = sym (front-told (names_in r) r.definitions p.behind) ∙ p.resolves.definitions ∙ sym (definitions-are trees types order)
 
   pub used : are_used r.definitions 0 [] r.definitions ≡ true
   used = postfix-used r.definitions r.earlier p.postfix
@@ -284,32 +345,71 @@ module _ (f : File) (r : Resolve) (h : HasNoFaults f) (full : IsTrue (has_full_n
   pub table : IsTable r.definitions
   table = record { earlier = r.earlier; typed = r.typed; inner = used-inner r.definitions 0 [] r.definitions used }
 
-  abbrev made : List Interface
-  made = interfaces_from r.definitions 0 (block_names blocks)
-
   pub count : length (labels_of r.interfaces) ≡ length (block_names blocks)
   count =
       length-map r.interfaces (λ (i : Interface). i.name) ∙ sym (length-map r.interfaces (full_name r)) ∙ ap length (named ∙ sym (names-are trees types order))
 
-  in-place : (is_parted (length r.definitions) 0 made [] ≡ true) × (are_interfaces r.definitions 0 0 made ≡ true)
-  in-place = formed (names_in r) r.definitions table 0 blocks [] r.definitions refl (λ k l. tt) defined used are-all
+  pub elsewhere : (k : ℕ) → Every (IsElsewhere k) back
+  elsewhere = behind-elsewhere back p.behind.all
 
-  some-interfaces : 0 < length r.interfaces
-  some-interfaces =
-      let counted : length (names_in r) ≡ length r.interfaces = length-map r.interfaces (full_name r) in
-      let many : 0 < length trees = omega (arith, some-interface f.entries h.some (none-declared f r p), length-map (interfaces f) (full_interface (package_named f))) in
-      let uses : 0 < length (interface_uses trees) = omega (arith, many, length-map trees (uses_of_interface (interface_names trees))) in
-      let placed = some-order (interface_uses trees) order p.resolves.placed uses in
-      omega (arith, counted, placed, ap length named, length-map order (λ (k : ℕ). (interface_at trees k).name))
+  pub used-parts : are_used r.definitions 0 [] (front ++ back) ≡ true
+  used-parts = subst (λ (ds : List Definition). are_used r.definitions 0 [] ds ≡ true) p.behind.parts used
+
+  abbrev in-place : Formed (names_in r) r.definitions table 0 (block_names blocks) [] front back
+  in-place = formed (names_in r) r.definitions table 0 blocks [] front back p.behind.parts (λ k l. tt) defined used-parts elsewhere are-all
+
+  abbrev last : List Definition
+  last = in-place.last
+
+  abbrev rest : List Definition
+  rest = in-place.rest ++ back
+
+  -- the rows of interfaces are those up to the last with a name
+  abbrev cut : HasWorldsBehind r.definitions
+  cut = record {
+    front = last;
+    back = rest;
+    parts = p.behind.parts ∙ ap (λ (ds : List Definition). ds ++ back) in-place.whole ∙ append_assoc last in-place.rest back;
+    none = (split (list_all (λ d. not (is_world_function d)) last) _ (sym (list_all-append (λ d. not (is_world_function d)) last in-place.rest)
+        ∙ sym (ap (list_all (λ d. not (is_world_function d))) in-place.whole) ∙ p.behind.none)).0;
+    all = list_all-append is_behind in-place.rest back
+        ∙ both (list_all is_behind in-place.rest) (list_all is_behind back) (nothing-behind (names_in r) (references (names_in r) [] last) in-place.rest in-place.nothing) p.behind.all;
+  }
+
+  nowhere : All RefersNowhere (all_from (names_in r) (references (names_in r) [] last) rest)
+  nowhere =
+      let told = back-told (names_in r) r.definitions (earlier-typed r.definitions r.earlier r.typed) r.earlier r.typed (world_name r) r.worlds cut p.items in
+      subst (All RefersNowhere) (sym (told ∙ ap worlds_definitions p.resolves.worlds)) (worlds-nowhere (package_named f) (interface_names (interfaces f)) (worlds f) h.known.in_worlds)
+
+  worlds-in-place : (are_worlds_parted (length r.definitions) (length last) r.worlds ≡ true) × (have_items r.definitions 0 (length last) r.worlds ≡ true)
+  worlds-in-place =
+      worlds-formed (names_in r) r.definitions table (length r.interfaces) 0 r.worlds last rest cut.parts cut.all in-place.on
+      (rows-mean (names_in r) RefersNowhere (references (names_in r) [] last) rest nowhere)
+      (places-same is_named is_world_function (length last) rest (behind-named rest cut.all) ∙ items-behind (names_in r) r.definitions r.worlds cut p.items) r.worlds_placed
+
+  some-there : 0 < length r.interfaces + length r.worlds
+  some-there = elim (some-entry f.entries h.some) [
+    | inl l ↦
+        let counted : length (names_in r) ≡ length r.interfaces = length-map r.interfaces (full_name r) in
+        let many : 0 < length trees = omega (arith, l, length-map (interfaces f) (full_interface (package_named f))) in
+        let uses : 0 < length (interface_uses trees) = omega (arith, many, length-map trees (uses_of_interface (interface_names trees))) in
+        let placed = some-order (interface_uses trees) order p.resolves.placed uses in
+        omega (arith, counted, placed, ap length named, length-map order (λ (k : ℕ). (interface_at trees k).name))
+    | inr l ↦
+        let meant = ap length p.resolves.worlds in
+        omega (arith, l, meant, length-map r.worlds (λ w. meaning_in (names_in r) (trees_in r) r.definitions (world_name r w) w), length-map (full_worlds f) world_meaning, length-map (worlds f) (full_world (package_named f)))
+  ]
 
   pub has-form : IsInPackageForm r
   has-form = record {
-    some = omega (arith, some-interfaces);
+    some = some-there;
     alone = ap length p.packages;
     names = have-names;
-    parted = ap (is_parted (length r.definitions) 0 r.interfaces) p.worlds ∙ ap (λ (is : List Interface). is_parted (length r.definitions) 0 is []) p.ids ∙ parted-so (length r.definitions) r.definitions 0 0 (labels_of r.interfaces) (block_names blocks) count ∙ in-place.0;
-    interfaces = ap (are_interfaces r.definitions 0 0) p.ids ∙ standing-so r.definitions 0 0 0 (labels_of r.interfaces) (block_names blocks) count ∙ in-place.1;
-    worlds = ap (have_items r.definitions 0 (interfaces_end 0 r.interfaces)) p.worlds;
+    parted = ap (λ (is : List Interface). is_parted (length r.definitions) 0 is r.worlds) p.ids
+        ∙ parted-so (length r.definitions) r.definitions r.worlds 0 0 (labels_of r.interfaces) (block_names blocks) count ∙ in-place.parted r.worlds worlds-in-place.0;
+    interfaces = ap (are_interfaces r.definitions 0 0) p.ids ∙ standing-so r.definitions 0 0 0 (labels_of r.interfaces) (block_names blocks) count ∙ in-place.standing;
+    worlds = ap (λ (n : ℕ). have_items r.definitions 0 n r.worlds)
+        (ap (interfaces_end 0) p.ids ∙ end-so r.definitions 0 0 (labels_of r.interfaces) (block_names blocks) count ∙ in-place.ends) ∙ worlds-in-place.1;
     postfix = p.postfix;
     entries = p.within;
   }

@@ -1,8 +1,8 @@
 -- The interfaces of a file, and its package.
-use Rattle.std.proofs.Common.{◌≡◌, ◌≢◌, ◌⊎◌, ◌↔◌, Bool, false, IsTrue, inl, inr, ℕ, ◌+◌, ◌<◌, ◌≤◌, List, [], ◌∷◌, Result, Ok, Err, IfOk, IfErr, Option, None, Some, map, flat_map, length, get_or, slice_get, refl, ap, sym, ◌∙◌, subst, arith, All, Contains}
+use Rattle.std.proofs.Common.{◌≡◌, ◌≢◌, ◌⊎◌, true, ◌==◌, IsTrue, inl, inr, ℕ, ◌+◌, ◌<◌, ◌≤◌, List, [], ◌∷◌, Result, Ok, Err, IfOk, IfErr, Option, None, Some, map, flat_map, length, get_or, slice_get, refl, ap, sym, ◌∙◌, subst, arith, All, Contains}
 use Rattle.std.specs.List.{filter_map}
 use Rattle.std.proofs.lemmas.List.{length-map, get_or_default}
-use Rattle.std.proofs.lemmas.Bool.{false≢true}
+use Rattle.std.proofs.lemmas.Bool.{eqb-true}
 use Rattle.std.proofs.lemmas.Simd.{map-map}
 use Rattle.atoms.specs.Label.{IsLabel, is_label}
 use Rattle.tables.specs.PackageNames.{PackageParts, own_name}
@@ -16,16 +16,16 @@ use Rattle.wit_syntax.specs.View.{version_view}
 use Rattle.wit_syntax.specs.declared.ast.PackageId.{PackageId}
 use Rattle.resolve.specs.Order.{IsPlacement}
 use Rattle.package_form.specs.Scope.{AreDistinct}
-use Rattle.tables.specs.Package.{Package, WorldMeaning, worlds as worlds_in, trees, world_meaning, references, package_of, interface_names as names_in, definitions_from}
+use Rattle.tables.specs.Package.{Tree, ItemMeaning, WithInterface, WorldMeaning, worlds as worlds_in, trees, world_meaning, references, package_of, interface_names as names_in, definitions_from}
 use Rattle.resolve.specs.Resolved.{interface_meaning}
 use Rattle.resolve.specs.Resolved as tree
-use Rattle.resolve.specs.Declarations.{UsedItem, InterfaceTree, WorldTree, interface_of, interfaces, worlds, package_named, full_use, full_interface, full_interfaces, full_world, full_worlds, no_interface, interface_at, interface_name, interface_names}
+use Rattle.resolve.specs.Declarations.{UsedItem, InterfaceTree, ItemTree, InterfaceNamed, FunctionOf, WorldTree, full_item, interface_of, interfaces, worlds, package_named, full_use, full_interface, full_interfaces, full_world, full_worlds, no_interface, interface_at, interface_name, interface_names}
 use Rattle.resolve.specs.Scopes.{file_name, scopes}
 use Rattle.package_form.specs.Distinct.{RefusesScopes}
 use Rattle.package_form.specs.Entries.{Table, table_of, labels_of, type_entries}
-use Rattle.resolve.specs.Resolves.{Resolves, full_names, package_in, names_in_order, uses_of_interface, IsKnownUse, HasKnownNames, interface_uses, type_uses, PassesLimit, HasEntries, HasNoFaults, HasDistinctNames, HasCycle, IsPackageOf, ResolveRefuses}
+use Rattle.resolve.specs.Resolves.{Resolves, full_names, package_in, names_in_order, uses_of_interface, IsKnownUse, HasKnownNames, interface_uses, type_uses, IsKnownItem, IsKnownWorld, HasWorldsBehind, HasItems, PassesLimit, HasEntries, HasNoFaults, HasDistinctNames, HasCycle, IsPackageOf, ResolveRefuses}
 use Rattle.package_form.specs.Ids.{interfaces_from, interfaces_in}
-use Rattle.resolve.specs.Building.{HasNoWorlds, DefinesPackage, table_definitions}
+use Rattle.resolve.specs.Building.{DefinesPackage, table_trees, table_definitions}
 use Rattle.resolve.specs.Finished.{IsFinished, header}
 use Rattle.resolve.specs.Knowing.{RefusesUnknown}
 use Rattle.package_form.specs.Postfix.{IsPostfix}
@@ -34,14 +34,17 @@ use Rattle.tables.specs.declared.error.ResolveError.TheVariants as error
 use Rattle.tables.specs.declared.tables.Interface.{Interface}
 use Rattle.tables.specs.declared.tables.Definition.{Definition}
 use Rattle.tables.specs.declared.tables.Resolve.{Resolve}
-use Rattle.package_form.proofs.Lists.{all-contained, contains-map, contains-unmap, contains-here, contains-later, all-head}
+use Rattle.package_form.proofs.Lists.{all-contained, contains-map, contains-unmap, contains-here, contains-later, all-head, all-tail}
 use Rattle.resolve.proofs.Packaging.{interface-name}
 use Rattle.resolve.proofs.Apart.{AreOthers, AreApart, apart-distinct, are-apart}
 use Rattle.resolve.proofs.Referring.{Every}
-use Rattle.resolve.proofs.AllDefinitions.{items-none, map-none}
+use Rattle.tables.proofs.Rows.{split}
+use Rattle.tables.specs.Tables.{are_earlier, name_types}
+use Rattle.resolve.specs.WorldRows.{with_worlds, world_stands, worlds_stand, world_reads}
+use Rattle.tables.specs.declared.tables.World.{World}
 use Rattle.resolve.proofs.Placed.{same-map, same-flat}
 use Rattle.resolve.proofs.FullNames.{uses-full, interface-full}
-use Rattle.resolve.proofs.Renaming.{renamed_definition, used_under, interface_under, definitions-same, meaning-renamed, flat-renamed}
+use Rattle.resolve.proofs.Renaming.{renamed_definition, renamed_item, used_under, interface_under, references-same, read-items, definitions-same, meaning-renamed, item-renamed, flat-renamed}
 
 -- ---- names of a file
 
@@ -114,10 +117,6 @@ under-is p i some h = let a = full-is p i.name some in let b = by i.uses h in rw
         ap (λ (n : List ℕ). record { interface = n; name = u.name; local = u.local } ∷ map (used_under (full_if p) (none-full p)) us) a
         ∙ ap (λ (vs : List UsedItem). full_use p u ∷ vs) b
 
--- where a file has no worlds
-pub without-worlds : (f : File) (q : Package) → worlds f ≡ [] → Resolves (full_interfaces f) [] q → Resolves (full_interfaces f) (full_worlds f) q
-without-worlds f q none h = subst (λ (ws : List WorldTree). Resolves (full_interfaces f) (map (full_world (package_named f)) ws) q) (sym none) h
-
 -- The table that interfaces define is that of their package, whose names are full names.
 module _ (p : PackageParts) (is : List InterfaceTree) (order : List ℕ) (orders : List (List ℕ)) (t : Table) (placed : IsPlacement (interface_uses is) order)
     (types : (k : ℕ) → k < length is → IsPlacement (type_uses (interface_at is k)) (get_or orders k [])) (d : DefinesPackage is order orders t)
@@ -162,35 +161,73 @@ module _ (p : PackageParts) (is : List InterfaceTree) (order : List ℕ) (orders
       ∙ same-flat (λ k. map (renamed_definition (full_if p) (none-full p)) (interface_meaning (interface_at is k) (get_or orders k [])))
       (λ k. interface_meaning (interface_at (map (full_interface p) is) k) (get_or orders k [])) order (λ k l. meaning-here (get_or order k 0) (below k l))
 
-  pub table-resolves : Resolves (map (full_interface p) is) [] (package_in p t)
-  table-resolves = record {
-    order = order;
-    placed = subst (λ (us : List (List ℕ)). IsPlacement us order) (sym (uses-full p is)) placed;
-    types = λ k. get_or orders k [];
-    types_placed = λ k l.
-        let m : k < length is = omega (arith, l, length-map is (full_interface p)) in
-        subst (λ (i : InterfaceTree). IsPlacement (type_uses i) (get_or orders k [])) (sym (interface-full p is k m)) (types k m);
-    names = names-ordered;
-    worlds = ap (map (λ w. world_meaning (full_names p t) (references (full_names p t) [] t.rows) t.rows (own_name p w.name) w)) d.worlds;
-    definitions = definitions-ordered;
-  }
+  -- the worlds, whose interfaces are known
+  module _ (ws : List World) (trees : List WorldTree) (read : map (world_reads t) ws ≡ map tree.world_meaning trees) (here : All (IsKnownWorld t.interfaces) trees) where
+    item-full : (i : ItemTree) → IsKnownItem t.interfaces i → renamed_item (full_if p) (none-full p) (tree.item_meaning i) ≡ tree.item_meaning (full_item p i)
+    item-full (InterfaceNamed way n) c = ap (WithInterface (tree.direction_meaning way)) (full-is p n (some-ordered n c))
+    item-full (FunctionOf way f) c = sym (item-renamed (full_if p) (none-full p) (FunctionOf way f))
 
-  pub refuses-limit : (f : File) (e : ResolveError) → p ≡ package_named f → is ≡ interfaces f → worlds f ≡ [] → HasNoFaults f → (e ≡ error.NoMemory) ⊎ ((e ≡ error.Limit) × PassesLimit t) → ResolveRefuses f e
-  refuses-limit f e named same none h (inl q) = subst (ResolveRefuses f) (sym q) tt
-  refuses-limit f e named same none h (inr q) = subst (ResolveRefuses f) (sym q.0) (inr (
-    h,
-    record {
-      table = t;
-      resolves = without-worlds f (package_in (package_named f) t) none
-          (subst (λ (ts : List InterfaceTree). Resolves (map (full_interface (package_named f)) ts) [] (package_in (package_named f) t)) same
-          (subst (λ (q : PackageParts). Resolves (map (full_interface q) is) [] (package_in q t)) named table-resolves));
-      postfix = d.postfix;
-      items = items-none t.rows t.worlds d.worlds d.own;
-      earlier = d.earlier;
-      typed = d.typed;
-      passes = q.1;
-    },
-  ))
+    items-full : (is : List ItemTree) → All (IsKnownItem t.interfaces) is
+        → map (renamed_item (full_if p) (none-full p)) (map tree.item_meaning is) ≡ map tree.item_meaning (map (full_item p) is)
+    items-full [] h = refl
+    items-full (i ∷ is) h =
+        ap (λ (m : ItemMeaning). m ∷ map (renamed_item (full_if p) (none-full p)) (map tree.item_meaning is)) (item-full i (all-head (IsKnownItem t.interfaces) i is h))
+        ∙ ap (λ (ms : List ItemMeaning). tree.item_meaning (full_item p i) ∷ ms) (items-full is (all-tail (IsKnownItem t.interfaces) i is h))
+
+    -- a world under its full name, and so its interfaces
+    abbrev full_meaning : WorldMeaning → WorldMeaning
+    full_meaning m = record { name = own_name p m.name; items = map (renamed_item (full_if p) (none-full p)) m.items }
+
+    worlds-meant : (xs : List WorldTree) → All (IsKnownWorld t.interfaces) xs → map full_meaning (map tree.world_meaning xs) ≡ map tree.world_meaning (map (full_world p) xs)
+    worlds-meant [] h = refl
+    worlds-meant (x ∷ xs) h =
+        ap (λ (ms : List ItemMeaning). record { name = own_name p x.name; items = ms } ∷ map full_meaning (map tree.world_meaning xs))
+        (items-full x.items (all-head (IsKnownWorld t.interfaces) x xs h))
+        ∙ ap (λ (ms : List WorldMeaning). tree.world_meaning (full_world p x) ∷ ms) (worlds-meant xs (all-tail (IsKnownWorld t.interfaces) x xs h))
+
+    world-read : (w : World) → world_meaning (full_names p t) (references (full_names p t) [] t.rows) t.rows (own_name p w.name) w ≡ full_meaning (world_reads t w)
+    unfolding table_trees
+    world-read w =
+        let to = full_if p in
+        let named : List ItemMeaning → WorldMeaning = λ ms. record { name = own_name p w.name; items = ms } in
+        ap (λ (ns : List (List ℕ)). world_meaning ns (references ns [] t.rows) t.rows (own_name p w.name) w) (sym (fulls-are p t.interfaces some-ordered))
+        ∙ ap (λ (ts : List Tree). world_meaning (map to t.interfaces) ts t.rows (own_name p w.name) w) (references-same to (none-full p) t.interfaces [] t.rows)
+        ∙ ap named (read-items to (none-full p) t.interfaces (references t.interfaces [] t.rows) t.rows w.items)
+
+    worlds-read : (xs : List World) → map (λ w. world_meaning (full_names p t) (references (full_names p t) [] t.rows) t.rows (own_name p w.name) w) xs ≡ map full_meaning (map (world_reads t) xs)
+    worlds-read [] = refl
+    worlds-read (w ∷ xs) =
+        ap (λ (m : WorldMeaning). m ∷ map (λ x. world_meaning (full_names p t) (references (full_names p t) [] t.rows) t.rows (own_name p x.name) x) xs) (world-read w)
+        ∙ ap (λ (ms : List WorldMeaning). full_meaning (world_reads t w) ∷ ms) (worlds-read xs)
+
+    pub table-resolves : Resolves (map (full_interface p) is) (map (full_world p) trees) (package_in p (with_worlds t ws))
+    table-resolves = record {
+      order = order;
+      placed = subst (λ (us : List (List ℕ)). IsPlacement us order) (sym (uses-full p is)) placed;
+      types = λ k. get_or orders k [];
+      types_placed = λ k l.
+          let m : k < length is = omega (arith, l, length-map is (full_interface p)) in
+          subst (λ (i : InterfaceTree). IsPlacement (type_uses i) (get_or orders k [])) (sym (interface-full p is k m)) (types k m);
+      names = names-ordered;
+      worlds = worlds-read ws ∙ ap (map full_meaning) read ∙ worlds-meant trees here;
+      definitions = definitions-ordered;
+    }
+
+-- What is made of the tables of a file: its interfaces, and behind them its worlds.
+pub record IsTableOf (f : File) (t : Table) : Type 0 where
+  pub resolves : Resolves (full_interfaces f) (full_worlds f) (package_in (package_named f) t)
+  pub postfix : IsPostfix t.rows
+  pub behind : HasWorldsBehind t.rows
+  pub items : HasItems t.rows t.worlds
+  pub earlier : IsTrue (are_earlier 0 t.rows)
+  pub typed : IsTrue (name_types t.rows)
+
+pub refuses-limit : (f : File) (t : Table) (e : ResolveError) → IsTableOf f t → HasNoFaults f → (e ≡ error.NoMemory) ⊎ ((e ≡ error.Limit) × PassesLimit t) → ResolveRefuses f e
+refuses-limit f t e m h (inl q) = subst (ResolveRefuses f) (sym q) tt
+refuses-limit f t e m h (inr q) = subst (ResolveRefuses f) (sym q.0) (inr (
+  h,
+  record { table = t; resolves = m.resolves; postfix = m.postfix; behind = m.behind; items = m.items; earlier = m.earlier; typed = m.typed; passes = q.1 },
+))
 
 names-kept : (rows : List Definition) (i : ℕ) (ns : List (List ℕ)) → map (λ (x : Interface). x.name) (interfaces_from rows i ns) ≡ ns
 names-kept rows i [] = refl
@@ -220,42 +257,43 @@ module _ (p : PackageParts) (t : Table) (r : Resolve) (f : IsFinished p t r) whe
       ∙ ap (map (λ (x : Interface). full_name_in (slice_get (p ∷ []) x.«package».0) x.name)) f.interfaces
       ∙ full-kept (p) t.rows 0 t.interfaces
 
-  package-same : t.worlds ≡ [] → package_of r ≡ package_in (p) t
-  package-same none =
-      let here : worlds_in r ≡ [] = ap (map (λ w. world_meaning (names_in r) (trees r) r.definitions (world_name r w) w)) (f.worlds ∙ none) in
-      let there : (package_in (p) t).worlds ≡ [] =
-      ap (map (λ w. world_meaning (full_names (p) t) (references (full_names (p) t) [] t.rows) t.rows (own_name (p) w.name) w)) none in
-      let definitions : (package_of r).definitions ≡ (package_in (p) t).definitions =
-      ap (λ (ns : List (List ℕ)). definitions_from ns [] r.definitions) names-same ∙ ap (definitions_from (full_names (p) t) []) f.definitions in
-      ap (λ (ns : List (List ℕ)). record { interfaces = ns; worlds = worlds_in r; definitions = (package_of r).definitions }) names-same
-      ∙ ap (λ (ws : List WorldMeaning). record { interfaces = full_names (p) t; worlds = ws; definitions = (package_of r).definitions }) (here ∙ sym there)
-      ∙ ap (λ ds. record { interfaces = full_names (p) t; worlds = (package_in (p) t).worlds; definitions = ds }) definitions
+  -- all worlds are of the first package
+  worlds-named : (k : ℕ) (ws : List World) → worlds_stand t k ws ≡ true
+      → map (λ w. world_meaning (full_names p t) (references (full_names p t) [] t.rows) t.rows (full_name_in (slice_get (p ∷ []) w.«package».0) w.name) w) ws
+      ≡ map (λ w. world_meaning (full_names p t) (references (full_names p t) [] t.rows) t.rows (own_name p w.name) w) ws
+  worlds-named k [] h = refl
+  worlds-named k (w ∷ ws) h =
+      let s = split (world_stands t k w) (worlds_stand t (k + 1) ws) h in
+      let first : w.«package».0 ≡ 0 = eqb-true w.«package».0 0 (split (w.«package».0 == 0) _ s.0).0 in
+      let here : List ℕ → WorldMeaning = λ n. world_meaning (full_names p t) (references (full_names p t) [] t.rows) t.rows n w in
+      ap (λ (n : ℕ). here (full_name_in (slice_get (p ∷ []) n) w.name)
+      ∷ map (λ x. world_meaning (full_names p t) (references (full_names p t) [] t.rows) t.rows (full_name_in (slice_get (p ∷ []) x.«package».0) x.name) x) ws) first
+      ∙ ap (λ (ms : List WorldMeaning). here (own_name p w.name) ∷ ms) (worlds-named (k + 1) ws s.1)
 
-  pub is-package : (g : File) → p ≡ package_named g → worlds g ≡ [] → Resolves (full_interfaces g) [] (package_in (package_named g) t) → IsPostfix t.rows → t.worlds ≡ [] → HasNoWorlds t.rows
-      → IsPackageOf g r
-  is-package g named unworldly resolves postfix none own = record {
+  package-same : worlds_stand t 0 t.worlds ≡ true → package_of r ≡ package_in p t
+  package-same stand =
+      let worlds : worlds_in r ≡ (package_in p t).worlds =
+      ap (λ (ws : List World). map (λ w. world_meaning (names_in r) (trees r) r.definitions (world_name r w) w) ws) f.worlds
+      ∙ ap (λ (ps : List PackageParts). map (λ w. world_meaning (names_in r) (trees r) r.definitions (full_name_in (slice_get ps w.«package».0) w.name) w) t.worlds) f.packages
+      ∙ ap (λ (ns : List (List ℕ)). map (λ w. world_meaning ns (references ns [] r.definitions) r.definitions (full_name_in (slice_get (p ∷ []) w.«package».0) w.name) w) t.worlds) names-same
+      ∙ ap (λ (ds : List Definition). map (λ w. world_meaning (full_names p t) (references (full_names p t) [] ds) ds (full_name_in (slice_get (p ∷ []) w.«package».0) w.name) w) t.worlds) f.definitions
+      ∙ worlds-named 0 t.worlds stand in
+      let definitions : (package_of r).definitions ≡ (package_in p t).definitions =
+      ap (λ (ns : List (List ℕ)). definitions_from ns [] r.definitions) names-same ∙ ap (definitions_from (full_names p t) []) f.definitions in
+      ap (λ (ns : List (List ℕ)). record { interfaces = ns; worlds = worlds_in r; definitions = (package_of r).definitions }) names-same
+      ∙ ap (λ (ws : List WorldMeaning). record { interfaces = full_names p t; worlds = ws; definitions = (package_of r).definitions }) worlds
+      ∙ ap (λ ds. record { interfaces = full_names p t; worlds = (package_in p t).worlds; definitions = ds }) definitions
+
+  pub is-package : (g : File) → p ≡ package_named g → IsTableOf g t → worlds_stand t 0 t.worlds ≡ true → IsPackageOf g r
+  is-package g named m stand = record {
     packages = f.packages ∙ ap (λ (q : PackageParts). q ∷ []) named;
-    worlds = f.worlds ∙ none;
-    resolves = without-worlds g (package_of r) unworldly
-        (subst (Resolves (full_interfaces g) []) (ap (λ (q : PackageParts). package_in q t) (sym named) ∙ sym (package-same none)) resolves);
-    postfix = subst IsPostfix (sym f.definitions) postfix;
-    items = items-none r.definitions r.worlds (f.worlds ∙ none) (subst HasNoWorlds (sym f.definitions) own);
+    resolves = subst (Resolves (full_interfaces g) (full_worlds g)) (ap (λ (q : PackageParts). package_in q t) (sym named) ∙ sym (package-same stand)) m.resolves;
+    postfix = subst IsPostfix (sym f.definitions) m.postfix;
+    behind = subst HasWorldsBehind (sym f.definitions) m.behind;
+    items = subst (λ (ds : List Definition). HasItems ds r.worlds) (sym f.definitions) (subst (HasItems t.rows) (sym f.worlds) m.items);
     ids = f.interfaces ∙ ap interfaces_in (sym table-same);
     within = subst (λ (x : Table). type_entries x ≤ 65535) (sym table-same) f.within;
   }
-
--- a package without worlds is of a file without
-pub no-worlds : (r : Resolve) → r.worlds ≡ [] → worlds_in r ≡ []
-no-worlds r e = ap (map (λ w. world_meaning (names_in r) (trees r) r.definitions (world_name r w) w)) e
-
-pub none-declared : (f : File) (r : Resolve) → IsPackageOf f r → worlds f ≡ []
-none-declared f r p =
-    map-none (full_world (package_named f)) (worlds f) (map-none tree.world_meaning (full_worlds f) (sym p.resolves.worlds ∙ no-worlds r p.worlds))
-
--- the test for worlds finds none
-pub no-world-there : (b : Bool) (ws : List WorldTree) → (IsTrue b ↔ (ws ≢ [])) → b ≡ false → ws ≡ []
-no-world-there b [] h e = refl
-no-world-there b (w ∷ ws) h e = absurd (false≢true (sym e ∙ h.1 (λ q. cc)))
 
 pub ok-map : {T E : Type 0} (r : Result T E) (P Q : T → Type 0) → ((x : T) → P x → Q x) → IfOk r P → IfOk r Q
 ok-map (Ok x) P Q f h = f x h

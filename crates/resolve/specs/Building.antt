@@ -1,5 +1,5 @@
 -- What the building of a table keeps.
-use Rattle.std.specs.Prelude.{ℕ, ◌<◌, ◌≡◌, Bool, true, not, List, [], ◌∷◌, ◌++◌, map, flat_map, length, slice_index_or, All, Contains, take, Option, IsTrue}
+use Rattle.std.specs.Prelude.{ℕ, ◌<◌, ◌≡◌, Bool, true, List, [], ◌∷◌, ◌++◌, map, flat_map, length, slice_index_or, All, Contains, take, Option, IsTrue}
 use Rattle.std.specs.List.{list_all}
 use Rattle.std.specs.Option.{option_map}
 use Rattle.tables.specs.Tables.{option_all, kind_all, are_earlier, is_type, name_types}
@@ -8,7 +8,7 @@ use Rattle.package_form.specs.Postfix.{Leaves, IsPostfix, unnamed, unnamed_if, u
 use Rattle.resolve.specs.Declarations.{UsedItem, TypeItem, InterfaceTree, interface_at, named_definition, named_function, used_names, type_names}
 use Rattle.resolve.specs.Resolved.{Labelled, Choice, interface_meaning, no_type}
 use Rattle.package_form.specs.Entries.{Table}
-use Rattle.package_form.specs.Ids.{is_world_function}
+use Rattle.package_form.specs.Ids.{is_world_function, places_where}
 use Rattle.resolve.specs.Resolves.{names_in_order}
 use Rattle.tables.specs.declared.tables.ValType.{ValType}
 use Rattle.tables.specs.declared.tables.ValType.TheVariants as val
@@ -32,9 +32,9 @@ table_definitions t = definitions_from t.interfaces [] t.rows
 abbrev pub name_at : Table → ℕ → List ℕ
 name_at t i = slice_index_or t.interfaces i []
 
--- none of these rows is a function of a world
-abbrev pub HasNoWorlds : List Definition → Type 0
-HasNoWorlds rows = list_all (λ d. not (is_world_function d)) rows ≡ true
+-- the functions of worlds among a table's rows
+abbrev pub world_functions : Table → List ℕ
+world_functions t = places_where is_world_function 0 t.rows
 
 -- new is old with more rows behind it
 pub record Front (old new : Table) : Type 0 where
@@ -42,18 +42,18 @@ pub record Front (old new : Table) : Type 0 where
   pub rows : (more : List Definition) × (new.rows ≡ old.rows ++ more)
   pub earlier : IsTrue (are_earlier 0 old.rows) → IsTrue (are_earlier 0 new.rows)
   pub typed : IsTrue (name_types old.rows) → IsTrue (name_types new.rows)
-  pub own : HasNoWorlds old.rows → HasNoWorlds new.rows
-  pub worlds : new.worlds ≡ old.worlds
 
 -- .. with these definitions; no row is left to be used
 pub record Adds (old new : Table) (ds : List NamedDefinition) : Type 0 where
   pub front : Front old new
+  pub own : world_functions new ≡ world_functions old
   pub definitions : table_definitions new ≡ table_definitions old ++ ds
   pub postfix : Leaves old.rows [] → Leaves new.rows []
 
 -- .. with no definition that has a name; these rows are to be used
 pub record Extends (old new : Table) (unused : List ℕ) : Type 0 where
   pub front : Front old new
+  pub own : world_functions new ≡ world_functions old
   pub same : table_definitions new ≡ table_definitions old
   pub postfix : (before : List ℕ) → Leaves old.rows before → Leaves new.rows (before ++ unused)
 
@@ -132,7 +132,6 @@ pub record IsEntry (t : Table) (i : List ℕ) (e : Entry) : Type 0 where
   pub named : unnamed t.rows (val.Id e.id) ≡ []
 
 pub record IsScope (t : Table) (s : KnownTypes) : Type 0 where
-  pub place : s.interface.0 < length t.interfaces
   pub each : All (IsEntry t (name_at t s.interface.0)) s.entries
 
 -- the name of a scope's interface
@@ -198,8 +197,6 @@ package_meaning is orders order = flat_map (λ k. interface_meaning (interface_a
 
 pub record DefinesPackage (is : List InterfaceTree) (order : List ℕ) (orders : List (List ℕ)) (t : Table) : Type 0 where
   pub interfaces : t.interfaces ≡ names_in_order is order
-  pub worlds : t.worlds ≡ []
-  pub own : HasNoWorlds t.rows
   pub definitions : table_definitions t ≡ package_meaning is orders order
   pub postfix : IsPostfix t.rows
   pub earlier : IsTrue (are_earlier 0 t.rows)

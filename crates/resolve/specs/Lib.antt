@@ -5,6 +5,7 @@ pub mod Resolved
 pub mod Scopes
 pub mod Resolves
 pub mod Building
+pub mod WorldRows
 pub mod Sources
 pub mod Knowing
 pub mod Lent

@@ -1,5 +1,5 @@
 -- What a syntax tree stands for: the package that it resolves to, and when it is refused.
-use Rattle.std.specs.Prelude.{◌≡◌, ◌≢◌, ◌<◌, ◌≤◌, ℕ, suc, Bool, true, false, List, [], ◌∷◌, map, flat_map, filter_map, length, All, Contains, Option, None, Some, ◌⊎◌, if◌then◌else◌, ◌&&◌, nat_le, IsTrue, Result, MatchResult}
+use Rattle.std.specs.Prelude.{◌≡◌, ◌≢◌, ◌<◌, ◌≤◌, ℕ, suc, Bool, true, false, not, List, [], ◌∷◌, ◌++◌, map, flat_map, filter_map, length, All, Contains, Option, None, Some, is_some, ◌⊎◌, if◌then◌else◌, ◌&&◌, nat_le, IsTrue, Result, MatchResult}
 use Rattle.std.specs.List.{list_all}
 use Rattle.std.specs.Option.{option_map}
 use Rattle.std.specs.Str.{bytes_eq}
@@ -10,10 +10,11 @@ use Rattle.resolve.specs.Order.{IsPlacement, IsCycle}
 use Rattle.tables.specs.Tables.{are_earlier, name_types, are_standard}
 use Rattle.tables.specs.Package.{Package, references, definitions_from, world_meaning as table_world, package_of}
 use Rattle.package_form.specs.Entries.{Table, table_of, type_entries}
-use Rattle.package_form.specs.Ids.{is_world_function, places_where, interfaces_in}
+use Rattle.package_form.specs.Ids.{is_of_worlds, is_world_function, places_where, interfaces_in}
 use Rattle.package_form.specs.Form.{functions_of}
 use Rattle.tables.specs.declared.tables.World.{World}
 use Rattle.tables.specs.declared.tables.Definition.{Definition}
+use Rattle.tables.specs.declared.tables.Definition.TheVariants as row
 use Rattle.package_form.specs.Postfix.{IsPostfix}
 use Rattle.resolve.specs.Declarations.{UsedItem, TypeItem, FunctionItem, InterfaceTree, ItemTree, InterfaceNamed, FunctionOf, WorldTree, interfaces, worlds, full_interfaces, full_worlds, package_named, interface_at, interface_names, use_interface, type_names, own_types, named_definition, named_function}
 use Rattle.resolve.specs.Scopes.{scopes}
@@ -75,6 +76,23 @@ package_in p t = record {
   definitions = definitions_from (full_names p t) [] t.rows;
 }
 
+-- none of these rows is a function of a world
+abbrev pub HasNoWorlds : List Definition → Type 0
+HasNoWorlds rows = list_all (λ d. not (is_world_function d)) rows ≡ true
+
+-- a type without a name, or a function of a world
+abbrev pub is_behind : Definition → Bool
+is_behind (row.Type d) = not (is_some d.name)
+is_behind (row.Function f) = is_of_worlds f.owner
+
+-- the rows of worlds stand behind those of interfaces
+pub record HasWorldsBehind (rows : List Definition) : Type 0 where
+  pub front : List Definition
+  pub back : List Definition
+  pub parts : rows ≡ front ++ back
+  pub none : HasNoWorlds front
+  pub all : list_all is_behind back ≡ true
+
 -- the functions of worlds among these rows are the worlds' items, in order
 abbrev pub HasItems : List Definition → List World → Type 0
 HasItems rows ws = places_where is_world_function 0 rows ≡ flat_map functions_of ws
@@ -86,10 +104,6 @@ abbrev pub PassesLimit : Table → Type 0
 PassesLimit t = (65535 < type_entries t) ⊎ (are_standard t.rows ≡ false)
 
 -- ---- faults
-
--- worlds are not made yet
-abbrev pub HasWorld : File → Type 0
-HasWorld f = worlds f ≢ []
 
 abbrev pub HasDuplicate : File → List ℕ → Type 0
 HasDuplicate f n = (ns : List (List ℕ)) × Contains (scopes f) ns × IsDuplicate ns n
@@ -196,12 +210,13 @@ file_fits f = list_all interface_fits f.entries
 
 -- ---- what is answered
 
--- The package of a tree. The rows without names and the ids of the interfaces are told as well, so that there is one answer alone.
+-- The package of a tree. The rows without names, where functions of worlds stand and the ids of the interfaces are told as well, so that
+-- there is one answer alone.
 pub record IsPackageOf (f : File) (r : Resolve) : Type 0 where
   pub packages : r.packages ≡ package_named f ∷ []
-  pub worlds : r.worlds ≡ []
   pub resolves : Resolves (full_interfaces f) (full_worlds f) (package_of r)
   pub postfix : IsPostfix r.definitions
+  pub behind : HasWorldsBehind r.definitions
   pub items : HasItems r.definitions r.worlds
   pub ids : r.interfaces ≡ interfaces_in (table_of r)
   pub within : type_entries (table_of r) ≤ 65535
@@ -220,6 +235,7 @@ pub record IsTooLarge (f : File) : Type 0 where
   pub table : Table
   pub resolves : Resolves (full_interfaces f) (full_worlds f) (package_in (package_named f) table)
   pub postfix : IsPostfix table.rows
+  pub behind : HasWorldsBehind table.rows
   pub items : HasItems table.rows table.worlds
   pub earlier : IsTrue (are_earlier 0 table.rows)
   pub typed : IsTrue (name_types table.rows)
@@ -228,7 +244,7 @@ pub record IsTooLarge (f : File) : Type 0 where
 -- a refusal: its cause stands, and no cause of an earlier class does
 abbrev pub ResolveRefuses : File → ResolveError → Type 0
 ResolveRefuses f error.EmptyPackage = f.entries ≡ []
-ResolveRefuses f error.NotThisShape = HasNoFaults f × HasWorld f
+ResolveRefuses f error.NotThisShape = ⊥
 ResolveRefuses f (error.Duplicate n) = HasEntries f × HasDuplicate f n
 ResolveRefuses f (error.Unknown n) = HasEntries f × HasDistinctNames f × HasUnknown f n
 ResolveRefuses f error.Cycle = HasNoFaults f × HasCycle f

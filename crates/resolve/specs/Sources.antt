@@ -3,17 +3,24 @@ use Rattle.std.specs.Prelude.{ℕ, List, [], map}
 use Rattle.std.specs.Borrow.{Bor}
 use Rattle.wit_syntax.specs.View.{function_view, world_entry_view}
 use Rattle.wit_syntax.specs.declared.ast.WorldItem.{WorldItem}
+use Rattle.wit_syntax.specs.declared.ast.World.{World}
 use Rattle.tables.specs.PackageNames.{PackageParts}
 use Rattle.wit_syntax.specs.declared.ast.Func.{Func}
 use Rattle.tables.specs.Package.{Key, ItemMeaning, WorldMeaning}
 use Rattle.resolve.specs.Resolved.{item_meaning}
-use Rattle.resolve.specs.Declarations.{UsedItem, FunctionItem, InterfaceTree, item_tree, full_item}
+use Rattle.resolve.specs.Declarations.{UsedItem, FunctionItem, InterfaceTree, ItemTree, WorldTree, item_tree, full_item, world_tree}
 use Rattle.resolve.specs.Lent.{declared_type, used_item_of}
 use Rattle.resolve.specs.declared.declared.Declarations.{Declarations}
 
+abbrev pub declared_item : WorldItem → ItemTree
+declared_item i = item_tree (world_entry_view i)
+
+abbrev pub declared_world : World → WorldTree
+declared_world w = world_tree w.name (map world_entry_view w.items.items)
+
 -- an item of a world of this package, and a world of these items, under full names
 abbrev pub item_in : PackageParts → WorldItem → ItemMeaning
-item_in p i = item_meaning (full_item p (item_tree (world_entry_view i)))
+item_in p i = item_meaning (full_item p (declared_item i))
 
 abbrev pub world_in : PackageParts → List WorldItem → WorldMeaning
 world_in p is = record { name = []; items = map (item_in p) is }

@@ -5,7 +5,7 @@ ghost use Rattle.resolve.specs.Order.{IsPlacement};
 ghost use Rattle.resolve.specs.Resolves.{interface_uses, type_uses, HasKnownNames, names_in_order};
 ghost use Rattle.package_form.specs.Scope.{AreDistinct};
 ghost use Rattle.resolve.specs.Sources.{declared_tree};
-ghost use Rattle.resolve.specs.Building.{DefinesPackage};
+ghost use Rattle.resolve.specs.Building.{DefinesPackage, world_functions};
 
 use crate::builder::Builder;
 use crate::declared::Declarations;
@@ -32,7 +32,7 @@ fn ordered_names(
 }
 
 /// The same names, each found at its place.
-fn ordered_index<'a>(
+pub fn ordered_index<'a>(
     alloc: Global,
     keyed: KeyedState,
     all: &[Declarations<'a>],
@@ -49,7 +49,7 @@ fn ordered_index<'a>(
 }
 
 /// The id of this place. No memory where an id can't tell it.
-fn interface_id(place: usize) -> Result<InterfaceId, AllocError>
+pub fn interface_id(place: usize) -> Result<InterfaceId, AllocError>
     ensures { IfOk result (λ id. id.0 ≡ place) }
 {
     match u32::try_from(place) {
@@ -62,18 +62,20 @@ fn interface_id(place: usize) -> Result<InterfaceId, AllocError>
 pub fn define_package(
     alloc: Global,
     keyed: KeyedState,
+    names: &Names,
     all: &[Declarations],
     order: &[usize],
     type_orders: &[Sequence<usize>],
 ) -> Result<Builder, AllocError>
+    requires names { names.now ≡ names_in_order (map declared_tree all.now) order.now }
     requires placed { IsPlacement (interface_uses (map declared_tree all.now)) order.now }
     requires count { length type_orders.now ≡ length all.now }
     requires types { (k : ℕ) → k < length all.now → IsPlacement (type_uses (interface_at (map declared_tree all.now) k)) (slice_index_or type_orders.now k []) }
     requires known { All (HasKnownNames (map declared_tree all.now)) (map declared_tree all.now) }
     requires distinct { AreDistinct (interface_names (map declared_tree all.now)) }
-    ensures { IfOk result (DefinesPackage (map declared_tree all.now) order.now type_orders.now) }
+    ensures made { IfOk result (DefinesPackage (map declared_tree all.now) order.now type_orders.now) }
+    ensures none { IfOk result (λ b. world_functions b ≡ []) }
 {
-    let names = ordered_index(alloc, keyed, all, order)?;
     let mut builder = Builder::new(alloc, ordered_names(alloc, all, order)?);
     let mut scopes = Vec::new(alloc);
     for (place, index) in order.iter().enumerate() {
@@ -83,7 +85,7 @@ pub fn define_package(
             alloc,
             keyed,
             &mut builder,
-            &names,
+            names,
             &scopes,
             id,
             &all[*index],

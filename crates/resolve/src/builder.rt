@@ -40,7 +40,6 @@ impl Builder {
     /// The names of the interfaces and the definitions.
     pub fn into_parts(self) -> (Vec<Label>, Vec<Definition>)
         ensures names { result.0.items ≡ self.interfaces }
-        ensures worlds { self.worlds ≡ [] }
         ensures rows { result.1.items ≡ self.rows }
     {
         (self.interfaces, self.rows)

@@ -1,5 +1,5 @@
 //! The definitions of an interface as rows of the table.
-ghost use Rattle.std.specs.Prelude.{◌≡◌, ◌<◌, ◌++◌, ◌∷◌, [], length, map, All, Contains, IfOk, OnOk};
+ghost use Rattle.std.specs.Prelude.{◌≡◌, ◌≤◌, ◌++◌, ◌∷◌, [], length, map, All, Contains, IfOk, OnOk};
 ghost use Rattle.resolve.specs.Declarations.{named_definition, named_function};
 ghost use Rattle.resolve.specs.Resolved.{use_meaning, type_meaning, function_meaning, in_order};
 ghost use Rattle.tables.specs.Package.{Reference};
@@ -134,6 +134,7 @@ fn define_functions(
 /// The type that a used name is in the used interface.
 fn target(builder: &Builder, names: &Names, scopes: &[KnownTypes], used: &UsedType) -> TypeId
     requires known { CanUse builder.now scopes.now (used_item_of used.now) }
+    requires few { length scopes.now ≤ length builder.now.interfaces }
     requires scoped { All (IsScope builder.now) scopes.now }
     requires names { names.now ≡ builder.now.interfaces }
     requires placed { ArePlaced scopes.now }
@@ -155,6 +156,7 @@ fn define_uses(
     uses: &[UsedType],
 ) -> Result<(), AllocError>
     requires known { All (CanUse builder.old scopes.now) (map used_item_of uses.now) }
+    requires few { length scopes.now ≤ length builder.old.interfaces }
     requires others { All (IsScope builder.old) scopes.now }
     requires names { names.now ≡ builder.old.interfaces }
     requires placed { ArePlaced scopes.now }
@@ -180,7 +182,7 @@ pub fn define_interface(
     interface: &Declarations,
     order: &[usize],
 ) -> Result<KnownTypes, AllocError>
-    requires place { place.0 < length builder.old.interfaces }
+    requires few { length scopes.now ≤ length builder.old.interfaces }
     requires named { name_at builder.old place.0 ≡ interface.now.name.now }
     requires others { All (IsScope builder.old) scopes.now }
     requires names { names.now ≡ builder.old.interfaces }

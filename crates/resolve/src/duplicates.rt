@@ -119,7 +119,7 @@ fn distinct_items(
 }
 
 /// On which side of its world an item stands.
-fn side_of(direction: wit_syntax::Direction) -> Direction
+pub fn side_of(direction: wit_syntax::Direction) -> Direction
     ensures { result ≡ direction_meaning direction }
 {
     match direction {

@@ -1,9 +1,10 @@
 //! A package of a table of definitions: the ids of its interfaces, and its limits.
-ghost use Rattle.std.specs.Prelude.{◌≡◌, ◌≤◌, ◌⊎◌, [], length, IsTrue, IfOk, IfErr, OnOk};
+ghost use Rattle.std.specs.Prelude.{◌≡◌, ◌≤◌, ◌⊎◌, true, [], length, IsTrue, IfOk, IfErr, OnOk};
 ghost use Rattle.tables.specs.Tables.{are_earlier, name_types};
 ghost use Rattle.resolve.specs.Resolves.{PassesLimit};
 ghost use Rattle.package_form.specs.Ids.{interfaces_from};
 ghost use Rattle.resolve.specs.Finished.{IsFinished, header, interface_of, with_row};
+ghost use Rattle.resolve.specs.WorldRows.{worlds_stand, with_worlds};
 
 use crate::builder::Builder;
 use atoms::Label;
@@ -11,7 +12,7 @@ use package_form::passes_entries;
 use std::alloc::{AllocError, Global};
 use tables::{
     Definition, FunctionId, Interface, Owner, PackageId, PackageName, Resolve, ResolveError,
-    Sequence, TypeDefKind, TypeId, are_standard, copy_version,
+    Sequence, TypeDefKind, TypeId, World, are_standard, copy_version,
 };
 
 /// The interface that a row has a name in.
@@ -93,25 +94,27 @@ pub fn package_name(alloc: Global, id: &wit_syntax::PackageId) -> Result<Package
     })
 }
 
-/// The package of this table, under this name.
+/// The package of this table with these worlds, under this name.
 pub fn finish(
     alloc: Global,
     builder: Builder,
+    worlds: Vec<World>,
     package: PackageName,
 ) -> Result<Resolve, ResolveError>
     requires earlier { IsTrue (are_earlier 0 builder.rows) }
     requires typed { IsTrue (name_types builder.rows) }
-    ensures ok { IfOk result (IsFinished «package» builder) }
-    ensures err { IfErr result (λ e. (e ≡ ResolveError.NoMemory) ⊎ ((e ≡ ResolveError.Limit) × PassesLimit builder)) }
+    requires worlds { worlds_stand builder 0 worlds.items ≡ true }
+    ensures ok { IfOk result (IsFinished «package» (with_worlds builder worlds.items)) }
+    ensures err { IfErr result (λ e. (e ≡ ResolveError.NoMemory) ⊎ ((e ≡ ResolveError.Limit) × PassesLimit (with_worlds builder worlds.items))) }
 {
     let (names, rows) = builder.into_parts();
-    if passes_entries(names.len(), &[], &rows) || !are_standard(&rows) {
+    if passes_entries(names.len(), &worlds, &rows) || !are_standard(&rows) {
         return Err(ResolveError::Limit);
     }
     Ok(Resolve {
         packages: Sequence::new(vec![in alloc; package]?),
         interfaces: interfaces_in(alloc, &rows, &names)?,
-        worlds: Sequence::new(Vec::new(alloc)),
+        worlds: Sequence::new(worlds),
         definitions: Sequence::new(rows),
     })
 }

@@ -24,6 +24,7 @@ mod order;
 mod queue;
 mod tree;
 mod unknown;
+mod worlds;
 
 pub use tables::{
     Case, Definition, Direction, Field, Function, FunctionId, Interface, InterfaceId, Owner,

@@ -1,16 +1,16 @@
 //! The package of a syntax tree.
-ghost use Rattle.std.specs.Prelude.{◌≡◌, ◌≢◌, ◌↔◌, [], map, filter_map, All, IsTrue, IfOk, IfErr};
+ghost use Rattle.std.specs.Prelude.{◌≡◌, map, filter_map, All, IsTrue, IfOk, IfErr};
 ghost use Rattle.atoms.specs.Label.{IsLabel};
 ghost use Rattle.wit_syntax.specs.View.{item_view, file_view};
 ghost use Rattle.wit_syntax.specs.FullNames.{has_full_names};
 ghost use Rattle.package_form.specs.Form.{IsInPackageForm};
 ghost use Rattle.package_form.specs.Naming.{package_scopes};
 ghost use Rattle.package_form.specs.Scope.{AreDistinct};
-ghost use Rattle.resolve.specs.Declarations.{interface_of, world_of, interfaces, interface_names, package_named};
+ghost use Rattle.resolve.specs.Declarations.{interface_of, interfaces, interface_names, package_named};
 ghost use Rattle.resolve.specs.Resolves.{IsPackageOf, ResolveRefuses, HasNoFaults, AnswersOnly};
 ghost use Rattle.resolve.specs.Sources.{declared_tree};
 
-use crate::assembly::define_package;
+use crate::assembly::{define_package, ordered_index};
 use crate::declared::Declarations;
 use crate::duplicates::distinct_names;
 use crate::finish::{finish, package_name};
@@ -18,6 +18,7 @@ use crate::graphs::{interface_order, type_orders};
 use crate::keys::keyed_by_tree;
 use crate::nested::are_nested;
 use crate::unknown::known_names;
+use crate::worlds::define_worlds;
 use atoms::KeyedState;
 use std::alloc::{AllocError, Global};
 use tables::{PackageName, Resolve, ResolveError};
@@ -64,18 +65,6 @@ fn declarations<'a>(
     Ok(all)
 }
 
-/// Whether one of these is a world.
-fn has_world(items: &[Item]) -> bool
-    ensures { IsTrue result ↔ (filter_map world_of (map item_view items.now) ≢ []) }
-{
-    for item in items {
-        if let Item::World(_) = item {
-            return true;
-        }
-    }
-    false
-}
-
 /// The package of a syntax tree, whose answer `from_ast` weighs.
 fn resolved_package(alloc: Global, ast: &Ast) -> Result<Resolve, ResolveError>
     ensures ok { IfOk result (IsPackageOf (file_view ast.now)) }
@@ -85,23 +74,22 @@ fn resolved_package(alloc: Global, ast: &Ast) -> Result<Resolve, ResolveError>
     let keyed = keyed_by_tree(ast);
     let package = package_name(alloc, &ast.package)?;
     let all = declarations(alloc, keyed, &package, ast)?;
-    if has_world(&ast.items) {
-        return Err(ResolveError::NotThisShape);
-    }
     let order = interface_order(alloc, keyed, &all)?;
     let orders = type_orders(alloc, keyed, &all)?;
-    let builder = define_package(alloc, keyed, &all, order.as_slice(), &orders)?;
-    finish(alloc, builder, package)
+    let names = ordered_index(alloc, keyed, &all, order.as_slice())?;
+    let mut builder = define_package(alloc, keyed, &names, &all, order.as_slice(), &orders)?;
+    let worlds = define_worlds(alloc, keyed, &mut builder, &names, &ast.items)?;
+    finish(alloc, builder, worlds, package)
 }
 
 /// The package of a syntax tree. Its definitions stand in package order, in which each interface comes after
-/// those that it uses, and within an interface uses, types and functions; types that stand inside a definition
-/// stand before it, inner ones first. 43 where the tree has neither interface nor world, 40 where a name stands
-/// twice in a scope, 41 where a name stands for nothing, 44 where the tree has a world, 42 where interfaces use
-/// each other or types name each other, 45 where the package passes a limit, in this order; 45 also where a
-/// type is nested more than 64 deep or has no members, as in no text; 46 where memory is wanting. Where the
-/// tree's names make full names, as those of every text do, the package is in the form that packages have, and in
-/// each scope its names differ in more than the case of their letters.
+/// those that it uses, and within an interface uses, types and functions; behind all interfaces stand the functions
+/// of worlds, world by world. Types that stand inside a definition stand before it, inner ones first. 43 where the
+/// tree has neither interface nor world, 40 where a name stands twice in a scope, 41 where a name stands for
+/// nothing, 42 where interfaces use each other or types name each other, 45 where the package passes a limit, in
+/// this order; 45 also where a type is nested more than 64 deep or has no members, as in no text; 46 where memory
+/// is wanting. Where the tree's names make full names, as those of every text do, the package is in the form that
+/// packages have, and in each scope its names differ in more than the case of their letters.
 pub fn from_ast(alloc: Global, ast: &Ast) -> Result<Resolve, ResolveError>
     ensures ok { IfOk result (IsPackageOf (file_view ast.now)) }
     ensures faults { IfOk result (λ _. HasNoFaults (file_view ast.now)) }

@@ -1,4 +1,4 @@
-use Rattle.std.proofs.Common.{◌≡◌, ◌∙◌, List, [], ℕ, All, map, get_or, ap, sym, subst, arith}
+use Rattle.std.proofs.Common.{◌≡◌, ◌∙◌, List, [], ℕ, All, map, get_or, ap, sym, subst, arith, length}
 use Rattle.std.proofs.lemmas.List.{get_or_default}
 use Rattle.resolve.specs.Order.{IsPlacement}
 use Rattle.resolve.specs.Declarations.{InterfaceTree, interface_name}
@@ -8,7 +8,7 @@ use Rattle.resolve.specs.Sources.{declared_tree}
 use Rattle.resolve.specs.Building.{CanUse, IsScope, name_at}
 use Rattle.resolve.specs.declared.known.KnownTypes.{KnownTypes}
 use Rattle.resolve.proofs.Finding.{tree-at}
-use Rattle.resolve.proofs.Packaging.{table, none-defined, place-below, name-here, can-use-all, one-more, defines-package, known-at, order-below}
+use Rattle.resolve.proofs.Packaging.{table, none-defined, place-below, name-here, can-use-all, one-more, defines-package, no-functions, known-at, order-below}
 use Rattle.resolve.proofs.assembly.define_package.Goals as goal
 
 pub ordered_names-requires : goal.ordered_names-requires
@@ -26,13 +26,13 @@ offset_bounds-type_orders-index c = omega (arith, order-below c.args.all.now c.a
 pub bounds-all-index : goal.bounds-all-index
 bounds-all-index c = order-below c.args.all.now c.args.order.now c.requires.placed c.loop-place.place 0 (omega arith)
 
-pub define_interface-requires-clause-place : goal.define_interface-requires-clause-place
-define_interface-requires-clause-place c =
+pub define_interface-requires-clause-few : goal.define_interface-requires-clause-few
+define_interface-requires-clause-few c =
     let is = map declared_tree c.args.all.now in
     let named = ap (λ (t : Table). t.interfaces) c.new-builder.ensures ∙ c.in_ok-ordered_names.ensures in
     let b = place-below is c.args.order.now c.args.type_orders.now c.new-builder.result c.loop-place.builder c.loop-place.scopes.items c.loop-place.place
     named c.requires.placed c.requires.distinct c.loop-place.invariant (omega arith) in
-    omega (arith, b, c.in_ok-id.ensures)
+    omega (arith, b, c.loop-place.invariant.count, ap length c.deref.ensures.value)
 
 pub define_interface-requires-clause-named : goal.define_interface-requires-clause-named
 define_interface-requires-clause-named c =
@@ -108,8 +108,14 @@ loop-place-preserved c =
     named c.requires.placed c.requires.distinct c.loop-place.invariant (omega arith) c.define_interface.new.builder c.in_ok-scope.scope c.in_ok-id.id (declared_tree d)
     c.as_slice-types.result.now c.push.new.self.items c.in_ok-id.ensures (sym tree) types placed c.in_ok-push.ensures.items c.in_ok-scope.ensures
 
-pub returns : goal.returns
-returns c =
-    let made = c.new-builder.ensures ∙ ap (λ (ns : List (List ℕ)). table ns) c.in_ok-ordered_names.ensures in
+pub returns-clause-made : goal.returns-clause-made
+returns-clause-made c =
+    let empty = c.new-builder.ensures ∙ ap (λ (ns : List (List ℕ)). table ns) c.in_ok-ordered_names.ensures in
     defines-package (map declared_tree c.args.all.now) c.args.order.now c.args.type_orders.now c.new-builder.result c.loop-place.builder c.loop-place.scopes.items c.loop-place.place
-    made (omega arith) c.loop-place.invariant
+    empty (omega arith) c.loop-place.invariant
+
+pub returns-clause-none : goal.returns-clause-none
+returns-clause-none c =
+    let empty = c.new-builder.ensures ∙ ap (λ (ns : List (List ℕ)). table ns) c.in_ok-ordered_names.ensures in
+    no-functions (map declared_tree c.args.all.now) c.args.order.now c.args.type_orders.now c.new-builder.result c.loop-place.builder c.loop-place.scopes.items c.loop-place.place
+    empty c.loop-place.invariant

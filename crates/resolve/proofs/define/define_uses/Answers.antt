@@ -1,4 +1,4 @@
-use Rattle.std.proofs.Common.{arith}
+use Rattle.std.proofs.Common.{ap, length, arith}
 use Rattle.resolve.specs.Lent.{used_item_of}
 use Rattle.resolve.specs.Building.{CanUse}
 use Rattle.package_form.proofs.Lists.{all_map-at}
@@ -13,3 +13,6 @@ target-target-requires-clause-known c =
 
 pub target-target-requires-clause-scoped : goal.target-target-requires-clause-scoped
 target-target-requires-clause-scoped c = scopes-later c.args.builder.now c.loop-used.builder c.args.scopes.now c.loop-used.invariant.adds.front c.requires.others
+
+pub target-target-requires-clause-few : goal.target-target-requires-clause-few
+target-target-requires-clause-few c = omega (arith, c.requires.few, ap length c.loop-used.invariant.adds.front.interfaces)

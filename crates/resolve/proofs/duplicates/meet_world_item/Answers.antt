@@ -1,4 +1,4 @@
-use Rattle.std.proofs.Common.{◌∙◌, inl, refl, sym}
+use Rattle.std.proofs.Common.{◌∙◌, inl, sym}
 use Rattle.std.proofs.lemmas.Result.{err_from_is_err_and}
 use Rattle.package_form.proofs.WorldItems.{item-met, item-refused}
 use Rattle.resolve.proofs.WorldScopes.{side-told}

@@ -1,8 +1,8 @@
-use Rattle.std.proofs.Common.{◌≡◌, ◌++◌, ◌∷◌, [], List, Vec, Global, map, take, ap, sym, ◌∙◌, arith, append-nil}
+use Rattle.std.proofs.Common.{◌++◌, [], Vec, Global, map, take, ap, sym, ◌∙◌, arith, append-nil}
 use Rattle.std.specs.List.{cons_option, filter_map}
 use Rattle.wit_syntax.specs.View.{item_view}
 use Rattle.wit_syntax.specs.declared.ast.Item.{Item}
-use Rattle.resolve.specs.Declarations.{InterfaceTree, interface_of}
+use Rattle.resolve.specs.Declarations.{interface_of}
 use Rattle.resolve.specs.Sources.{declared_tree}
 use Rattle.resolve.specs.declared.declared.Declarations.{Declarations}
 use Rattle.resolve.proofs.FileEntries.{given-next, declared-more}

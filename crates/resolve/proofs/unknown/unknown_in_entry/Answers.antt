@@ -1,10 +1,9 @@
 use Rattle.std.proofs.Common.{◌≡◌, List, ℕ, Bor, All, IfOk, IfNone, IfSome, map, ap, sym, subst, ◌∙◌, arith}
-use Rattle.std.specs.declared.option.Option.{Option}
 use Rattle.wit_syntax.specs.View.{item_view, entry_view, world_entry_view}
 use Rattle.wit_syntax.specs.declared.ast.Item.{Item}
 use Rattle.wit_syntax.specs.declared.ast.InterfaceItem.{InterfaceItem}
 use Rattle.wit_syntax.specs.declared.ast.WorldItem.{WorldItem}
-use Rattle.resolve.specs.Declarations.{InterfaceTree, interface_of, interface_tree, interface_names, item_tree}
+use Rattle.resolve.specs.Declarations.{InterfaceTree, interface_of, interface_tree, item_tree}
 use Rattle.resolve.specs.Resolves.{HasKnownNames, IsUnknownIn, IsKnownItem}
 use Rattle.resolve.specs.Knowing.{KnowsFileEntry, LacksFileEntry, LacksItem}
 use Rattle.resolve.specs.Sources.{declared_tree}

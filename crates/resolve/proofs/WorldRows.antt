@@ -1,0 +1,256 @@
+-- Items of worlds that stand in a table, when more rows come behind it.
+use Rattle.std.proofs.Common.{◌≡◌, ℕ, zero, suc, ◌+◌, true, ◌&&◌, ◌==◌, nat_lt, List, [], ◌∷◌, ◌++◌, Option, None, Some, map, flat_map, length, get_or, slice_get, refl, ap, sym, ◌∙◌, subst, arith, append_assoc, append-nil}
+use Rattle.std.specs.List.{list_all}
+use Rattle.std.specs.Option.{option_map}
+use Rattle.std.proofs.lemmas.Bool.{lt-ltb}
+use Rattle.std.proofs.lemmas.List.{map-append}
+use Rattle.std.proofs.lemmas.List.Folds.{list_all-append}
+use Rattle.wit_syntax.specs.Syntax.{Ty, Prim, Named, ListOf, OptionOf, TupleOf, ResultOf, Tys, none, more, MaybeTy, Absent, Present, Member}
+use Rattle.tables.specs.Tables.{is_type, option_all, function_all, function_of, is_owner_world, is_function_of, is_placed_item}
+use Rattle.tables.specs.Package.{Tree, ListTree, ItemMeaning, WithInterface, WithFunction, WorldMeaning, read_val, read_params, function_item, item_meaning}
+use Rattle.package_form.specs.Postfix.{Leaves, whole, unnamed_if, unnamed_parameter}
+use Rattle.package_form.specs.Entries.{Table}
+use Rattle.package_form.specs.Form.{function_at, functions_of}
+use Rattle.resolve.specs.Declarations.{named, named_all, named_maybe, named_if, named_member}
+use Rattle.resolve.specs.Resolved.{Labelled, resolved, resolved_all, resolved_maybe, resolved_if, member_meaning, fields_of, option_tree, tuple_tree, result_tree}
+use Rattle.resolve.specs.Resolves.{place_of}
+use Rattle.resolve.specs.Building.{Front, Extends, LowersIf, LowersParameters, table_trees, world_functions, parameter_typed, read_parameter}
+use Rattle.resolve.specs.WorldRows.{AddsFunctions, is_typed, has_types, item_stands, world_stands, worlds_stand, item_reads, world_reads, DefinesItem, DefinesItems, DefinesWorld, DefinesWorlds}
+use Rattle.tables.specs.declared.tables.Direction.{Direction}
+use Rattle.tables.specs.declared.tables.WorldId.{WorldId}
+use Rattle.tables.specs.declared.tables.InterfaceId.{InterfaceId}
+use Rattle.tables.specs.declared.tables.Owner.TheVariants as owner
+use Rattle.tables.specs.declared.tables.Parameter.{Parameter}
+use Rattle.tables.specs.declared.tables.Function.{Function}
+use Rattle.tables.specs.declared.tables.ValType.{ValType}
+use Rattle.tables.specs.declared.tables.Definition.{Definition}
+use Rattle.tables.specs.declared.tables.Definition.TheVariants as row
+use Rattle.tables.specs.declared.tables.WorldItemKind.{WorldItemKind}
+use Rattle.tables.specs.declared.tables.WorldItemKind.TheVariants as item
+use Rattle.tables.specs.declared.tables.WorldItem.{WorldItem}
+use Rattle.tables.specs.declared.tables.World.{World}
+use Rattle.tables.proofs.Rows.{split, both}
+use Rattle.package_form.proofs.Lists.{flat_map-append, flat_map-one}
+use Rattle.resolve.proofs.Finding.{place-at}
+use Rattle.resolve.proofs.Using.{place-below}
+use Rattle.resolve.proofs.Locals.{is-that}
+use Rattle.resolve.proofs.Reading.{With, with-rows, with-front, with-functions, with-definitions, get-end, front-none, front-trans, extends-trans}
+use Rattle.resolve.proofs.Lowering.{all-stay, option-stays, parameter-stays, parameters-read}
+
+-- ---- types that name nothing stand for the same in each interface
+
+pub none-left : (xs ys : List (List ℕ)) → xs ++ ys ≡ [] → xs ≡ []
+none-left [] ys e = refl
+none-left (x ∷ xs) ys e = absurd (cc)
+
+pub none-right : (xs ys : List (List ℕ)) → xs ++ ys ≡ [] → ys ≡ []
+none-right [] ys e = e
+none-right (x ∷ xs) ys e = absurd (cc)
+
+module _ (i j : List ℕ) where
+  mutual
+    type-same : (t : Ty) → named t ≡ [] → resolved i t ≡ resolved j t
+    type-same (Prim p) h = refl
+    type-same (Named n) h = absurd (cc)
+    type-same (ListOf t) h = ap ListTree (type-same t h)
+    type-same (OptionOf t) h = ap option_tree (type-same t h)
+    type-same (TupleOf ts) h = ap tuple_tree (types-same ts h)
+    type-same (ResultOf ok error) h =
+        ap (λ (t : Option Tree). result_tree t (resolved_maybe i error)) (maybe-same ok (none-left (named_maybe ok) (named_maybe error) h))
+        ∙ ap (result_tree (resolved_maybe j ok)) (maybe-same error (none-right (named_maybe ok) (named_maybe error) h))
+
+    types-same : (ts : Tys) → named_all ts ≡ [] → resolved_all i ts ≡ resolved_all j ts
+    types-same none h = refl
+    types-same (more t ts) h =
+        ap (λ (u : Tree). u ∷ resolved_all i ts) (type-same t (none-left (named t) (named_all ts) h))
+        ∙ ap (λ (us : List Tree). resolved j t ∷ us) (types-same ts (none-right (named t) (named_all ts) h))
+
+    maybe-same : (t : MaybeTy) → named_maybe t ≡ [] → resolved_maybe i t ≡ resolved_maybe j t
+    maybe-same Absent h = refl
+    maybe-same (Present t) h = ap (λ (u : Tree). Some u) (type-same t h)
+
+  pub if-same : (t : Option Ty) → named_if t ≡ [] → resolved_if i t ≡ resolved_if j t
+  if-same None h = refl
+  if-same (Some t) h = ap (λ (u : Tree). Some u) (type-same t h)
+
+  pub members-same : (ms : List Member) → flat_map named_member ms ≡ [] → map (member_meaning i) ms ≡ map (member_meaning j) ms
+  members-same [] h = refl
+  members-same (m ∷ ms) h =
+      let first : Tree → Labelled = λ t. record { name = m.name; tree = t } in
+      ap (λ (t : Tree). first t ∷ map (member_meaning i) ms) (type-same m.ty (none-left (named m.ty) (flat_map named_member ms) h))
+      ∙ ap (λ (ls : List Labelled). first (resolved j m.ty) ∷ ls) (members-same ms (none-right (named m.ty) (flat_map named_member ms) h))
+
+-- ---- more rows
+
+get-kept : (xs ys : List Definition) (n : ℕ) (d : Definition) → slice_get xs n ≡ Some d → slice_get (xs ++ ys) n ≡ Some d
+get-kept [] ys n d e = absurd (cc)
+get-kept (x ∷ xs) ys zero d e = e
+get-kept (x ∷ xs) ys (suc n) d e = get-kept xs ys n d e
+
+module _ (old new : Table) (x : Front old new) where
+  -- a function reads the same
+  pub function-read : (f : Function) → function_all (is_type old.rows) f ≡ true → (function_all (is_type new.rows) f ≡ true)
+      × (read_params (table_trees new) f.params ≡ read_params (table_trees old) f.params) × (option_map (read_val (table_trees new)) f.result ≡ option_map (read_val (table_trees old)) f.result)
+  function-read f h =
+      let s = split (list_all (parameter_typed old.rows) f.params) (option_all (is_type old.rows) f.result) h in
+      let p = all-stay parameter_typed read_parameter unnamed_parameter parameter-stays old new x f.params s.0 in
+      let r = option-stays old new x f.result s.1 in (
+        both (list_all (parameter_typed new.rows) f.params) (option_all (is_type new.rows) f.result) p.0 r.0,
+        parameters-read (table_trees new) f.params ∙ ap fields_of p.1 ∙ sym (parameters-read (table_trees old) f.params),
+        r.1,
+      )
+
+  function-stays : (way : Direction) (f : Function) → function_all (is_type old.rows) f ≡ true
+      → (function_all (is_type new.rows) f ≡ true) × (function_item (table_trees new) way (Some f) ≡ function_item (table_trees old) way (Some f))
+  function-stays way f h =
+      let r = function-read f h in
+      (r.0, rw (r.1, r.2) refl)
+
+  item-stays : (k : ℕ) (i : WorldItem) → item_stands old k i ≡ true → (item_stands new k i ≡ true) × (item_reads new i ≡ item_reads old i)
+  item-stays k i h = by i.kind h
+    where
+      by : (w : WorldItemKind) → (is_placed_item old.rows (length old.interfaces) k w && has_types old.rows w) ≡ true
+          → ((is_placed_item new.rows (length new.interfaces) k w && has_types new.rows w) ≡ true)
+          × (item_meaning new.interfaces (table_trees new) new.rows i.direction w ≡ item_meaning old.interfaces (table_trees old) old.rows i.direction w)
+      by (item.Interface j) q = (
+        ap (λ (ns : List (List ℕ)). nat_lt j.0 (length ns) && true) x.interfaces ∙ q,
+        ap (λ (ns : List (List ℕ)). WithInterface i.direction (get_or ns j.0 [])) x.interfaces,
+      )
+      by (item.Function f) q = at (slice_get old.rows f.0) refl q
+        where
+          at : (o : Option Definition) → slice_get old.rows f.0 ≡ o → (is_function_of k (function_of o) && is_typed old.rows (function_of o)) ≡ true
+              → ((is_function_of k (function_of (slice_get new.rows f.0)) && is_typed new.rows (function_of (slice_get new.rows f.0))) ≡ true)
+              × (function_item (table_trees new) i.direction (function_of (slice_get new.rows f.0)) ≡ function_item (table_trees old) i.direction (function_of (slice_get old.rows f.0)))
+          at None e r = absurd (cc)
+          at (Some (row.Type d)) e r = absurd (cc)
+          at (Some (row.Function g)) e r =
+              let there : slice_get new.rows f.0 ≡ Some (row.Function g) =
+              ap (λ (ds : List Definition). slice_get ds f.0) x.rows.1 ∙ get-kept old.rows x.rows.0 f.0 (row.Function g) e in
+              let s = split (is_owner_world k g.owner) (function_all (is_type old.rows) g) r in
+              let t = function-stays i.direction g s.1 in (
+                ap (λ (o : Option Definition). is_function_of k (function_of o) && is_typed new.rows (function_of o)) there
+                    ∙ both (is_owner_world k g.owner) (function_all (is_type new.rows) g) s.0 t.0,
+                ap (λ (o : Option Definition). function_item (table_trees new) i.direction (function_of o)) there ∙ t.1
+                    ∙ sym (ap (λ (o : Option Definition). function_item (table_trees old) i.direction (function_of o)) e),
+              )
+
+  items-stay : (k : ℕ) (is : List WorldItem) → list_all (item_stands old k) is ≡ true
+      → (list_all (item_stands new k) is ≡ true) × (map (item_reads new) is ≡ map (item_reads old) is)
+  items-stay k [] h = (refl, refl)
+  items-stay k (i ∷ is) h =
+      let s = split (item_stands old k i) (list_all (item_stands old k) is) h in
+      let a = item-stays k i s.0 in
+      let b = items-stay k is s.1 in
+      (both (item_stands new k i) (list_all (item_stands new k) is) a.0 b.0, rw (a.1, b.1) refl)
+
+  worlds-stay : (k : ℕ) (ws : List World) → worlds_stand old k ws ≡ true → (worlds_stand new k ws ≡ true) × (map (world_reads new) ws ≡ map (world_reads old) ws)
+  worlds-stay k [] h = (refl, refl)
+  worlds-stay k (w ∷ ws) h =
+      let s = split (world_stands old k w) (worlds_stand old (k + 1) ws) h in
+      let r = split (w.«package».0 == 0) (list_all (item_stands old k) w.items) s.0 in
+      let a = items-stay k w.items r.1 in
+      let b = worlds-stay (k + 1) ws s.1 in
+      let named : List ItemMeaning → WorldMeaning = λ ms. record { name = w.name; items = ms } in (
+        both (world_stands new k w) (worlds_stand new (k + 1) ws) (both (w.«package».0 == 0) (list_all (item_stands new k) w.items) r.0 a.0) b.0,
+        ap (λ (ms : List ItemMeaning). named ms ∷ map (world_reads new) ws) a.1 ∙ ap (λ (us : List WorldMeaning). world_reads old w ∷ us) b.1,
+      )
+
+-- ---- growth after growth
+
+pub functions-none : (t : Table) → AddsFunctions t t []
+functions-none t = record { front = front-none t; same = refl; postfix = λ h. h; own = sym (append-nil (world_functions t)) }
+
+functions-trans : (a b c : Table) (fs gs : List ℕ) → AddsFunctions a b fs → AddsFunctions b c gs → AddsFunctions a c (fs ++ gs)
+functions-trans a b c fs gs x y = record {
+  front = front-trans a b c x.front y.front;
+  same = y.same ∙ x.same;
+  postfix = λ h. y.postfix (x.postfix h);
+  own = y.own ∙ ap (λ (ns : List ℕ). ns ++ gs) x.own ∙ append_assoc (world_functions a) fs gs;
+}
+
+-- one more behind the last
+last-flat : {A : Type 0} (f : A → List ℕ) (xs : List A) (x : A) → flat_map f xs ++ f x ≡ flat_map f (xs ++ x ∷ [])
+last-flat f xs x = sym (flat_map-append f xs (x ∷ []) ∙ ap (λ (ns : List ℕ). flat_map f xs ++ ns) (flat_map-one f x))
+
+pub items-none : (t : Table) (k : ℕ) → DefinesItems t t k [] []
+items-none t k = record { adds = functions-none t; stand = refl; read = refl }
+
+pub items-more : (a b c : Table) (k : ℕ) (is : List WorldItem) (ms : List ItemMeaning) (i : WorldItem) (m : ItemMeaning)
+    → DefinesItems a b k is ms → DefinesItem b c k i m → DefinesItems a c k (is ++ i ∷ []) (ms ++ m ∷ [])
+items-more a b c k is ms i m x y =
+    let s = items-stay b c y.adds.front k is x.stand in
+    record {
+      adds = subst (AddsFunctions a c) (last-flat function_at is i) (functions-trans a b c _ _ x.adds y.adds);
+      stand = list_all-append (item_stands c k) is (i ∷ [])
+          ∙ both (list_all (item_stands c k) is) (item_stands c k i && true) s.0 (both (item_stands c k i) true y.stands refl);
+      read = map-append (item_reads c) is (i ∷ []) ∙ rw (s.1, x.read, y.reads) refl;
+    }
+
+pub world-defined : (old new : Table) (k : ℕ) (n name : List ℕ) (is js : List WorldItem) (ms ns : List ItemMeaning) → n ≡ name → js ≡ is → ms ≡ ns → DefinesItems old new k is ms
+    → DefinesWorld old new k (record { «package» = record { 0 = 0 }; name = n; items = js }) (record { name = name; items = ns })
+world-defined old new k n name is js ms ns en ej em d =
+    let named : List ℕ → List ItemMeaning → WorldMeaning = λ m xs. record { name = m; items = xs } in
+    record {
+      adds = subst (λ (xs : List WorldItem). AddsFunctions old new (flat_map function_at xs)) (sym ej) d.adds;
+      stands = both (0 == 0) (list_all (item_stands new k) js) refl (ap (list_all (item_stands new k)) ej ∙ d.stand);
+      reads = ap (λ (m : List ℕ). named m (map (item_reads new) js)) en ∙ ap (named name) (ap (map (item_reads new)) ej ∙ d.read ∙ em);
+    }
+
+pub worlds-none : (t : Table) → DefinesWorlds t t [] []
+worlds-none t = record { adds = functions-none t; stand = refl; read = refl }
+
+worlds-end : (t : Table) (j : ℕ) (ws : List World) (w : World) → worlds_stand t j ws ≡ true → world_stands t (j + length ws) w ≡ true → worlds_stand t j (ws ++ w ∷ []) ≡ true
+worlds-end t j [] w h q = let here : j + 0 ≡ j = omega arith in both (world_stands t j w) true (subst (λ (n : ℕ). world_stands t n w ≡ true) here q) refl
+worlds-end t j (v ∷ ws) w h q =
+    let s = split (world_stands t j v) (worlds_stand t (j + 1) ws) h in
+    let here : j + suc (length ws) ≡ j + 1 + length ws = omega arith in
+    both (world_stands t j v) (worlds_stand t (j + 1) (ws ++ w ∷ [])) s.0 (worlds-end t (j + 1) ws w s.1 (subst (λ (n : ℕ). world_stands t n w ≡ true) here q))
+
+pub worlds-more : (a b c : Table) (ws : List World) (ms : List WorldMeaning) (k : ℕ) (w : World) (m : WorldMeaning) → k ≡ length ws
+    → DefinesWorlds a b ws ms → DefinesWorld b c k w m → DefinesWorlds a c (ws ++ w ∷ []) (ms ++ m ∷ [])
+worlds-more a b c ws ms k w m at x y =
+    let s = worlds-stay b c y.adds.front 0 ws x.stand in
+    let here : k ≡ 0 + length ws = omega (arith, at) in
+    record {
+      adds = subst (AddsFunctions a c) (last-flat functions_of ws w) (functions-trans a b c _ _ x.adds y.adds);
+      stand = worlds-end c 0 ws w s.0 (subst (λ (n : ℕ). world_stands c n w ≡ true) here y.stands);
+      read = map-append (world_reads c) ws (w ∷ []) ∙ rw (s.1, x.read, y.reads) refl;
+    }
+
+-- ---- one item
+
+-- a function of a world behind the rows of its parameters and its result
+pub function-defined : (old mid last new : Table) (k : WorldId) (n name : List ℕ) (ps : List Parameter) (ls : List Labelled) (r : Option ValType) (t : Option Tree) (id : ℕ)
+    → LowersParameters old mid ps ls → LowersIf mid last r t → n ≡ name → id ≡ length last.rows
+    → With last (row.Function (record { owner = owner.World k; name = n; params = ps; result = r })) new
+    → (way : Direction) → DefinesItem old new k.0 (record { direction = way; kind = item.Function (record { 0 = id }) }) (WithFunction way name (fields_of ls) t)
+function-defined old mid last new k n name ps ls r t id l m en at with way =
+    let f : Function = record { owner = owner.World k; name = n; params = ps; result = r } in
+    let d = row.Function f in
+    let s = all-stay parameter_typed read_parameter unnamed_parameter parameter-stays mid last m.extends.front ps l.within in
+    let extends = subst (λ (us : List ℕ). Extends old last (us ++ unnamed_if last.rows r)) (sym s.2) (extends-trans old mid last _ _ l.extends m.extends) in
+    let typed : function_all (is_type last.rows) f ≡ true = both (list_all (parameter_typed last.rows) ps) (option_all (is_type last.rows) r) s.0 m.typed in
+    let front = with-front last new d with typed in
+    let reads : read_params (table_trees last) ps ≡ fields_of ls = parameters-read (table_trees last) ps ∙ ap fields_of (s.1 ∙ l.reads) in
+    let there : slice_get new.rows id ≡ Some d = ap (λ (ds : List Definition). slice_get ds id) (with-rows last new d with) ∙ get-end last.rows d id at in
+    let q = function-stays last new front way f typed in
+    record {
+      adds = record {
+        front = front-trans old last new extends.front front;
+        same = with-definitions last new d with ∙ append-nil _ ∙ extends.same;
+        postfix = λ h. subst (λ (ds : List Definition). Leaves ds []) (sym (with-rows last new d with)) (whole last.rows d refl refl (extends.postfix [] h));
+        own = with-functions last new d with ∙ ap (λ (ns : List ℕ). ns ++ length last.rows ∷ []) extends.own ∙ ap (λ (x : ℕ). world_functions old ++ x ∷ []) (sym at);
+      };
+      stands = ap (λ (o : Option Definition). is_function_of k.0 (function_of o) && is_typed new.rows (function_of o)) there
+          ∙ both (k.0 == k.0) (function_all (is_type new.rows) f) (is-that k.0 k.0 refl) q.0;
+      reads = ap (λ (o : Option Definition). function_item (table_trees new) way (function_of o)) there ∙ q.1 ∙ rw (reads, m.reads, en) refl;
+    }
+
+-- an interface that stands at this place
+pub interface-defined : (t : Table) (k : ℕ) (way d : Direction) (n : List ℕ) (id : InterfaceId) (place : ℕ) → d ≡ way → id.0 ≡ place → place_of t.interfaces n ≡ Some place
+    → DefinesItem t t k (record { direction = d; kind = item.Interface id }) (WithInterface way n)
+interface-defined t k way d n id place same at e = record {
+  adds = functions-none t;
+  stands = both (nat_lt id.0 (length t.interfaces)) true (lt-ltb id.0 (length t.interfaces) (omega (arith, at, place-below t.interfaces n place e))) refl;
+  reads = rw (same, at, place-at t.interfaces n place [] e) refl;
+}

@@ -1,0 +1,153 @@
+//! The worlds of a tree: their functions as rows of the table, and their items.
+ghost use Rattle.std.specs.Prelude.{◌≡◌, [], map, filter_map, All, IfOk};
+ghost use Rattle.wit_syntax.specs.View.{item_view};
+ghost use Rattle.resolve.specs.Declarations.{FunctionOf, world_of, named_function};
+ghost use Rattle.resolve.specs.Resolved.{direction_meaning, item_meaning, world_meaning};
+ghost use Rattle.resolve.specs.Resolves.{IsKnownItem, IsKnownWorld};
+ghost use Rattle.resolve.specs.Sources.{function_item, declared_item, declared_world};
+ghost use Rattle.resolve.specs.WorldRows.{DefinesItem, DefinesItems, DefinesWorld, DefinesWorlds};
+ghost use Rattle.wit_syntax.specs.declared.ast.Direction.{Direction as Way};
+ghost use Rattle.tables.specs.declared.tables.WorldItemKind.TheVariants.{Function as FunctionAt};
+
+use crate::assembly::interface_id;
+use crate::bodies::lower_parameters;
+use crate::builder::Builder;
+use crate::duplicates::side_of;
+use crate::known::{KnownTypes, TypeIds};
+use crate::lower::lower_optional;
+use crate::names::Names;
+use atoms::KeyedState;
+use std::alloc::{AllocError, Global};
+use tables::{
+    Definition, Function, FunctionId, InterfaceId, Owner, PackageId, Sequence, World, WorldId,
+    WorldItem, WorldItemKind,
+};
+use wit_syntax::{Func, Item};
+
+/// Defines a function of a world. It names no type, so no type is known to it.
+fn define_function(
+    alloc: Global,
+    keyed: KeyedState,
+    builder: &mut Builder,
+    world: WorldId,
+    function: &Func,
+) -> Result<FunctionId, AllocError>
+    requires known { named_function (function_item function.now).function ≡ [] }
+    ensures { IfOk result (λ id. (way : Way) → DefinesItem builder.old builder.new world.0
+        (record { direction = direction_meaning way; kind = FunctionAt id }) (item_meaning (FunctionOf way (function_item function.now)))) }
+{
+    let scope = KnownTypes {
+        interface: InterfaceId(0),
+        entries: TypeIds::new(alloc, keyed),
+    };
+    let params = lower_parameters(alloc, builder, &scope, &function.ty.params)?;
+    let result = lower_optional(alloc, builder, &scope, &function.ty.result)?;
+    let id = builder.define(Definition::Function(Function {
+        owner: Owner::World(world),
+        name: function.name.copy(alloc)?,
+        params,
+        result,
+    }))?;
+    Ok(FunctionId(id.0))
+}
+
+/// Defines an item of a world: an interface, or a function of its own.
+fn define_item(
+    alloc: Global,
+    keyed: KeyedState,
+    builder: &mut Builder,
+    names: &Names,
+    world: WorldId,
+    item: &wit_syntax::WorldItem,
+) -> Result<WorldItem, AllocError>
+    requires known { IsKnownItem names.now (declared_item item.now) }
+    requires names { names.now ≡ builder.old.interfaces }
+    ensures { IfOk result (λ i. DefinesItem builder.old builder.new world.0 i (item_meaning (declared_item item.now))) }
+{
+    let direction = side_of(item.direction);
+    match &item.kind {
+        wit_syntax::WorldItemKind::Interface(path) => match names.place_of(&path.name) {
+            Some(place) => {
+                let kind = WorldItemKind::Interface(interface_id(place)?);
+                Ok(WorldItem { direction, kind })
+            }
+            None => unreachable!(),
+        },
+        wit_syntax::WorldItemKind::Func(function) => {
+            let id = define_function(alloc, keyed, builder, world, function)?;
+            let kind = WorldItemKind::Function(id);
+            Ok(WorldItem { direction, kind })
+        }
+    }
+}
+
+fn define_items(
+    alloc: Global,
+    keyed: KeyedState,
+    builder: &mut Builder,
+    names: &Names,
+    world: WorldId,
+    items: &[wit_syntax::WorldItem],
+) -> Result<Vec<WorldItem>, AllocError>
+    requires known { All (IsKnownItem names.now) (map declared_item items.now) }
+    requires names { names.now ≡ builder.old.interfaces }
+    ensures { IfOk result (λ is. DefinesItems builder.old builder.new world.0 is.items (map item_meaning (map declared_item items.now))) }
+{
+    let mut defined = Vec::new(alloc);
+    for item in items {
+        defined.push(define_item(alloc, keyed, builder, names, world, item)?)?;
+    }
+    Ok(defined)
+}
+
+fn define_world(
+    alloc: Global,
+    keyed: KeyedState,
+    builder: &mut Builder,
+    names: &Names,
+    id: WorldId,
+    world: &wit_syntax::World,
+) -> Result<World, AllocError>
+    requires known { IsKnownWorld names.now (declared_world world.now) }
+    requires names { names.now ≡ builder.old.interfaces }
+    ensures { IfOk result (λ w. DefinesWorld builder.old builder.new id.0 w (world_meaning (declared_world world.now))) }
+{
+    let items = define_items(alloc, keyed, builder, names, id, &world.items)?;
+    Ok(World {
+        package: PackageId(0),
+        name: world.name.copy(alloc)?,
+        items: Sequence::new(items),
+    })
+}
+
+/// The id of the world at this place. No memory where an id can't tell it.
+fn world_id(place: usize) -> Result<WorldId, AllocError>
+    ensures { IfOk result (λ id. id.0 ≡ place) }
+{
+    match u32::try_from(place) {
+        Ok(place) => Ok(WorldId(place)),
+        Err(_) => Err(AllocError),
+    }
+}
+
+/// Defines the worlds of a tree, in source order, their items in source order.
+pub fn define_worlds(
+    alloc: Global,
+    keyed: KeyedState,
+    builder: &mut Builder,
+    names: &Names,
+    items: &[Item],
+) -> Result<Vec<World>, AllocError>
+    requires known { All (IsKnownWorld names.now) (filter_map world_of (map item_view items.now)) }
+    requires names { names.now ≡ builder.old.interfaces }
+    ensures { IfOk result (λ ws. DefinesWorlds builder.old builder.new ws.items (map world_meaning (filter_map world_of (map item_view items.now)))) }
+{
+    let mut worlds = Vec::new(alloc);
+    for item in items {
+        if let Item::World(world) = item {
+            let id = world_id(worlds.len())?;
+            worlds.push(define_world(alloc, keyed, builder, names, id, world)?)?;
+        }
+    }
+    Ok(worlds)
+}
