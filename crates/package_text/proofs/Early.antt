@@ -1,0 +1,109 @@
+-- Interfaces use those that stand before them, and types name those before them: so each is placed where it stands.
+use Rattle.std.proofs.Common.{◌≡◌, ◌<◌, ℕ, zero, suc, List, [], ◌∷◌, ◌++◌, length, map, take, get_or, refl, sym, ap, subst, ◌∙◌, arith, inl, inr, All, Contains}
+use Rattle.std.specs.Prelude.{Bool, true, false, ◌&&◌, nat_lt, Option, None, Some, if◌then◌else◌}
+use Rattle.std.specs.List.{list_all, cons_option}
+use Rattle.std.specs.Option.{option_map}
+use Rattle.std.specs.Str.{bytes_eq}
+use Rattle.std.proofs.lemmas.Bool.{lt-ltb}
+use Rattle.std.proofs.lemmas.List.{get_or-map, length-map}
+use Rattle.std.specs.List.{take-map}
+use Rattle.std.proofs.lemmas.Slice.Eq.{bytes_eq-Decides}
+use Rattle.package_form.specs.Scope.{lowered}
+use Rattle.package_form.proofs.Lists.{all-head, all-tail, all-mono, contains-left, contains-either, contains-map}
+use Rattle.resolve.specs.Declarations.{UsedItem, InterfaceTree, interface_at, interface_name, interface_names, no_interface, use_interface, used_names, own_types, named_definition}
+use Rattle.resolve.specs.Resolved.{no_type}
+use Rattle.resolve.specs.Resolves.{place_of, places, uses_of_interface, interface_uses, uses_of_type, type_uses, IsKnownUse}
+use Rattle.resolve.proofs.Apart.{every-contained, AreOthers, AreApart, only}
+use Rattle.resolve.proofs.Finding.{place-has}
+use Rattle.resolve.proofs.ItemNames.{function_name, HasDistinctParts}
+use Rattle.package_text.proofs.Orders.{UsesEarlier, NamesEarlier}
+use Rattle.package_text.proofs.Knowing.{IsKnownTree, AreKnownTrees, known-at}
+
+-- ---- places of names
+
+-- where it stands, it stands before place k
+abbrev pub IsEarlier : ℕ → List (List ℕ) → List ℕ → Type 0
+IsEarlier k ns n = (j : ℕ) → place_of ns n ≡ Some j → j < k
+
+pub places-before : (k : ℕ) (ns wanted : List (List ℕ)) → All (IsEarlier k ns) wanted → list_all (λ u. nat_lt u k) (places ns wanted) ≡ true
+places-before k ns [] h = refl
+places-before k ns (n ∷ wanted) h =
+    by (place_of ns n) refl (all-head (IsEarlier k ns) n wanted h) (places-before k ns wanted (all-tail (IsEarlier k ns) n wanted h))
+  where
+    by : (o : Option ℕ) → place_of ns n ≡ o → IsEarlier k ns n → list_all (λ u. nat_lt u k) (places ns wanted) ≡ true → list_all (λ u. nat_lt u k) (cons_option o (places ns wanted)) ≡ true
+    by None e here on = on
+    by (Some j) e here on = ap (λ b. b && list_all (λ u. nat_lt u k) (places ns wanted)) (lt-ltb j k (here j e)) ∙ on
+
+-- a name that stands before
+pub taken-earlier : (k : ℕ) (ns : List (List ℕ)) (n : List ℕ) → Contains (take k ns) n → IsEarlier k ns n
+taken-earlier zero ns n c = absurd (omega (arith, c.1))
+taken-earlier (suc k) [] n c = absurd (omega (arith, c.1))
+taken-earlier (suc k) (m ∷ ns) n c = by (bytes_eq m n) refl (λ h. taken-earlier k ns n h)
+  where
+    behind : (o : Option ℕ) → ((j : ℕ) → o ≡ Some j → j < k) → (j : ℕ) → option_map suc o ≡ Some j → j < suc k
+    behind None h j e = absurd cc
+    behind (Some i) h j e = let q : suc i ≡ j = cc in let l = h i refl in omega (arith, q, l)
+
+    by : (b : Bool) → bytes_eq m n ≡ b → (Contains (take k ns) n → IsEarlier k ns n) → (j : ℕ) → (if b then Some 0 else option_map suc (place_of ns n)) ≡ Some j → j < suc k
+    by true e on j q = let z : 0 ≡ j = cc in omega (arith, z)
+    by false e on j q = elim (contains-either (m ∷ []) (take k ns) n c) [
+      | inl h ↦ absurd (let t : true ≡ false = sym ((bytes_eq-Decides m n).1 (only m n h)) ∙ e in cc)
+      | inr h ↦ behind (place_of ns n) (on h) j q
+    ]
+
+-- a name that doesn't stand there
+pub absent-earlier : (k : ℕ) (ns : List (List ℕ)) (n : List ℕ) → (Contains ns n → ⊥) → IsEarlier k ns n
+absent-earlier k ns n none j e = absurd (none (place-has ns n j e))
+
+-- names that are apart don't stand on both sides
+apart-across : (xs ys : List (List ℕ)) (n : List ℕ) → AreApart (xs ++ ys) → Contains xs n → Contains ys n → ⊥
+apart-across [] ys n h c d = omega (arith, c.1)
+apart-across (x ∷ xs) ys n h c d = elim (contains-either (x ∷ []) xs n c) [
+  | inl q ↦ every-contained (AreOthers x) (xs ++ ys) n h.0 (right xs ys n d) (ap lowered (sym (only x n q)))
+  | inr q ↦ apart-across xs ys n h.1 q d
+]
+  where
+    right : (xs ys : List (List ℕ)) (n : List ℕ) → Contains ys n → Contains (xs ++ ys) n
+    right [] ys n d = d
+    right (x ∷ xs) ys n d = let r = right xs ys n d in (suc r.0, omega (arith, r.1), r.2)
+
+-- ---- interfaces
+
+all-mapped : {A B : Type 0} (P : B → Type 0) (f : A → B) (xs : List A) → All (λ x. P (f x)) xs → All P (map f xs)
+all-mapped P f [] h k d l = absurd (omega (arith, l))
+all-mapped P f (x ∷ xs) h zero d l = all-head (λ x. P (f x)) x xs h
+all-mapped P f (x ∷ xs) h (suc k) d l = all-mapped P f xs (all-tail (λ x. P (f x)) x xs h) k d (omega (arith, l))
+
+pub interfaces-earlier : (is : List InterfaceTree) → AreKnownTrees [] is → UsesEarlier (interface_uses is)
+interfaces-earlier is h k l =
+    let m : k < length is = omega (arith, l, length-map is (uses_of_interface (interface_names is))) in
+    let i = interface_at is k in
+    let uses : All (IsKnownUse (take k is)) i.uses = (known-at [] is h k m).uses in
+    let wanted : All (IsEarlier k (interface_names is)) (map use_interface i.uses) =
+    all-mapped (IsEarlier k (interface_names is)) use_interface i.uses
+    (all-mono (IsKnownUse (take k is)) (λ (u : UsedItem). IsEarlier k (interface_names is) u.interface) (λ u x. taken-earlier k (interface_names is) u.interface (before u x)) i.uses uses) in
+    ap (list_all (λ u. nat_lt u k)) (get_or-map (uses_of_interface (interface_names is)) is k no_interface [] m) ∙ places-before k (interface_names is) (map use_interface i.uses) wanted
+  where
+    before : (u : UsedItem) → IsKnownUse (take k is) u → Contains (take k (interface_names is)) u.interface
+    before u (j, c, name, has) = subst (λ (ns : List (List ℕ)). Contains ns u.interface) (sym (take-map interface_name k is)) (subst (Contains (map interface_name (take k is))) name (contains-map interface_name (take k is) j c))
+
+-- ---- types
+
+pub types-earlier : (before : List InterfaceTree) (i : InterfaceTree) → IsKnownTree before i → HasDistinctParts i → UsesEarlier (type_uses i)
+types-earlier before i h apart k l =
+    let m : k < length i.types = omega (arith, l, length-map i.types (uses_of_type (own_types i))) in
+    let names = named_definition (get_or i.types k no_type).definition in
+    ap (list_all (λ u. nat_lt u k)) (get_or-map (uses_of_type (own_types i)) i.types k no_type [] m)
+    ∙ places-before k (own_types i) names (all-mono (Contains (used_names i ++ take k (own_types i))) (IsEarlier k (own_types i)) early names (h.types k m))
+  where
+    early : (n : List ℕ) → Contains (used_names i ++ take k (own_types i)) n → IsEarlier k (own_types i) n
+    early n c = elim (contains-either (used_names i) (take k (own_types i)) n c) [
+      | inl q ↦ absent-earlier k (own_types i) n (λ d. apart-across (used_names i) (own_types i ++ map function_name i.functions) n apart.names q (contains-left (own_types i) (map function_name i.functions) n d))
+      | inr q ↦ taken-earlier k (own_types i) n q
+    ]
+
+pub names-earlier : (is : List InterfaceTree) → AreKnownTrees [] is → All HasDistinctParts is → NamesEarlier is
+names-earlier is h apart = record {
+  interfaces = interfaces-earlier is h;
+  types = λ k l. types-earlier (take k is) (interface_at is k) (known-at [] is h k l) (apart k no_interface l);
+}

@@ -1,0 +1,6 @@
+pub mod Written
+pub mod Tree
+pub mod Text
+pub mod Pieces
+pub mod Writable
+pub mod Laws

@@ -1,0 +1,90 @@
+-- From what a package's names tell to the syntax that is written for it: a type, a definition, a use and a function.
+use Rattle.std.specs.Prelude.{ℕ, List, [], ◌∷◌, None, Some}
+use Rattle.wit_syntax.specs.Syntax.{Ty, Prim, Named, ListOf, OptionOf, TupleOf, ResultOf, Tys, none, more, MaybeTy, Absent, Present, Definition, Alias, Record, Variant, Enumeration, FlagSet, Member, CaseOf}
+use Rattle.wit_syntax.specs.declared.ast.Primitive.{Primitive as Keyword}
+use Rattle.wit_syntax.specs.declared.ast.Primitive.TheVariants as keyword
+use Rattle.tables.specs.declared.tables.Primitive.{Primitive}
+use Rattle.tables.specs.declared.tables.Primitive.TheVariants as primitive
+use Rattle.wit_syntax.specs.declared.ast.Direction.{Direction as Way}
+use Rattle.wit_syntax.specs.declared.ast.Direction.TheVariants as way
+use Rattle.tables.specs.declared.tables.Direction.{Direction}
+use Rattle.tables.specs.declared.tables.Direction.TheVariants as direction
+use Rattle.tables.specs.Package.{Tree, PrimTree, TextTree, Reference, ListTree, RecordTree, VariantTree, FlagsTree, Fields, no_fields, field, Choices, no_choices, empty, holding, Plain, AsEnum, AsResult}
+
+-- ---- types
+
+abbrev pub keyword_for : Primitive → Keyword
+keyword_for primitive.Bool = keyword.Bool
+keyword_for primitive.S8 = keyword.S8
+keyword_for primitive.U8 = keyword.U8
+keyword_for primitive.S16 = keyword.S16
+keyword_for primitive.U16 = keyword.U16
+keyword_for primitive.S32 = keyword.S32
+keyword_for primitive.U32 = keyword.U32
+keyword_for primitive.S64 = keyword.S64
+keyword_for primitive.U64 = keyword.U64
+keyword_for primitive.Char = keyword.Char
+
+abbrev pub no_ty : Ty
+no_ty = Prim keyword.Bool
+
+-- the type that is written for a tree; of a record, a variant, an enum or flags, which no expression has, none
+abbrev mutual
+  pub ty_of : Tree → Ty
+  ty_of (PrimTree p) = Prim (keyword_for p)
+  ty_of TextTree = Prim keyword.String
+  ty_of (Reference k) = Named k.name
+  ty_of (ListTree t) = ListOf (ty_of t)
+  ty_of (RecordTree form fs) = TupleOf (tys_in fs)
+  ty_of (VariantTree AsResult cs) = ResultOf (first_of cs) (second_of cs)
+  ty_of (VariantTree form cs) = OptionOf (some_of cs)
+  ty_of (FlagsTree labels) = no_ty
+
+  pub tys_in : Fields → Tys
+  tys_in no_fields = none
+  tys_in (field label t fs) = more (ty_of t) (tys_in fs)
+
+  pub first_of : Choices → MaybeTy
+  first_of no_choices = Absent
+  first_of (empty label cs) = Absent
+  first_of (holding label t cs) = Present (ty_of t)
+
+  pub second_of : Choices → MaybeTy
+  second_of no_choices = Absent
+  second_of (empty label cs) = first_of cs
+  second_of (holding label t cs) = first_of cs
+
+  pub some_of : Choices → Ty
+  some_of no_choices = no_ty
+  some_of (empty label cs) = some_of cs
+  some_of (holding label t cs) = ty_of t
+
+-- ---- definitions
+
+abbrev pub members_in : Fields → List Member
+members_in no_fields = []
+members_in (field label t fs) = record { name = label; ty = ty_of t } ∷ members_in fs
+
+abbrev pub cases_in : Choices → List CaseOf
+cases_in no_choices = []
+cases_in (empty label cs) = record { name = label; payload = None } ∷ cases_in cs
+cases_in (holding label t cs) = record { name = label; payload = Some (ty_of t) } ∷ cases_in cs
+
+abbrev pub labels_in : Choices → List (List ℕ)
+labels_in no_choices = []
+labels_in (empty label cs) = label ∷ labels_in cs
+labels_in (holding label t cs) = label ∷ labels_in cs
+
+-- the definition that is written for a tree
+abbrev pub body_of : Tree → Definition
+body_of (RecordTree Plain fs) = Record (members_in fs)
+body_of (VariantTree Plain cs) = Variant (cases_in cs)
+body_of (VariantTree AsEnum cs) = Enumeration (labels_in cs)
+body_of (FlagsTree labels) = FlagSet labels
+body_of t = Alias (ty_of t)
+
+-- ---- items of worlds
+
+abbrev pub direction_for : Direction → Way
+direction_for direction.Import = way.Import
+direction_for direction.Export = way.Export

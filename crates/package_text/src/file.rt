@@ -1,0 +1,73 @@
+//! Whole packages.
+ghost use Rattle.std.specs.Prelude.{◌≡◌, ◌++◌, map, IfOk, OnOk, OnErr};
+ghost use Rattle.std.specs.String.{string_bytes};
+ghost use Rattle.wit_syntax.specs.View.{item_view, version_view, file_view};
+ghost use Rattle.package_form.specs.Form.{IsInPackageForm};
+ghost use Rattle.package_text.specs.Tree.{interface_entry, world_entry, file_of};
+ghost use Rattle.package_text.specs.Text.{text_of};
+
+use crate::entry::interface_tree;
+use crate::world::world_tree;
+use std::alloc::{AllocError, Global};
+use tables::{PackageName, Resolve, copy_version};
+use wit_print::print_file;
+use wit_syntax::{Ast, Item, PackageId};
+
+fn package_id(alloc: Global, name: &PackageName) -> Result<PackageId, AllocError>
+    ensures namespace { IfOk result (λ p. p.namespace ≡ name.now.namespace) }
+    ensures name { IfOk result (λ p. p.name ≡ name.now.name) }
+    ensures version { IfOk result (λ p. version_view p.version ≡ name.now.version) }
+{
+    Ok(PackageId {
+        namespace: name.namespace.copy(alloc)?,
+        name: name.name.copy(alloc)?,
+        version: copy_version(&name.version)?,
+    })
+}
+
+fn push_interfaces(
+    alloc: Global,
+    resolve: &Resolve,
+    items: &mut Vec<Item>,
+) -> Result<(), AllocError>
+    requires { IsInPackageForm resolve.now }
+    ensures { OnOk result (map item_view items.new.items ≡ map item_view items.old.items ++ map (interface_entry resolve.now) resolve.now.interfaces) }
+{
+    for interface in resolve.interfaces.as_slice() {
+        items.push(interface_tree(alloc, resolve, interface)?)?;
+    }
+    Ok(())
+}
+
+fn push_worlds(alloc: Global, resolve: &Resolve, items: &mut Vec<Item>) -> Result<(), AllocError>
+    requires { IsInPackageForm resolve.now }
+    ensures { OnOk result (map item_view items.new.items ≡ map item_view items.old.items ++ map (world_entry resolve.now) resolve.now.worlds) }
+{
+    for world in resolve.worlds.as_slice() {
+        items.push(world_tree(alloc, resolve, world)?)?;
+    }
+    Ok(())
+}
+
+/// The syntax tree of a package, each row without a name in the place where it is named.
+fn tree(alloc: Global, resolve: &Resolve) -> Result<Ast, AllocError>
+    requires { IsInPackageForm resolve.now }
+    ensures { IfOk result (λ a. file_view a ≡ file_of resolve.now) }
+{
+    let package = package_id(alloc, &resolve.packages.as_slice()[0])?;
+    let mut items = Vec::new(alloc);
+    push_interfaces(alloc, resolve, &mut items)?;
+    push_worlds(alloc, resolve, &mut items)?;
+    Ok(Ast { package, items })
+}
+
+/// Appends the canonical text of a package. Where memory is wanting, the text is as it was. Takes time linear in the
+/// table and in the text, and room on the stack for each type within a type.
+pub fn print(alloc: Global, resolve: &Resolve, out: &mut String) -> Result<(), AllocError>
+    requires { ∥ IsInPackageForm resolve.now ∥₁ }
+    ensures ok { OnOk result (string_bytes out.new ≡ string_bytes out.old ++ text_of resolve.now) }
+    ensures err { OnErr result (string_bytes out.new ≡ string_bytes out.old) }
+{
+    let tree = tree(alloc, resolve)?;
+    print_file(alloc, &tree, out)
+}

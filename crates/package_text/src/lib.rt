@@ -1,0 +1,15 @@
+//! The text of a package: the syntax tree of its tables, and the canonical text of that tree.
+//!
+//! `print` appends what `specs/Text.antt` defines by `specs/Tree.antt`: an entry for each name of an interface, in the
+//! order of the table, and for each item of a world. `laws` says that the tree and its text stand for the package. Stands on
+//! `tables` and `package_form` (packages), `resolve` (what trees stand for), `wit_syntax` (trees) and `wit_print` (their text).
+#![tactic(auto)]
+
+mod definition;
+mod entry;
+mod expression;
+mod file;
+pub mod laws;
+mod world;
+
+pub use file::print;
