@@ -18,11 +18,10 @@ fn main(rt: HostRuntime) -> ExitCode {
     }
 }
 
-/// Does what the words ask for. Canonical text is not written for now: `text` is a usage fault.
+/// Does what the words ask for.
 fn execute(rt: &HostRuntime) -> Result<(), Refused> {
     let words = words(rt)?;
     match command(rt.alloc(), words.as_slice())? {
-        Command::Convert(Job::Text, _file) => Err(Refused::Words(WordsError::Usage)),
         Command::Convert(job, file) => convert(rt, job, file.as_str()),
         Command::Call {
             file,

@@ -3,8 +3,16 @@
 #![tactic(auto)]
 
 #[cfg(test)]
+mod jobs;
+#[cfg(test)]
+mod limits;
+#[cfg(test)]
 mod names;
+#[cfg(test)]
+mod printed;
 #[cfg(test)]
 mod streaming;
 #[cfg(test)]
 mod texts;
+#[cfg(test)]
+mod worlds;

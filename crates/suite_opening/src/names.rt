@@ -10,8 +10,7 @@ const NAMES: &str = "\
 package a:b; interface x { use y.{t as u}; f: func(p: u) -> u; } interface y { type t = u16; } interface z { use x.{u}; g: func(q: u) -> u; } => ok
 package a:b; interface x { use y.{t as u}; use z.{u as k}; f: func(p: u) -> u; } interface y { type t = u16; } interface z { use x.{u}; g: func(q: u) -> u; } => error 42 cycle
 package a:b; => error 43 empty package
-package a:b; world w { } => error 33 unsupported later-stage at 13..18
-package a:b; interface c { type t = q; type t = u8; } world w { } => error 33 unsupported later-stage at 54..59
+package a:b; interface c { type t = q; type t = u8; } world w { } => error 40 duplicate t
 package a:b; interface c { type t = q; type t = u8; } => error 40 duplicate t
 package a:b; interface c { type t = list<t>; } => error 42 cycle
 package a:b; interface c { type t = t; } => error 42 cycle

@@ -12,7 +12,7 @@ use words::asked::Job;
 const P1: &str = "package a:b; interface c { f: func(x: u32) -> u32; }";
 
 /// The bytes of its package.
-const SMALLEST: [u8; 55] = [
+pub const SMALLEST: [u8; 55] = [
     0x00, 0x61, 0x73, 0x6d, 0x0d, 0x00, 0x01, 0x00, 0x07, 0x1e, 0x01, 0x41, 0x02, 0x01, 0x42, 0x02,
     0x01, 0x40, 0x01, 0x01, 0x78, 0x79, 0x00, 0x79, 0x04, 0x00, 0x01, 0x66, 0x01, 0x00, 0x04, 0x00,
     0x05, 0x61, 0x3a, 0x62, 0x2f, 0x63, 0x05, 0x00, 0x0b, 0x0d, 0x01, 0x00, 0x07, 0x70, 0x61, 0x63,
@@ -145,7 +145,12 @@ fn opened(alloc: Global, bytes: &[u8]) -> Result<String, Fail> {
     })
 }
 
-fn assert_opened(rt: &impl Abort, alloc: Global, bytes: &[u8], wanted: &str) -> Result<(), Fail> {
+pub fn assert_opened(
+    rt: &impl Abort,
+    alloc: Global,
+    bytes: &[u8],
+    wanted: &str,
+) -> Result<(), Fail> {
     let line = opened(alloc, bytes)?;
     assert_line(rt, line.as_str(), wanted);
     Ok(())
@@ -245,7 +250,7 @@ fn refused(alloc: Global, job: Job, reader: &mut Drip) -> Result<String, Fail>
 }
 
 /// What a job writes, or nothing where it is refused.
-fn made(alloc: Global, job: Job, bytes: &[u8]) -> Result<Vec<u8>, Fail> {
+pub fn made(alloc: Global, job: Job, bytes: &[u8]) -> Result<Vec<u8>, Fail> {
     let mut output = Watched::new(Vec::new(alloc));
     match run(alloc, job, &mut Watched::new(bytes), &mut output) {
         Ok(()) => Ok(output.into_inner()),
@@ -330,16 +335,9 @@ fn binaries_that_are_cut(rt: HostRuntime) -> Result<(), Fail> {
 
 #[test]
 fn a_job_whose_input_fails(rt: HostRuntime) -> Result<(), Fail> {
-    for job in [Job::Show, Job::Bin, Job::Layout] {
-        let line = refused(rt.alloc(), job, &mut dripping(Some(20)))?;
-        assert_line(&rt, line.as_str(), "error 20 read at 20");
+    for job in [Job::Show, Job::Bin, Job::Text, Job::Layout] {
+        let line = refused(rt.alloc(), job, &mut dripping(Some(13)))?;
+        assert_line(&rt, line.as_str(), "error 20 read at 13");
     }
-    Ok(())
-}
-
-#[test]
-fn jobs_that_are_refused(rt: HostRuntime) -> Result<(), Fail> {
-    let line = refused(rt.alloc(), Job::Text, &mut dripping(Some(0)))?;
-    assert!(rt; line.as_str().starts_with("usage: witcall"), "{line}");
     Ok(())
 }

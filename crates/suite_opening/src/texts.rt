@@ -16,7 +16,7 @@ pub fn assert_rows(rt: &impl Abort, alloc: Global, rows: &str) -> Result<(), Fai
     Ok(())
 }
 
-fn assert_row(rt: &impl Abort, alloc: Global, text: &str, answer: &str) -> Result<(), Fail> {
+pub fn assert_row(rt: &impl Abort, alloc: Global, text: &str, answer: &str) -> Result<(), Fail> {
     let line = match open(alloc, text.as_bytes()) {
         Ok(_package) => format!(in alloc; "ok")?,
         Err(error) => format!(in alloc; "{error}")?,
@@ -40,6 +40,7 @@ package a:b; interface c { f: func(); } => ok
 package a:b; interface c { f: func(); g: func() -> char; } => ok
 package a:b; interface c {  } => ok
 package a:b; => error 43 empty package
+package a:b;  => error 43 empty package
 package a:b; interface c { f: func(p0: u8, p1: u8, p2: u8, p3: u8, p4: u8, p5: u8, p6: u8, p7: u8, p8: u8, p9: u8, p10: u8, p11: u8, p12: u8, p13: u8, p14: u8, p15: u8); } => ok
 package a:b; interface c { f: func(p0: u8, p1: u8, p2: u8, p3: u8, p4: u8, p5: u8, p6: u8, p7: u8, p8: u8, p9: u8, p10: u8, p11: u8, p12: u8, p13: u8, p14: u8, p15: u8, q: u8); } => ok
 package a:b; interface c { f: func(p0: u8, p1: u8, p2: u8, p3: u8, p4: u8, p5: u8, p6: u8, p7: u8, p8: u8, p9: u8, p10: u8, p11: u8, p12: u8, p13: u8, p14: u8, p15: u8, ); } => error 32 expected id at 169..170
@@ -52,6 +53,34 @@ package a:b; interface c { f: func(x: u8); g: func(x: u8); } => ok";
 #[test]
 fn worked(rt: HostRuntime) -> Result<(), Fail> {
     assert_rows(&rt, rt.alloc(), WORKED)
+}
+
+/// Whether these bytes, the first of the smallest text, are told as cut there.
+fn is_told_as_cut(alloc: Global, front: &str) -> Result<bool, Fail> {
+    let line = match open(alloc, front.as_bytes()) {
+        Ok(_package) => return Ok(false),
+        Err(error) => format!(in alloc; "{error}")?,
+    };
+    let end = format!(in alloc; "..{}", front.len())?;
+    Ok(match front.len() {
+        12 | 13 => line.as_str() == "error 43 empty package",
+        44 => line.as_str() == "error 30 bad character at 43..44",
+        _ => line.as_str().starts_with("error 32 expected ")
+            && line.as_str().ends_with(end.as_str()),
+    })
+}
+
+/// A text that is cut ends too soon, is a package of nothing, or ends within `->`.
+#[test]
+fn cut_after_each_byte(rt: HostRuntime) -> Result<(), Fail> {
+    let text = "package a:b; interface c { f: func(x: u32) -> u32; }";
+    for count in 0..52usize {
+        let Some(front) = text.get(..count) else {
+            return Err(Fail::from("no front"));
+        };
+        assert!(rt; is_told_as_cut(rt.alloc(), front)?, "{front}");
+    }
+    Ok(())
 }
 
 // Comments, words, characters that begin no token.
@@ -179,9 +208,9 @@ fn packages(rt: HostRuntime) -> Result<(), Fail> {
 
 // The items of a file.
 const FILES: &str = "\
-package a:b; world w { } => error 33 unsupported later-stage at 13..18
+package a:b; world w { } => ok
 package a:b; interface c { } interface d { } => ok
-package a:b; interface c { } world d { } => error 33 unsupported later-stage at 29..34
+package a:b; interface c { } world d { } => ok
 package a:b; use c:d; => error 33 unsupported top-level-use at 13..16
 package a:b; interface c { } use c; => error 33 unsupported top-level-use at 29..32
 package a:b; package c:d; => error 33 unsupported nested-package at 13..20

@@ -82,7 +82,7 @@ fn assert_bytes(rt: &impl Abort, alloc: Global, text: &str, bytes: &[u8]) -> Res
 }
 
 /// Texts, and the bytes of their packages.
-pub static TEXTS: [(&str, &[u8]); 3] = [
+pub static TEXTS: [(&str, &[u8]); 4] = [
     (
         "package a:b; interface c { f: func(x: u32) -> u32; }",
         &SMALLEST,
@@ -94,6 +94,10 @@ pub static TEXTS: [(&str, &[u8]); 3] = [
     (
         "package a:b; interface x { use y.{t as u}; f: func(p: u) -> u; } interface y { type t = u16; } interface z { use x.{u}; g: func(q: u) -> u; }",
         &THREE,
+    ),
+    (
+        "package a:b@1.0.0; interface c { f: func(); } world w { import c; export g: func(x: u8); }",
+        &WORLD,
     ),
 ];
 
@@ -132,11 +136,6 @@ fn bytes_are_their_package(rt: HostRuntime) -> Result<(), Fail> {
         assert_read(&rt, rt.alloc(), bytes)?;
     }
     Ok(())
-}
-
-#[test]
-fn bytes_are_a_package_with_a_world(rt: HostRuntime) -> Result<(), Fail> {
-    assert_read(&rt, rt.alloc(), &WORLD)
 }
 
 /// Whether this text's package, written and read, is written again as the same.

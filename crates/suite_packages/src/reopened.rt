@@ -1,8 +1,7 @@
 //! Packages that are opened from their texts, written as binaries and opened again from these.
 
 use crate::packages::{
-    ORDERED, SHAPE, SMALLEST, SWAPPED, TEXTS, THREE, TWICE, assert_line, assert_same, file_of,
-    interface_of,
+    ORDERED, SHAPE, SWAPPED, TEXTS, THREE, TWICE, assert_line, assert_same, file_of, interface_of,
 };
 use canonical_abi::CoreKind;
 use ctype_bin::BinError;
@@ -72,31 +71,17 @@ fn types_behind_used_names(rt: HostRuntime) -> Result<(), Fail> {
     Ok(())
 }
 
-/// Whether the first `n` bytes of the smallest are told as cut there.
-fn assert_cut(rt: &impl Abort, alloc: Global, n: usize) -> Result<(), Fail> {
-    let wanted = format!(in alloc; "error 11 truncated at {n}")?;
-    assert_opened(rt, alloc, SMALLEST.get(..n).unwrap_or(&[]), wanted.as_str())
-}
-
+/// Names are of the interface that a use names: the other `t` is smaller.
 #[test]
-fn cut_binaries(rt: HostRuntime) -> Result<(), Fail> {
-    for n in 4..55 {
-        assert_cut(&rt, rt.alloc(), n)?;
-    }
-    assert_opened(&rt, rt.alloc(), &SMALLEST, "ok")
-}
-
-#[test]
-fn cut_headers(rt: HostRuntime) -> Result<(), Fail> {
-    for n in 1..4 {
-        assert_opened(
-            &rt,
-            rt.alloc(),
-            &SMALLEST[..n],
-            "error 30 bad character at 0..1",
-        )?;
-    }
-    assert_opened(&rt, rt.alloc(), &[], "error 32 expected package at 0..0")
+fn types_of_the_interface_used(rt: HostRuntime) -> Result<(), Fail> {
+    let text =
+        b"package a:b; interface x { type t = u8; } interface y { type t = u64; } interface z { use y.{t as k}; f: func(p: k); }";
+    let package = open(rt.alloc(), text)?;
+    let Some(f) = package.resolve().function("a:b/z", "f") else {
+        return Err(Fail::from("no function"));
+    };
+    assert!(rt; package.layouts().lifted(f).params.as_slice() == [CoreKind::I64].as_slice());
+    Ok(())
 }
 
 /// How many declarations an interface has, these, and what opening its package answers.

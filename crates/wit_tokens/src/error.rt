@@ -47,8 +47,6 @@ pub enum Feature {
     ForeignInterface,
     FixedLengthList,
     NamedResults,
-    /// Read here, and not taken yet by what opens a text. `parse` never answers it.
-    LaterStage,
 }
 
 impl fmt::Display for Feature {
@@ -71,7 +69,6 @@ impl fmt::Display for Feature {
             Feature::ForeignInterface => "foreign-interface",
             Feature::FixedLengthList => "fixed-length-list",
             Feature::NamedResults => "named-results",
-            Feature::LaterStage => "later-stage",
         })
     }
 }

@@ -31,6 +31,7 @@ module _ (known : Option (List ℕ)) (job : Job) (bytes given : List ℕ) (read 
   refuses_making r refused.File opened cause = absurd cause
   refuses_making r (refused.Open e) opened cause = absurd cause
   refuses_making r (refused.Binary e) opened cause = makes-nothing r (refused.Binary e) opened cause
+  refuses_making r (refused.Text e) opened cause = makes-nothing r (refused.Text e) opened cause
   refuses_making r refused.NoFunction opened cause = absurd cause
   refuses_making r (refused.Json e) opened cause = absurd cause
   refuses_making r (refused.Memory e) opened cause = absurd cause

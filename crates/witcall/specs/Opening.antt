@@ -1,14 +1,11 @@
 -- Which bytes are opened as a package, and why others are refused.
-use Rattle.std.specs.Prelude.{◌≡◌, ◌<◌, ◌≤◌, ◌⊎◌, ◌==◌, ℕ, Bool, true, MatchBool, All, List, [], ◌∷◌, length, Option, None, Some, Ok, Err}
+use Rattle.std.specs.Prelude.{◌≡◌, ◌<◌, ◌≤◌, ◌==◌, ℕ, Bool, true, MatchBool, All, List, [], ◌∷◌, length, Ok, Err}
 use Rattle.std.specs.List.{starts_with}
 use Rattle.std.specs.Str.{IsUtf8, IsValidUpTo}
 use Rattle.wit_tokens.specs.Lexing.{limit}
-use Rattle.wit_tokens.specs.declared.token.Span.{Span}
-use Rattle.wit_tokens.specs.declared.error.Feature.TheVariants.{LaterStage}
 use Rattle.wit_tokens.specs.declared.error.TextError.{TextError}
 use Rattle.wit_tokens.specs.declared.error.TextError.TheVariants as text_error
-use Rattle.wit_tokens.specs.declared.error.TextError.TheVariants.{Unsupported}
-use Rattle.wit_syntax.specs.Syntax.{File, FileEntry, AnInterface, AWorld}
+use Rattle.wit_syntax.specs.Syntax.{File}
 use Rattle.wit_text.specs.Reading as text
 use Rattle.wit_text.specs.Reading.{IsRead}
 use Rattle.ctype_format.specs.File as binary
@@ -87,30 +84,19 @@ IsWantOfMemory (error.Text e) = ⊥
 IsWantOfMemory (error.NotUtf8 place) = ⊥
 IsWantOfMemory (error.Read place) = ⊥
 
--- where the first world of a text begins
-abbrev pub first_world : List FileEntry → Option Span
-first_world [] = None
-first_world (AnInterface n es ∷ rest) = first_world rest
-first_world (AWorld at n es ∷ rest) = Some at
-
--- A text's refusals are in this order: 36, 60, those of its tokens and of its grammar (30 to 35), 33 of a world, those of its names (43, 40,
--- 41, 42, 45), those of its layouts (51, 50). The cause of each says that none of those before it stands.
+-- A text's refusals are in this order: 36, 60, those of its tokens and of its grammar (30 to 35), those of its names (43, 40, 41,
+-- 42, 45), those of its layouts (51, 50). The cause of each says that none of those before it stands.
 
 -- 36 is asked of all bytes, the text's other refusals of UTF-8 alone
 abbrev pub IsUtf8Behind36 : List ℕ → TextError → Type 0
 IsUtf8Behind36 bytes text_error.Limit = Unit {0}
 IsUtf8Behind36 bytes _ = IsUtf8 bytes
 
--- they are a text that is read, and its first world begins there: worlds are not opened yet
-abbrev pub HasWorldAt : List ℕ → Span → Type 0
-HasWorldAt bytes s = (f : File) × IsRead bytes f × (first_world f.entries ≡ Some s)
-
 -- the cause of each refusal of a text
 abbrev pub TextRefuses : List ℕ → OpenError → Type 0
-TextRefuses bytes (error.Text e) =
-    IsUtf8Behind36 bytes e × (text.Faulty bytes e ⊎ ((s : Span) × (e ≡ Unsupported LaterStage s) × HasWorldAt bytes s))
+TextRefuses bytes (error.Text e) = IsUtf8Behind36 bytes e × text.Faulty bytes e
 TextRefuses bytes (error.NotUtf8 place) = (length bytes ≤ limit) × ¬ (IsUtf8 bytes) × IsValidUpTo bytes place
-TextRefuses bytes (error.Resolve e) = IsUtf8 bytes × (f : File) × IsRead bytes f × (first_world f.entries ≡ None) × tree.ResolveRefuses f e
+TextRefuses bytes (error.Resolve e) = IsUtf8 bytes × (f : File) × IsRead bytes f × tree.ResolveRefuses f e
 TextRefuses bytes (error.Layout e) = (r : Resolve) × IsOfText bytes r × RefusesFirst e r
 TextRefuses bytes (error.Binary e) = ⊥
 TextRefuses bytes (error.Read place) = ⊥

@@ -1,6 +1,6 @@
 //! Packages, typed calls and JSON: the library of the program.
 //!
-//! `open` reads a package from its text or its binary, and `Package::to_binary` writes it. `Session` carries typed
+//! `open` reads a package from its text or its binary, and `Package::to_binary` and `Package::to_text` write it. `Session` carries typed
 //! calls between two components, `run_call` makes one call whose arguments and result are JSON, `run` does what needs a
 //! file alone, and `report` tells why something was refused. It stands on all layers below and shows their types;
 //! `Session::call` carries the promise of a call.
@@ -14,6 +14,7 @@ mod line;
 mod output;
 mod package;
 mod placing;
+mod printed;
 mod reading;
 mod refused;
 mod reply;

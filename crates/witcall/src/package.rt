@@ -151,7 +151,7 @@ impl Package {
 
 /// Opens a package. Bytes that begin `00 61 73 6d` are a binary: its own refusals come first (10 to 19, 22, 23), then 43,
 /// 44 and 40. Others are a text: its length comes first (36), then whether it is UTF-8 (60), then the text's own refusals,
-/// its first world (33, for now), and the refusals of its names. Those of layouts come last.
+/// and those of its names. Those of layouts come last.
 pub fn open(alloc: Global, bytes: &[u8]) -> Result<Package, OpenError>
     ensures ok { IfOk result (λ p. IsOpened bytes.now p.resolve) }
     ensures written { (p : Resolve) → IsWrittenAs bytes.now p

@@ -13,6 +13,7 @@ use memory::MemoryError;
 use std::alloc::AllocError;
 use std::fmt::Write;
 use thiserror::Error;
+use wit_text::TextError;
 use words::WordsError;
 
 /// A usage fault, a refusal or a fault of the call. It is displayed as the program's line on standard
@@ -28,6 +29,9 @@ pub enum Refused {
     /// The binary of a package is too long.
     #[error(transparent)]
     Binary(BinError),
+    /// The canonical text of a package is too long.
+    #[error(transparent)]
+    Text(TextError),
     #[error("error 63 no function")]
     NoFunction,
     #[error(transparent)]
@@ -72,6 +76,17 @@ impl From<BinError> for Refused {
 
     fn from(error: BinError) -> Refused {
         Refused::Binary(error)
+    }
+}
+
+impl From<TextError> for Refused {
+    ghost use Rattle.std.specs.Prelude.{◌≡◌};
+    ghost use Rattle.witcall.specs.declared.refused.Refused.TheVariants.{Text};
+
+    ghost from_gives = { λ error e. e ≡ Text error };
+
+    fn from(error: TextError) -> Refused {
+        Refused::Text(error)
     }
 }
 

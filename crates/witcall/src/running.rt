@@ -12,26 +12,23 @@ use crate::refused::Refused;
 use atoms::{Sink, Source};
 use overview::{laid_out, shown};
 use std::alloc::Global;
-use words::WordsError;
 use words::asked::Job;
 
 /// What a job makes of a package, whole.
 fn made(alloc: Global, job: Job, package: &Package) -> Result<Vec<u8>, Refused>
-    requires { job ≢ Job.Text }
     ensures ok { IfOk result (λ v. IsMadeOf job «package».now.resolve v.items) }
     ensures err { IfErr result (MakingRefuses job «package».now.resolve) }
 {
     match job {
         Job::Show => Ok(shown(alloc, package.resolve())?.into_bytes()),
         Job::Bin => Ok(package.to_binary(alloc)?),
+        Job::Text => Ok(package.to_text(alloc)?.into_bytes()),
         Job::Layout => Ok(laid_out(alloc, package.resolve(), package.layouts())?.into_bytes()),
-        Job::Text => unreachable!(),
     }
 }
 
-/// Does a job with all the bytes of a reader, and writes what it makes, once it is whole. `Text` is not done for now: it is
-/// a usage fault, and nothing is read then. Other faults come in this order: 20, those of `open`, 17 or 66, 65; only after
-/// 65 a beginning may have been written.
+/// Does a job with all the bytes of a reader, and writes what it makes, once it is whole. Faults come in this order: 20, those
+/// of `open`, 17, 36 or want of memory, 65; only after 65 a beginning may have been written.
 pub fn run<R: Source, W: Sink>(
     alloc: Global,
     job: Job,
@@ -45,16 +42,12 @@ pub fn run<R: Source, W: Sink>(
     ensures begun { IsErrOf result Refused.Write → (output : List ℕ) × (count : ℕ) × Makes (R.remaining reader.old) job output
         × (count ≤ length output) × Appends (W.contents writer.old) (W.contents writer.new) (take count output) }
     ensures err { IfErr result (RunRefuses (R.remaining reader.old) job) }
-    ensures unread { job ≡ Job.Text → reader.new ≡ reader.old }
     ensures memory { result ≡ Err (Refused.Open OpenError.NoMemory) → R.has_failed reader.new ≡ false }
     ensures failed { (n : ℕ) → result ≡ Err (Refused.Open (OpenError.Read n)) →
         ((R.has_failed reader.new ≡ true) × ConsumesMany (R.remaining reader.old) (R.remaining reader.new) n) }
     ensures broken { IsErrOf result Refused.Write → W.has_failed writer.new ≡ true }
     ensures unwritten { IfErr result (λ e. e ≢ Refused.Write → Keeps (W.contents writer.old) (W.contents writer.new)) }
 {
-    if let Job::Text = job {
-        return Err(Refused::Words(WordsError::Usage));
-    }
     let bytes = read_all(alloc, reader)?;
     let package = open(alloc, bytes.as_slice())?;
     let output = made(alloc, job, &package)?;

@@ -1,17 +1,16 @@
 //! The package that a text is.
 
-ghost use Rattle.std.specs.Prelude.{◌≡◌, map, All, IfOk, IfErr};
+ghost use Rattle.std.specs.Prelude.{◌≡◌, All, IfOk, IfErr};
 ghost use Rattle.package_form.specs.Scope.{AreDistinct};
-ghost use Rattle.wit_syntax.specs.View.{item_view};
 ghost use Rattle.package_form.specs.Form.{IsInPackageForm};
 ghost use Rattle.package_form.specs.Naming.{package_scopes};
 ghost use Rattle.std.specs.Str.{IsUtf8};
-ghost use Rattle.witcall.specs.Opening.{IsOfText, TextRefuses, first_world};
+ghost use Rattle.witcall.specs.Opening.{IsOfText, TextRefuses};
 
 use crate::package::{MAX_INPUT, OpenError};
 use resolve::{Resolve, from_ast};
 use std::alloc::Global;
-use wit_text::{Feature, Item, Span, TextError, parse, texts_have_full_names};
+use wit_text::{TextError, parse, texts_have_full_names};
 
 /// The tables of a text.
 pub fn text_tables(alloc: Global, bytes: &[u8]) -> Result<Resolve, OpenError>
@@ -23,23 +22,8 @@ pub fn text_tables(alloc: Global, bytes: &[u8]) -> Result<Resolve, OpenError>
     texts_have_full_names();
     let text = text_of(bytes)?;
     let ast = parse(alloc, text)?;
-    if let Some(span) = first_world(&ast.items) {
-        return Err(OpenError::Text(TextError::Unsupported(Feature::LaterStage, span)));
-    }
     let resolve = from_ast(alloc, &ast)?;
     Ok(resolve)
-}
-
-/// Where the first world of these begins.
-fn first_world(items: &[Item]) -> Option<Span>
-    ensures { result ≡ first_world (map item_view items.now) }
-{
-    for item in items {
-        if let Item::World(world) = item {
-            return Some(world.span);
-        }
-    }
-    None
 }
 
 /// The bytes as a text.

@@ -1,17 +1,14 @@
-use Rattle.std.proofs.Common.{◌≡◌, None, map, subst, sym}
+use Rattle.std.proofs.Common.{subst}
 use Rattle.std.proofs.lemmas.Result.{err_from_is_err_and}
 use Rattle.wit_text.specs.Reading.{IsRead}
-use Rattle.wit_syntax.specs.View.{file_view, item_view}
-use Rattle.witcall.specs.Opening.{first_world}
+use Rattle.wit_syntax.specs.View.{file_view}
 use Rattle.witcall.proofs.text.text_tables.Goals as goal
 
 pub returns-in_err-resolve-clause-err : goal.returns-in_err-resolve-clause-err
 returns-in_err-resolve-clause-err c =
     let read = subst (λ t. IsRead t (file_view c.in_ok-ast.ast)) c.in_ok-text.ensures.ok c.in_ok-ast.ensures.found in
     let p = err_from_is_err_and c.from_residual-in_err-resolve.result c.from_residual-in_err-resolve.ensures.1 in
-    let none : None ≡ first_world (map item_view c.deref.result.now) = c.in_default.ensures in
-    let alone : first_world (file_view c.in_ok-ast.ast).entries ≡ None = sym (rw c.deref.ensures.value at none) in
-    rw (p.1, p.2) (c.in_ok-text.ensures.utf8, file_view c.in_ok-ast.ast, read, alone, c.in_err-resolve.ensures.err)
+    rw (p.1, p.2) (c.in_ok-text.ensures.utf8, file_view c.in_ok-ast.ast, read, c.in_err-resolve.ensures.err)
 
 pub returns-clause-ok : goal.returns-clause-ok
 returns-clause-ok c = record {
