@@ -40,7 +40,7 @@ fn first_fault(alloc: Global, calls: &[(&str, &str, &str, &str)]) -> Result<Stri
 }
 
 /// Calls, by the items of their interface, their arguments, their reply and what comes of it.
-static ACCEPTED: [(&str, &str, &str, &str); 19] = [
+static ACCEPTED: [(&str, &str, &str, &str); 20] = [
     (
         "f: func(o: option<option<u8>>) -> option<option<u8>>;",
         "[{\"some\":\"none\"}]",
@@ -150,7 +150,14 @@ static ACCEPTED: [(&str, &str, &str, &str); 19] = [
         "[{\"a\":2,\"b\":false}]",
         "{\"a\":2,\"b\":false}\n",
     ),
-    // a reply that its memory has no room for
+    // a name is of the interface that its use names, and of no other
+    (
+        "use y.{t as k}; f: func(p: k) -> k; } interface x { type t = u8; } interface y { type t = u64;",
+        "[18446744073709551615]",
+        "[256]",
+        "256\n",
+    ),
+    // a block that the caller has no room for
     (
         "type t0 = u8; type t1 = tuple<t0, t0>; type t2 = tuple<t1, t1>; type t3 = tuple<t2, t2>; type t4 = tuple<t3, t3>; type t5 = tuple<t4, t4>; type t6 = tuple<t5, t5>; type t7 = tuple<t6, t6>; type t8 = tuple<t7, t7>; type t9 = tuple<t8, t8>; type t10 = tuple<t9, t9>; type t11 = tuple<t10, t10>; type t12 = tuple<t11, t11>; type t13 = tuple<t12, t12>; type t14 = tuple<t13, t13>; type t15 = tuple<t14, t14>; type t16 = tuple<t15, t15>; type t17 = tuple<t16, t16>; type t18 = tuple<t17, t17>; type t19 = tuple<t18, t18>; type t20 = tuple<t19, t19>; variant v { a, b(t20) } f: func(x: v);",
         "[\"a\"]",

@@ -163,6 +163,32 @@ fn records(rt: HostRuntime) -> Result<(), Fail> {
     assert_one(&rt, alloc, record(alloc, &[U8, U32])?, "8 4 44 4")
 }
 
+/// Whether the package's type at this place has its fields at these places, and no more.
+fn assert_places(
+    rt: &impl Abort,
+    alloc: Global,
+    package: &Resolve,
+    place: u32,
+    wanted: &[u32],
+) -> Result<(), Fail> {
+    let layouts = Layouts::of(alloc, package)?;
+    let ty = ValType::Id(TypeId(place));
+    assert!(rt; layouts.has(ty));
+    for (index, at) in wanted.iter().enumerate() {
+        assert!(rt; layouts.field_offset(ty, index) == Some(*at), "{at}");
+    }
+    assert!(rt; layouts.field_offset(ty, wanted.len()) == None);
+    Ok(())
+}
+
+#[test]
+fn fields(rt: HostRuntime) -> Result<(), Fail> {
+    let alloc = rt.alloc();
+    let three = unnamed(record(alloc, &[U8, U32, U16])?);
+    let package = package(alloc, vec![in alloc; three]?)?;
+    assert_places(&rt, alloc, &package, 0, &[0, 4, 8])
+}
+
 #[test]
 fn variants(rt: HostRuntime) -> Result<(), Fail> {
     let kind = variant(rt.alloc(), &[None, Some(U64), Some(ValType::String)])?;
@@ -194,7 +220,17 @@ fn unnamed_types(rt: HostRuntime) -> Result<(), Fail> {
     let alloc = rt.alloc();
     let pair = unnamed(tuple(alloc, &[U8, FIRST])?);
     let definitions = vec![in alloc; unnamed(TypeDefKind::Option(U16)), pair]?;
-    assert_described(&rt, alloc, &package(alloc, definitions)?, 1, "6 2 444 2")
+    let package = package(alloc, definitions)?;
+    assert_described(&rt, alloc, &package, 1, "6 2 444 2")?;
+    assert_places(&rt, alloc, &package, 1, &[0, 2])
+}
+
+#[test]
+fn options_of_options(rt: HostRuntime) -> Result<(), Fail> {
+    let alloc = rt.alloc();
+    let (inner, outer) = (TypeDefKind::Option(U8), TypeDefKind::Option(FIRST));
+    let definitions = vec![in alloc; unnamed(inner), unnamed(outer)]?;
+    assert_described(&rt, alloc, &package(alloc, definitions)?, 1, "3 1 444 1")
 }
 
 /// A function of no parameters, with a label for a name.

@@ -4,6 +4,7 @@ use atoms::Watched;
 use canonical_abi::{Step, Trap, TrapKind};
 use std::alloc::Global;
 use std::process::Abort;
+use std::test::Fail;
 use witcall::{JsonError, OpenError, Refused, Reply, open, report, run_call};
 use words::WordsError;
 
@@ -508,6 +509,24 @@ fn traps(rt: HostRuntime) {
         let refused = Refused::Trap(Trap { kind, step });
         assert_told(&rt, rt.alloc(), &refused, wanted, 3);
     }
+}
+
+/// A variant of 1,048,577 bytes, for which the caller's memory of 1,048,576 has no block.
+const NO_ROOM: &str = "func(x: v); type t0 = u8; type t1 = tuple<t0, t0>; type t2 = tuple<t1, t1>; \
+    type t3 = tuple<t2, t2>; type t4 = tuple<t3, t3>; type t5 = tuple<t4, t4>; type t6 = tuple<t5, t5>; \
+    type t7 = tuple<t6, t6>; type t8 = tuple<t7, t7>; type t9 = tuple<t8, t8>; type t10 = tuple<t9, t9>; \
+    type t11 = tuple<t10, t10>; type t12 = tuple<t11, t11>; type t13 = tuple<t12, t12>; \
+    type t14 = tuple<t13, t13>; type t15 = tuple<t14, t14>; type t16 = tuple<t15, t15>; \
+    type t17 = tuple<t16, t16>; type t18 = tuple<t17, t17>; type t19 = tuple<t18, t18>; \
+    type t20 = tuple<t19, t19>; variant v { a, b(t20) } g: func()";
+
+#[test]
+fn no_room(rt: HostRuntime) -> Result<(), Fail> {
+    let Err(refused) = written(rt.alloc(), NO_ROOM, "f", "[\"a\"]", "[]") else {
+        return Err(Fail::from("written"));
+    };
+    assert_told(&rt, rt.alloc(), &refused, "trap K6 full in place\n", 3);
+    Ok(())
 }
 
 #[test]

@@ -19,6 +19,8 @@ pub struct Acting {
     pub at: u32,
     pub writes: Vec<u8>,
     pub answer: Option<Flat>,
+    /// Whether it stops by itself, once it has written.
+    pub stops: bool,
     /// How many bytes its post-return fills with ee.
     pub fills: u32,
     /// Whether its post-return comes to its end.
@@ -82,6 +84,9 @@ impl<G: Guest> Body<G> for Acting {
         self.given = copied(arguments);
         self.ask(memory)?;
         self.write(memory)?;
+        if self.stops {
+            return Err(Stopped);
+        }
         let mut flats = Flats::new();
         if let Some(answer) = self.answer {
             flats.push(answer);
@@ -112,6 +117,7 @@ pub fn body_writing(
         at,
         writes: writes.to_vec(alloc)?,
         answer,
+        stops: false,
         fills: 0,
         ends: true,
         runs: 0,
@@ -125,14 +131,21 @@ pub fn package(alloc: Global, items: &str) -> Result<Package, Fail> {
     Ok(open(alloc, text.as_bytes())?)
 }
 
+/// The function of this name.
+pub fn named(package: &Package, name: &str) -> Result<FunctionId, Fail>
+    ensures { IfOk result (IsFunction «package».now.resolve) }
+{
+    match package.resolve().function("a:b/c", name) {
+        Some(f) => Ok(f),
+        None => Err(Fail::from("no function")),
+    }
+}
+
 /// The function `f`.
 pub fn function(package: &Package) -> Result<FunctionId, Fail>
     ensures { IfOk result (IsFunction «package».now.resolve) }
 {
-    match package.resolve().function("a:b/c", "f") {
-        Some(f) => Ok(f),
-        None => Err(Fail::from("no function")),
-    }
+    named(package, "f")
 }
 
 /// A memory of so many bytes that begins with these.
@@ -151,6 +164,14 @@ pub fn scripted(alloc: Global, len: u32, answers: &[Result<u32, Full>]) -> Resul
     match Scripted::new(alloc, len, answers.to_vec(alloc)?) {
         Ok(guest) => Ok(guest),
         Err(_) => Err(Fail::from("no memory")),
+    }
+}
+
+/// Whether a memory is these bytes and zeros behind them.
+pub fn is_then_zeros(memory: &[u8], front: &[u8]) -> bool {
+    match memory.strip_prefix(front) {
+        Some(rest) => rest.iter().all(|byte| *byte == 0),
+        None => false,
     }
 }
 

@@ -5,8 +5,14 @@
 #[cfg(test)]
 mod acting;
 #[cfg(test)]
+mod asked;
+#[cfg(test)]
 mod crossings;
 #[cfg(test)]
 mod links;
 #[cfg(test)]
+mod requests;
+#[cfg(test)]
 mod sessions;
+#[cfg(test)]
+mod traps;

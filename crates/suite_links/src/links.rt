@@ -1,6 +1,8 @@
 //! Calls through one link: what reaches the callee's memory and the body, what comes back, and each trap with its step.
 
-use crate::acting::{Acting, body_writing, filled, function, package, scripted, trap};
+use crate::acting::{
+    Acting, body_writing, filled, function, is_then_zeros, package, scripted, trap,
+};
 use adapter::Link;
 use canonical_abi::{Fault, Flat, Full, Guest, Step, TrapKind};
 use lift_lower::Flats;
@@ -39,7 +41,7 @@ impl Told {
 }
 
 /// What the link of the package answers for a call of `f`, and the nodes of its ways.
-fn answered<C: Guest, E: Guest>(
+pub fn answered<C: Guest, E: Guest>(
     package: &Package,
     flats: &[Flat],
     caller: &mut C,
@@ -144,6 +146,21 @@ fn bools_arrive_as_one(rt: HostRuntime) -> Result<(), Fail> {
     assert!(rt; told.callee.get(..2) == Some([1, 0].as_slice()));
     assert!(rt; told.is_given(&flats));
     assert!(rt; told.has_run(1, 1));
+    assert!(rt; told.nodes == (2, 0));
+    Ok(())
+}
+
+/// An empty text or list may stand at the memory's end, and not behind it.
+#[test]
+fn empty_values_at_the_end(rt: HostRuntime) -> Result<(), Fail> {
+    for items in ["f: func(x: string);", "f: func(x: list<u32>);"] {
+        let told = passed(rt.alloc(), items, &[Flat::I32(32), Flat::I32(0)], &[])?;
+        assert!(rt; told.answer.is_ok());
+        assert!(rt; told.is_given(&[Flat::I32(0), Flat::I32(0)]));
+    }
+    let (text, behind) = ("f: func(x: string);", [Flat::I32(33), Flat::I32(0)]);
+    let told = passed(rt.alloc(), text, &behind, &[])?;
+    assert_not_passed(&rt, &told, TrapKind::Bounds, Step::LiftArgs);
     Ok(())
 }
 
@@ -191,6 +208,20 @@ fn addresses_of_the_callees_allocator(rt: HostRuntime) -> Result<(), Fail> {
         let told = placed(rt.alloc(), items, count, at)?;
         assert_not_passed(&rt, &told, kind, Step::LowerArgs);
     }
+    Ok(())
+}
+
+/// An allocator that grants one address twice: the second text stands over the first.
+#[test]
+fn texts_at_one_address(rt: HostRuntime) -> Result<(), Fail> {
+    let caller = filled(rt.alloc(), 16, b"abcd")?;
+    let callee = scripted(rt.alloc(), 16, &[Ok(0), Ok(0)])?;
+    let body = body_writing(rt.alloc(), 8, &[], None)?;
+    let flats = [Flat::I32(0), Flat::I32(2), Flat::I32(2), Flat::I32(2)];
+    let told = linked(rt.alloc(), TWO_TEXTS, &flats, caller, callee, body)?;
+    assert!(rt; told.answer.is_ok());
+    assert!(rt; told.is_given(&[Flat::I32(0), Flat::I32(2), Flat::I32(0), Flat::I32(2)]));
+    assert!(rt; is_then_zeros(told.callee.as_slice(), b"cd"));
     Ok(())
 }
 

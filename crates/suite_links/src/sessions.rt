@@ -1,7 +1,10 @@
 //! Typed calls of compound values: where the caller's and the callee's bytes stand, and the traps of what is placed and taken.
 
-use crate::acting::{Acting, body_writing, filled, function, package, scripted, trap};
-use canonical_abi::{Fault, Flat, Guest, Step, TrapKind};
+use crate::acting::{
+    Acting, body_writing, filled, function, is_then_zeros, package, scripted, trap,
+};
+use crate::requests::NUMBERS;
+use canonical_abi::{Fault, Flat, Full, Guest, Step, TrapKind};
 use lift_lower::Val;
 use memory::Bump;
 use std::alloc::Global;
@@ -88,22 +91,8 @@ fn called_with_text(
     )
 }
 
-/// An empty text takes a block of no bytes, here and there.
-#[test]
-fn empty_text(rt: HostRuntime) -> Result<(), Fail> {
-    let header = [8, 0, 0, 0, 0, 0, 0, 0];
-    let caller = filled(rt.alloc(), 32, &[])?;
-    let mut body = body_writing(rt.alloc(), 0, &header, Some(Flat::I32(0)))?;
-    body.asks = true;
-    let (items, empty) = ("f: func(s: string) -> string;", String::new(rt.alloc()));
-    let told = called_with_text(&rt, rt.alloc(), items, empty, caller, body)?;
-    assert!(rt; told.is_text(""));
-    assert!(rt; told.caller.get(..9) == Some(b"\x08\0\0\0\0\0\0\0\0".as_slice()));
-    Ok(())
-}
-
 const SEVENTEEN: &str =
-    "f: func(a: u32, b: u32, c: u32, d: u32, e: u32, g: u32, h: u32, i: u32, j: u32, k: u32, l: u32, m: u32, n: u32, o: u32, p: u32, q: u32, r: u32)";
+    "f: func(a: u32, b: u32, c: u32, d: u32, e: u32, g: u32, h: u32, i: u32, j: u32, k: u32, l: u32, m: u32, n: u32, o: u32, p: u32, q: u32, r: u32);";
 
 /// The numbers 0 to 16.
 fn seventeen(alloc: Global) -> Result<Vec<Val>, Fail> {
@@ -118,18 +107,16 @@ fn seventeen(alloc: Global) -> Result<Vec<Val>, Fail> {
 fn called_with_seventeen(
     rt: &impl Abort,
     alloc: Global,
-    answer: &str,
     len: u32,
     body: Acting,
 ) -> Result<Told, Fail> {
-    let items = format!(in alloc; "{SEVENTEEN}{answer};")?;
     let arguments = seventeen(alloc)?;
     let caller = filled(alloc, 128, &[])?;
     let callee = filled(alloc, len, &[])?;
     called(
         rt,
         alloc,
-        items.as_str(),
+        SEVENTEEN,
         arguments.as_slice(),
         caller,
         callee,
@@ -140,28 +127,18 @@ fn called_with_seventeen(
 #[test]
 fn seventeen_go_through_memory(rt: HostRuntime) -> Result<(), Fail> {
     let body = body_writing(rt.alloc(), 0, &[], None)?;
-    let told = called_with_seventeen(&rt, rt.alloc(), "", 68, body)?;
+    let told = called_with_seventeen(&rt, rt.alloc(), 68, body)?;
     assert!(rt; matches!(&told.answer, Ok(None)));
-    assert!(rt; told.callee.get(64..68) == Some([16, 0, 0, 0].as_slice()));
+    assert!(rt; told.callee.as_slice() == NUMBERS.as_slice());
     Ok(())
 }
 
 #[test]
 fn no_room_for_seventeen(rt: HostRuntime) -> Result<(), Fail> {
     let body = body_writing(rt.alloc(), 0, &[], None)?;
-    let told = called_with_seventeen(&rt, rt.alloc(), "", 67, body)?;
+    let told = called_with_seventeen(&rt, rt.alloc(), 67, body)?;
     assert!(rt; told.is_trap(TrapKind::Full, Step::LowerArgs));
-    Ok(())
-}
-
-#[test]
-fn seventeen_and_an_area(rt: HostRuntime) -> Result<(), Fail> {
-    let text = b"\x50\0\0\0\x02\0\0\0hi";
-    let body = body_writing(rt.alloc(), 72, text, Some(Flat::I32(72)))?;
-    let told = called_with_seventeen(&rt, rt.alloc(), " -> string", 128, body)?;
-    assert!(rt; told.is_text("hi"));
-    let wanted = b"\x10\0\0\0\x4c\0\0\0\x02\0\0\0hi";
-    assert!(rt; told.caller.get(64..78) == Some(wanted.as_slice()));
+    assert!(rt; told.callee.as_slice() == [0; 67].as_slice());
     Ok(())
 }
 
@@ -208,7 +185,39 @@ fn text_under_its_header(rt: HostRuntime) -> Result<(), Fail> {
     let body = body_writing(rt.alloc(), 0, text, Some(Flat::I32(0)))?;
     let told = text_of(&rt, rt.alloc(), caller, body)?;
     assert!(rt; told.is_trap(TrapKind::Utf8, Step::Take));
+    let header = b"\x80\0\0\0\x08\0\0\0";
+    assert!(rt; told.caller.get(128..136) == Some(header.as_slice()));
+    assert!(rt; is_then_zeros(told.callee.as_slice(), text));
     Ok(())
+}
+
+/// A list of one number for which the caller's allocator has no block, an odd one, or one behind the end.
+#[test]
+fn requests_of_arguments(rt: HostRuntime) -> Result<(), Fail> {
+    for (granted, kind) in [
+        (Err(Full), TrapKind::Full),
+        (Ok(2), TrapKind::Align),
+        (Ok(32), TrapKind::Bounds),
+    ] {
+        let caller = scripted(rt.alloc(), 32, &[granted])?;
+        let told = called_with_list(&rt, rt.alloc(), caller)?;
+        assert!(rt; told.is_trap(kind, Step::Place));
+        assert!(rt; told.caller.as_slice() == [0; 32].as_slice());
+        assert!(rt; told.callee.as_slice() == [0; 32].as_slice());
+    }
+    Ok(())
+}
+
+/// Calls a function of a list of one number.
+fn called_with_list<C: Guest + Drop>(
+    rt: &impl Abort,
+    alloc: Global,
+    caller: C,
+) -> Result<Told, Fail> {
+    let list = Val::List(vec![in alloc; Val::U32(1)]?);
+    let (callee, body) = (filled(alloc, 32, &[])?, body_writing(alloc, 0, &[], None)?);
+    let (items, arguments) = ("f: func(x: list<u32>);", slice::from_ref(&list));
+    called(rt, alloc, items, arguments, caller, callee, body)
 }
 
 /// A text of 16,777,217 bytes is not asked for.
@@ -220,5 +229,6 @@ fn text_past_the_limit(rt: HostRuntime) -> Result<(), Fail> {
     let told = called_with_text(&rt, rt.alloc(), "f: func(x: string);", text, caller, body)?;
     assert!(rt; told.is_trap(TrapKind::Bounds, Step::Place));
     assert!(rt; told.caller.as_slice() == [0xee; 64].as_slice());
+    assert!(rt; told.callee.as_slice() == [0; 32].as_slice());
     Ok(())
 }

@@ -105,3 +105,28 @@ fn writes_that_fail(rt: HostRuntime) -> Result<(), Fail> {
     assert!(rt; Sink::failed(&writer));
     Ok(())
 }
+
+/// A writer that takes no byte.
+#[derive(Drop)]
+struct Idle;
+
+impl Write for Idle {
+    fn write(&mut self, _bytes: &[u8]) -> io::Result<usize> {
+        Ok(0)
+    }
+
+    fn flush(&mut self) -> io::Result<()> {
+        Ok(())
+    }
+}
+
+/// Where none of some bytes is taken, the write has failed; where there is none to take, it hasn't.
+#[test]
+fn writes_of_nothing(rt: HostRuntime) -> Result<(), Fail> {
+    let mut writer = Watched::new(Idle);
+    assert!(rt; write_all(&mut writer, b"") == Ok(()));
+    assert!(rt; !Sink::failed(&writer));
+    assert!(rt; write_all(&mut writer, b"abc") == Err(Failed));
+    assert!(rt; Sink::failed(&writer));
+    Ok(())
+}

@@ -16,7 +16,7 @@ use tables::{Definition, Resolve, ValType};
 use witcall::{Package, open};
 
 /// A package of the definition of a type `t`.
-fn package(alloc: Global, definition: &str) -> Result<Package, Fail> {
+pub fn package(alloc: Global, definition: &str) -> Result<Package, Fail> {
     let text = format!(in alloc; "package a:b; interface c {{ {definition} f: func(x: t); }}")?;
     Ok(open(alloc, text.as_bytes())?)
 }
@@ -34,7 +34,7 @@ fn is_type(resolve: &Resolve, ty: ValType) -> bool
 }
 
 /// The type `t`.
-fn type_of(package: &Package) -> Result<ValType, Fail>
+pub fn type_of(package: &Package) -> Result<ValType, Fail>
     ensures { IfOk result (IsTypeOf «package».now.resolve) }
 {
     let resolve = package.resolve();
@@ -60,7 +60,7 @@ fn is_small(package: &Package, ty: ValType) -> bool
 }
 
 /// Stores a value of `t`.
-fn stored<G: Guest>(
+pub fn stored<G: Guest>(
     rt: &impl Abort,
     package: &Package,
     value: &Val,
@@ -116,7 +116,7 @@ fn lifted<G: Guest>(
 }
 
 /// A memory of so many bytes ee, at most 64.
-fn filled(alloc: Global, len: u32) -> Result<Bump, Fail> {
+pub fn filled(alloc: Global, len: u32) -> Result<Bump, Fail> {
     let Ok(mut guest) = Bump::new(alloc, len) else {
         return Err(Fail::from("no memory"));
     };
@@ -285,7 +285,7 @@ fn joined_kinds_are_lifted(rt: HostRuntime) -> Result<(), Fail> {
 const FLAGS: &str = "flags t { a, b, c }";
 
 /// A memory of so many bytes ee that begins with these where they have room.
-fn beginning(alloc: Global, len: u32, bytes: &[u8]) -> Result<Bump, Fail> {
+pub fn beginning(alloc: Global, len: u32, bytes: &[u8]) -> Result<Bump, Fail> {
     let mut guest = filled(alloc, len)?;
     if bytes.len() <= guest.len() as usize {
         guest.write(0, bytes);

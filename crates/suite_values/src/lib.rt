@@ -5,4 +5,6 @@
 #[cfg(test)]
 mod compounds;
 #[cfg(test)]
+mod documents;
+#[cfg(test)]
 mod values;
