@@ -1,6 +1,6 @@
 -- What crosses from one memory into another are values alone. (CanonicalABI.md has no such section: this follows from "Storing", "Flat Lowering"
 -- and "canon lift", whose steps read no byte but those of values, and write those of values alone.)
-use Rattle.std.specs.Prelude.{◌≡◌, ◌⊎◌, ℕ, ◌-◌, ◌≤◌, List, [], ◌∷◌, Option, Some, length, slice_get}
+use Rattle.std.specs.Prelude.{◌≡◌, ◌⊎◌, ℕ, ◌-◌, ◌≤◌, List, [], ◌∷◌, Some, length, slice_get}
 use Rattle.canonical_abi.specs.Types.{FunctionType}
 use Rattle.canonical_abi.specs.Values.{Value}
 use Rattle.canonical_abi.specs.Guest.{Allocation, Release, IsWithin}

@@ -1,0 +1,67 @@
+-- Why a call traps, over any two guests and any body, honest or not. (CanonicalABI.md has no such section: these follow from "canon lift" and
+-- "canon lower".)
+use Rattle.std.specs.Prelude.{◌≡◌, ◌≢◌, ◌⊎◌, ℕ, ◌+◌, ◌%◌, ◌<◌, List, None, Some, Err, length}
+use Rattle.canonical_abi.specs.Types.{FunctionType}
+use Rattle.canonical_abi.specs.Values.{Value}
+use Rattle.canonical_abi.specs.Guest.{Memory, Allocation}
+use Rattle.canonical_abi.specs.Call.{Parties, Run, PostRun, World, Order, Ways, Calls}
+use Rattle.canonical_abi.specs.Session.{TypedCall}
+use Rattle.canonical_abi.specs.declared.flat.Flat.{Flat}
+use Rattle.canonical_abi.specs.declared.trap.Fault.TheVariants.{Trap}
+use Rattle.canonical_abi.specs.declared.trap.Trap.{Trap as TrapAt}
+use Rattle.canonical_abi.specs.declared.trap.TrapKind.{TrapKind}
+use Rattle.canonical_abi.specs.declared.trap.TrapKind.TheVariants as trap
+use Rattle.canonical_abi.specs.declared.trap.Step.{Step}
+use Rattle.canonical_abi.specs.declared.trap.Step.TheVariants as step
+
+-- K1 to K5 and K8, which tell of values; neither an allocator's refusal nor a body that stopped
+abbrev pub IsOfValues : TrapKind → Type 0
+IsOfValues trap.Full = ⊥
+IsOfValues trap.Body = ⊥
+IsOfValues _ = Unit {0}
+
+-- the allocator refused a request
+abbrev pub HasRefused : Allocation → Type 0
+HasRefused allocates = (old new : Memory) × (align size : ℕ) × allocates old align size None new
+
+-- the allocator gave an address that is no multiple of the alignment
+abbrev pub HasMisaligned : Allocation → Type 0
+HasMisaligned allocates = (old new : Memory) × (align size at : ℕ) × allocates old align size (Some at) new × (at % align ≢ 0)
+
+-- the allocator gave a block that ends past the memory
+abbrev pub HasPassed : Allocation → Type 0
+HasPassed allocates = (old new : Memory) × (align size at : ℕ) × allocates old align size (Some at) new × (length new.bytes < at + size)
+
+-- what an allocator did where a trap of this kind tells of a request; no other kind does
+abbrev pub IsOfAllocator : Allocation → TrapKind → Type 0
+IsOfAllocator allocates trap.Full = HasRefused allocates
+IsOfAllocator allocates trap.Align = HasMisaligned allocates
+IsOfAllocator allocates trap.Bounds = HasPassed allocates
+IsOfAllocator allocates _ = ⊥
+
+-- the body, or its post-return, stopped by itself
+abbrev pub BodyHasStopped : Run → Type 0
+BodyHasStopped runs = (state : List ℕ) × (memory : Memory) × (flats : List Flat) × (state' : List ℕ) × (memory' : Memory) × runs state memory flats state' memory' None
+
+abbrev pub PostHasStopped : PostRun → Type 0
+PostHasStopped posts = (state : List ℕ) × (memory : Memory) × (flats : List Flat) × (state' : List ℕ) × (memory' : Memory) × posts state memory flats state' memory' None
+
+-- the cause of a trap of a call, by its step
+abbrev pub HasCause : Parties → Step → TrapKind → Type 0
+HasCause parties step.LiftArgs k = IsOfValues k
+HasCause parties step.LowerArgs k = IsOfAllocator parties.callee_allocates k
+HasCause parties step.Body k = (k ≡ trap.Body) × BodyHasStopped parties.runs
+HasCause parties step.LiftResult k = IsOfValues k
+-- the return area that the call was given is tested in this step too
+HasCause parties step.LowerResult k = IsOfValues k ⊎ IsOfAllocator parties.caller_allocates k
+HasCause parties step.Post k = (k ≡ trap.Body) × PostHasStopped parties.posts
+-- a text or a list of more bytes than any may have is not asked for
+HasCause parties step.Place k = (k ≡ trap.Bounds) ⊎ IsOfAllocator parties.caller_allocates k
+HasCause parties step.Take k = IsOfValues k
+
+-- each trap has the cause of its step
+pub record TrapsHaveCauses (parties : Parties) (order : Order) : Type 0 where
+  pub call : (f : FunctionType) (flats : List Flat) (old : World) (t : TrapAt) (ways : Ways) (new : World)
+      → Calls parties order f flats old (Err (Trap t)) ways new → HasCause parties t.step t.kind
+  pub typed : (f : FunctionType) (arguments : List Value) (old : World) (t : TrapAt) (new : World)
+      → TypedCall parties order f arguments old (Err (Trap t)) new → HasCause parties t.step t.kind
