@@ -6,16 +6,20 @@ usage: tools/call_vectors.py write            writes its files stdin (calls) and
        tools/call_vectors.py random N [SEED]  prints N random calls
        tools/call_vectors.py compare PROGRAM N [SEED]
                                               runs N random calls through the program `vectors` and compares
+       tools/call_vectors.py memory PROGRAM   runs 500 random calls and 5,000 through it, and compares their memory
 
 The answers are those of tools/call_abi.py, an implementation of its own, and never the program's. The exit status is 1 where
 something differs.
 """
 import itertools
 import json
+import os
 import pathlib
 import random
 import subprocess
 import sys
+import tempfile
+import time
 
 import call_abi
 from call_abi import align_of, case_width, flags_width, flat, payload_place, places_of, size_of, up, WIDTHS
@@ -491,6 +495,26 @@ def compare(program, calls):
     sys.exit(differ > 0)
 
 
+def memory(program):
+    """Whether 5,000 calls take more memory than 500 of them, and how long they take."""
+    calls = list(map(line_of, random_calls(5000, SEED)))
+    calls.sort(key=len, reverse=True)
+    found = {}
+    for number in (500, 5000):
+        with tempfile.TemporaryFile("w+") as lines:
+            lines.writelines(calls[:number])
+            lines.seek(0)
+            started = time.perf_counter()
+            ran = subprocess.Popen([program], stdin=lines, stdout=subprocess.DEVNULL)
+            _, status, usage = os.wait4(ran.pid, 0)
+            seconds = time.perf_counter() - started
+        if status:
+            sys.exit(f"{number} calls: status {status}")
+        found[number] = usage.ru_maxrss
+        print(f"{number} calls: at most {usage.ru_maxrss} KiB, {number / seconds:.0f} calls a second")
+    sys.exit(found[5000] > found[500] * 1.05 + 256)
+
+
 def main():
     words = sys.argv[1:]
     if words == ["write"]:
@@ -499,6 +523,8 @@ def main():
         check()
     elif words[:1] == ["random"] and len(words) in (2, 3):
         sys.stdout.writelines(map(line_of, random_calls(int(words[1]), words[2] if words[2:] else SEED)))
+    elif words[:1] == ["memory"] and len(words) == 2:
+        memory(words[1])
     elif words[:1] == ["compare"] and len(words) in (3, 4):
         compare(words[1], list(random_calls(int(words[2]), words[3] if words[3:] else SEED)))
     else:

@@ -1,0 +1,77 @@
+#!/usr/bin/env python3
+"""Cuts and changes the texts of the call vectors and of examples/, and their binaries, by the program `suite_changes`.
+
+usage: tools/changed_inputs.py [PROGRAM [CHANGES]]
+
+PROGRAM is crates/program/out/program, CHANGES is crates/suite_changes/out/suite_changes, as `rt run` in these crates leaves them. Each text is
+cut after each byte; its binary too, and each of its bytes is changed to each of the 256 values. Four processes share the work, which takes
+some minutes. The exit status is 1 where an answer isn't as crates/suite_changes says.
+"""
+import concurrent.futures
+import json
+import pathlib
+import subprocess
+import sys
+import tempfile
+
+ROOT = pathlib.Path(__file__).resolve().parent.parent
+
+
+def texts():
+    """The texts of the call vectors, each once, and those of examples/."""
+    found = {}
+    for line in (ROOT / "crates/vectors/stdin").read_text().splitlines():
+        try:
+            text = json.loads(line).get("text")
+        except (ValueError, AttributeError):
+            continue
+        if text:
+            found[" ".join(text.split())] = None
+    for path in sorted((ROOT / "examples").glob("*.wit")):
+        words = path.read_text()
+        if "//" not in words:
+            found[" ".join(words.split())] = None
+    return list(found)
+
+
+def binary(program, text):
+    """The binary of a text, or none where it is no package."""
+    with tempfile.NamedTemporaryFile("w", suffix=".wit") as file:
+        file.write(text)
+        file.flush()
+        made = subprocess.run([program, "bin", file.name], capture_output=True)
+    return made.stdout if made.returncode == 0 else None
+
+
+def told(changes, line):
+    """What the program tells of one line."""
+    return subprocess.run([changes], input=line.encode() + b"\n", capture_output=True)
+
+
+def main():
+    program = sys.argv[1] if len(sys.argv) > 1 else ROOT / "crates/program/out/program"
+    changes = sys.argv[2] if len(sys.argv) > 2 else ROOT / "crates/suite_changes/out/suite_changes"
+    lines = []
+    for text in texts():
+        lines.append(f"text {text}")
+        made = binary(program, text)
+        if made is not None:
+            lines.append(f"binary {made.hex()}")
+    counts = {"fronts": 0, "changed": 0, "packages": 0}
+    failed = 0
+    with concurrent.futures.ThreadPoolExecutor(4) as pool:
+        for line, ran in zip(lines, pool.map(lambda line: told(changes, line), lines)):
+            if ran.returncode:
+                failed += 1
+                print(f"{line[:100]}: status {ran.returncode} {ran.stderr[-200:]!r}")
+                continue
+            words = ran.stdout.decode().split()
+            counts["fronts"] += int(words[0])
+            if line.startswith("binary"):
+                counts["changed"] += int(words[5])
+                counts["packages"] += int(words[7])
+    print(f"{len(lines)} inputs: {counts['fronts']} fronts, {counts['changed']} changed binaries, {counts['packages']} of them packages; {failed} inputs failed")
+    sys.exit(failed > 0)
+
+
+main()
