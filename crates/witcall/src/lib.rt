@@ -25,6 +25,14 @@ mod steps;
 mod text;
 mod typing;
 
+// What a host needs beside them, under one name.
+pub use adapter::{Body, BoxedBody, Export, Link, Stopped};
+pub use canonical_abi::{CoreKind, Fault, Flat, Full, Guest, Honest, NotTaken, Step as TrapStep, Trap, TrapKind};
+pub use layout::Layouts;
+pub use lift_lower::{Flats, Val, str_at};
+pub use memory::{Bump, FirstFit, MemoryError, Scripted, Space};
+pub use resolve::{FunctionId, InterfaceId, Resolve, TypeId, ValType};
+
 pub use calling::run_call;
 pub use json::{JsonError, from_json, to_json};
 pub use package::{OpenError, Package, open};
