@@ -86,6 +86,7 @@ pub(crate) fn cross_flags<G: Guest>(
 }
 
 /// Crosses a text: it is tested, then its block is asked for, then its bytes and its header are written.
+#[inline(always)]
 pub(crate) fn cross_text<G: Guest>(
     source: &[u8],
     from: usize,

@@ -20,7 +20,6 @@ use Rattle.tables.specs.declared.tables.ValType.TheVariants as val
 use Rattle.lift_lower.specs.Scalar.{value_in, ScalarIs}
 use Rattle.lift_lower.specs.Scalars.{AreScalar, fields_in, prim_of_type, KindsFit, ScalarsStand, FirstFault, StandFor, FailAs}
 use Rattle.lift_lower.specs.declared.scalar.Scalar.{Scalar}
-use Rattle.lift_lower.specs.declared.scalar.Scalar.TheVariants as scalar
 
 -- ---- a list from its front
 

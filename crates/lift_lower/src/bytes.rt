@@ -1,5 +1,5 @@
 //! Blocks of a memory, and numbers in it, little-endian.
-ghost use Rattle.std.specs.Prelude.{◌≡◌, ◌+◌, ◌%◌, ◌^◌, ◌<◌, ◌≤◌, ◌⊎◌, ℕ, List, length, IfErr, OnOk};
+ghost use Rattle.std.specs.Prelude.{◌≡◌, ◌+◌, ◌%◌, ◌^◌, ◌<◌, ◌≤◌, ◌⊎◌, ℕ, List, length, get_or, IfErr, OnOk};
 ghost use Rattle.std.specs.Int.{w8, w16, w32, w64};
 ghost use Rattle.canonical_abi.specs.Layout.{discriminant_size, flags_size};
 ghost use Rattle.canonical_abi.specs.Memory.{BlockFaulty};
@@ -21,6 +21,18 @@ pub fn test_block(len: usize, at: usize, align: usize, size: usize) -> Result<()
         return Err(TrapKind::Bounds);
     }
     Ok(())
+}
+
+/// The largest byte, or 0 of none. By itself, over a slice of its own, this loop is made into vector code.
+#[inline(never)]
+pub fn largest_byte(bytes: &[u8]) -> u8
+    ensures { (i : ℕ) → get_or bytes.now i 0 ≤ result }
+{
+    let mut largest = 0;
+    for i in 0..bytes.len() {
+        largest = largest.max(bytes[i]);
+    }
+    largest
 }
 
 #[tactic(auto, unfolding(canonical_abi::specs::Reading::number_at))]

@@ -1,8 +1,8 @@
 //! The parts of one node of a value, for walks of other crates: its bytes and numbers, its text, its block, its
 //! flat values.
 pub use crate::bytes::{
-    discriminant_bytes, flags_bytes, low_flags, number_of_size, test_block, u8_at, u16_at, u32_at,
-    u64_at,
+    discriminant_bytes, flags_bytes, largest_byte, low_flags, number_of_size, test_block, u8_at,
+    u16_at, u32_at, u64_at,
 };
 pub use crate::guest_blocks::{ask_block, write_bytes, write_header, write_number, write_scalar};
 pub use crate::lift_flat::flags_in;

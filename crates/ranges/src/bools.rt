@@ -1,24 +1,21 @@
 //! Bools, which cross as they are where they are 0 and 1 alone.
-ghost use Rattle.std.specs.Prelude.{◌≡◌, ℕ, ◌+◌, ◌^◌, ◌<◌, ◌≤◌, length, get_or, IsTrue};
+ghost use Rattle.std.specs.Prelude.{◌≡◌, ℕ, ◌+◌, ◌^◌, ◌<◌, ◌≤◌, length, get_or};
 ghost use Rattle.canonical_abi.specs.Types.{prim_type, boolean};
 ghost use Rattle.ranges.specs.Bytewise.{Crosses};
 
 use crate::blend::{Caps, cross_bytewise};
 use canonical_abi::Guest;
+use lift_lower::nodes::largest_byte;
 
-/// The most bools that are tested before they are written.
-const BOOLS: usize = 4096;
+/// Bools in lists of more than this many are read from memory, and not from a cache.
+const CACHED: usize = 524_288;
 
-/// Whether all bytes are 0 or 1. A function by itself, over a slice of its own, as `all_chars`.
-#[inline(never)]
-fn are_bools(part: &[u8]) -> bool
-    ensures { IsTrue result → (i : ℕ) → i < length part.now → get_or part.now i 0 ≤ 1 }
+/// The most bools that are tested before they are written: as many as stay in a first-level cache, or, where the list is
+/// read from memory, so few that the processor begins to read the next ones while it writes these.
+fn part_of(count: usize) -> usize
+    ensures { 0 < result }
 {
-    let mut most = 0;
-    for i in 0..part.len() {
-        most = most.max(part[i]);
-    }
-    most <= 1
+    if count > CACHED { 1024 } else { 16_384 }
 }
 
 /// Crosses bools that are 0 and 1 alone, as one range.
@@ -41,7 +38,7 @@ fn cross_part<G: Guest>(source: &[u8], from: usize, count: usize, guest: &mut G,
     ensures crosses { Crosses (prim_type boolean) source.now from count G.allocates (G.memory guest.old) to (G.memory guest.new) }
     ensures same_length { length (G.memory guest.new).bytes ≡ length (G.memory guest.old).bytes }
 {
-    if are_bools(&source[from..from + count]) {
+    if largest_byte(&source[from..from + count]) <= 1 {
         cross_plain(source, from, count, guest, to);
         return;
     }
@@ -61,9 +58,10 @@ pub fn cross_bools<G: Guest>(source: &[u8], from: usize, count: usize, guest: &m
     ensures crosses { Crosses (prim_type boolean) source.now from count G.allocates (G.memory guest.old) to (G.memory guest.new) }
     ensures same_length { length (G.memory guest.new).bytes ≡ length (G.memory guest.old).bytes }
 {
+    let most = part_of(count);
     let mut done = 0;
     while done < count {
-        let part = BOOLS.min(count - done);
+        let part = most.min(count - done);
         cross_part(source, from + done, part, guest, to + done);
         done += part;
     }
