@@ -33,7 +33,7 @@ unsafe extern "C" {
         kind: u32,
         count: u32,
         rounds: u32,
-        source: *const u8,
+        source: *mut u8,
         source_len: usize,
         target: *mut u8,
         target_len: usize,
@@ -453,7 +453,7 @@ const SHAPES: [Shape; 13] = [
 ];
 
 /// Calls the export. A string's count is one of bytes.
-fn call(shape: &Shape, count: usize, rounds: u32, source: &[u8], target: &mut [u8]) {
+fn call(shape: &Shape, count: usize, rounds: u32, source: &mut [u8], target: &mut [u8]) {
     let units = if shape.kind == 0 { shape.size } else { 1 };
     // SAFETY: the export requires nothing of its arguments, and the slices are borrowed for the call.
     let done = unsafe {
@@ -461,7 +461,7 @@ fn call(shape: &Shape, count: usize, rounds: u32, source: &[u8], target: &mut [u
             shape.kind,
             (count * units) as u32,
             rounds,
-            source.as_ptr(),
+            source.as_mut_ptr(),
             source.len(),
             target.as_mut_ptr(),
             target.len(),
@@ -470,49 +470,55 @@ fn call(shape: &Shape, count: usize, rounds: u32, source: &[u8], target: &mut [u
     assert!(done, "the library refuses {}", shape.name);
 }
 
-/// The nanoseconds of a call, without what it takes to make none.
-fn time_of_calls(
+/// Makes so many rounds of a loop.
+fn repeat(one: Loop, count: usize, rounds: u32, source: &[u8], target: &mut [u8]) {
+    for _ in 0..rounds {
+        assert!(one(black_box(source), black_box(count), black_box(target)));
+    }
+}
+
+/// The nanoseconds of a call and of the fastest loop: all in turn, over the same two buffers. What the library takes for a call of
+/// no rounds is taken off.
+fn times(
     shape: &Shape,
     count: usize,
     rounds: u32,
-    source: &[u8],
+    source: &mut [u8],
     target: &mut [u8],
-) -> f64 {
-    let (mut none, mut all) = (f64::INFINITY, f64::INFINITY);
+) -> (f64, f64) {
+    let (mut none, mut ours, mut native) = (f64::INFINITY, f64::INFINITY, f64::INFINITY);
     for _ in 0..RUNS {
         none = none.min(time_of(|| call(shape, count, 0, source, target)));
-        all = all.min(time_of(|| call(shape, count, rounds, source, target)));
+        ours = ours.min(time_of(|| call(shape, count, rounds, source, target)));
+        for one in shape.loops {
+            native = native.min(time_of(|| repeat(*one, count, rounds, source, target)));
+        }
     }
-    (all - none) / f64::from(rounds)
+    let rounds = f64::from(rounds);
+    ((ours - none) / rounds, native / rounds)
 }
 
-/// The nanoseconds of a loop.
-fn time_of_loop(one: Loop, count: usize, rounds: u32, source: &[u8], target: &mut [u8]) -> f64 {
-    let mut all = f64::INFINITY;
-    for _ in 0..RUNS {
-        all = all.min(time_of(|| {
-            for _ in 0..rounds {
-                assert!(one(black_box(source), black_box(count), black_box(target)));
-            }
-        }));
+/// Ends the run where a loop writes other bytes than a call.
+fn assert_same_bytes(shape: &Shape, count: usize, source: &mut [u8], target: &mut [u8]) {
+    target.fill(FILLING);
+    call(shape, count, 1, source, target);
+    let called = target.to_vec();
+    for one in shape.loops {
+        target.fill(FILLING);
+        repeat(*one, count, 1, source, target);
+        assert!(called == target, "other bytes: {}", shape.name);
     }
-    all / f64::from(rounds)
 }
 
 /// One row of the table: a value of so many bytes.
 fn row(shape: &Shape, bytes: usize) -> String {
     let count = bytes / shape.size;
     let rounds = if bytes < LEN { 1024 } else { 8 };
-    let mut source = vec![0; LEN];
+    let mut source = vec![FILLING; LEN];
     (shape.fill)(&mut source, count);
     let mut target = vec![FILLING; LEN];
-    let ours = time_of_calls(shape, count, rounds, &source, &mut target);
-    let mut native = f64::INFINITY;
-    for one in shape.loops {
-        let mut copied = vec![FILLING; LEN];
-        native = native.min(time_of_loop(*one, count, rounds, &source, &mut copied));
-        assert!(copied == target, "other bytes: {}", shape.name);
-    }
+    assert_same_bytes(shape, count, &mut source, &mut target);
+    let (ours, native) = times(shape, count, rounds, &mut source, &mut target);
     let each = count as f64;
     format!(
         "| {} | {} | {:.3} | {:.3} | {:.2} |",
@@ -525,7 +531,7 @@ fn row(shape: &Shape, bytes: usize) -> String {
 }
 
 /// The nanoseconds of a call of a number, and of one of a string of five bytes.
-fn time_of_short_calls() -> (f64, f64) {
+fn times_of_short_calls() -> (f64, f64) {
     let shape = |kind| Shape {
         name: "a short call",
         kind,
@@ -536,7 +542,7 @@ fn time_of_short_calls() -> (f64, f64) {
     let mut source = vec![0; 64];
     fill_ascii(&mut source, 64);
     let mut target = vec![FILLING; 64];
-    let mut time = |kind| time_of_calls(&shape(kind), 5, 100_000, &source, &mut target);
+    let mut time = |kind| times(&shape(kind), 5, 100_000, &mut source, &mut target).0;
     (time(12), time(0))
 }
 
@@ -548,7 +554,7 @@ fn main() {
             println!("{}", row(shape, bytes));
         }
     }
-    let (number, text) = time_of_short_calls();
+    let (number, text) = times_of_short_calls();
     println!();
     println!(
         "A call with one `u32`: {number:.0} nanoseconds; with a string of five bytes: {text:.0}."
