@@ -31,3 +31,10 @@ pub mod WorldsBack
 pub mod Texts
 pub mod Spans
 pub mod Told
+pub mod EachLabel
+pub mod Loose
+pub mod Nested
+pub mod Decoding
+pub mod SameRows
+pub mod SameWorlds
+pub mod OneTable

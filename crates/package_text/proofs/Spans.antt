@@ -1,12 +1,14 @@
 -- Where the items of a file stand is nothing to its names: what is said of the file without places holds.
 use Rattle.std.proofs.Common.{◌≡◌, ◌≢◌, ℕ, List, [], ◌∷◌, ◌++◌, map, flat_map, filter_map, refl, sym, ap, subst, ◌∙◌, All}
+use Rattle.std.specs.Prelude.{◌&&◌}
+use Rattle.std.specs.List.{list_all}
 use Rattle.wit_syntax.specs.Syntax.{Local, Entry, Uses, Defines, Declares, WorldEntry, Whole, Single, FileEntry, AnInterface, AWorld, File}
 use Rattle.package_form.specs.Scope.{AreDistinct}
 use Rattle.package_form.specs.Naming.{world_scopes}
 use Rattle.resolve.specs.Declarations.{InterfaceTree, WorldTree, ItemTree, entry_uses, entry_types, entry_functions, entry_names, entry_scopes, interface_tree, interface_of, interfaces, item_tree, world_of, worlds, package_named, full_interface, full_interfaces, full_world, full_worlds, interface_names}
 use Rattle.resolve.specs.Resolved.{world_meaning}
 use Rattle.resolve.specs.Scopes.{file_name, interface_scopes, scopes}
-use Rattle.resolve.specs.Resolves.{Resolves, HasKnownNames, IsKnownWorld, HasNoFaults, IsPackageOf}
+use Rattle.resolve.specs.Resolves.{Resolves, HasKnownNames, IsKnownWorld, HasNoFaults, IsPackageOf, body_fits, signature_fits, entry_fits, world_entry_fits, interface_fits, file_fits}
 use Rattle.tables.specs.Package.{package_of}
 use Rattle.tables.specs.PackageNames.{PackageParts}
 use Rattle.tables.specs.declared.tables.Resolve.{Resolve}
@@ -79,6 +81,22 @@ all-scopes-kept p (AWorld at n ws ∷ es) =
     ap (λ (is : List ItemTree). world_scopes (world_meaning (full_world p (record { name = n; items = is }))) ++ flat_map (interface_scopes p) (map unplaced_file_entry es)) (items-kept ws)
     ∙ ap (λ (xs : List (List (List ℕ))). interface_scopes p (AWorld at n ws) ++ xs) (all-scopes-kept p es)
 
+entries-fit : (es : List Entry) → list_all entry_fits (map unplaced_entry es) ≡ list_all entry_fits es
+entries-fit [] = refl
+entries-fit (Uses at p us ∷ es) = entries-fit es
+entries-fit (Defines at n d ∷ es) = ap (λ b. body_fits d && b) (entries-fit es)
+entries-fit (Declares at n f ∷ es) = ap (λ b. signature_fits f && b) (entries-fit es)
+
+world-entries-fit : (es : List WorldEntry) → list_all world_entry_fits (map unplaced_world_entry es) ≡ list_all world_entry_fits es
+world-entries-fit [] = refl
+world-entries-fit (Whole d p ∷ es) = world-entries-fit es
+world-entries-fit (Single d at n f ∷ es) = ap (λ b. signature_fits f && b) (world-entries-fit es)
+
+files-fit : (es : List FileEntry) → list_all interface_fits (map unplaced_file_entry es) ≡ list_all interface_fits es
+files-fit [] = refl
+files-fit (AnInterface n is ∷ es) = ap (λ b. b && list_all interface_fits (map unplaced_file_entry es)) (entries-fit is) ∙ ap (λ b. list_all entry_fits is && b) (files-fit es)
+files-fit (AWorld at n ws ∷ es) = ap (λ b. b && list_all interface_fits (map unplaced_file_entry es)) (world-entries-fit ws) ∙ ap (λ b. list_all world_entry_fits ws && b) (files-fit es)
+
 -- ---- two files that differ in places alone
 
 module _ (f g : File) (same : unplaced g ≡ unplaced f) where
@@ -120,6 +138,9 @@ module _ (f g : File) (same : unplaced g ≡ unplaced f) where
     ids = h.ids;
     within = h.within;
   }
+
+  pub fits-kept : file_fits g ≡ file_fits f
+  fits-kept = sym (files-fit g.entries) ∙ (ap (list_all interface_fits) entries-same ∙ files-fit f.entries)
 
   some-kept : f.entries ≢ [] → g.entries ≢ []
   some-kept h e = h (none f.entries (sym entries-same ∙ ap (map unplaced_file_entry) e))

@@ -1,5 +1,5 @@
 -- The tree and the text of a package stand for it.
-use Rattle.std.proofs.Common.{◌≡◌, ◌<◌, ◌+◌, ℕ, List, [], ◌∷◌, ◌++◌, length, map, sym, subst, arith, All}
+use Rattle.std.proofs.Common.{◌≡◌, ◌<◌, ◌+◌, ℕ, List, [], ◌∷◌, ◌++◌, length, map, sym, subst, ◌∙◌, arith, All}
 use Rattle.atoms.specs.Label.{IsLabel}
 use Rattle.tables.specs.declared.tables.Interface.{Interface}
 use Rattle.tables.specs.declared.tables.World.{World}
@@ -16,7 +16,7 @@ use Rattle.package_text.specs.Writable.{IsWritable}
 use Rattle.package_text.specs.Laws.{IsTreeOfPackage, IsTextOfPackage}
 use Rattle.package_form.specs.Entries.{labels_of}
 use Rattle.package_text.proofs.Texts.{tree-printable}
-use Rattle.package_text.proofs.Spans.{package-kept, faults-kept}
+use Rattle.package_text.proofs.Spans.{package-kept, faults-kept, fits-kept}
 use Rattle.package_text.proofs.Scopes.{tree-interfaces-distinct, tree-distinct}
 use Rattle.package_text.proofs.Whole.{tree-interfaces, tree-names, known-trees, tree-package}
 use Rattle.package_text.proofs.Knowing.{trees-know}
@@ -54,4 +54,4 @@ pub text-of-package : ((f : File) → IsReadBack f) → (r : Resolve) → IsText
 text-of-package back r w nested few =
     let x = back (file_of r) (tree-printable r w nested few) few in
     let t = tree-of-package r w in
-    (x.0, x.1, faults-kept (file_of r) x.0 x.2 t.0, package-kept (file_of r) x.0 x.2 r t.1)
+    (x.0, x.1, record { faults = faults-kept (file_of r) x.0 x.2 t.0; fits = fits-kept (file_of r) x.0 x.2 ∙ nested; resolved = package-kept (file_of r) x.0 x.2 r t.1 })

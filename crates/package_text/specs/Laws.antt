@@ -1,10 +1,18 @@
 -- What holds of the tree and of the text of a package.
-use Rattle.std.specs.Prelude.{◌≡◌, ◌≤◌, true, length}
+use Rattle.std.specs.Prelude.{◌≡◌, ◌≤◌, ℕ, true, length, All, Some, slice_get, slice_index_or}
+use Rattle.canonical_abi.specs.Types.{string_type, depth}
+use Rattle.tables.specs.Closed.{closed_types}
+use Rattle.tables.specs.Same.{IsSamePackage}
+use Rattle.tables.specs.declared.tables.TypeDef.{TypeDef}
+use Rattle.tables.specs.declared.tables.Definition.TheVariants as row
 use Rattle.tables.specs.declared.tables.Resolve.{Resolve}
+use Rattle.package_form.specs.Scope.{AreDistinct}
+use Rattle.package_form.specs.Naming.{package_scopes}
+use Rattle.package_form.specs.Form.{IsInPackageForm}
 use Rattle.wit_tokens.specs.Lexing.{limit}
 use Rattle.wit_syntax.specs.Syntax.{File}
 use Rattle.wit_text.specs.Reading.{IsRead}
-use Rattle.resolve.specs.Resolves.{file_fits, HasNoFaults, IsPackageOf}
+use Rattle.resolve.specs.Resolves.{file_fits, HasNoFaults, IsPackageOf, HasPackage}
 use Rattle.package_text.specs.Tree.{file_of}
 use Rattle.package_text.specs.Text.{text_of}
 use Rattle.package_text.specs.Writable.{IsWritable}
@@ -13,6 +21,23 @@ use Rattle.package_text.specs.Writable.{IsWritable}
 abbrev pub IsTreeOfPackage : Resolve → Type 0
 IsTreeOfPackage r = IsWritable r → HasNoFaults (file_of r) × IsPackageOf (file_of r) r
 
--- where types nest as in a text, the text is read as a tree without faults that resolves to the package
+-- where types nest as in a text, the text is read as a tree without faults, nested as a text, that resolves to the package
 abbrev pub IsTextOfPackage : Resolve → Type 0
-IsTextOfPackage r = IsWritable r → file_fits (file_of r) ≡ true → length (text_of r) ≤ limit → (g : File) × IsRead (text_of r) g × HasNoFaults g × IsPackageOf g r
+IsTextOfPackage r = IsWritable r → file_fits (file_of r) ≡ true → length (text_of r) ≤ limit → (g : File) × IsRead (text_of r) g × HasPackage g r
+
+-- no type is more than 64 deep
+abbrev pub IsShallow : Resolve → Type 0
+IsShallow r = (k : ℕ) (d : TypeDef) → slice_get r.definitions k ≡ Some (row.Type d) → depth (slice_index_or (closed_types r) k string_type) ≤ 64
+
+-- then the types of the tree nest as in a text
+abbrev pub NestsAsText : Resolve → Type 0
+NestsAsText r = IsInPackageForm r → IsShallow r → file_fits (file_of r) ≡ true
+
+-- a table in form whose names differ in each scope
+pub record IsFormed (r : Resolve) : Type 0 where
+  pub form : IsInPackageForm r
+  pub distinct : All AreDistinct (package_scopes r)
+
+-- a tree resolves to one such table
+abbrev pub HasOneTable : File → Type 0
+HasOneTable f = (r s : Resolve) → IsFormed r → IsFormed s → IsPackageOf f r → IsPackageOf f s → IsSamePackage r s

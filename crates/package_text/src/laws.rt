@@ -1,6 +1,7 @@
 //! What holds of the tree and of the text of a package.
 ghost use Rattle.tables.specs.declared.tables.Resolve.{Resolve};
-ghost use Rattle.package_text.specs.Laws.{IsTreeOfPackage, IsTextOfPackage};
+ghost use Rattle.wit_syntax.specs.Syntax.{File};
+ghost use Rattle.package_text.specs.Laws.{IsTreeOfPackage, IsTextOfPackage, NestsAsText, HasOneTable};
 
 use wit_print::canonical_text_is_read_back;
 
@@ -15,3 +16,13 @@ pub fn text_is_of_package()
 {
     canonical_text_is_read_back();
 }
+
+/// Where no type of a package is more than 64 deep, those of its tree nest as in a text.
+pub fn types_nest_as_in_a_text()
+    ensures { (r : Resolve) → NestsAsText r }
+{}
+
+/// A tree resolves to one table in form whose names differ.
+pub fn tree_has_one_table()
+    ensures { (f : File) → HasOneTable f }
+{}

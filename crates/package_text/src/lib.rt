@@ -9,7 +9,9 @@ mod definition;
 mod entry;
 mod expression;
 mod file;
+mod labels;
 pub mod laws;
 mod world;
 
 pub use file::print;
+pub use labels::names_are_labels;
