@@ -37,25 +37,36 @@ def times_of(command, inputs):
     return best
 
 
+def growths(times):
+    """How many times as long each size takes as the one before, where that is a measure."""
+    return [after / before if before > LEAST else None for before, after in zip(times, times[1:])]
+
+
+def grew_too_much(times):
+    return any(grew and grew > MOST for grew in growths(times))
+
+
+def times(command, shapes, sizes, unit):
+    """The name of each shape with its times, which are printed: of the command on an input of each size.
+
+    `shapes` has a function for each name, from a size to an input in bytes; each size is twice the one before.
+    """
+    for name, made in shapes.items():
+        empty, *all_times = times_of(command, [b""] + [made(size) for size in sizes])
+        took = [time - empty for time in all_times]
+        for size, time, grew in zip(sizes, took, [None, *growths(took)]):
+            print(f"{name:12} {size:8} {unit} {time * 1000:8.2f} ms {f'{grew:.2f} times' if grew else ''}", flush=True)
+        yield name, took
+
+
 def main(usage, shapes, sizes=LENGTHS, unit="bytes"):
     """Runs the command of the script's words on an input of each shape and size, and prints the times.
 
-    `shapes` has a function for each name, from a size to an input in bytes; each size is twice the one before. The exit
-    status is 1 where twice as much takes more than 2.3 times as long.
+    The exit status is 1 where twice as much takes more than 2.3 times as long.
     """
     command = sys.argv[1:]
     if not command:
         sys.exit(usage)
-    worst = 0.0
-    for name, made in shapes.items():
-        empty, *times = times_of(command, [b""] + [made(size) for size in sizes])
-        before = None
-        for size, time in zip(sizes, times):
-            took = time - empty
-            grew = took / before if before and before > LEAST else None
-            worst = max(worst, grew or 0.0)
-            told = f"{grew:.2f} times" if grew else ""
-            print(f"{name:12} {size:8} {unit} {took * 1000:8.2f} ms {told}", flush=True)
-            before = took
+    worst = max(grew or 0.0 for _, took in times(command, shapes, sizes, unit) for grew in growths(took))
     print(f"at most {worst:.2f} times as long for twice as many {unit}")
     sys.exit(1 if worst > MOST else 0)

@@ -1,17 +1,17 @@
 #!/usr/bin/env python3
-"""How the time of making and laying out a table grows with its definitions.
+"""How the time of a job grows with the definitions of a table.
 
-usage: tools/table_times.py COMMAND ..
+usage: tools/table_times.py PROGRAM [JOB ..]
 
-COMMAND is run on each text, with {} in its words as the text's path, as in
-
-    tools/table_times.py crates/program/out/program call {} a:b/c none '[]' '[]'
-
-Each text is a package without the function that is asked for, so it is read, its table is made and laid out, and nothing
-after that is timed. For each shape, at 4,095 to 65,520 definitions, the least processor time of several runs is printed,
-without that of an empty text, and by how much it grew. The exit status is 1 where twice as many definitions take more
-than 2.3 times as long.
+PROGRAM is the built program, as crates/program/out/program, and each JOB one of `call` (alone, if none is given), `show`,
+`layout` and `text`. `call` asks each text, a package, for a function that it doesn't have: the text is read, its table is
+made and laid out, and nothing after that is timed. The other jobs do this too, and then write lines or a text. For each
+shape, at 4,095 to 65,520 definitions, the least processor time of several runs is printed, without that of an empty text,
+and by how much it grew. The exit status is 1 where twice as many definitions take more than 2.3 times as long, or where
+the job takes more than twice as long as `call`, so that what it writes takes longer than opening did.
 """
+import sys
+
 import growth
 
 # a package has at most 65,535 type entries
@@ -76,4 +76,23 @@ SHAPES = {
     "interfaces": reversed_interfaces,
 }
 
-growth.main(__doc__, SHAPES, COUNTS, "definitions")
+JOBS = {
+    "call": ["call", "{}", "a:b/c", "none", "[]", "[]"],
+    "show": ["show", "{}"],
+    "layout": ["layout", "{}"],
+    "text": ["text", "{}"],
+}
+
+
+def main():
+    if len(sys.argv) < 2 or not set(sys.argv[2:]) <= set(JOBS):
+        sys.exit(__doc__)
+    opening, failed = {}, False
+    for job in ["call", *(it for it in sys.argv[2:] if it != "call")]:
+        for name, times in growth.times(sys.argv[1:2] + JOBS[job], SHAPES, COUNTS, f"definitions, {job}"):
+            opening.setdefault(name, times)
+            failed |= growth.grew_too_much(times) or times[-1] > 2 * opening[name][-1]
+    sys.exit(1 if failed else 0)
+
+
+main()
