@@ -1,74 +1,89 @@
 -- The allocators answer in one way, and look at no byte.
-use Rattle.std.proofs.Common.{◌≡◌, inl, inr, ◌+◌, ℕ, Bool, List, [], ◌∷◌, length, Option, Some, None, refl, sym, ap, ◌∙◌, subst, arith}
+use Rattle.std.proofs.Common.{◌≡◌, inl, inr, ◌+◌, ◌*◌, ℕ, Bool, List, [], ◌∷◌, length, Option, Some, None, refl, sym, ap, ◌∙◌, subst, arith}
 use mathlib.Core.Path.{fun_ext}
-use Rattle.canonical_abi.specs.Guest.{Memory, Allocation, rounded_to_eight}
+use Rattle.canonical_abi.specs.Guest.{Memory, Allocation}
 use Rattle.canonical_abi.specs.Told.{AllocatesInOneWay, IgnoresBytes, SameButBytes}
 use Rattle.memory.specs.Alike.{Make, AreAlike}
-use Rattle.memory.specs.Bump.{bump, bump_make, BumpAllocates}
-use Rattle.memory.specs.FirstFit.{first_fit_make, Takes, FirstFitAllocates}
+use Rattle.memory.specs.Bump.{BumpAllocates}
+use Rattle.memory.specs.FirstFit.{FirstFitAllocates}
+use Rattle.memory.specs.Growth.{with_pages, most_bytes}
+use Rattle.memory.specs.GrowthLaws.{length-with_pages}
 use Rattle.memory.specs.Space.{of_kind, AllocatesAs, SpaceAllocates}
 use Rattle.memory.proofs.BumpAlike.{bumps_alike}
 use Rattle.memory.proofs.FirstFitAlike.{first_fits_alike}
+use Rattle.memory.proofs.Growths.{one_most}
 
 -- a memory is told by its parts
 made_of : (bs cs : List ℕ) (f g : ℕ → Bool) (s t : List ℕ) → bs ≡ cs → f ≡ g → s ≡ t → ◌≡◌ {A = Memory} (record { bytes = bs; live = f; state = s }) (record { bytes = cs; live = g; state = t })
 made_of bs cs f g s t p q r = rw (p, q, r) refl
 
+some_same : {a b : ℕ} → Some a ≡ Some b → a ≡ b
+some_same e = cc
+
 like_itself : (make : Make) (m : Memory) → AreAlike make m m
 like_itself make m = record { same_make = refl; same_length = refl; same_live = λ a. refl }
 
-pub bumps_in_one_way : AllocatesInOneWay BumpAllocates
-bumps_in_one_way old align size (Some a) (Some b) m n alignment (s, old_is, r, fits, m_is) (t, as_is, q, room, n_is) =
-    let one = (bumps_alike old old align size (Some a) (Some b) m n alignment (like_itself bump_make old) (s, old_is, r, fits, m_is) (t, as_is, q, room, n_is)).0 in
-    let same : a ≡ b = cc in
-    (one, m_is ∙ ap (λ x. bump old.bytes (x + size)) same ∙ sym n_is)
-bumps_in_one_way old align size (Some a) None m n alignment (s, old_is, r, fits, m_is) (t, y, as_is, q, past, n_is) =
-    (let one = (bumps_alike old old align size (Some a) None m n alignment (like_itself bump_make old) (s, old_is, r, fits, m_is) (t, y, as_is, q, past, n_is)).0 in absurd (cc))
-bumps_in_one_way old align size None (Some b) m n alignment (s, x, old_is, r, past, m_is) (t, as_is, q, room, n_is) =
-    (let one = (bumps_alike old old align size None (Some b) m n alignment (like_itself bump_make old) (s, x, old_is, r, past, m_is) (t, as_is, q, room, n_is)).0 in absurd (cc))
-bumps_in_one_way old align size None None m n alignment (s, x, old_is, r, past, m_is) (t, y, as_is, q, more, n_is) = (refl, m_is ∙ sym n_is)
+-- so many pages come to one length
+same_pages : (old m n : List ℕ) (p q : ℕ) → m ≡ with_pages old p → n ≡ with_pages old q → length m ≡ length n → m ≡ n
+same_pages old m n p q m_is n_is same =
+    let long : length m ≡ length old + p * 65536 = ap (λ bytes. length bytes) m_is ∙ length-with_pages old p in
+    let tall : length n ≡ length old + q * 65536 = ap (λ bytes. length bytes) n_is ∙ length-with_pages old q in
+    let pages : p ≡ q = omega arith in
+    m_is ∙ ap (with_pages old) pages ∙ sym n_is
 
-taken_in_one_way : (old : Memory) (at size : ℕ) (m n : Memory) → Takes old at size m → Takes old at size n → m ≡ n
-taken_in_one_way old at size m n s t = made_of m.bytes n.bytes m.live n.live m.state n.state (s.same_bytes ∙ sym t.same_bytes) (fun_ext (λ a. s.live a ∙ sym (t.live a))) (s.same_state ∙ sym t.same_state)
+pub bumps_in_one_way : AllocatesInOneWay BumpAllocates
+bumps_in_one_way old align size (Some a) (Some b) m n alignment (max, s, old_is, few, r, (p, g, m_bytes), m_is) (most, t, as_is, fewer, q, (u, h, n_bytes), n_is) =
+    let both = bumps_alike old old align size (Some a) (Some b) m n alignment (like_itself most_bytes old) (max, s, old_is, few, r, (p, g, m_bytes), m_is) (most, t, as_is, fewer, q, (u, h, n_bytes), n_is) in
+    let same : a ≡ b = some_same both.0 in
+    let bound = one_most old old max most (s ∷ []) (t ∷ []) refl (ap (λ w. w.state) old_is) (ap (λ w. w.state) as_is) in
+    let state = ap (λ w. w.state) m_is ∙ ap (λ z. z ∷ (a + size) ∷ []) bound ∙ ap (λ z. most ∷ (z + size) ∷ []) same ∙ sym (ap (λ w. w.state) n_is) in
+    (both.0, made_of m.bytes n.bytes m.live n.live m.state n.state (same_pages old.bytes m.bytes n.bytes p u m_bytes n_bytes both.1.same_length) (fun_ext both.1.same_live) state)
+bumps_in_one_way old align size (Some a) None m n alignment step stop =
+    (let one = (bumps_alike old old align size (Some a) None m n alignment (like_itself most_bytes old) step stop).0 in absurd (cc))
+bumps_in_one_way old align size None (Some b) m n alignment stop step =
+    (let one = (bumps_alike old old align size None (Some b) m n alignment (like_itself most_bytes old) stop step).0 in absurd (cc))
+bumps_in_one_way old align size None None m n alignment (max, s, x, old_is, r, none, m_is) (most, t, y, as_is, q, never, n_is) = (refl, m_is ∙ sym n_is)
 
 pub first_fits_in_one_way : AllocatesInOneWay FirstFitAllocates
 first_fits_in_one_way old align size (Some a) (Some b) m n alignment (inl (none, at, m_is)) (inl (nil, to, n_is)) = (ap Some (at ∙ sym to), m_is ∙ sym n_is)
-first_fits_in_one_way old align size (Some a) (Some b) m n alignment (inl (none, at, m_is)) (inr (some, e, g, takes)) = absurd (omega arith)
-first_fits_in_one_way old align size (Some a) (Some b) m n alignment (inr (some, d, f, takes)) (inl (none, at, n_is)) = absurd (omega arith)
-first_fits_in_one_way old align size (Some a) (Some b) m n alignment (inr (some, d, f, takes)) (inr (more, e, g, seizes)) =
-    let one = (first_fits_alike old old align size (Some a) (Some b) m n alignment (like_itself first_fit_make old) (inr (some, d, f, takes)) (inr (more, e, g, seizes))).0 in
-    let same : a ≡ b = cc in
-    (one, taken_in_one_way old b (rounded_to_eight size) m n (subst (λ x. Takes old x (rounded_to_eight size) m) same takes) seizes)
-first_fits_in_one_way old align size (Some a) None m n alignment step (some, short, n_is) =
-    (let one = (first_fits_alike old old align size (Some a) None m n alignment (like_itself first_fit_make old) step (some, short, n_is)).0 in absurd (cc))
-first_fits_in_one_way old align size None (Some b) m n alignment (some, short, m_is) step =
-    (let one = (first_fits_alike old old align size None (Some b) m n alignment (like_itself first_fit_make old) (some, short, m_is) step).0 in absurd (cc))
-first_fits_in_one_way old align size None None m n alignment (some, short, m_is) (more, tight, n_is) = (refl, m_is ∙ sym n_is)
+first_fits_in_one_way old align size (Some a) (Some b) m n alignment (inl (none, at, m_is)) (inr (some, most, q, e, as_is, few, h, g, takes)) = absurd (omega arith)
+first_fits_in_one_way old align size (Some a) (Some b) m n alignment (inr (some, max, p, d, old_is, few, least, f, takes)) (inl (none, at, n_is)) = absurd (omega arith)
+first_fits_in_one_way old align size (Some a) (Some b) m n alignment (inr (some, max, p, d, old_is, few, least, f, takes)) (inr (more, most, q, e, as_is, fewer, h, g, seizes)) =
+    let both = first_fits_alike old old align size (Some a) (Some b) m n alignment (like_itself most_bytes old) (inr (some, max, p, d, old_is, few, least, f, takes)) (inr (more, most, q, e, as_is, fewer, h, g, seizes)) in
+    let bytes = same_pages old.bytes m.bytes n.bytes p q takes.same_bytes seizes.same_bytes both.1.same_length in
+    (both.0, made_of m.bytes n.bytes m.live n.live m.state n.state bytes (fun_ext both.1.same_live) (takes.same_state ∙ sym seizes.same_state))
+first_fits_in_one_way old align size (Some a) None m n alignment step stop =
+    (let one = (first_fits_alike old old align size (Some a) None m n alignment (like_itself most_bytes old) step stop).0 in absurd (cc))
+first_fits_in_one_way old align size None (Some b) m n alignment stop step =
+    (let one = (first_fits_alike old old align size None (Some b) m n alignment (like_itself most_bytes old) stop step).0 in absurd (cc))
+first_fits_in_one_way old align size None None m n alignment (some, max, old_is, none, m_is) (more, most, as_is, never, n_is) = (refl, m_is ∙ sym n_is)
 
 -- ---- and look at no byte
 
 state_kept : (old : Memory) (align size : ℕ) (a : Option ℕ) (new : Memory) → FirstFitAllocates old align size a new → new.state ≡ old.state
 state_kept old align size (Some a) new (inl (none, at, is)) = ap (λ m. m.state) is
-state_kept old align size (Some a) new (inr (some, e, g, takes)) = takes.same_state
-state_kept old align size None new (some, short, is) = ap (λ m. m.state) is
+state_kept old align size (Some a) new (inr (some, max, p, e, old_is, few, least, g, takes)) = takes.same_state
+state_kept old align size None new (some, max, old_is, none, is) = ap (λ m. m.state) is
 
 pub first_fits_ignore_bytes : IgnoresBytes FirstFitAllocates
 first_fits_ignore_bytes m n align size a b m' n' alignment s p q =
-    let alike : AreAlike first_fit_make m n = record { same_make = refl; same_length = s.same_length; same_live = s.same_live } in
+    let alike : AreAlike most_bytes m n = record { same_make = ap most_bytes s.same_state; same_length = s.same_length; same_live = s.same_live } in
     let both = first_fits_alike m n align size a b m' n' alignment alike p q in
     (both.0, record { same_length = both.1.same_length; same_live = both.1.same_live; same_state = state_kept m align size a m' p ∙ s.same_state ∙ sym (state_kept n align size b n' q) })
 
 pub bumps_ignore_bytes : IgnoresBytes BumpAllocates
 bumps_ignore_bytes m n align size a b m' n' alignment s p q =
-    let alike : AreAlike bump_make m n = record { same_make = refl; same_length = s.same_length; same_live = s.same_live } in
+    let alike : AreAlike most_bytes m n = record { same_make = ap most_bytes s.same_state; same_length = s.same_length; same_live = s.same_live } in
     let both = bumps_alike m n align size a b m' n' alignment alike p q in
     (both.0, record { same_length = both.1.same_length; same_live = both.1.same_live; same_state = state a b both.0 p q })
   where
     state : (a b : Option ℕ) → a ≡ b → BumpAllocates m align size a m' → BumpAllocates n align size b n' → m'.state ≡ n'.state
-    state (Some x) (Some y) e p q = (let same : x ≡ y = cc in ap (λ k. k.state) p.4 ∙ ap (λ z. (z + size) ∷ []) same ∙ sym (ap (λ k. k.state) q.4))
+    state (Some x) (Some y) e p q =
+        let bound = one_most m n p.0 q.0 (p.1 ∷ []) (q.1 ∷ []) (ap most_bytes s.same_state) (ap (λ k. k.state) p.2) (ap (λ k. k.state) q.2) in
+        ap (λ k. k.state) p.6 ∙ ap (λ z. z ∷ (x + size) ∷ []) bound ∙ ap (λ z. q.0 ∷ (z + size) ∷ []) (some_same e) ∙ sym (ap (λ k. k.state) q.6)
     state (Some x) None e p q = absurd (cc)
     state None (Some y) e p q = absurd (cc)
-    state None None e p q = ap (λ k. k.state) p.5 ∙ s.same_state ∙ sym (ap (λ k. k.state) q.5)
+    state None None e p q = ap (λ k. k.state) p.6 ∙ s.same_state ∙ sym (ap (λ k. k.state) q.6)
 
 -- ---- the same under the number of a kind
 

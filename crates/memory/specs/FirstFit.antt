@@ -1,10 +1,7 @@
 -- An allocator that takes blocks, in units of eight bytes, from the front of the first hole that has them, and takes them back.
-use Rattle.std.specs.Prelude.{◌≡◌, ◌⊎◌, ◌+◌, ◌*◌, ◌/◌, ◌%◌, ◌<◌, ◌≤◌, ◌&&◌, ◌||◌, not, ℕ, suc, Bool, true, false, List, [], Option, Some, None, length, nat_lt, nat_le}
+use Rattle.std.specs.Prelude.{◌≡◌, ◌⊎◌, ◌+◌, ◌*◌, ◌/◌, ◌%◌, ◌<◌, ◌≤◌, ◌&&◌, ◌||◌, not, ℕ, suc, Bool, true, false, List, [], ◌∷◌, Option, Some, None, length, nat_lt, nat_le}
 use Rattle.canonical_abi.specs.Guest.{Memory, IsWithin, rounded_to_eight}
-
--- nothing but its length is given when it is made
-abbrev pub first_fit_make : List ℕ → List ℕ
-first_fit_make state = []
+use Rattle.memory.specs.Growth.{grown, IsLeastGrowth, HasNoGrowth}
 
 -- how many of the bytes are handed out at all: whole units of eight
 abbrev pub usable : Memory → ℕ
@@ -41,13 +38,18 @@ pub record IsFirstWith (m : Memory) (size start end : ℕ) : Type 0 where
   pub enough : start + size ≤ end
   pub first : (s e : ℕ) → IsHole m s e → s < start → e < s + size
 
--- the front of the first hole that has the block; no byte is asked for at address 0, and takes nothing
+-- with so many pages more, a hole has so many bytes
+abbrev pub HasRoom : Memory → ℕ → ℕ → Type 0
+HasRoom m size pages = (start end : ℕ) × IsHole (grown m pages) start end × (start + size ≤ end)
+
+-- the front of the first hole that has the block, once the memory has grown until one has it; none only where it can't. No byte is asked for at address 0, and takes nothing
 abbrev pub FirstFitAllocates : Memory → ℕ → ℕ → Option ℕ → Memory → Type 0
 FirstFitAllocates old align size (Some at) new =
     ((size ≡ 0) × (at ≡ 0) × (new ≡ old))
-    ⊎ ((0 < size) × (end : ℕ) × IsFirstWith old (rounded_to_eight size) at end × Takes old at (rounded_to_eight size) new)
+    ⊎ ((0 < size) × (max pages end : ℕ) × (old.state ≡ max ∷ []) × (max ≤ 16777216) × IsLeastGrowth (length old.bytes) max (HasRoom old (rounded_to_eight size)) pages
+    × IsFirstWith (grown old pages) (rounded_to_eight size) at end × Takes (grown old pages) at (rounded_to_eight size) new)
 FirstFitAllocates old align size None new =
-    (0 < size) × ((s e : ℕ) → IsHole old s e → e < s + rounded_to_eight size) × (new ≡ old)
+    (0 < size) × (max : ℕ) × (old.state ≡ max ∷ []) × HasNoGrowth (length old.bytes) max (HasRoom old (rounded_to_eight size)) × (new ≡ old)
 
 -- the block begins at a unit, is usable, and meets no hole
 pub record CanBeFreed (m : Memory) (at size : ℕ) : Type 0 where

@@ -3,8 +3,11 @@ pub mod Bump
 pub mod BumpLaws
 pub mod FirstFit
 pub mod FirstFitLaws
+pub mod Growth
+pub mod GrowthLaws
 pub mod Holes
 pub mod HolesView
+pub mod Refusals
 pub mod Scripted
 pub mod Space
 pub mod SpaceLaws

@@ -3,15 +3,16 @@ use Rattle.std.specs.Prelude.{◌≡◌, ◌⊎◌, ℕ, List, [], ◌∷◌}
 use Rattle.canonical_abi.specs.Guest.{Memory, Allocation, Release}
 use Rattle.memory.specs.Bump.{BumpAllocates, BumpReleases}
 use Rattle.memory.specs.FirstFit.{FirstFitAllocates, FirstFitReleases}
+use Rattle.memory.specs.Growth.{most_bytes}
 
 -- a memory of a kind, as a memory of one of several kinds
 abbrev pub of_kind : ℕ → Memory → Memory
 of_kind kind memory = record { bytes = memory.bytes; live = memory.live; state = kind ∷ memory.state }
 
--- its kind is given when it is made
-abbrev pub space_make : List ℕ → List ℕ
-space_make [] = []
-space_make (kind ∷ state) = kind ∷ []
+-- its kind and its most bytes are given when it is made
+abbrev pub kind_and_most_bytes : List ℕ → List ℕ
+kind_and_most_bytes [] = []
+kind_and_most_bytes (kind ∷ state) = kind ∷ most_bytes state
 
 -- the steps of that kind
 abbrev pub AllocatesAs : ℕ → Allocation → Allocation

@@ -9,5 +9,5 @@ use Rattle.memory.specs.declared.space.Space.TheVariants.{Bump, FirstFit}
 
 -- its state begins with its kind's number
 abbrev pub space_memory : declared.Space → Memory
-space_memory (Bump b) = of_kind 0 (bump b.bytes.items b.top)
-space_memory (FirstFit f) = of_kind 1 (first_fit f.bytes.items f.holes.limit (listed f.holes))
+space_memory (Bump b) = of_kind 0 (bump b.pages.bytes.items b.pages.max b.top)
+space_memory (FirstFit f) = of_kind 1 (first_fit f.pages.bytes.items f.pages.max f.holes.limit (listed f.holes))

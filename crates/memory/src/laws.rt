@@ -3,45 +3,46 @@ ghost use Rattle.std.specs.Prelude.{ℕ, ◌↔◌};
 ghost use Rattle.canonical_abi.specs.Guest.{IsLimited, KeepsLimit};
 ghost use Rattle.canonical_abi.specs.Told.{AllocatesInOneWay, IgnoresBytes};
 ghost use Rattle.memory.specs.Alike.{AnswersAlike, ReleasesAlike};
-ghost use Rattle.memory.specs.Bump.{bump_make, BumpAllocates, BumpReleases};
-ghost use Rattle.memory.specs.FirstFit.{first_fit_make, FirstFitAllocates, FirstFitReleases, IsHole};
+ghost use Rattle.memory.specs.Bump.{BumpAllocates, BumpReleases};
+ghost use Rattle.memory.specs.FirstFit.{FirstFitAllocates, FirstFitReleases, IsHole};
+ghost use Rattle.memory.specs.Growth.{most_bytes};
 ghost use Rattle.memory.specs.Holes.{IsListed};
 ghost use Rattle.memory.specs.HolesView.{listed};
-ghost use Rattle.memory.specs.Space.{space_make, SpaceAllocates, SpaceReleases};
+ghost use Rattle.memory.specs.Space.{kind_and_most_bytes, SpaceAllocates, SpaceReleases};
 
 use crate::bump::Bump;
 use crate::first_fit::FirstFit;
 use crate::space::Space;
 use canonical_abi::Guest;
 
-/// Two `Bump`s of equal length with the same live addresses give equal answers from then on.
+/// Two `Bump`s of equal length and equal most bytes with the same live addresses give equal answers from then on.
 pub fn bumps_answer_alike()
-    ensures { AnswersAlike bump_make BumpAllocates }
+    ensures { AnswersAlike most_bytes BumpAllocates }
 {}
 
 /// So do two `FirstFit`s.
 pub fn first_fits_answer_alike()
-    ensures { AnswersAlike first_fit_make FirstFitAllocates }
+    ensures { AnswersAlike most_bytes FirstFitAllocates }
 {}
 
 /// So do two `Space`s of one kind.
 pub fn spaces_answer_alike()
-    ensures { AnswersAlike space_make SpaceAllocates }
+    ensures { AnswersAlike kind_and_most_bytes SpaceAllocates }
 {}
 
 /// Given back the same, two `Bump`s that are alike answer alike, and are alike again.
 pub fn bumps_release_alike()
-    ensures { ReleasesAlike bump_make BumpReleases }
+    ensures { ReleasesAlike most_bytes BumpReleases }
 {}
 
 /// So do two `FirstFit`s.
 pub fn first_fits_release_alike()
-    ensures { ReleasesAlike first_fit_make FirstFitReleases }
+    ensures { ReleasesAlike most_bytes FirstFitReleases }
 {}
 
 /// So do two `Space`s of one kind.
 pub fn spaces_release_alike()
-    ensures { ReleasesAlike space_make SpaceReleases }
+    ensures { ReleasesAlike kind_and_most_bytes SpaceReleases }
 {}
 
 /// The holes that a `FirstFit` keeps are just the longest runs of what is usable and not live.

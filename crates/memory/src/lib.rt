@@ -2,8 +2,9 @@
 //!
 //! A memory is a `Guest`: it tells its bytes, its live addresses and the steps that its allocator may
 //! make. `Bump`, `FirstFit`, which takes blocks back, and `Space` are `Honest` as well: they never grant
-//! what is live. `Scripted` answers from a list and is not. Stands on `canonical_abi`, whose `Guest` is the
-//! promise that the layers above use, and on `max_tree`, in which `FirstFit` finds its holes.
+//! what is live. One that was made by `growing` grows by whole pages where a block doesn't fit. `Scripted`
+//! answers from a list and is not honest. Stands on `canonical_abi`, whose `Guest` is the promise that the
+//! layers above use, and on `max_tree`, in which `FirstFit` finds its holes.
 #![tactic(auto)]
 
 mod bump;
@@ -11,12 +12,13 @@ mod error;
 mod first_fit;
 mod holes;
 mod laws;
+mod pages;
 mod scripted;
 mod space;
 
 pub use bump::Bump;
 pub use canonical_abi::{Full, Guest, Honest, NotTaken};
-pub use error::{MAX_LEN, MemoryError};
+pub use error::{MAX_LEN, MemoryError, PAGE};
 pub use first_fit::FirstFit;
 pub use laws::{
     bumps_answer_alike, bumps_answer_in_one_way, bumps_are_limited, bumps_keep_the_limit,

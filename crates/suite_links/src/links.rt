@@ -6,6 +6,7 @@ use crate::acting::{
 use adapter::Link;
 use canonical_abi::{Fault, Flat, Full, Guest, Step, TrapKind};
 use lift_lower::Flats;
+use memory::Bump;
 use std::alloc::Global;
 use std::process::Abort;
 use std::test::Fail;
@@ -248,6 +249,40 @@ fn answered_to<C: Guest + Drop>(
 fn assert_not_answered(rt: &impl Abort, told: &Told, kind: TrapKind, step: Step) {
     assert!(rt; told.is_trap(kind, step));
     assert!(rt; told.has_run(1, 0));
+}
+
+/// The header of a text at the end of the first page, and the text behind it.
+const PAST_A_PAGE: [u8; 10] = [0, 0, 1, 0, 2, 0, 0, 0, 0x68, 0x69];
+
+/// A memory of one page, all of it live, that may grow to two.
+fn full_page(alloc: Global) -> Result<Bump, Fail> {
+    let mut memory = Bump::growing(alloc, 65536, 131072)?;
+    match memory.alloc(1, 65536) {
+        Ok(_whole) => Ok(memory),
+        Err(_) => Err(Fail::from("full")),
+    }
+}
+
+/// Calls `f`, whose body writes the header, and the text where it has asked for a block before.
+fn answered_past_a_page(alloc: Global, asks: bool) -> Result<Told, Fail> {
+    let len = if asks { 10 } else { 8 };
+    let mut body = body_writing(alloc, 65528, &PAST_A_PAGE[..len], Some(Flat::I32(65528)))?;
+    body.asks = asks;
+    let caller = filled(alloc, 32, &[])?;
+    linked(alloc, TEXT, &[Flat::I32(16)], caller, full_page(alloc)?, body)
+}
+
+/// A result stands inside by the length that the body leaves.
+#[test]
+fn a_text_in_a_new_page(rt: HostRuntime) -> Result<(), Fail> {
+    let told = answered_past_a_page(rt.alloc(), true)?;
+    assert!(rt; told.answer.is_ok());
+    assert!(rt; told.callee.len() == 131072);
+    assert!(rt; told.caller.get(..3) == Some(b"hi\0".as_slice()));
+    let told = answered_past_a_page(rt.alloc(), false)?;
+    assert_not_answered(&rt, &told, TrapKind::Bounds, Step::LiftResult);
+    assert!(rt; told.callee.len() == 65536);
+    Ok(())
 }
 
 #[test]

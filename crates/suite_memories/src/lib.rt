@@ -4,4 +4,6 @@
 #[cfg(test)]
 mod first_fit;
 #[cfg(test)]
+mod growth;
+#[cfg(test)]
 mod trees;

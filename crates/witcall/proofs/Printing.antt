@@ -26,14 +26,14 @@ asks r iface func args f values handed named read same =
 -- a typed call over memories that are fresh, on a body that was put into a box
 pub answers : (B : Type 0) (runs : B → Run) (posts : B → PostRun) (state : B → List ℕ) (b boxed : B) (r own : Resolve) (f : FunctionId)
     (vs : List Value) (answer : Result (Option Value) Fault) (caller callee : Memory) (new : World)
-    → boxed ≡ b → own ≡ r → caller ≡ fresh 1048576 → callee ≡ fresh 1048576
+    → boxed ≡ b → own ≡ r → caller ≡ fresh 65536 1048576 → callee ≡ fresh 65536 1048576
     → TypedCall (program_parties (runs boxed) (posts boxed)) exact (function_type own f) vs (record { caller = caller; callee = callee; body = state boxed }) answer new
     → CallAnswers r f vs (runs b) (posts b) (state b) answer
 answers B runs posts state b boxed r own f vs answer caller callee new same_body same_package same_caller same_callee called =
     let own_body = subst (λ x. TypedCall (program_parties (runs x) (posts x)) exact (function_type own f) vs (record { caller = caller; callee = callee; body = state x }) answer new) same_body called in
     let own_type = subst (λ q. TypedCall (program_parties (runs b) (posts b)) exact (function_type q f) vs (record { caller = caller; callee = callee; body = state b }) answer new) same_package own_body in
     let own_caller = subst (λ m. TypedCall (program_parties (runs b) (posts b)) exact (function_type r f) vs (record { caller = m; callee = callee; body = state b }) answer new) same_caller own_type in
-    (new, subst (λ m. TypedCall (program_parties (runs b) (posts b)) exact (function_type r f) vs (record { caller = fresh 1048576; callee = m; body = state b }) answer new) same_callee own_caller)
+    (new, subst (λ m. TypedCall (program_parties (runs b) (posts b)) exact (function_type r f) vs (record { caller = fresh 65536 1048576; callee = m; body = state b }) answer new) same_callee own_caller)
 
 -- a fault of the call, as a refusal
 pub call-refuses : (r : Resolve) (f : FunctionId) (vs : List Value) (runs : Run) (posts : PostRun) (state : List ℕ) (e : Fault)

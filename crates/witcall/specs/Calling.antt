@@ -1,10 +1,10 @@
 -- One call whose arguments and result are JSON, over two fresh memories.
-use Rattle.std.specs.Prelude.{◌≡◌, ◌*◌, ◌/◌, ℕ, List, [], ◌∷◌, ◌++◌, Option, Some, None, Result, Ok, Err, replicate}
+use Rattle.std.specs.Prelude.{◌≡◌, ℕ, List, [], ◌∷◌, ◌++◌, Option, Some, None, Result, Ok, Err}
 use Rattle.canonical_abi.specs.Values.{Value}
 use Rattle.canonical_abi.specs.Guest.{Memory}
 use Rattle.canonical_abi.specs.Call.{Run, PostRun, Parties, World, exact}
 use Rattle.canonical_abi.specs.Session.{TypedCall}
-use Rattle.memory.specs.Holes.{first_fit, whole}
+use Rattle.memory.specs.Holes.{all_free}
 use Rattle.memory.specs.Space.{of_kind, SpaceAllocates}
 use Rattle.tables.specs.Closed.{function_at, function_type}
 use Rattle.tables.specs.Names.{IsNamed}
@@ -19,9 +19,9 @@ use Rattle.witcall.specs.declared.refused.Refused.TheVariants as refused
 use Rattle.witcall.specs.Json.{IsCompactTextOf, IsArrayTextOf, RefusesArray}
 use Rattle.witcall.specs.Signature.{signature_of, IsMissing}
 
--- a memory of so many zeros that takes blocks back; all that is usable is one hole
-unfoldable pub fresh : ℕ → Memory
-fresh len = of_kind 1 (first_fit (replicate len 0) (len / 8 * 8) (whole (len / 8 * 8)))
+-- a memory of so many zeros that may grow to so many, and takes blocks back; all that is usable is one hole
+unfoldable pub fresh : ℕ → ℕ → Memory
+fresh len max = of_kind 1 (all_free len max)
 
 -- the compact JSON of the value and a newline
 abbrev pub IsLineOf : Resolve → ValType → Value → List ℕ → Type 0
@@ -37,7 +37,7 @@ abbrev pub program_parties : Run → PostRun → Parties
 program_parties runs posts = record { caller_allocates = SpaceAllocates; callee_allocates = SpaceAllocates; runs = runs; posts = posts }
 
 abbrev pub program_world : List ℕ → World
-program_world state = record { caller = fresh 1048576; callee = fresh 1048576; body = state }
+program_world state = record { caller = fresh 65536 1048576; callee = fresh 65536 1048576; body = state }
 
 -- the words name this function of the package, and give it these arguments
 pub record Asks (r : Resolve) (iface func args : List ℕ) (f : FunctionId) (vs : List Value) : Type 0 where

@@ -8,6 +8,7 @@ ghost use Rattle.canonical_abi.specs.Types.{result_fields};
 ghost use Rattle.canonical_abi.specs.Session.{as_list};
 ghost use Rattle.tables.specs.Closed.{IsFunction, function_at, function_type};
 ghost use Rattle.lift_lower.specs.Val.{value_of};
+ghost use Rattle.memory.specs.Growth.{ArePages};
 ghost use Rattle.witcall.specs.Signature.{signature_of};
 ghost use Rattle.witcall.specs.Calling.{IsOutputOf, Prints, RunCallRefuses, CallAnswers, CallRefuses, fresh};
 
@@ -24,8 +25,11 @@ use memory::{FirstFit, Guest, MemoryError, Space};
 use resolve::FunctionId;
 use std::alloc::{AllocError, Global};
 
-/// The bytes of each of the two memories.
-const MEMORY: u32 = 1_048_576;
+/// The bytes of each of the two memories at first.
+const MEMORY: u32 = 65_536;
+
+/// The most bytes that each of them may come to have.
+const MAX_MEMORY: u32 = 1_048_576;
 
 /// Calls a function of the package over two fresh memories, and writes its result as compact JSON and a
 /// newline, or nothing where it has no result. `args` is a JSON array of the arguments. Faults come in
@@ -75,21 +79,22 @@ fn call_once(
     ensures typed { IfOk result (λ v. HaveTypes (as_list (option_map value_of v))
         (result_fields (function_type «package».now.resolve func).result)) }
 {
-    let caller = fresh_memory(alloc, MEMORY)?;
-    let callee = fresh_memory(alloc, MEMORY)?;
+    let caller = fresh_memory(alloc, MEMORY, MAX_MEMORY)?;
+    let callee = fresh_memory(alloc, MEMORY, MAX_MEMORY)?;
     let mut session = Session::new(package, caller, callee, BoxedBody::new(body));
     let answer = session.call(alloc, func, arguments)?;
     Ok(answer)
 }
 
-/// A memory of so many zeros.
+/// A memory of so many zeros that may grow to so many.
 #[tactic(auto, unfolding(crate::specs::Calling::fresh))]
-fn fresh_memory(alloc: Global, len: u32) -> Result<Space, MemoryError>
-    requires { len ≤ 16777216 }
-    ensures fresh { IfOk result (λ space. ⟦<Space as Guest>⟧.memory space ≡ fresh len) }
+fn fresh_memory(alloc: Global, len: u32, max: u32) -> Result<Space, MemoryError>
+    requires pages { ArePages len max }
+    requires few { max ≤ 16777216 }
+    ensures fresh { IfOk result (λ space. ⟦<Space as Guest>⟧.memory space ≡ fresh len max) }
     ensures err { IfErr result (λ e. e ≡ MemoryError.NoMemory) }
 {
-    let memory = FirstFit::new(alloc, len)?;
+    let memory = FirstFit::growing(alloc, len, max)?;
     Ok(Space::FirstFit(memory))
 }
 

@@ -6,5 +6,5 @@ use Rattle.memory.proofs.laws.holes_are_longest_runs.Goals as goal
 pub returns : goal.returns
 returns c =
     let s = c.args._memory.now in
-    let whole : s.holes.limit ≡ length s.bytes.items / 8 * 8 = omega (arith, s.bytes.ok.0, s.usable) in
-    listed_are_holes s.bytes.items s.holes.limit (listed s.holes) whole s.holes.apart
+    let whole : s.holes.limit ≡ length s.pages.bytes.items / 8 * 8 = s.usable in
+    listed_are_holes s.pages.bytes.items s.pages.max s.holes.limit (listed s.holes) whole s.holes.apart

@@ -11,11 +11,16 @@ invariant_of-result c =
     let some : 0 < 2 ^ c.doublings_to.result = one-le-pow c.doublings_to.result 2 (omega arith) in
     let one = one_hole n (c.args.limit / 8) c.args.limit some (omega (arith, r.units)) in
     record {
-      limited = r.limited;
+      limited = omega (arith, r.within, r.limited);
       units = r.units;
-      room = rw (c.put.ensures, c.in_ok-row.ensures) (omega (arith, r.units, c.doublings_to.ensures.enough, length-set (replicate n 0) 0 (c.args.limit / 8), length-replicate {A = ℕ} n 0));
+      room = rw (c.put.ensures, c.in_ok-row.ensures) (omega (arith, r.within, r.most, c.doublings_to.ensures.enough, length-set (replicate n 0) 0 (c.args.limit / 8), length-replicate {A = ℕ} n 0));
       apart = rw (c.put.ensures, c.in_ok-row.ensures, one) (whole_apart c.args.limit r.units);
     }
+
+pub returns-clause-room : goal.returns-clause-room
+returns-clause-room c =
+    let n = 2 ^ c.doublings_to.result in
+    rw (c.put.ensures, c.in_ok-row.ensures) (omega (arith, c.requires.most, c.doublings_to.ensures.enough, length-set (replicate n 0) 0 (c.args.limit / 8), length-replicate {A = ℕ} n 0))
 
 pub returns-clause-whole : goal.returns-clause-whole
 returns-clause-whole c =
