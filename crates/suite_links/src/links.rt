@@ -269,7 +269,14 @@ fn answered_past_a_page(alloc: Global, asks: bool) -> Result<Told, Fail> {
     let mut body = body_writing(alloc, 65528, &PAST_A_PAGE[..len], Some(Flat::I32(65528)))?;
     body.asks = asks;
     let caller = filled(alloc, 32, &[])?;
-    linked(alloc, TEXT, &[Flat::I32(16)], caller, full_page(alloc)?, body)
+    linked(
+        alloc,
+        TEXT,
+        &[Flat::I32(16)],
+        caller,
+        full_page(alloc)?,
+        body,
+    )
 }
 
 /// A result stands inside by the length that the body leaves.
