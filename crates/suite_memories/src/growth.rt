@@ -84,7 +84,7 @@ fn assert_refused(
             return Err(Fail::from("made"));
         };
         let text = format!(in alloc; "{error}")?;
-        assert!(rt; text == wanted, "{text}");
+        assert!(rt; text.as_str() == wanted, "{text}");
     }
     Ok(())
 }
