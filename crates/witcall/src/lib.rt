@@ -27,18 +27,19 @@ mod typing;
 
 // What a host needs beside them, under one name.
 pub use adapter::{Body, BoxedBody, Export, Link, Stopped};
-pub use canonical_abi::{CoreKind, Fault, Flat, Full, Guest, Honest, NotTaken, Step as TrapStep, Trap, TrapKind};
+pub use calling::run_call;
+pub use canonical_abi::{
+    CoreKind, Fault, Flat, Full, Guest, Honest, NotTaken, Step as TrapStep, Trap, TrapKind,
+};
+pub use json::{JsonError, from_json, to_json};
 pub use layout::Layouts;
 pub use lift_lower::{Flats, Val, str_at};
 pub use memory::{Bump, FirstFit, MemoryError, Scripted, Space};
-pub use resolve::{FunctionId, InterfaceId, Resolve, TypeId, ValType};
-
-pub use calling::run_call;
-pub use json::{JsonError, from_json, to_json};
 pub use package::{OpenError, Package, open};
 pub use reading::read_all;
 pub use refused::{Refused, report};
 pub use reply::Reply;
+pub use resolve::{FunctionId, InterfaceId, Resolve, TypeId, ValType};
 pub use running::run;
 pub use session::Session;
 pub use steps::{Answer, Held, Step};
