@@ -4,6 +4,7 @@ pub mod Made
 pub mod Packages
 pub mod PlacedValues
 pub mod Prepared
+pub mod PrintedTexts
 pub mod Printing
 pub mod Promised
 pub mod ReadBack

@@ -1,5 +1,5 @@
 -- Which bytes are opened as a package, and why others are refused.
-use Rattle.std.specs.Prelude.{◌≡◌, ◌<◌, ◌≤◌, ◌==◌, ℕ, Bool, true, MatchBool, All, List, [], ◌∷◌, length, Ok, Err}
+use Rattle.std.specs.Prelude.{◌≡◌, ◌<◌, ◌≤◌, ◌==◌, ℕ, Bool, true, false, MatchBool, All, List, [], ◌∷◌, length, Ok, Err}
 use Rattle.std.specs.List.{starts_with}
 use Rattle.std.specs.Str.{IsUtf8, IsValidUpTo}
 use Rattle.wit_tokens.specs.Lexing.{limit}
@@ -23,6 +23,8 @@ use Rattle.resolve.specs.Resolves.{HasNoFaults, IsPackageOf}
 use Rattle.tables.specs.declared.tables.Resolve.{Resolve}
 use Rattle.tables.specs.declared.error.ResolveError.TheVariants as resolve_error
 use Rattle.layout.specs.declared.error.LayoutError.TheVariants as layout_error
+use Rattle.package_text.specs.Text.{text_of}
+use Rattle.package_text.specs.Writable.{IsWritable}
 use Rattle.wit_component.specs.Component.{component_of}
 use Rattle.package_form.specs.Naming.{package_scopes}
 use Rattle.wit_component.specs.FromComponent as component
@@ -72,6 +74,16 @@ pub record IsWrittenAs (bytes : List ℕ) (r : Resolve) : Type 0 where
   pub distinct : All AreDistinct (package_scopes r)
   pub within : AreWithin r
 
+-- The bytes are the canonical text of the package, which is UTF-8 and no longer than a text may be; the package has a text, and is within
+-- the limits of layout: what `to_text` gives.
+pub record IsPrintedAs (bytes : List ℕ) (r : Resolve) : Type 0 where
+  pub begins : is_binary bytes ≡ false
+  pub text : bytes ≡ text_of r
+  pub utf8 : IsUtf8 bytes
+  pub short : length bytes ≤ limit
+  pub writable : IsWritable r
+  pub within : AreWithin r
+
 -- ---- refusals
 
 -- for want of memory alone
@@ -80,7 +92,7 @@ IsWantOfMemory (error.Binary e) = e ≡ binary_error.NoMemory
 IsWantOfMemory (error.Resolve e) = e ≡ resolve_error.NoMemory
 IsWantOfMemory (error.Layout e) = e ≡ layout_error.NoMemory
 IsWantOfMemory error.NoMemory = Unit {0}
-IsWantOfMemory (error.Text e) = ⊥
+IsWantOfMemory (error.Text e) = e ≡ text_error.NoMemory
 IsWantOfMemory (error.NotUtf8 place) = ⊥
 IsWantOfMemory (error.Read place) = ⊥
 

@@ -6,7 +6,7 @@ ghost use Rattle.package_form.specs.Naming.{package_scopes};
 ghost use Rattle.layout.specs.Layout.{layouts_of, AreWithin};
 ghost use Rattle.tables.specs.Same.{IsSamePackage};
 ghost use Rattle.package_form.specs.Form.{IsInPackageForm};
-ghost use Rattle.witcall.specs.Opening.{IsOfBytes, IsOpened, IsWrittenAs, IsWantOfMemory, OpenRefuses};
+ghost use Rattle.witcall.specs.Opening.{IsOfBytes, IsOpened, IsWrittenAs, IsPrintedAs, IsWantOfMemory, OpenRefuses};
 
 use crate::binary::{binary_tables, is_binary};
 use crate::text::text_tables;
@@ -156,6 +156,8 @@ pub fn open(alloc: Global, bytes: &[u8]) -> Result<Package, OpenError>
     ensures ok { IfOk result (λ p. IsOpened bytes.now p.resolve) }
     ensures written { (p : Resolve) → IsWrittenAs bytes.now p
         → MatchResult result (λ q. IsSamePackage q.resolve p) IsWantOfMemory }
+    ensures printed { (p : Resolve) → IsPrintedAs bytes.now p
+        → MatchResult result (λ q. IsSamePackage q.resolve p) IsWantOfMemory }
     ensures err { IfErr result (OpenRefuses bytes.now) }
 {
     let resolve = tables_of(alloc, bytes)?;
@@ -169,6 +171,8 @@ fn tables_of(alloc: Global, bytes: &[u8]) -> Result<Resolve, OpenError>
     ensures form { IfOk result (λ r. ∥ IsInPackageForm r ∥₁) }
     ensures distinct { IfOk result (λ r. All AreDistinct (package_scopes r)) }
     ensures written { (p : Resolve) → IsWrittenAs bytes.now p
+        → MatchResult result (λ q. IsSamePackage q p) IsWantOfMemory }
+    ensures printed { (p : Resolve) → IsPrintedAs bytes.now p
         → MatchResult result (λ q. IsSamePackage q p) IsWantOfMemory }
     ensures err { IfErr result (OpenRefuses bytes.now) }
 {
