@@ -62,7 +62,7 @@ impl<G: Guest> Body<G> for Upper {
 }
 
 /// Calls `upper` over two memories.
-fn upper(alloc: Global, package: &Package, words: &str) -> anyhow::Result<Val> {
+fn upper_case(alloc: Global, package: &Package, words: &str) -> anyhow::Result<Val> {
     let Some(f) = package.resolve().function("a:b/c", "upper") else {
         return Err(anyhow::anyhow!("no such function"));
     };
@@ -81,7 +81,7 @@ fn upper(alloc: Global, package: &Package, words: &str) -> anyhow::Result<Val> {
 fn main(rt: HostRuntime) -> anyhow::Result<()> {
     let alloc = rt.alloc();
     let package = open(alloc, TEXT.as_bytes())?;
-    match upper(alloc, &package, "hello")? {
+    match upper_case(alloc, &package, "hello")? {
         Val::String(text) => println!(rt; "{text}")?,
         _ => return Err(anyhow::anyhow!("no text")),
     }
