@@ -24,7 +24,7 @@ MEGABYTE = 1000000
 def text():
     """A text of some 200 KB, and of types of every shape."""
     items = ["record r { a: u8, b: list<string> }", "variant v { p, q(r) }", "f: func(x: r, y: option<v>) -> result<r>;"]
-    items += [f"record r{number} {{ a: u8, b: list<r>, c: option<string> }} f{number}: func(x: r{number});" for number in range(2500)]
+    items += [f"record r{number} {{ a: u8, b: list<r>, c: option<string> }} g{number}: func(x: r{number});" for number in range(2500)]
     return "package a:b; interface c { " + "\n".join(items) + " }"
 
 
@@ -58,6 +58,8 @@ def main():
         (folder / "long.wasm").write_bytes(made.stdout)
         for words in tried:
             whole = limited(program, words, 0)
+            if whole.returncode:
+                sys.exit(f"{words[0]}: {whole.stderr[:200]!r}")
             told, limit = {}, 20 * MEGABYTE
             while True:
                 ran = limited(program, words, limit)
