@@ -1,5 +1,5 @@
 //! Labels: the names of packages, interfaces, types, functions and their parts.
-ghost use Rattle.std.specs.Prelude.{◌≡◌, ◌⊎◌, List, ℕ, IfOk, IfErr, false};
+ghost use Rattle.std.specs.Prelude.{◌≡◌, ◌≤◌, ◌⊎◌, List, ℕ, length, take, IfOk, IfErr, false};
 ghost use Rattle.atoms.specs.Label.{IsLabel, is_label, are_words};
 ghost use Rattle.atoms.specs.declared.error.AtomError.TheVariants as error;
 
@@ -43,19 +43,62 @@ pub fn is_label(text: &[u8]) -> bool
     text.len() <= 255 && is_words(text)
 }
 
+/// The bytes that a label holds in itself.
+const MOST_INLINE: usize = 23;
+
+/// At most 23 bytes.
+#[derive(Clone, Copy, Debug)]
+struct InlineBytes {
+    bytes: [u8; MOST_INLINE],
+    len: u8,
+    ghost fits: { len ≤ 23 },
+}
+
+impl InlineBytes {
+    /// These bytes.
+    fn of(bytes: &[u8]) -> InlineBytes
+        requires { length bytes.now ≤ 23 }
+        ensures { take result.len result.bytes ≡ bytes.now }
+    {
+        let mut room = [0; MOST_INLINE];
+        room[..bytes.len()].copy_from_slice(bytes);
+        InlineBytes {
+            bytes: room,
+            len: bytes.len() as u8,
+        }
+    }
+
+    fn as_slice(&self) -> &[u8]
+        ensures { result.now ≡ take self.now.len self.now.bytes }
+    {
+        &self.bytes[..usize::from(self.len)]
+    }
+}
+
+/// The bytes of a label. Most are short: these need no memory of their own.
+#[derive(Debug, Drop)]
+enum Bytes {
+    Inline(InlineBytes),
+    Heap(Vec<u8>),
+}
+
 /// A name: 1 to 255 bytes, words joined by single hyphens, each a letter followed by letters of the same case
 /// and digits.
 #[derive(Debug, Drop)]
 pub struct Label {
-    bytes: Vec<u8>,
+    bytes: Bytes,
 }
 
 impl Model for Label {
+    ghost use Rattle.std.specs.Prelude.{List, ℕ};
+    ghost use Rattle.atoms.specs.Label.{IsLabel};
+    ghost use Rattle.atoms.specs.LabelBytes.{bytes_of};
+
     ghost Value = { List ℕ };
 
-    ghost view = { λ l. l.bytes.items };
+    ghost view = { λ l. bytes_of l.bytes };
 
-    ghost invariant = { λ l. IsLabel l.bytes.items };
+    ghost invariant = { λ l. IsLabel (bytes_of l.bytes) };
 }
 
 impl Label {
@@ -76,8 +119,15 @@ impl Label {
         requires { IsLabel bytes.now }
         ensures { IfOk result (λ l. l ≡ bytes.now) }
     {
+        if bytes.len() <= MOST_INLINE {
+            let inline = InlineBytes::of(bytes);
+            return Ok(Label {
+                bytes: Bytes::Inline(inline),
+            });
+        }
+        let bytes = Vec::from_slice(alloc, bytes)?;
         Ok(Label {
-            bytes: Vec::from_slice(alloc, bytes)?,
+            bytes: Bytes::Heap(bytes),
         })
     }
 
@@ -86,7 +136,10 @@ impl Label {
         ensures is { result.now ≡ self.now }
         ensures label { IsLabel self.now }
     {
-        self.bytes.as_slice()
+        match &self.bytes {
+            Bytes::Inline(inline) => inline.as_slice(),
+            Bytes::Heap(bytes) => bytes.as_slice(),
+        }
     }
 
     /// The label's text.

@@ -65,7 +65,7 @@ fn members(
 ) -> Result<Sequence<ValType>, Unread>
     ensures { Reads (all_found (val_type rows.now) types.now) result }
 {
-    let mut members = Vec::new(alloc);
+    let mut members = Vec::with_capacity(alloc, types.len())?;
     for ty in types {
         members.push(val_type(rows, *ty)?)?;
     }
@@ -79,7 +79,7 @@ fn fields(
 ) -> Result<Sequence<Field>, Unread>
     ensures { Reads (all_found (field_read rows.now) raw.now) result }
 {
-    let mut fields = Vec::new(alloc);
+    let mut fields = Vec::with_capacity(alloc, raw.len())?;
     for field in raw {
         fields.push(Field {
             name: field.label.copy(alloc)?,
@@ -96,7 +96,7 @@ pub fn parameters(
 ) -> Result<Sequence<Parameter>, Unread>
     ensures { Reads (all_found (parameter_read rows.now) raw.now) result }
 {
-    let mut params = Vec::new(alloc);
+    let mut params = Vec::with_capacity(alloc, raw.len())?;
     for param in raw {
         params.push(Parameter {
             name: param.label.copy(alloc)?,
@@ -109,7 +109,7 @@ pub fn parameters(
 fn cases(alloc: Global, rows: &[Option<TypeId>], raw: &[RawCase]) -> Result<Sequence<Case>, Unread>
     ensures { Reads (all_found (case_read rows.now) raw.now) result }
 {
-    let mut cases = Vec::new(alloc);
+    let mut cases = Vec::with_capacity(alloc, raw.len())?;
     for case in raw {
         cases.push(Case {
             name: case.label.copy(alloc)?,
@@ -122,7 +122,7 @@ fn cases(alloc: Global, rows: &[Option<TypeId>], raw: &[RawCase]) -> Result<Sequ
 fn labels(alloc: Global, raw: &[Label]) -> Result<Sequence<Label>, AllocError>
     ensures { IfOk result (λ names. names ≡ raw.now) }
 {
-    let mut labels = Vec::new(alloc);
+    let mut labels = Vec::with_capacity(alloc, raw.len())?;
     for label in raw {
         labels.push(label.copy(alloc)?)?;
     }

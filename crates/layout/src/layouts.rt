@@ -38,8 +38,9 @@ fn lay_all(alloc: Global, resolve: &Resolve) -> Result<Tables, LayoutError>
     ensures within { IfOk result (λ _. AreWithin resolve.now) }
     ensures err { IfErr result (λ e. RefusesFirst e resolve.now) }
 {
-    let mut rows = Vec::new(alloc);
-    let mut parts = Vec::new(alloc);
+    let count = resolve.definitions.len();
+    let mut rows = Vec::with_capacity(alloc, count)?;
+    let mut parts = Vec::with_capacity(alloc, count)?;
     for definition in resolve.definitions.as_slice() {
         let laid = lay_definition(alloc, rows.as_slice(), parts.as_slice(), definition)?;
         rows.push(laid.row)?;
@@ -70,7 +71,7 @@ fn all_results(alloc: Global, resolve: &Resolve, rows: &[Row]) -> Result<Vec<Kin
     ensures ok { IfOk result (λ results. results.items ≡ map (result_of (closed_types resolve.now)) resolve.now.definitions) }
     ensures err { IfErr result (λ e. e ≡ LayoutError.NoMemory) }
 {
-    let mut results = Vec::new(alloc);
+    let mut results = Vec::with_capacity(alloc, rows.len())?;
     for definition in resolve.definitions.as_slice() {
         results.push(result_kinds(rows, definition))?;
     }

@@ -124,6 +124,19 @@ pub(crate) fn row_in(rows: &[Row], ty: ValType) -> Row
     }
 }
 
+/// How deep a type is.
+fn depth_in(rows: &[Row], ty: ValType) -> u32
+    requires below { IsTrue (is_below (length rows.now) ty) }
+    requires sound { All IsSound rows.now }
+    ensures value { result ≡ (row_in rows.now ty).depth }
+    ensures few { result ≤ 65 }
+{
+    match ty {
+        ValType::Primitive(_) | ValType::String => 1,
+        ValType::Id(id) => rows[id.0 as usize].depth,
+    }
+}
+
 fn depth_of<M: Member>(rows: &[Row], members: &[M]) -> u32
     requires below { All (λ m. IsTrue (is_below (length rows.now) (M.type_of m))) members.now }
     requires sound { All IsSound rows.now }
@@ -131,7 +144,7 @@ fn depth_of<M: Member>(rows: &[Row], members: &[M]) -> u32
 {
     let mut depth = 0;
     for member in members {
-        depth = depth.max(row_in(rows, member.ty()).depth);
+        depth = depth.max(depth_in(rows, member.ty()));
     }
     deeper(depth)
 }
@@ -157,7 +170,7 @@ fn record_row<M: Member>(
     ensures err { IfErr result (λ e. (e ≡ LayoutError.NoMemory) ⊎ ((e ≡ LayoutError.TooLarge) × (max_size < (record_row (rows_at rows.now M.type_of members.now)).size))) }
 {
     let depth = depth_of(rows, members);
-    let mut offsets = Vec::new(alloc);
+    let mut offsets = Vec::with_capacity(alloc, members.len())?;
     let mut end = 0;
     let mut align = 1;
     let mut kinds = Kinds::none();
@@ -198,7 +211,7 @@ fn member_types<M: Member>(alloc: Global, members: &[M]) -> Result<Sequence<ValT
     ensures ok { IfOk result (λ vs. vs ≡ map M.type_of members.now) }
     ensures err { IfErr result (λ e. e ≡ LayoutError.NoMemory) }
 {
-    let mut types = Vec::new(alloc);
+    let mut types = Vec::with_capacity(alloc, members.len())?;
     for member in members {
         types.push(member.ty())?;
     }
@@ -212,7 +225,7 @@ fn payload_types<C: Choice>(
     ensures ok { IfOk result (λ os. os ≡ map C.payload_of cases.now) }
     ensures err { IfErr result (λ e. e ≡ LayoutError.NoMemory) }
 {
-    let mut payloads = Vec::new(alloc);
+    let mut payloads = Vec::with_capacity(alloc, cases.len())?;
     for case in cases {
         payloads.push(case.payload())?;
     }
@@ -386,7 +399,7 @@ fn lay_list(rows: &[Row], element: ValType) -> Result<Laid, LayoutError>
     ensures within { IfOk result (λ x. IsLimited x.row) }
     ensures err { IfErr result (λ e. RefusesRow e (list_row (row_in rows.now element))) }
 {
-    let row = limited(block_row(deeper(row_in(rows, element).depth)))?;
+    let row = limited(block_row(deeper(depth_in(rows, element))))?;
     Ok(Laid {
         row,
         parts: Parts::List(element),

@@ -2,7 +2,7 @@
 
 /// A value. A tuple is a record of its members, an enum a variant without payloads, an option a variant of
 /// none and some, a result a variant of ok and error. Bit k of `Flags` is label k.
-#[derive(Drop)]
+#[derive(Clone, Debug, Drop, PartialEq)]
 pub enum Val {
     Bool(bool),
     S8(i8),

@@ -49,7 +49,7 @@ refused-here way is i old e here h q =
 abbrev sides : List (List ℕ) → List (List ℕ) → Sides
 sides imports exports = record { imports = imports; exports = exports }
 
--- the outcome of meeting a name, as `Scope::meet_told` tells it
+-- the outcome of meeting a name, as `NameTable::meet` tells it
 pub record Meets {T : Type 0} (r : Result T ResolveError) (old : List (List ℕ)) (n : List ℕ) (new : List (List ℕ)) : Type 0 where
   pub fresh : OnOk r (¬ Contains old (lowered n))
   pub ok : OnOk r (new ≡ old ++ lowered n ∷ [])

@@ -1,9 +1,14 @@
 -- WIT.md, "Identifiers": the names of one scope differ in more than the case of their letters.
 use Rattle.std.specs.Prelude.{◌≡◌, ℕ, ◌<◌, List, [], map, length, take, slice_index_or, Contains}
+use Rattle.std.specs.Borrow.{Bor}
 use Rattle.std.specs.Char.{to_ascii_lowercase}
 
 abbrev pub lowered : List ℕ → List ℕ
 lowered name = map to_ascii_lowercase name
+
+-- .. of a name that is lent
+abbrev pub lowered_name : Bor (List ℕ) → List ℕ
+lowered_name b = lowered b.now
 
 -- the name at place k is one before it again
 abbrev pub IsMetBefore : List (List ℕ) → ℕ → Type 0

@@ -10,7 +10,7 @@ ghost use Rattle.package_form.specs.Naming.{field_name, case_name, parameter_nam
 
 use crate::ends::end_of;
 use crate::keys::keyed_by_table;
-use crate::scope::Scope;
+use crate::scope::{NameTable, Scope};
 use atoms::{KeyedState, Label};
 use std::alloc::{AllocError, Global};
 use tables::{
@@ -101,7 +101,11 @@ fn distinct_members(alloc: Global, keyed: KeyedState, row: &Definition) -> Resul
 }
 
 /// Meets the name of a row, if it has one.
-fn meet_row(alloc: Global, scope: &mut Scope, row: &Definition) -> Result<(), ResolveError>
+fn meet_row<'a>(
+    alloc: Global,
+    scope: &mut Scope<'a>,
+    row: &'a Definition,
+) -> Result<(), ResolveError>
     ensures ok { OnOk result ((ns : List (List ℕ)) → AreMet ns scope.old → AreMet (ns ++ row_names row.now) scope.new) }
     ensures err { IfErr result (λ e. (ns : List (List ℕ)) → AreMet ns scope.old → RefusesNames (ns ++ row_names row.now) e) }
 {
@@ -129,13 +133,13 @@ fn distinct_rows(alloc: Global, keyed: KeyedState, rows: &[Definition]) -> Resul
 
 /// Meets the names of these interfaces: 40 for the first that its scope has before, an interface's rows before
 /// its name.
-fn meet_interfaces(
+fn meet_interfaces<'a>(
     alloc: Global,
     keyed: KeyedState,
     rows: &[Definition],
-    interfaces: &[Interface],
+    interfaces: &'a [Interface],
     worlds: &[World],
-) -> Result<Scope, ResolveError>
+) -> Result<Scope<'a>, ResolveError>
     requires { IsTrue (is_parted (length rows.now) 0 interfaces.now worlds.now) }
     ensures names { IfOk result (AreMet (map interface_name interfaces.now)) }
     ensures parts { OnOk result (All AreDistinct (interfaces_scopes rows.now 0 interfaces.now)) }
@@ -155,8 +159,8 @@ fn meet_interfaces(
 /// The names of a world's imports and of its exports.
 #[derive(Drop)]
 pub struct Sides {
-    imports: Scope,
-    exports: Scope,
+    imports: NameTable,
+    exports: NameTable,
 }
 
 impl Sides {
@@ -165,8 +169,8 @@ impl Sides {
         ensures { AreMetOnSides [] result }
     {
         Sides {
-            imports: Scope::new(alloc, keyed),
-            exports: Scope::new(alloc, keyed),
+            imports: NameTable::new(alloc, keyed),
+            exports: NameTable::new(alloc, keyed),
         }
     }
 
@@ -183,8 +187,8 @@ impl Sides {
             → AreMetOnSides items self.old → RefusesSides (items ++ i ∷ []) e) }
     {
         match direction {
-            Direction::Import => self.imports.meet_told(alloc, name),
-            Direction::Export => self.exports.meet_told(alloc, name),
+            Direction::Import => self.imports.meet(alloc, name),
+            Direction::Export => self.exports.meet(alloc, name),
         }
     }
 }
@@ -268,15 +272,15 @@ fn distinct_items(
 
 /// 40 for the first name of the worlds that its scope has before, a world's items before its name. `met` has the
 /// names of the interfaces.
-fn distinct_worlds(
+fn distinct_worlds<'a>(
     alloc: Global,
     keyed: KeyedState,
-    resolve: &Resolve,
-    met: Scope,
+    resolve: &'a Resolve,
+    met: Scope<'a>,
 ) -> Result<(), ResolveError>
-    ensures ok { OnOk result ((ns : List (List ℕ)) → AreMet ns met → AreDistinct (ns ++ map label_of resolve.now.worlds)) }
+    ensures ok { OnOk result ((ns : List (List ℕ)) → AreMet ns met.entry → AreDistinct (ns ++ map label_of resolve.now.worlds)) }
     ensures parts { OnOk result (All AreDistinct (flat_map world_scopes (worlds resolve.now))) }
-    ensures err { IfErr result (λ e. (ns : List (List ℕ)) → AreMet ns met
+    ensures err { IfErr result (λ e. (ns : List (List ℕ)) → AreMet ns met.entry
         → RefusesScopes ((ns ++ map label_of resolve.now.worlds) ∷ flat_map world_scopes (worlds resolve.now)) e) }
 {
     let mut scope = met;

@@ -9,7 +9,7 @@ ghost use Rattle.package_form.specs.Form.{is_package_name, has_full_names, is_ow
 
 use crate::ends::{end_of, interfaces_end, world_end};
 use crate::entries::passes_entries;
-use crate::references::references;
+use crate::references::push_references;
 use crate::unused::{are_used, is_unnamed};
 use atoms::{Label, is_version};
 use std::alloc::{AllocError, Global};
@@ -129,9 +129,9 @@ fn are_own(rows: &[Definition], place: usize, ids: &[TypeId]) -> bool
     true
 }
 
-/// Whether it is a row of this interface that refers to the interface's types alone.
+/// Whether it is a row of this interface that refers to the interface's types alone. `ids` is a room to put them in.
 fn is_local(
-    alloc: Global,
+    ids: &mut Vec<TypeId>,
     rows: &[Definition],
     place: usize,
     row: &Definition,
@@ -141,8 +141,9 @@ fn is_local(
     if !is_owned(rows, place, row) {
         return Ok(false);
     }
-    let ids = references(alloc, row)?;
-    Ok(are_own(rows, place, &ids))
+    ids.clear();
+    push_references(ids, row)?;
+    Ok(are_own(rows, place, ids))
 }
 
 fn are_local(
@@ -153,8 +154,9 @@ fn are_local(
 ) -> Result<bool, AllocError>
     ensures { IfOk result (λ b. b ≡ list_all (is_local rows.now place) own.now) }
 {
+    let mut ids = Vec::new(alloc);
     for row in own {
-        if !is_local(alloc, rows, place, row)? {
+        if !is_local(&mut ids, rows, place, row)? {
             return Ok(false);
         }
     }
@@ -349,11 +351,13 @@ fn are_world_rows(
 ) -> Result<bool, AllocError>
     ensures { IfOk result (λ b. b ≡ list_all (is_world_row rows.now place) own.now) }
 {
+    let mut ids = Vec::new(alloc);
     for row in own {
         if !is_of_world(place, row) {
             return Ok(false);
         }
-        let ids = references(alloc, row)?;
+        ids.clear();
+        push_references(&mut ids, row)?;
         if !are_nameless(rows, &ids) {
             return Ok(false);
         }

@@ -1,30 +1,39 @@
 //! The key of a table's names.
+use crate::scope::FEW;
 use atoms::{KeyedState, Label, NameKey};
 use tables::{
     Case, Definition, Field, Interface, PackageName, Parameter, Resolve, TypeDefKind, World,
 };
 
 fn write_labels(key: &mut NameKey, labels: &[Label]) {
-    for label in labels {
-        key.write(label.as_bytes());
+    if labels.len() > FEW {
+        for label in labels {
+            key.write(label.as_bytes());
+        }
     }
 }
 
 fn write_fields(key: &mut NameKey, fields: &[Field]) {
-    for field in fields {
-        key.write(field.name.as_bytes());
+    if fields.len() > FEW {
+        for field in fields {
+            key.write(field.name.as_bytes());
+        }
     }
 }
 
 fn write_cases(key: &mut NameKey, cases: &[Case]) {
-    for case in cases {
-        key.write(case.name.as_bytes());
+    if cases.len() > FEW {
+        for case in cases {
+            key.write(case.name.as_bytes());
+        }
     }
 }
 
 fn write_parameters(key: &mut NameKey, params: &[Parameter]) {
-    for param in params {
-        key.write(param.name.as_bytes());
+    if params.len() > FEW {
+        for param in params {
+            key.write(param.name.as_bytes());
+        }
     }
 }
 
@@ -79,7 +88,8 @@ fn write_worlds(key: &mut NameKey, worlds: &[World]) {
     }
 }
 
-/// Hashers of names, with a key made of all names in the scopes of a table.
+/// Hashers of names, with a key made of all names in the scopes of a table but for members so few that none stands in
+/// a scope's table.
 pub fn keyed_by_table(resolve: &Resolve) -> KeyedState {
     let mut key = NameKey::new();
     write_packages(&mut key, resolve.packages.as_slice());

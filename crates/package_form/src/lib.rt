@@ -19,4 +19,4 @@ pub use distinct::{Sides, distinct_names};
 pub use ends::{end_of, interfaces_end, world_end};
 pub use entries::passes_entries;
 pub use form::is_in_form;
-pub use scope::Scope;
+pub use scope::{FEW, Scope};

@@ -1,10 +1,9 @@
 //! The types that a row is made of.
 ghost use Rattle.std.specs.Prelude.{◌≡◌, ◌++◌, flat_map, IfOk, OnOk};
-ghost use Rattle.tables.specs.declared.tables.Definition.TheVariants as row;
 ghost use Rattle.package_form.specs.References.{references, references_if, case_references, kind_references, row_references};
 
 use std::alloc::{AllocError, Global};
-use tables::{Case, Definition, Function, Member, TypeDefKind, TypeId, ValType};
+use tables::{Case, Definition, Member, TypeDefKind, TypeId, ValType};
 
 fn push_type(ids: &mut Vec<TypeId>, ty: ValType) -> Result<(), AllocError>
     ensures { OnOk result (ids.new.items ≡ ids.old.items ++ references ty) }
@@ -42,41 +41,43 @@ fn push_cases(ids: &mut Vec<TypeId>, cases: &[Case]) -> Result<(), AllocError>
     Ok(())
 }
 
-fn kind_references(alloc: Global, kind: &TypeDefKind) -> Result<Vec<TypeId>, AllocError>
-    ensures { IfOk result (λ ids. ids.items ≡ kind_references kind.now) }
+/// Appends the rows that a type is made of.
+fn push_kind(ids: &mut Vec<TypeId>, kind: &TypeDefKind) -> Result<(), AllocError>
+    ensures { OnOk result (ids.new.items ≡ ids.old.items ++ kind_references kind.now) }
 {
-    let mut ids = Vec::new(alloc);
     match kind {
-        TypeDefKind::Use(_) | TypeDefKind::Enum(_) | TypeDefKind::Flags(_) => {}
+        TypeDefKind::Use(_) | TypeDefKind::Enum(_) | TypeDefKind::Flags(_) => Ok(()),
         TypeDefKind::Alias(ty) | TypeDefKind::List(ty) | TypeDefKind::Option(ty) => {
-            push_type(&mut ids, *ty)?
+            push_type(ids, *ty)
         }
         TypeDefKind::Result(ok, error) => {
-            push_optional(&mut ids, *ok)?;
-            push_optional(&mut ids, *error)?;
+            push_optional(ids, *ok)?;
+            push_optional(ids, *error)
         }
-        TypeDefKind::Tuple(types) => push_members(&mut ids, types.as_slice())?,
-        TypeDefKind::Record(fields) => push_members(&mut ids, fields.as_slice())?,
-        TypeDefKind::Variant(cases) => push_cases(&mut ids, cases.as_slice())?,
+        TypeDefKind::Tuple(types) => push_members(ids, types.as_slice()),
+        TypeDefKind::Record(fields) => push_members(ids, fields.as_slice()),
+        TypeDefKind::Variant(cases) => push_cases(ids, cases.as_slice()),
     }
-    Ok(ids)
 }
 
-fn function_references(alloc: Global, function: &Function) -> Result<Vec<TypeId>, AllocError>
-    ensures { IfOk result (λ ids. ids.items ≡ row_references (row.Function function.now)) }
+/// Appends the rows that a row is made of, from the left.
+pub fn push_references(ids: &mut Vec<TypeId>, row: &Definition) -> Result<(), AllocError>
+    ensures { OnOk result (ids.new.items ≡ ids.old.items ++ row_references row.now) }
 {
-    let mut ids = Vec::new(alloc);
-    push_members(&mut ids, function.params.as_slice())?;
-    push_optional(&mut ids, function.result)?;
-    Ok(ids)
+    match row {
+        Definition::Type(definition) => push_kind(ids, &definition.kind),
+        Definition::Function(function) => {
+            push_members(ids, function.params.as_slice())?;
+            push_optional(ids, function.result)
+        }
+    }
 }
 
 /// The rows that a row is made of, from the left.
 pub fn references(alloc: Global, row: &Definition) -> Result<Vec<TypeId>, AllocError>
     ensures { IfOk result (λ ids. ids.items ≡ row_references row.now) }
 {
-    match row {
-        Definition::Type(definition) => kind_references(alloc, &definition.kind),
-        Definition::Function(function) => function_references(alloc, function),
-    }
+    let mut ids = Vec::new(alloc);
+    push_references(&mut ids, row)?;
+    Ok(ids)
 }

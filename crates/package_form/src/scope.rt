@@ -1,20 +1,24 @@
 //! The names of one scope, which must differ in more than the case of their letters.
-ghost use Rattle.std.specs.Prelude.{◌≡◌, ◌++◌, ◌∷◌, [], ◌⊎◌, true, false, OnOk, IfOk, IfErr, Contains};
-ghost use Rattle.package_form.specs.Scope.{lowered};
+ghost use Rattle.std.specs.Prelude.{◌≡◌, ◌++◌, ◌∷◌, [], ◌⊎◌, true, false, map, OnOk, IfOk, IfErr, Contains};
+ghost use Rattle.package_form.specs.Scope.{lowered, lowered_name};
 
+use arrayvec::ArrayVec;
 use atoms::{KeyedState, Label};
 use indexmap::IndexSet;
 use std::alloc::Global;
 use std::marker::Model;
 use tables::{Name, ResolveError};
 
-/// The names that were met in a scope, in lower case.
+/// How many names of a scope are compared one by one; those behind them stand in a table.
+pub const FEW: usize = 16;
+
+/// Names that were met, in lower case, in a table.
 #[derive(Drop)]
-pub struct Scope {
+pub struct NameTable {
     met: IndexSet<Vec<u8>, KeyedState>,
 }
 
-impl Model for Scope {
+impl Model for NameTable {
     ghost use Rattle.std.specs.Prelude.{List, ℕ, map};
 
     ghost Value = { List (List ℕ) };
@@ -22,31 +26,18 @@ impl Model for Scope {
     ghost view = { λ n. map (λ v. v.items) n.met.keys };
 }
 
-impl Scope {
+impl NameTable {
     /// No names; those that are met are told apart by hashers with this key.
-    pub fn new(alloc: Global, keyed: KeyedState) -> Scope
+    pub fn new(alloc: Global, keyed: KeyedState) -> NameTable
         ensures { result ≡ [] }
     {
-        Scope {
+        NameTable {
             met: IndexSet::with_hasher(alloc, keyed),
         }
     }
 
-    /// Meets a name. 40 where it was met before.
-    pub fn meet(&mut self, alloc: Global, name: &Label) -> Result<(), ResolveError>
-        ensures new { OnOk result (¬ Contains self.old (lowered name.now)) }
-        ensures ok { OnOk result (self.new ≡ self.old ++ lowered name.now ∷ []) }
-        ensures err { IfErr result (λ e. (e ≡ ResolveError.NoMemory) ⊎ ((e ≡ ResolveError.Duplicate name.now) × Contains self.old (lowered name.now))) }
-    {
-        if self.insert(name.as_bytes().to_ascii_lowercase(alloc)?)? {
-            Ok(())
-        } else {
-            Err(ResolveError::Duplicate(Name::of(alloc, name)?))
-        }
-    }
-
     /// Meets a name as it is told, of an interface its full name. 40 where it was met before.
-    pub fn meet_told(&mut self, alloc: Global, name: Name) -> Result<(), ResolveError>
+    pub fn meet(&mut self, alloc: Global, name: Name) -> Result<(), ResolveError>
         ensures new { OnOk result (¬ Contains self.old (lowered name)) }
         ensures ok { OnOk result (self.new ≡ self.old ++ lowered name ∷ []) }
         ensures err { IfErr result (λ e. (e ≡ ResolveError.NoMemory) ⊎ ((e ≡ ResolveError.Duplicate name) × Contains self.old (lowered name))) }
@@ -58,6 +49,12 @@ impl Scope {
         }
     }
 
+    fn is_empty(&self) -> bool
+        ensures { result ≡ true → self.now ≡ [] }
+    {
+        self.met.is_empty()
+    }
+
     /// Whether a name in lower case is new; it is met now.
     fn insert(&mut self, name: Vec<u8>) -> Result<bool, ResolveError>
         ensures new { IfOk result (λ is_new. is_new ≡ true → ¬ Contains self.old name.items) }
@@ -66,5 +63,76 @@ impl Scope {
         ensures err { IfErr result (λ e. e ≡ ResolveError.NoMemory) }
     {
         Ok(self.met.insert(name)?)
+    }
+}
+
+/// Whether a name is one of these but for the case of its letters.
+fn is_among(names: &[&[u8]], name: &[u8]) -> bool
+    ensures yes { result ≡ true → Contains (map lowered_name names.now) (lowered name.now) }
+    ensures no { result ≡ false → ¬ Contains (map lowered_name names.now) (lowered name.now) }
+{
+    for met in names {
+        if met.eq_ignore_ascii_case(name) {
+            return true;
+        }
+    }
+    false
+}
+
+/// The names that were met in a scope: the first few as they stand, those behind them in a table.
+#[derive(Drop)]
+pub struct Scope<'a> {
+    few: ArrayVec<&'a [u8], FEW>,
+    many: NameTable,
+}
+
+impl<'a> Model for Scope<'a> {
+    ghost use Rattle.std.specs.Prelude.{◌++◌, List, ℕ, map};
+    ghost use Rattle.package_form.specs.Scope.{lowered_name};
+
+    ghost Value = { List (List ℕ) };
+
+    ghost view = { λ s. map lowered_name s.few.items ++ s.many };
+}
+
+impl<'a> Scope<'a> {
+    /// No names; those of its table are told apart by hashers with this key.
+    pub fn new(alloc: Global, keyed: KeyedState) -> Scope<'a>
+        ensures { result ≡ [] }
+    {
+        Scope {
+            few: ArrayVec::new(),
+            many: NameTable::new(alloc, keyed),
+        }
+    }
+
+    /// Meets a name. 40 where it was met before.
+    pub fn meet(&mut self, alloc: Global, name: &'a Label) -> Result<(), ResolveError>
+        ensures new { OnOk result (¬ Contains self.old (lowered name.now)) }
+        ensures ok { OnOk result (self.new ≡ self.old ++ lowered name.now ∷ []) }
+        ensures err { IfErr result (λ e. (e ≡ ResolveError.NoMemory) ⊎ ((e ≡ ResolveError.Duplicate name.now) × Contains self.old (lowered name.now))) }
+    {
+        if self.insert(alloc, name.as_bytes())? {
+            Ok(())
+        } else {
+            Err(ResolveError::Duplicate(Name::of(alloc, name)?))
+        }
+    }
+
+    /// Whether a name is new; it is met now.
+    fn insert(&mut self, alloc: Global, name: &'a [u8]) -> Result<bool, ResolveError>
+        ensures new { IfOk result (λ is_new. is_new ≡ true → ¬ Contains self.old (lowered name.now)) }
+        ensures met_before { IfOk result (λ is_new. is_new ≡ false → Contains self.old (lowered name.now)) }
+        ensures after { IfOk result (λ is_new. is_new ≡ true → self.new ≡ self.old ++ lowered name.now ∷ []) }
+        ensures err { IfErr result (λ e. e ≡ ResolveError.NoMemory) }
+    {
+        if is_among(self.few.as_slice(), name) {
+            return Ok(false);
+        }
+        if self.few.len() < FEW && self.many.is_empty() {
+            self.few.push(name);
+            return Ok(true);
+        }
+        self.many.insert(name.to_ascii_lowercase(alloc)?)
     }
 }

@@ -1,11 +1,14 @@
 -- The places of names, as a map tells them.
-use Rattle.std.proofs.Common.{◌≡◌, ℕ, zero, suc, ◌<◌, Bool, true, false, cond, List, [], ◌∷◌, ◌++◌, map, length, get_or, Contains, Option, Some, None, is_some, refl, ap, sym, subst, arith, ◌∙◌, true≢false}
+use Rattle.std.proofs.Common.{◌≡◌, ℕ, zero, suc, ◌<◌, Bool, true, false, cond, List, [], ◌∷◌, ◌++◌, map, length, take, get_or, Contains, Bor, Option, Some, None, is_some, refl, ap, sym, subst, arith, ◌∙◌, true≢false}
 use Rattle.std.specs.Map.{lookup}
+use Rattle.std.proofs.lemmas.List.{map-append, length-map, length-take}
 use Rattle.std.specs.Option.{option_map}
 use Rattle.std.specs.Str.{bytes_eq}
 use Rattle.std.proofs.lemmas.Slice.Eq.{bytes_eq-Decides}
 use Rattle.resolve.specs.Resolves.{place_of}
 use Rattle.resolve.specs.Knowing.{TellsPlaces}
+use Rattle.resolve.specs.Lent.{lent, lent_name}
+use Rattle.package_form.proofs.Meeting.{split-at}
 use Rattle.package_form.specs.Scoped.{Entry, entry_of}
 use Rattle.tables.specs.declared.tables.TypeId.{TypeId}
 use Rattle.package_form.proofs.Lists.{contains-here, contains-later}
@@ -40,6 +43,39 @@ place-end (m ∷ ns) x n = by (bytes_eq m n) (ap (option_map suc) (place-end ns 
         → cond b (Some 0) (option_map suc (place_of (ns ++ x ∷ []) n)) ≡ first_of (cond b (Some 0) (option_map suc (place_of ns n))) (cond (bytes_eq x n) (Some (suc (length ns))) None)
     by true h = refl
     by false h = h
+
+-- ---- a name that is looked for from the front
+
+pub not-yet : (ns : List (List ℕ)) (x n : List ℕ) → place_of ns n ≡ None → bytes_eq x n ≡ false → place_of (ns ++ x ∷ []) n ≡ None
+not-yet ns x n none other =
+    place-end ns x n ∙ ap (λ (o : Option ℕ). first_of o (cond (bytes_eq x n) (Some (length ns)) None)) none ∙ ap (λ (b : Bool). cond b (Some (length ns)) None) other
+
+first-here : (ns : List (List ℕ)) (x n : List ℕ) → place_of ns n ≡ None → bytes_eq x n ≡ true → place_of (ns ++ x ∷ []) n ≡ Some (length ns)
+first-here ns x n none same =
+    place-end ns x n ∙ ap (λ (o : Option ℕ). first_of o (cond (bytes_eq x n) (Some (length ns)) None)) none ∙ ap (λ (b : Bool). cond b (Some (length ns)) None) same
+
+place-front : (ns ms : List (List ℕ)) (n : List ℕ) (j : ℕ) → place_of ns n ≡ Some j → place_of (ns ++ ms) n ≡ Some j
+place-front [] ms n j e = absurd (cc)
+place-front (m ∷ ns) ms n j e = by (bytes_eq m n) e (λ i q. place-front ns ms n i q)
+  where
+    after : (o : Option ℕ) → place_of ns n ≡ o → option_map suc o ≡ Some j → ((i : ℕ) → place_of ns n ≡ Some i → place_of (ns ++ ms) n ≡ Some i) → option_map suc (place_of (ns ++ ms) n) ≡ Some j
+    after None q r rest = absurd (cc)
+    after (Some i) q r rest = ap (option_map suc) (rest i q) ∙ r
+
+    by : (b : Bool) → cond b (Some 0) (option_map suc (place_of ns n)) ≡ Some j → ((i : ℕ) → place_of ns n ≡ Some i → place_of (ns ++ ms) n ≡ Some i)
+        → cond b (Some 0) (option_map suc (place_of (ns ++ ms) n)) ≡ Some j
+    by true r rest = r
+    by false r rest = after (place_of ns n) refl r rest
+
+pub first-found : (xs : List (Bor (List ℕ))) (n : List ℕ) (k : ℕ) (x : Bor (List ℕ)) → k < length xs → x ≡ get_or xs k x → place_of (lent (take k xs)) n ≡ None → bytes_eq x.now n ≡ true
+    → place_of (lent xs) n ≡ Some k
+first-found xs n k x l is none same =
+    let r = split-at xs k x l is in
+    let whole : lent xs ≡ (lent (take k xs) ++ x.now ∷ []) ++ lent r.0 =
+    ap lent r.1 ∙ map-append lent_name (take k xs ++ x ∷ []) r.0 ∙ ap (λ (ns : List (List ℕ)). ns ++ lent r.0) (map-append lent_name (take k xs) (x ∷ [])) in
+    let at : length (lent (take k xs)) ≡ k = omega (arith, l, length-map (take k xs) lent_name, length-take k xs) in
+    ap (λ (ns : List (List ℕ)). place_of ns n) whole
+    ∙ place-front (lent (take k xs) ++ x.now ∷ []) (lent r.0) n k (first-here (lent (take k xs)) x.now n none same ∙ ap Some at)
 
 pub same-bytes : (x y : List ℕ) → bytes_eq x y ≡ true → x ≡ y
 same-bytes x y e = (bytes_eq-Decides x y).0 e

@@ -23,7 +23,7 @@ pub fn lower_fields(
     requires scoped { IsScope builder.old scope.now }
     ensures { IfOk result (λ fs. LowersFields builder.old builder.new fs (map (member_meaning (scope_name builder.old scope.now)) (map field_view members.now))) }
 {
-    let mut fields = Vec::new(alloc);
+    let mut fields = Vec::with_capacity(alloc, members.len())?;
     for member in members {
         let ty = lower_type(alloc, builder, scope, &member.ty)?;
         fields.push(Field {
@@ -44,7 +44,7 @@ pub fn lower_parameters(
     requires scoped { IsScope builder.old scope.now }
     ensures { IfOk result (λ ps. LowersParameters builder.old builder.new ps (map (member_meaning (scope_name builder.old scope.now)) (map field_view members.now))) }
 {
-    let mut parameters = Vec::new(alloc);
+    let mut parameters = Vec::with_capacity(alloc, members.len())?;
     for member in members {
         let ty = lower_type(alloc, builder, scope, &member.ty)?;
         parameters.push(Parameter {
@@ -65,7 +65,7 @@ fn lower_cases(
     requires scoped { IsScope builder.old scope.now }
     ensures { IfOk result (λ cs. LowersCases builder.old builder.new cs (map (case_meaning (scope_name builder.old scope.now)) (map case_view items.now))) }
 {
-    let mut cases = Vec::new(alloc);
+    let mut cases = Vec::with_capacity(alloc, items.len())?;
     for item in items {
         let ty = lower_optional(alloc, builder, scope, &item.payload)?;
         cases.push(Case {
@@ -79,7 +79,7 @@ fn lower_cases(
 fn copy_labels(alloc: Global, labels: &[Label]) -> Result<Sequence<Label>, AllocError>
     ensures { IfOk result (λ ls. ls ≡ labels.now) }
 {
-    let mut copies = Vec::new(alloc);
+    let mut copies = Vec::with_capacity(alloc, labels.len())?;
     for label in labels {
         copies.push(label.copy(alloc)?)?;
     }

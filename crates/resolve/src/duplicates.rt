@@ -68,7 +68,11 @@ fn distinct_parts(alloc: Global, keyed: KeyedState, kind: &TypeDefKind) -> Resul
 }
 
 /// Meets the names of a use.
-fn meet_used(alloc: Global, scope: &mut Scope, names: &[UsedName]) -> Result<(), ResolveError>
+fn meet_used<'a>(
+    alloc: Global,
+    scope: &mut Scope<'a>,
+    names: &'a [UsedName],
+) -> Result<(), ResolveError>
     ensures ok { OnOk result ((ns : List (List ℕ)) → AreMet ns scope.old → AreMet (ns ++ map local_name (map used_view names.now)) scope.new) }
     ensures err { IfErr result (λ e. (ns : List (List ℕ)) → AreMet ns scope.old → RefusesNames (ns ++ map local_name (map used_view names.now)) e) }
 {
@@ -79,11 +83,11 @@ fn meet_used(alloc: Global, scope: &mut Scope, names: &[UsedName]) -> Result<(),
 }
 
 /// Meets the names of an item, and tests the scopes in it.
-fn distinct_item(
+fn distinct_item<'a>(
     alloc: Global,
     keyed: KeyedState,
-    scope: &mut Scope,
-    item: &InterfaceItem,
+    scope: &mut Scope<'a>,
+    item: &'a InterfaceItem,
 ) -> Result<(), ResolveError>
     ensures names { OnOk result ((ns : List (List ℕ)) → AreMet ns scope.old → AreMet (ns ++ entry_names (entry_view item.now)) scope.new) }
     ensures parts { OnOk result (All AreDistinct (entry_scopes (entry_view item.now))) }

@@ -1,26 +1,33 @@
 //! The key of a syntax tree's names.
 use crate::declare::local_name;
 use atoms::{KeyedState, Label, NameKey};
+use package_form::FEW;
 use wit_syntax::{
     Ast, Case, Field, InterfaceItem, Item, PackageId, TypeDefKind, UsedName, WorldItem,
     WorldItemKind,
 };
 
 fn write_labels(key: &mut NameKey, labels: &[Label]) {
-    for label in labels {
-        key.write(label.as_bytes());
+    if labels.len() > FEW {
+        for label in labels {
+            key.write(label.as_bytes());
+        }
     }
 }
 
 fn write_fields(key: &mut NameKey, fields: &[Field]) {
-    for field in fields {
-        key.write(field.name.as_bytes());
+    if fields.len() > FEW {
+        for field in fields {
+            key.write(field.name.as_bytes());
+        }
     }
 }
 
 fn write_cases(key: &mut NameKey, cases: &[Case]) {
-    for case in cases {
-        key.write(case.name.as_bytes());
+    if cases.len() > FEW {
+        for case in cases {
+            key.write(case.name.as_bytes());
+        }
     }
 }
 
@@ -92,7 +99,8 @@ fn write_entry(key: &mut NameKey, item: &Item) {
     }
 }
 
-/// Hashers of names, with a key made of all names in the scopes of a tree.
+/// Hashers of names, with a key made of all names in the scopes of a tree but for members so few that none stands in
+/// a scope's table.
 pub fn keyed_by_tree(ast: &Ast) -> KeyedState {
     let mut key = NameKey::new();
     write_package(&mut key, &ast.package);

@@ -98,7 +98,7 @@ fn lower_all(
     requires scoped { IsScope builder.old scope.now }
     ensures { IfOk result (λ vs. LowersAll builder.old builder.new vs (resolved_all (scope_name builder.old scope.now) (tys_of (map ty_view expressions.now.items)))) }
 {
-    let mut types = Vec::new(alloc);
+    let mut types = Vec::with_capacity(alloc, expressions.len())?;
     for expression in expressions {
         let kind = lower_kind(alloc, builder, scope, expression)?;
         types.push(builder.inner(kind)?)?;

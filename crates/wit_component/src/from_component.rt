@@ -1,5 +1,7 @@
 //! The package that a raw component stands for.
 ghost use Rattle.std.specs.Prelude.{◌≡◌, ◌⊎◌, All, IfOk, IfErr, MatchResult};
+ghost use Rattle.ctype_bin.specs.FileView.{file_view};
+ghost use Rattle.ctype_format.specs.File.{file};
 ghost use Rattle.tables.specs.Same.{IsSamePackage};
 ghost use Rattle.package_form.specs.Scope.{AreDistinct};
 ghost use Rattle.package_form.specs.Naming.{package_scopes};
@@ -7,7 +9,7 @@ ghost use Rattle.package_form.specs.Form.{IsInPackageForm};
 ghost use Rattle.wit_component.specs.ToComponent.{ComponentStands};
 ghost use Rattle.wit_component.specs.FromComponent.{FromComponentRefuses};
 
-use crate::same::{is_empty_package, is_same};
+use crate::same::{is_empty_package, is_same, spelling};
 use crate::to_component::to_written;
 use component_reader::{Unread, candidate};
 use ctype_bin::RawComponent;
@@ -16,7 +18,8 @@ use std::alloc::Global;
 use tables::{Resolve, ResolveError};
 
 /// The package that a component stands for, whose names may stand twice in a scope.
-fn standing(alloc: Global, raw: &RawComponent) -> Result<Resolve, ResolveError>
+fn standing(alloc: Global, raw: &RawComponent, bytes: &[u8]) -> Result<Resolve, ResolveError>
+    requires { ∥ file.spells bytes.now (file_view raw.now) ∥₁ }
     ensures ok { IfOk result (λ r. ∥ ComponentStands raw.now r ∥₁) }
     ensures form { IfOk result (λ r. IsInPackageForm r) }
     ensures same { IfOk result (λ p. (r : Resolve) → ComponentStands raw.now r → All AreDistinct (package_scopes r) → IsSamePackage p r) }
@@ -28,12 +31,34 @@ fn standing(alloc: Global, raw: &RawComponent) -> Result<Resolve, ResolveError>
         Err(Unread::NotThisShape) => return Err(ResolveError::NotThisShape),
         Err(Unread::NoMemory) => return Err(ResolveError::NoMemory),
     };
-    let (written, bytes) = to_written(alloc, &package)?;
-    if is_same(alloc, raw, &written, &bytes)? {
+    let (written, shortest) = to_written(alloc, &package)?;
+    if is_same(alloc, raw, bytes, &written, &shortest)? {
         Ok(package)
     } else {
         Err(ResolveError::NotThisShape)
     }
+}
+
+/// The package that a component stands for which these bytes spell: the same as `from_raw` answers, which has to write
+/// the component first.
+pub fn from_spelled(
+    alloc: Global,
+    raw: &RawComponent,
+    bytes: &[u8],
+) -> Result<Resolve, ResolveError>
+    requires { ∥ file.spells bytes.now (file_view raw.now) ∥₁ }
+    ensures ok { IfOk result (λ r. ∥ ComponentStands raw.now r ∥₁) }
+    ensures distinct { IfOk result (λ r. All AreDistinct (package_scopes r)) }
+    ensures only { (r : Resolve) → ComponentStands raw.now r → All AreDistinct (package_scopes r)
+        → MatchResult result (λ p. IsSamePackage p r) (λ e. e ≡ ResolveError.NoMemory) }
+    ensures err { IfErr result (FromComponentRefuses raw.now) }
+{
+    if is_empty_package(raw) {
+        return Err(ResolveError::EmptyPackage);
+    }
+    let package = standing(alloc, raw, bytes)?;
+    distinct_names(alloc, &package)?;
+    Ok(package)
 }
 
 /// The package that a component stands for: what is read of it is written again, and has to be the same. 43
@@ -48,10 +73,6 @@ pub fn from_raw(alloc: Global, raw: &RawComponent) -> Result<Resolve, ResolveErr
         → MatchResult result (λ p. IsSamePackage p r) (λ e. e ≡ ResolveError.NoMemory) }
     ensures err { IfErr result (FromComponentRefuses raw.now) }
 {
-    if is_empty_package(raw) {
-        return Err(ResolveError::EmptyPackage);
-    }
-    let package = standing(alloc, raw)?;
-    distinct_names(alloc, &package)?;
-    Ok(package)
+    let bytes = spelling(alloc, raw)?;
+    from_spelled(alloc, raw, &bytes)
 }

@@ -12,7 +12,7 @@ use ctype_bin::{RawComponent, RawType, encode, files_are_read_exactly};
 use std::alloc::{AllocError, Global};
 
 /// The shortest bytes that spell a component.
-fn spelling(alloc: Global, raw: &RawComponent) -> Result<Vec<u8>, AllocError>
+pub fn spelling(alloc: Global, raw: &RawComponent) -> Result<Vec<u8>, AllocError>
     ensures spelt { IfOk result (λ v. ∥ file.spells v.items (file_view raw.now) ∥₁) }
     ensures exact { IfOk result (λ v. v.items ≡ file_bytes (file_view raw.now)) }
 {
@@ -23,19 +23,24 @@ fn spelling(alloc: Global, raw: &RawComponent) -> Result<Vec<u8>, AllocError>
     }
 }
 
-/// Whether a component is the same as another, of which these are the shortest bytes.
+/// Whether a component that these bytes spell is the same as another, of which those are the shortest bytes.
 pub fn is_same(
     alloc: Global,
     a: &RawComponent,
+    given: &[u8],
     b: &RawComponent,
     bytes: &[u8],
 ) -> Result<bool, AllocError>
+    requires given { ∥ file.spells given.now (file_view a.now) ∥₁ }
     requires spelt { ∥ AppendsSpelling [] bytes.now (file_view b.now) ∥₁ }
     requires exact { bytes.now ≡ file_bytes (file_view b.now) }
     ensures same { IfOk result (λ s. OnTrue s ∥ file_view a.now ≡ file_view b.now ∥₁) }
     ensures all { IfOk result (λ s. file_view a.now ≡ file_view b.now → s ≡ true) }
 {
     files_are_read_exactly();
+    if given == bytes {
+        return Ok(true);
+    }
     let first = spelling(alloc, a)?;
     Ok(first.as_slice() == bytes)
 }

@@ -60,7 +60,7 @@ pub fn members_of(
 ) -> Result<Vec<RawValType>, AllocError>
     ensures { IfOk result (λ v. v.items ≡ map (valtype_of indices.now) types.now) }
 {
-    let mut members = Vec::new(alloc);
+    let mut members = Vec::with_capacity(alloc, types.len())?;
     for ty in types {
         members.push(valtype_of(indices, *ty))?;
     }
@@ -74,7 +74,7 @@ pub fn fields_of(
 ) -> Result<Vec<RawField>, AllocError>
     ensures { IfOk result (λ v. v.items ≡ map (field_of indices.now) fields.now) }
 {
-    let mut raw = Vec::new(alloc);
+    let mut raw = Vec::with_capacity(alloc, fields.len())?;
     for field in fields {
         raw.push(RawField {
             label: field.name.copy(alloc)?,
@@ -91,7 +91,7 @@ pub fn parameters_of(
 ) -> Result<Vec<RawField>, AllocError>
     ensures { IfOk result (λ v. v.items ≡ map (parameter_of indices.now) params.now) }
 {
-    let mut raw = Vec::new(alloc);
+    let mut raw = Vec::with_capacity(alloc, params.len())?;
     for param in params {
         raw.push(RawField {
             label: param.name.copy(alloc)?,
@@ -104,7 +104,7 @@ pub fn parameters_of(
 pub fn cases_of(alloc: Global, indices: &[u32], cases: &[Case]) -> Result<Vec<RawCase>, AllocError>
     ensures { IfOk result (λ v. v.items ≡ map (case_of indices.now) cases.now) }
 {
-    let mut raw = Vec::new(alloc);
+    let mut raw = Vec::with_capacity(alloc, cases.len())?;
     for case in cases {
         raw.push(RawCase {
             label: case.name.copy(alloc)?,
@@ -117,7 +117,7 @@ pub fn cases_of(alloc: Global, indices: &[u32], cases: &[Case]) -> Result<Vec<Ra
 pub fn labels_of(alloc: Global, labels: &[Label]) -> Result<Vec<Label>, AllocError>
     ensures { IfOk result (λ v. v.items ≡ labels.now) }
 {
-    let mut copy = Vec::new(alloc);
+    let mut copy = Vec::with_capacity(alloc, labels.len())?;
     for label in labels {
         copy.push(label.copy(alloc)?)?;
     }

@@ -1,6 +1,6 @@
 //! How keywords are spelled.
-ghost use Rattle.std.specs.Prelude.{◌≡◌};
-ghost use Rattle.wit_tokens.specs.Keywords.{spelling, keywords, keyword_of};
+ghost use Rattle.std.specs.Prelude.{◌≡◌, ◌∷◌, List, ℕ};
+ghost use Rattle.wit_tokens.specs.Keywords.{spelling, keywords, keyword_in, keyword_of};
 
 use crate::token::Keyword;
 use std::fmt;
@@ -115,11 +115,42 @@ fn keywords() -> &'static [Keyword]
     &KEYWORDS
 }
 
+/// The keywords among which one stands that begins with this letter.
+#[tactic(auto, unfolding(crate::specs::Keywords::keywords))]
+fn keywords_by(first: u8) -> &'static [Keyword]
+    ensures { (rest : List ℕ) → keyword_in result.now (first ∷ rest) ≡ keyword_of (first ∷ rest) }
+{
+    let all = keywords();
+    match first {
+        b'a' => &all[..2],
+        b'b' => &all[2..4],
+        b'c' => &all[4..6],
+        b'e' => &all[6..9],
+        b'f' => &all[9..15],
+        b'i' => &all[15..18],
+        b'l' => &all[18..19],
+        b'm' => &all[19..20],
+        b'o' => &all[20..22],
+        b'p' => &all[22..23],
+        b'r' => &all[23..26],
+        b's' => &all[26..33],
+        b't' => &all[33..35],
+        b'u' => &all[35..40],
+        b'v' => &all[40..41],
+        b'w' => &all[41..],
+        b'd' | b'g' | b'h' | b'j' | b'k' | b'n' | b'q' | b'x' | b'y' | b'z' => &[],
+        _ => all,
+    }
+}
+
 /// The keyword that is spelled so.
 pub fn keyword_of(word: &[u8]) -> Option<Keyword>
     ensures { result ≡ keyword_of word.now }
 {
-    let all = keywords();
+    let [first, ..] = word else {
+        return None;
+    };
+    let all = keywords_by(*first);
     for keyword in all {
         if word == spelling(*keyword).as_bytes() {
             return Some(*keyword);

@@ -342,7 +342,8 @@ pub fn lex(alloc: Global, text: &str) -> Result<Vec<Token>, TextError>
     if bytes.len() > LIMIT {
         return Err(TextError::Limit);
     }
-    let mut tokens = Vec::new(alloc);
+    // In most texts a token takes four bytes or more, with the blanks around it.
+    let mut tokens = Vec::with_capacity(alloc, bytes.len() / 4)?;
     let mut at = 0;
     while at < bytes.len() {
         match front_of(&bytes[at..]) {

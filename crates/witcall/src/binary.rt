@@ -13,7 +13,7 @@ use crate::package::{MAX_INPUT, OpenError, Package};
 use ctype_bin::{BinError, Fault, decode};
 use resolve::{Resolve, ResolveError};
 use std::alloc::Global;
-use wit_component::{from_raw, to_written};
+use wit_component::{from_spelled, to_written};
 
 /// The bytes that a binary begins with.
 static FRONT: [u8; 4] = [0x00, 0x61, 0x73, 0x6d];
@@ -35,7 +35,7 @@ pub fn binary_tables(alloc: Global, bytes: &[u8]) -> Result<Resolve, OpenError>
     ensures err { IfErr result (BinaryRefuses bytes.now) }
 {
     let raw = decode(alloc, bytes)?;
-    let resolve = from_raw(alloc, &raw)?;
+    let resolve = from_spelled(alloc, &raw, bytes)?;
     Ok(resolve)
 }
 

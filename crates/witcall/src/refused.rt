@@ -1,13 +1,13 @@
 //! Why the program did not do what it was asked for, and how it says so.
 
 ghost use Rattle.std.specs.Prelude.{◌≡◌, false};
-ghost use Rattle.witcall.specs.Status.{status_of, kind_words, step_words};
+ghost use Rattle.witcall.specs.Status.{status_of};
 
 use crate::json::JsonError;
 use crate::line::Line;
 use crate::package::OpenError;
 use atoms::Sink;
-use canonical_abi::{Fault, Step, Trap, TrapKind};
+use canonical_abi::{Fault, Trap};
 use ctype_bin::BinError;
 use memory::MemoryError;
 use std::alloc::AllocError;
@@ -38,7 +38,7 @@ pub enum Refused {
     Json(JsonError),
     #[error(transparent)]
     Memory(MemoryError),
-    #[error("trap {} in {}", kind_name(.0.kind), step_name(.0.step))]
+    #[error("{0}")]
     Trap(Trap),
     #[error("error 65 write")]
     Write,
@@ -123,38 +123,6 @@ impl From<Fault> for Refused {
             Fault::Trap(trap) => Refused::Trap(trap),
             Fault::NoMemory => Refused::NoMemory,
         }
-    }
-}
-
-/// A trap's kind as it is printed.
-fn kind_name(kind: TrapKind) -> &'static str
-    ensures { result.now ≡ kind_words kind }
-{
-    match kind {
-        TrapKind::Char => "K1 char",
-        TrapKind::Case => "K2 case",
-        TrapKind::Align => "K3 align",
-        TrapKind::Bounds => "K4 bounds",
-        TrapKind::Utf8 => "K5 utf8",
-        TrapKind::Full => "K6 full",
-        TrapKind::Body => "K7 body",
-        TrapKind::CoreSignature => "K8 coresignature",
-    }
-}
-
-/// A trap's step as it is printed.
-fn step_name(step: Step) -> &'static str
-    ensures { result.now ≡ step_words step }
-{
-    match step {
-        Step::Place => "place",
-        Step::Take => "take",
-        Step::LiftArgs => "lift-args",
-        Step::LowerArgs => "lower-args",
-        Step::Body => "body",
-        Step::LiftResult => "lift-result",
-        Step::LowerResult => "lower-result",
-        Step::Post => "post",
     }
 }
 

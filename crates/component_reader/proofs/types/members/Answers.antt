@@ -6,7 +6,7 @@ use Rattle.component_reader.proofs.types.members.Goals as goal
 
 pub returns-in_err-val_type : goal.returns-in_err-val_type
 returns-in_err-val_type c =
-    let p = err_from_is_err_and c.from_residual.result c.from_residual.ensures.1 in
+    let p = err_from_is_err_and c.from_residual-in_err-val_type.result c.from_residual-in_err-val_type.ensures.1 in
     rw (p.1, p.2) (refused-next (val_type c.args.rows.now) c.args.types.now c.loop-ty.ty-index _ (omega arith) c.in_err-val_type.field-0.0 c.in_err-val_type.ensures)
 
 pub loop-ty-preserved : goal.loop-ty-preserved

@@ -9,7 +9,7 @@ use Rattle.layout.proofs.Laid.{laid-none, laid-more, length-laid}
 use Rattle.layout.proofs.layouts.lay_all.Goals as goal
 
 pub loop-definition-init : goal.loop-definition-init
-loop-definition-init c = rw (c.new-rows.ensures.items, c.new-parts.ensures.items) (laid-none c.args.resolve.now)
+loop-definition-init c = rw (c.in_ok-rows.ensures.items, c.in_ok-parts.ensures.items) (laid-none c.args.resolve.now)
 
 pub lay_definition-requires-clause-below : goal.lay_definition-requires-clause-below
 lay_definition-requires-clause-below c =
@@ -30,7 +30,7 @@ pub returns-in_err-laid-clause-err : goal.returns-in_err-laid-clause-err
 returns-in_err-laid-clause-err c =
     let count = ap length c.as_slice-definition-items.ensures in
     let refused = rw c.as_slice.ensures.value at c.in_err-laid.ensures.err in
-    let p = err_from_is_err_and c.from_residual.result c.from_residual.ensures.1 in
+    let p = err_from_is_err_and c.from_residual-in_err-laid.result c.from_residual-in_err-laid.ensures.1 in
     rw (p.1, p.2) (refuses-first c.args.resolve.now c.loop-definition.definition-index c.loop-definition.rows.items c.definition-item.result (omega arith) (cc) c.loop-definition.invariant.so_far _ refused)
 
 pub loop-definition-preserved : goal.loop-definition-preserved

@@ -9,7 +9,7 @@ use Rattle.resolve.proofs.Lowering.{scope-later, same_name, choice-same, lowers_
 use Rattle.resolve.proofs.bodies.lower_cases.Goals as goal
 
 pub loop-item-init : goal.loop-item-init
-loop-item-init c = rw c.new-cases.ensures.items (lowers_each-none case_typed read_case unnamed_case c.args.builder.now)
+loop-item-init c = rw c.in_ok-cases.ensures.items (lowers_each-none case_typed read_case unnamed_case c.args.builder.now)
 
 pub lower_optional-requires-clause-scoped : goal.lower_optional-requires-clause-scoped
 lower_optional-requires-clause-scoped c = scope-later c.args.builder.now c.loop-item.builder c.args.scope.now c.loop-item.invariant.extends.front c.requires.scoped

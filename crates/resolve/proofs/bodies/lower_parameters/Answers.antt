@@ -9,7 +9,7 @@ use Rattle.resolve.proofs.Lowering.{scope-later, same_name, labelled-same, lower
 use Rattle.resolve.proofs.bodies.lower_parameters.Goals as goal
 
 pub loop-member-init : goal.loop-member-init
-loop-member-init c = rw c.new-parameters.ensures.items (lowers_each-none parameter_typed read_parameter unnamed_parameter c.args.builder.now)
+loop-member-init c = rw c.in_ok-parameters.ensures.items (lowers_each-none parameter_typed read_parameter unnamed_parameter c.args.builder.now)
 
 pub lower_type-requires-clause-scoped : goal.lower_type-requires-clause-scoped
 lower_type-requires-clause-scoped c = scope-later c.args.builder.now c.loop-member.builder c.args.scope.now c.loop-member.invariant.extends.front c.requires.scoped

@@ -7,10 +7,17 @@ use Rattle.ctype_bin.specs.FileView.{file_view}
 use Rattle.wit_component.proofs.OneReading.{one-reading, spelt-alone}
 use Rattle.wit_component.proofs.same.is_same.Goals as goal
 
+pub returns-then-eq-clause-same : goal.returns-then-eq-clause-same
+returns-then-eq-clause-same c =
+    let same : c.args.given.now ≡ c.args.bytes.now = (bytes_eq-Decides c.args.given.now c.args.bytes.now).0 (sym c.eq.ensures ∙ c.if-eq.true) in
+    ∥∥₁_map₂ c.requires.given c.requires.spelt
+    (λ a b. one-reading c.files_are_read_exactly.ensures c.args.given.now (file_view c.args.a.now) (file_view c.args.b.now) a
+    (subst (λ (bs : List ℕ). file.spells bs (file_view c.args.b.now)) (sym same) (spelt-alone [] c.args.bytes.now (file_view c.args.b.now) refl b)))
+
 pub returns-clause-same : goal.returns-clause-same
 returns-clause-same c =
-    OnTrue_from c.eq.result _ (λ yes.
-    let same = (bytes_eq-Decides c.as_slice.result.now c.args.bytes.now).0 (sym c.eq.ensures ∙ yes) in
+    OnTrue_from c.eq-2.result _ (λ yes.
+    let same = (bytes_eq-Decides c.as_slice.result.now c.args.bytes.now).0 (sym c.eq-2.ensures ∙ yes) in
     let bytes : c.args.bytes.now ≡ c.in_ok-first.first.items = sym same ∙ c.as_slice.ensures.value in
     ∥∥₁_map₂ c.in_ok-first.ensures.spelt c.requires.spelt
     (λ a b. one-reading c.files_are_read_exactly.ensures c.in_ok-first.first.items (file_view c.args.a.now) (file_view c.args.b.now) a

@@ -4,7 +4,7 @@ use Rattle.std.proofs.lemmas.List.{take_rest, length-drop, length_push}
 use Rattle.wit_tokens.proofs.lexer.lex.Goals as goal
 
 pub loop-at-init : goal.loop-at-init
-loop-at-init c = record { so_far = rw c.new-tokens.ensures.items begin; few = rw c.new-tokens.ensures.items (omega arith); within = omega arith }
+loop-at-init c = record { so_far = rw c.in_ok-tokens.ensures.items begin; few = rw c.in_ok-tokens.ensures.items (omega arith); within = omega arith }
 
 pub loop-at-preserved-in-Blank : goal.loop-at-preserved-in-Blank
 loop-at-preserved-in-Blank c =

@@ -2,6 +2,9 @@ use Rattle.std.proofs.Math.Logic.{∥∥₁_map}
 use Rattle.std.proofs.lemmas.Result.{err_from_is_err_and}
 use Rattle.witcall.proofs.binary.binary_tables.Goals as goal
 
+pub from_spelled-requires : goal.from_spelled-requires
+from_spelled-requires c = ∣ c.in_ok-raw.ensures.spelt.1 ∣₁
+
 pub returns-in_err-resolve-clause-err : goal.returns-in_err-resolve-clause-err
 returns-in_err-resolve-clause-err c =
     let p = err_from_is_err_and c.from_residual-in_err-resolve.result c.from_residual-in_err-resolve.ensures.1 in

@@ -1,0 +1,28 @@
+-- The words by which a trap is printed: its kind and its step.
+use Rattle.std.specs.Prelude.{ℕ, List, codes}
+use Rattle.canonical_abi.specs.declared.trap.Step.{Step}
+use Rattle.canonical_abi.specs.declared.trap.Step.TheVariants as step
+use Rattle.canonical_abi.specs.declared.trap.TrapKind.{TrapKind}
+use Rattle.canonical_abi.specs.declared.trap.TrapKind.TheVariants as kind
+
+-- the kind, by its number and its name
+abbrev pub kind_words : TrapKind → List ℕ
+kind_words kind.Char = codes "K1 char"
+kind_words kind.Case = codes "K2 case"
+kind_words kind.Align = codes "K3 align"
+kind_words kind.Bounds = codes "K4 bounds"
+kind_words kind.Utf8 = codes "K5 utf8"
+kind_words kind.Full = codes "K6 full"
+kind_words kind.Body = codes "K7 body"
+kind_words kind.CoreSignature = codes "K8 coresignature"
+
+-- the step
+abbrev pub step_words : Step → List ℕ
+step_words step.Place = codes "place"
+step_words step.Take = codes "take"
+step_words step.LiftArgs = codes "lift-args"
+step_words step.LowerArgs = codes "lower-args"
+step_words step.Body = codes "body"
+step_words step.LiftResult = codes "lift-result"
+step_words step.LowerResult = codes "lower-result"
+step_words step.Post = codes "post"
