@@ -22,9 +22,9 @@ MEGABYTE = 1000000
 
 
 def text():
-    """A text of some 200 KB, and of types of every shape."""
+    """A text of some 750 KB, with types of every shape."""
     items = ["record r { a: u8, b: list<string> }", "variant v { p, q(r) }", "f: func(x: r, y: option<v>) -> result<r>;"]
-    items += [f"record r{number} {{ a: u8, b: list<r>, c: option<string> }} g{number}: func(x: r{number});" for number in range(2500)]
+    items += [f"record r{number} {{ a: u8, b: list<r>, c: option<string> }} g{number}: func(x: r{number});" for number in range(7500)]
     return "package a:b; interface c { " + "\n".join(items) + " }"
 
 

@@ -1,0 +1,40 @@
+//! A caller that builds on `witcall`: it orders so many of an item from a component that it doesn't trust. Of the call
+//! it knows what `Session::call` promises, and of the body nothing.
+#![tactic(auto)]
+
+ghost use Rattle.std.specs.Prelude.{◌≡◌, ◌↔◌, IsTrue, OnOk, string_bytes};
+ghost use Rattle.memory.specs.SpaceView.{space_memory};
+ghost use Rattle.tables.specs.Closed.{IsFunction, function_type};
+ghost use Rattle.example_client.specs.Order.{FindsOrder, KeepsLiveRanges, TakesOrder};
+
+use memory::spaces_are_limited;
+use std::alloc::Global;
+use witcall::{Body, Fault, FunctionId, Package, Session, Space, Val};
+
+/// Whether a function's parameters are an item and a count, as those of `order: func(item: string, count: u32) -> u32`.
+pub fn takes_order(alloc: Global, package: &Package, func: FunctionId) -> bool
+    requires { IsFunction «package».now.resolve func }
+    ensures { IsTrue result ↔ TakesOrder (function_type «package».now.resolve func) }
+{
+    package.takes(func, &[Val::String(String::new(alloc)), Val::U32(0)])
+}
+
+/// Orders an item. Where it answers, the body found just this item and this count, and was run once on them. Whatever the
+/// body did and however the call ended, what was live in the caller before it has the same bytes.
+pub fn order<B: Body<Space>>(
+    alloc: Global,
+    session: &mut Session<'_, Space, Space, B>,
+    func: FunctionId,
+    item: String,
+    count: u32,
+) -> Result<Option<Val>, Fault>
+    requires function { IsFunction session.old.package.now.resolve func }
+    requires takes { TakesOrder (function_type session.old.package.now.resolve func) }
+    ensures found { OnOk result (FindsOrder (string_bytes item) count (B.runs session.old.body) (B.posts session.old.body)
+        (B.state session.old.body) (B.state session.new.body) (space_memory session.new.callee)) }
+    ensures kept { KeepsLiveRanges (space_memory session.old.caller) (space_memory session.new.caller) }
+{
+    spaces_are_limited(session.caller());
+    spaces_are_limited(session.callee());
+    session.call(alloc, func, &[Val::String(item), Val::U32(count)])
+}
