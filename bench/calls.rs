@@ -9,6 +9,8 @@ use std::hint::black_box;
 const LEN: usize = 16_777_216;
 /// The bytes of a small value.
 const SMALL: usize = 262_144;
+/// The length of the memories that grow.
+const MEMORY: u32 = 1_048_576;
 /// How many times each time is taken; the least counts.
 const RUNS: usize = 15;
 /// What a target is filled with.
@@ -38,6 +40,8 @@ unsafe extern "C" {
         target: *mut u8,
         target_len: usize,
     ) -> bool;
+    fn bench_memories(kind: u32, count: u32, size: u32, rounds: u32, len: u32, grown: bool)
+    -> bool;
 }
 
 /// The nanoseconds of processor time that this thread has had.
@@ -452,6 +456,9 @@ const SHAPES: [Shape; 13] = [
     },
 ];
 
+/// The lists that are called with over memories that grew: of bytes, of numbers of 32 bits, of rows and of pairs.
+const GROWN: [u32; 4] = [1, 2, 6, 9];
+
 /// Calls the export. A string's count is one of bytes.
 fn call(shape: &Shape, count: usize, rounds: u32, source: &mut [u8], target: &mut [u8]) {
     let units = if shape.kind == 0 { shape.size } else { 1 };
@@ -546,6 +553,44 @@ fn times_of_short_calls() -> (f64, f64) {
     (time(12), time(0))
 }
 
+/// Calls the other export, with a list of zeros.
+fn call_over_memories(kind: u32, count: u32, size: u32, rounds: u32, grown: bool) {
+    // SAFETY: the export requires nothing of its arguments.
+    let done = unsafe { bench_memories(kind, count, size, rounds, MEMORY, grown) };
+    assert!(done, "the library refuses list {kind}");
+}
+
+/// The nanoseconds of a call over memories of one length: made so long, and grown to it. Both in turn; what the library takes to make
+/// them is taken off.
+fn times_over_memories(kind: u32, count: u32, size: u32) -> [f64; 2] {
+    let rounds = 1024;
+    let mut least = [[f64::INFINITY; 2]; 2];
+    for _ in 0..RUNS {
+        for grown in [false, true] {
+            for (place, rounds) in least[usize::from(grown)].iter_mut().zip([0, rounds]) {
+                let time = time_of(|| call_over_memories(kind, count, size, rounds, grown));
+                *place = place.min(time);
+            }
+        }
+    }
+    least.map(|[none, some]| (some - none) / f64::from(rounds))
+}
+
+/// One row of the table of memories that grew: a list of 256 KiB.
+fn row_over_memories(shape: &Shape) -> String {
+    let count = SMALL / shape.size;
+    let [made, grown] = times_over_memories(shape.kind, count as u32, (count * shape.size) as u32);
+    let each = count as f64;
+    format!(
+        "| {} | {} | {:.3} | {:.3} | {:.2} |",
+        shape.name,
+        count,
+        made / each,
+        grown / each,
+        grown / made
+    )
+}
+
 fn main() {
     println!("| type | elements | witcall | loop | witcall / loop |");
     println!("|---|---|---|---|---|");
@@ -553,6 +598,12 @@ fn main() {
         for bytes in [SMALL, LEN] {
             println!("{}", row(shape, bytes));
         }
+    }
+    println!();
+    println!("| type | elements | made | grown | grown / made |");
+    println!("|---|---|---|---|---|");
+    for shape in SHAPES.iter().filter(|shape| GROWN.contains(&shape.kind)) {
+        println!("{}", row_over_memories(shape));
     }
     let (number, text) = times_of_short_calls();
     println!();

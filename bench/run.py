@@ -18,7 +18,7 @@ import tempfile
 
 TOP = pathlib.Path(__file__).resolve().parent.parent
 LIBRARIES = ["atoms", "canonical_abi", "tables", "layout", "memory", "lift_lower"]
-CALLS = ["atoms", "canonical_abi", "tables", "layout", "lift_lower", "adapter"]
+CALLS = ["atoms", "canonical_abi", "tables", "layout", "memory", "lift_lower", "adapter"]
 
 # of each table: its library's crate and that crate's source, what it stands on, and the program over it
 TABLES = {
