@@ -1,9 +1,9 @@
 -- The parts of a call, put together from how its ways ended.
-use Rattle.std.proofs.Common.{◌≡◌, ◌^◌, ◌<◌, inl, inr, ℕ, Bool, true, false, if◌then◌else◌, List, [], ◌∷◌, ◌++◌, length, map, take, Option, Some, None, Result, Ok, Err, refl, sym, ap, ◌∙◌, subst, arith}
+use Rattle.std.proofs.Common.{◌≡◌, ◌^◌, ◌<◌, inl, inr, ℕ, Bool, true, false, if◌then◌else◌, List, [], ◌∷◌, ◌++◌, length, map, take, Option, Some, None, Result, Ok, Err, refl, sym, ap, ◌∙◌, arith}
 use Rattle.std.proofs.Math.Seq.{take-append_seam, take-length}
 use Rattle.std.proofs.lemmas.List.{take-map}
 use Rattle.canonical_abi.specs.Types.{FunctionType, Fields, result_fields}
-use Rattle.canonical_abi.specs.Layout.{CoreSignature, lifted_signature, lowered_signature, max_flat_params, max_flat_results, fits_flat, passed_kinds}
+use Rattle.canonical_abi.specs.Layout.{CoreSignature, lifted_signature, max_flat_params, max_flat_results, fits_flat, passed_kinds}
 use Rattle.canonical_abi.specs.Reading.{low_bits, kind_of, number_of}
 use Rattle.canonical_abi.specs.Guest.{Memory, Allocation}
 use Rattle.canonical_abi.specs.Script.{AddressFaulty}
@@ -15,15 +15,14 @@ use Rattle.canonical_abi.specs.declared.flat.Flat.{Flat}
 use Rattle.canonical_abi.specs.declared.trap.Fault.TheVariants as ended
 use Rattle.canonical_abi.specs.declared.trap.Step.TheVariants as step
 use Rattle.canonical_abi.specs.declared.trap.TrapKind.{TrapKind}
-use Rattle.canonical_abi.specs.declared.trap.TrapKind.TheVariants as trap
 use Rattle.canonical_abi.proofs.Stopped.{leaves-none}
 use Rattle.arrayvec.specs.ArrayVec.{ArrayVec}
 use Rattle.crossing.specs.Outcome.{Counts, IsDone, MetFault, WasRefused}
 use Rattle.crossing.specs.Ways.{ParamsWalk, ResultWalk, AreaIsBad, IsUnbegun, WayEnds}
 use Rattle.crossing.specs.declared.stopped.Stopped.{Stopped}
 use Rattle.crossing.specs.declared.stopped.Stopped.TheVariants as stopped
-use Rattle.adapter.specs.Counting.{counted_nodes}
-use Rattle.adapter.specs.Crossing.{guests, memories, fault_in, HasEntered, EntryFails, HasReturned, ReturnFails}
+use Rattle.canonical_abi.specs.Halves.{counted_nodes, source, world, HasEntered, EntryFails, HasReturned, ReturnFails}
+use Rattle.adapter.specs.Faults.{fault_in}
 
 -- the flat value behind those of the arguments
 pub area-is : (f : FunctionType) (flats : List Flat) (area count : ℕ) (s : CoreSignature) → area ≡ low_bits (map number_of flats) count 32 → count ≡ length s.params → s ≡ lifted_signature f
@@ -44,36 +43,36 @@ argument-kinds f flats kinds = sym (take-map kind_of (length ks) flats) ∙ ap (
 pub same-arguments : (f : FunctionType) (flats given : List Flat) (count : ℕ) (s : CoreSignature) → given ≡ take count flats → count ≡ length s.params → s ≡ lifted_signature f → given ≡ argument_flats f flats
 same-arguments f flats given count s is counted same = is ∙ ap (λ n. take n flats) (counted ∙ ap (λ t. length t.params) same)
 
-module _ (caller_allocates callee_allocates : Allocation) (f : FunctionType) (flats : List Flat) (caller callee : Memory) where
-  -- ---- the arguments
+-- ---- the arguments
 
+module _ (allocates : Allocation) (f : FunctionType) (flats : List Flat) (m : List ℕ) (callee : Memory) where
   module _ (n : ℕ) (callee' : Memory) (c : ℕ) (fresh : n ≡ 0) (small : c < 2 ^ 64) where
     counted : (es : List Event) → Counts n es c → c ≡ counted_nodes es
     counted es h = omega (arith, h, fresh, small)
 
-    has-entered : (handed : List Flat) → KindsFit f flats → IsDone callee_allocates (ParamsWalk max_flat_params f.params caller.bytes (argument_flats f flats) handed) callee n callee' c
-        → HasEntered (guests caller_allocates callee_allocates) f flats (memories caller callee) handed (memories caller callee') c
+    has-entered : (handed : List Flat) → KindsFit f flats → IsDone allocates (ParamsWalk max_flat_params f.params m (argument_flats f flats) handed) callee n callee' c
+        → HasEntered allocates f flats m callee handed callee' c
     has-entered handed kinds d =
         (d.scripted.0, d.events, record { kinds = kinds; denoted = d.scripted.1; passes = d.scripted.2; leads = d.leads; same_caller = refl; same_body = refl }, counted d.events d.counted)
 
     -- the record of the arguments has no place
-    bad-address : (k : TrapKind) → KindsFit f flats → AddressFaulty max_flat_params f.params caller.bytes (argument_flats f flats) k → IsUnbegun callee n callee' c
-        → EntryFails (guests caller_allocates callee_allocates) f flats (memories caller callee) (ended.Trap (record { kind = k; step = step.LiftArgs })) (memories caller callee') c
-    bad-address k kinds address none = inl (refl, [], inr (inl (kinds, address, refl, ap (λ m. memories caller m) none.same)), none.uncounted ∙ fresh)
+    bad-address : (k : TrapKind) → KindsFit f flats → AddressFaulty max_flat_params f.params m (argument_flats f flats) k → IsUnbegun callee n callee' c
+        → EntryFails allocates f flats m callee (ended.Trap (record { kind = k; step = step.LiftArgs })) callee' c
+    bad-address k kinds address none = inl (refl, [], inr (inl (kinds, address, refl, ap (λ w. world (source m) w []) none.same)), none.uncounted ∙ fresh)
 
     -- one of their nodes is at fault
-    bad-argument : (k : TrapKind) (final : List Flat) → KindsFit f flats → MetFault callee_allocates (ParamsWalk max_flat_params f.params caller.bytes (argument_flats f flats) final) callee n k callee' c
-        → EntryFails (guests caller_allocates callee_allocates) f flats (memories caller callee) (ended.Trap (record { kind = k; step = step.LiftArgs })) (memories caller callee') c
+    bad-argument : (k : TrapKind) (final : List Flat) → KindsFit f flats → MetFault allocates (ParamsWalk max_flat_params f.params m (argument_flats f flats) final) callee n k callee' c
+        → EntryFails allocates f flats m callee (ended.Trap (record { kind = k; step = step.LiftArgs })) callee' c
     bad-argument k final kinds u =
         inl (refl, u.events, inr (inr (kinds, u.events, u.scripted, refl, (u.events, leaves-none u.events, u.leads), refl, refl)), counted u.events u.counted)
 
     -- the callee has no room for them
-    no-room : (k : TrapKind) (final : List Flat) → KindsFit f flats → WasRefused callee_allocates (ParamsWalk max_flat_params f.params caller.bytes (argument_flats f flats) final) callee n k callee' c
-        → EntryFails (guests caller_allocates callee_allocates) f flats (memories caller callee) (ended.Trap (record { kind = k; step = step.LowerArgs })) (memories caller callee') c
+    no-room : (k : TrapKind) (final : List Flat) → KindsFit f flats → WasRefused allocates (ParamsWalk max_flat_params f.params m (argument_flats f flats) final) callee n k callee' c
+        → EntryFails allocates f flats m callee (ended.Trap (record { kind = k; step = step.LowerArgs })) callee' c
     no-room k final kinds u = by u.outcome u.scripted
       where
-        by : (o : Option TrapKind) → ParamsWalk max_flat_params f.params caller.bytes (argument_flats f flats) final o (u.done ++ grant u.next ∷ u.rest)
-            → EntryFails (guests caller_allocates callee_allocates) f flats (memories caller callee) (ended.Trap (record { kind = k; step = step.LowerArgs })) (memories caller callee') c
+        by : (o : Option TrapKind) → ParamsWalk max_flat_params f.params m (argument_flats f flats) final o (u.done ++ grant u.next ∷ u.rest)
+            → EntryFails allocates f flats m callee (ended.Trap (record { kind = k; step = step.LowerArgs })) callee' c
         by None (vs, denoted, passes) =
             inr (refl, u.done, (kinds, u.done ++ grant u.next ∷ u.rest, inl (vs, final, denoted, passes), (u.done, u.done, u.rest, u.next, u.asked, refl, leaves-none u.done, u.leads, u.fails), refl, refl, refl), counted u.done u.counted)
         by (Some j) stops =
@@ -81,12 +80,12 @@ module _ (caller_allocates callee_allocates : Allocation) (f : FunctionType) (fl
 
   -- what the end of the arguments' way says of the call
   abbrev pub EndsArguments : Memory → ℕ → Result (ArrayVec Flat) Stopped → Type 0
-  EndsArguments callee' c (Ok handed) = HasEntered (guests caller_allocates callee_allocates) f flats (memories caller callee) handed.items (memories caller callee') c
+  EndsArguments callee' c (Ok handed) = HasEntered allocates f flats m callee handed.items callee' c
   EndsArguments callee' c (Err s) =
-      EntryFails (guests caller_allocates callee_allocates) f flats (memories caller callee) (fault_in step.LiftArgs step.LowerArgs s) (memories caller callee') c
+      EntryFails allocates f flats m callee (fault_in step.LiftArgs step.LowerArgs s) callee' c
 
   pub arguments-end : KindsFit f flats → (n : ℕ) (r : Result (ArrayVec Flat) Stopped) (callee' : Memory) (c : ℕ) → n ≡ 0 → c < 2 ^ 64
-      → WayEnds callee_allocates (ParamsWalk max_flat_params f.params caller.bytes (argument_flats f flats)) (AddressFaulty max_flat_params f.params caller.bytes (argument_flats f flats)) (λ k. ⊥) callee n r callee' c
+      → WayEnds allocates (ParamsWalk max_flat_params f.params m (argument_flats f flats)) (AddressFaulty max_flat_params f.params m (argument_flats f flats)) (λ k. ⊥) callee n r callee' c
       → EndsArguments callee' c r
   arguments-end kinds n (Ok handed) callee' c fresh small d = has-entered n callee' c fresh small handed.items kinds d
   arguments-end kinds n (Err (stopped.Source k)) callee' c fresh small (inl (address, none)) = bad-address n callee' c fresh small k kinds address none
@@ -94,8 +93,9 @@ module _ (caller_allocates callee_allocates : Allocation) (f : FunctionType) (fl
   arguments-end kinds n (Err (stopped.Target k)) callee' c fresh small (inl (never, none)) = absurd never
   arguments-end kinds n (Err (stopped.Target k)) callee' c fresh small (inr (final, u)) = no-room n callee' c fresh small k final kinds u
 
-  -- ---- the result
+-- ---- the result
 
+module _ (allocates : Allocation) (f : FunctionType) (flats : List Flat) (caller : Memory) (m : List ℕ) where
   module _ (answer : List Flat) (n : ℕ) (caller' : Memory) (c : ℕ) (fresh : n ≡ 0) (small : c < 2 ^ 64) where
     counted-back : (es : List Event) → Counts n es c → c ≡ counted_nodes es
     counted-back es h = omega (arith, h, fresh, small)
@@ -103,34 +103,34 @@ module _ (caller_allocates callee_allocates : Allocation) (f : FunctionType) (fl
     abbrev fs : Fields
     fs = result_fields f.result
 
-    has-returned : (back : List Flat) → IsDone caller_allocates (ResultWalk max_flat_results fs callee.bytes answer (area_of f flats) caller.bytes back) caller n caller' c
-        → HasReturned (guests caller_allocates callee_allocates) f flats (memories caller callee) answer back (memories caller' callee) c
+    has-returned : (back : List Flat) → IsDone allocates (ResultWalk max_flat_results fs m answer (area_of f flats) caller.bytes back) caller n caller' c
+        → HasReturned allocates f flats m answer caller back caller' c
     has-returned back d =
         (d.scripted.1, d.events, record { denoted = d.scripted.2; area_stands = d.scripted.0; passes = d.scripted.3; leads = d.leads; same_callee = refl; same_body = refl }, counted-back d.events d.counted)
 
     -- the answer's kinds or the address of its record are at fault
-    bad-answer : (k : TrapKind) → AddressFaulty max_flat_results fs callee.bytes answer k → IsUnbegun caller n caller' c
-        → ReturnFails (guests caller_allocates callee_allocates) f flats (memories caller callee) answer (ended.Trap (record { kind = k; step = step.LiftResult })) (memories caller' callee) c
-    bad-answer k address none = inl (refl, [], inl (address, refl, ap (λ m. memories m callee) none.same), none.uncounted ∙ fresh)
+    bad-answer : (k : TrapKind) → AddressFaulty max_flat_results fs m answer k → IsUnbegun caller n caller' c
+        → ReturnFails allocates f flats m answer caller (ended.Trap (record { kind = k; step = step.LiftResult })) caller' c
+    bad-answer k address none = inl (refl, [], inl (address, refl, ap (λ w. world w (source m) []) none.same), none.uncounted ∙ fresh)
 
     -- one of its nodes is
-    bad-result : (k : TrapKind) (final : List Flat) → MetFault caller_allocates (ResultWalk max_flat_results fs callee.bytes answer (area_of f flats) caller.bytes final) caller n k caller' c
-        → ReturnFails (guests caller_allocates callee_allocates) f flats (memories caller callee) answer (ended.Trap (record { kind = k; step = step.LiftResult })) (memories caller' callee) c
+    bad-result : (k : TrapKind) (final : List Flat) → MetFault allocates (ResultWalk max_flat_results fs m answer (area_of f flats) caller.bytes final) caller n k caller' c
+        → ReturnFails allocates f flats m answer caller (ended.Trap (record { kind = k; step = step.LiftResult })) caller' c
     bad-result k final u =
         inl (refl, u.events, inr (u.scripted.0, u.events, u.scripted.1, refl, (u.events, leaves-none u.events, u.leads), refl, refl), counted-back u.events u.counted)
 
     -- the return area is
-    bad-area : (k : TrapKind) → AreaIsBad max_flat_results fs callee.bytes answer (area_of f flats) caller.bytes k → IsUnbegun caller n caller' c
-        → ReturnFails (guests caller_allocates callee_allocates) f flats (memories caller callee) answer (ended.Trap (record { kind = k; step = step.LowerResult })) (memories caller' callee) c
-    bad-area k bad none = inr (refl, [], inl (bad.0, bad.1, refl, ap (λ m. memories m callee) none.same), none.uncounted ∙ fresh)
+    bad-area : (k : TrapKind) → AreaIsBad max_flat_results fs m answer (area_of f flats) caller.bytes k → IsUnbegun caller n caller' c
+        → ReturnFails allocates f flats m answer caller (ended.Trap (record { kind = k; step = step.LowerResult })) caller' c
+    bad-area k bad none = inr (refl, [], inl (bad.0, bad.1, refl, ap (λ w. world w (source m) []) none.same), none.uncounted ∙ fresh)
 
     -- the caller has no room for it
-    no-room-back : (k : TrapKind) (final : List Flat) → WasRefused caller_allocates (ResultWalk max_flat_results fs callee.bytes answer (area_of f flats) caller.bytes final) caller n k caller' c
-        → ReturnFails (guests caller_allocates callee_allocates) f flats (memories caller callee) answer (ended.Trap (record { kind = k; step = step.LowerResult })) (memories caller' callee) c
+    no-room-back : (k : TrapKind) (final : List Flat) → WasRefused allocates (ResultWalk max_flat_results fs m answer (area_of f flats) caller.bytes final) caller n k caller' c
+        → ReturnFails allocates f flats m answer caller (ended.Trap (record { kind = k; step = step.LowerResult })) caller' c
     no-room-back k final u = by u.outcome u.scripted
       where
-        by : (o : Option TrapKind) → ResultWalk max_flat_results fs callee.bytes answer (area_of f flats) caller.bytes final o (u.done ++ grant u.next ∷ u.rest)
-            → ReturnFails (guests caller_allocates callee_allocates) f flats (memories caller callee) answer (ended.Trap (record { kind = k; step = step.LowerResult })) (memories caller' callee) c
+        by : (o : Option TrapKind) → ResultWalk max_flat_results fs m answer (area_of f flats) caller.bytes final o (u.done ++ grant u.next ∷ u.rest)
+            → ReturnFails allocates f flats m answer caller (ended.Trap (record { kind = k; step = step.LowerResult })) caller' c
         by None (stands, vs, denoted, passes) =
             inr (refl, u.done, inr (stands, u.done ++ grant u.next ∷ u.rest, inl (vs, final, denoted, passes), (u.done, u.done, u.rest, u.next, u.asked, refl, leaves-none u.done, u.leads, u.fails), refl, refl, refl), counted-back u.done u.counted)
         by (Some j) (stands, stops) =
@@ -139,13 +139,13 @@ module _ (caller_allocates callee_allocates : Allocation) (f : FunctionType) (fl
   module _ (answer : List Flat) where
     -- what the end of the result's way says of the call
     abbrev pub EndsResult : Memory → ℕ → Result (ArrayVec Flat) Stopped → Type 0
-    EndsResult caller' c (Ok back) = HasReturned (guests caller_allocates callee_allocates) f flats (memories caller callee) answer back.items (memories caller' callee) c
+    EndsResult caller' c (Ok back) = HasReturned allocates f flats m answer caller back.items caller' c
     EndsResult caller' c (Err s) =
-        ReturnFails (guests caller_allocates callee_allocates) f flats (memories caller callee) answer (fault_in step.LiftResult step.LowerResult s) (memories caller' callee) c
+        ReturnFails allocates f flats m answer caller (fault_in step.LiftResult step.LowerResult s) caller' c
 
     pub result-ends : (n : ℕ) (r : Result (ArrayVec Flat) Stopped) (caller' : Memory) (c : ℕ) → n ≡ 0 → c < 2 ^ 64
-        → WayEnds caller_allocates (ResultWalk max_flat_results (result_fields f.result) callee.bytes answer (area_of f flats) caller.bytes) (AddressFaulty max_flat_results (result_fields f.result) callee.bytes answer)
-        (AreaIsBad max_flat_results (result_fields f.result) callee.bytes answer (area_of f flats) caller.bytes) caller n r caller' c
+        → WayEnds allocates (ResultWalk max_flat_results (result_fields f.result) m answer (area_of f flats) caller.bytes) (AddressFaulty max_flat_results (result_fields f.result) m answer)
+        (AreaIsBad max_flat_results (result_fields f.result) m answer (area_of f flats) caller.bytes) caller n r caller' c
         → EndsResult caller' c r
     result-ends n (Ok back) caller' c fresh small d = has-returned answer n caller' c fresh small back.items d
     result-ends n (Err (stopped.Source k)) caller' c fresh small (inl (address, none)) = bad-answer answer n caller' c fresh small k address none

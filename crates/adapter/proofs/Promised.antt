@@ -2,18 +2,19 @@
 use Rattle.std.proofs.Common.{◌≡◌, ℕ, List, Result}
 use Rattle.canonical_abi.specs.Guest.{Release}
 use Rattle.canonical_abi.specs.Call.{Parties, World, Ways, exact, Calls}
+use Rattle.canonical_abi.specs.Halves.{counted_nodes, CallsInHalves}
 use Rattle.canonical_abi.specs.Headline.{IsLinkPromised}
 use Rattle.canonical_abi.specs.declared.flat.Flat.{Flat}
 use Rattle.canonical_abi.specs.declared.trap.Fault.{Fault}
 use Rattle.canonical_abi.specs.Few.{AreFewNodes}
 use Rattle.canonical_abi.proofs.Few.{visits-few-nodes}
+use Rattle.canonical_abi.proofs.Halves.{halves-are-a-call}
 use Rattle.canonical_abi.proofs.Linked.{link-keeps-promise}
 use Rattle.layout.specs.Layout.{AreWithin}
 use Rattle.tables.specs.Closed.{function_type, IsFunction}
 use Rattle.tables.specs.declared.tables.FunctionId.{FunctionId}
 use Rattle.tables.specs.declared.tables.Resolve.{Resolve}
 use Rattle.tables.proofs.Standards.{function-standard}
-use Rattle.adapter.specs.Counting.{counted_nodes}
 use Rattle.adapter.proofs.Signatures.{function-shallow}
 
 pub link-promised : (parties : Parties) (caller_releases callee_releases : Release) (r : Resolve) (f : FunctionId) (flats : List Flat) (old : World)
@@ -24,7 +25,8 @@ link-promised parties caller_releases callee_releases r f flats old result new i
 
 -- and visit few nodes, so many
 pub link-told : (parties : Parties) (r : Resolve) → ∥ AreWithin r ∥₁ → (f : FunctionId) (flats : List Flat) (old : World) (result : Result (List Flat) Fault) (new : World) (there back : ℕ) → IsFunction r f
-    → (ways : Ways) × Calls parties exact (function_type r f) flats old result ways new × ((there ≡ counted_nodes ways.there) × (back ≡ counted_nodes ways.back))
+    → CallsInHalves parties (function_type r f) flats old result there back new
     → (ways : Ways) × Calls parties exact (function_type r f) flats old result ways new × ((there ≡ counted_nodes ways.there) × (back ≡ counted_nodes ways.back)) × AreFewNodes (function_type r f) ways
-link-told parties r within f flats old result new there back is (ways, calls, counts) =
+link-told parties r within f flats old result new there back is halves =
+    let (ways, calls, counts) = halves-are-a-call parties (function_type r f) flats old result there back new halves in
     (ways, calls, counts, visits-few-nodes parties (function_type r f) flats old result ways new (function-standard r f is) (function-shallow r within f is) calls)

@@ -1,4 +1,4 @@
+pub mod Asked
 pub mod Carrying
-pub mod Counting
-pub mod Crossing
+pub mod Faults
 pub mod Linked

@@ -1,9 +1,9 @@
 -- What contracts see of a link.
 use Rattle.std.specs.Prelude.{◌≡◌, ℕ}
 use Rattle.canonical_abi.specs.Call.{Ways}
+use Rattle.canonical_abi.specs.Halves.{counted_nodes}
 use Rattle.layout.specs.Layout.{Table}
 use Rattle.tables.specs.declared.tables.Resolve.{Resolve}
-use Rattle.adapter.specs.Counting.{counted_nodes}
 
 -- the package whose functions are called, its layouts, and the nodes of the last call's two ways
 pub record Linked : Type 0 where

@@ -1,7 +1,7 @@
 //! The first way of a call: the arguments, from the caller into the callee.
 ghost use Rattle.std.specs.Prelude.{◌≡◌, IfOk, IfErr};
+ghost use Rattle.canonical_abi.specs.Halves.{HasEntered, EntryFails};
 ghost use Rattle.tables.specs.Closed.{IsFunction, function_type};
-ghost use Rattle.adapter.specs.Crossing.{guests, memories, HasEntered, EntryFails};
 
 use crate::fault::{fault_of, trap};
 use canonical_abi::{Fault, Flat, Guest, Step, TrapKind};
@@ -22,10 +22,10 @@ pub(crate) fn pass_arguments<C: Guest, E: Guest>(
 ) -> Result<Flats, Fault>
     requires function { IsFunction table.now func }
     requires fresh { nodes.old ≡ 0 }
-    ensures entered { IfOk result (λ handed. HasEntered (guests C.allocates E.allocates) (function_type table.now func) flats.now
-        (memories (C.memory caller.now) (E.memory callee.old)) handed.items (memories (C.memory caller.now) (E.memory callee.new)) nodes.new) }
-    ensures fault { IfErr result (λ fault. EntryFails (guests C.allocates E.allocates) (function_type table.now func) flats.now
-        (memories (C.memory caller.now) (E.memory callee.old)) fault (memories (C.memory caller.now) (E.memory callee.new)) nodes.new) }
+    ensures entered { IfOk result (λ handed. HasEntered E.allocates (function_type table.now func) flats.now (C.memory caller.now).bytes
+        (E.memory callee.old) handed.items (E.memory callee.new) nodes.new) }
+    ensures fault { IfErr result (λ fault. EntryFails E.allocates (function_type table.now func) flats.now (C.memory caller.now).bytes
+        (E.memory callee.old) fault (E.memory callee.new) nodes.new) }
 {
     let layouts = table.layouts();
     if !are_kinds(layouts.lowered(func).params.as_slice(), flats) {

@@ -1,6 +1,6 @@
 //! Faults of a call.
 ghost use Rattle.std.specs.Prelude.{◌≡◌};
-ghost use Rattle.adapter.specs.Crossing.{fault_in};
+ghost use Rattle.adapter.specs.Faults.{fault_in};
 
 use canonical_abi::{Fault, Step, Trap, TrapKind};
 use crossing::Stopped;

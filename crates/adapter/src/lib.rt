@@ -9,9 +9,11 @@ mod arguments;
 mod body;
 mod fault;
 mod link;
+mod requests;
 mod results;
 mod signature;
 
+pub use asking::Request;
 pub use body::{Body, BoxedBody, Export, Stopped};
 pub use link::Link;
 pub use signature::parameter_types;

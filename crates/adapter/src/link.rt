@@ -1,17 +1,27 @@
 //! The call itself.
-ghost use Rattle.std.specs.Prelude.{◌≡◌, ◌≢◌, ◌≤◌, Err, length, IfOk};
-ghost use Rattle.canonical_abi.specs.Call.{Calls, Ways, exact, AllowsSameRuns, AllowsSamePosts};
+ghost use Rattle.std.specs.Prelude.{◌≡◌, ◌≢◌, ◌≤◌, Err, length, IfOk, IfErr};
+ghost use Rattle.asking.specs.Asking.{IsToldAhead};
+ghost use Rattle.canonical_abi.specs.Call.{Calls, Ways, exact, AllowsSameRuns, AllowsSamePosts, KindsFit};
 ghost use Rattle.canonical_abi.specs.Few.{AreFewNodes};
-ghost use Rattle.canonical_abi.specs.Headline.{IsLinkPromised};
+ghost use Rattle.canonical_abi.specs.Flat.{Denotes, DenotesFault};
+ghost use Rattle.canonical_abi.specs.Halves.{HasEntered, EntryFails, HasReturned, ReturnFails};
+ghost use Rattle.canonical_abi.specs.Headline.{IsLinkPromised, AreArguments, IsArgumentFault};
+ghost use Rattle.canonical_abi.specs.Layout.{max_flat_params, max_flat_results};
+ghost use Rattle.canonical_abi.specs.Requests.{params_requests, fields_requests};
+ghost use Rattle.canonical_abi.specs.Types.{result_fields};
+ghost use Rattle.canonical_abi.specs.declared.trap.Step.TheVariants.{LiftArgs, LiftResult};
 ghost use Rattle.tables.specs.Closed.{function_type, IsFunction};
 ghost use Rattle.layout.specs.Layout.{layouts_of, AreWithin};
+ghost use Rattle.adapter.specs.Asked.{IsTrapIn};
 ghost use Rattle.adapter.specs.Carrying.{answer_of};
 ghost use Rattle.adapter.specs.Linked.{TellsNodes};
 
 use crate::arguments::pass_arguments;
 use crate::body::Body;
 use crate::fault::trap;
+use crate::requests::{ask_answer, ask_arguments};
 use crate::results::pass_answer;
+use asking::Request;
 use canonical_abi::{Fault, Flat, Guest, Step, TrapKind};
 use layout::Layouts;
 use lift_lower::{Flats, Types};
@@ -67,6 +77,104 @@ impl<'a> Link<'a> {
         (self.there, self.back)
     }
 
+    /// The first half of a call, for a host that runs the core function itself: the arguments are lifted from the caller, which is
+    /// only read, and lowered into the callee. Answers the flat values for the core function. `flats` are those of a whole call,
+    /// the return area's address behind the arguments. A fault is in `lift-args` or `lower-args`, and nothing may be run after it.
+    /// With one run of the core function, `leave` and one run of post-return this is a call (`laws::halves_are_a_call` of
+    /// `canonical_abi`), and keeps its promise. `nodes` then tells the nodes of this half, and none of the other.
+    /// Takes no memory of the host.
+    pub fn enter<C: Guest, E: Guest>(
+        &mut self,
+        func: FunctionId,
+        flats: &[Flat],
+        caller: &C,
+        callee: &mut E,
+    ) -> Result<Flats, Fault>
+        requires function { IsFunction self.old.resolve func }
+        ensures entered { IfOk result (λ handed. HasEntered E.allocates (function_type self.old.resolve func) flats.now (C.memory caller.now).bytes
+            (E.memory callee.old) handed.items (E.memory callee.new) self.new.there) }
+        ensures fault { IfErr result (λ fault. EntryFails E.allocates (function_type self.old.resolve func) flats.now (C.memory caller.now).bytes
+            (E.memory callee.old) fault (E.memory callee.new) self.new.there) }
+        ensures no_memory { result ≢ Err Fault.NoMemory }
+        ensures back { self.new.back ≡ 0 }
+        ensures same_package { self.new.resolve ≡ self.old.resolve }
+        ensures same_layouts { self.new.layouts ≡ self.old.layouts }
+    {
+        self.there = 0;
+        self.back = 0;
+        let table = &Types::new(self.resolve, self.layouts);
+        pass_arguments(table, func, flats, caller, callee, &mut self.there)
+    }
+
+    /// What `enter` will ask the callee for, in its order, without it: the first requests are put over the slots, as many as
+    /// there are, and the answer is how many there are in all, as far as 64 bits count. So a host may ask with no slot first, and
+    /// have the blocks at hand when `enter` asks for them. Where the flat values denote no arguments over the caller, it answers
+    /// the trap in `lift-args` that `enter` comes to where the callee refuses nothing before, and the slots say nothing.
+    /// Takes no memory of the host.
+    pub fn enter_requests<C: Guest>(
+        &self,
+        func: FunctionId,
+        flats: &[Flat],
+        caller: &C,
+        slots: &mut [Request],
+    ) -> Result<usize, Fault>
+        requires function { IsFunction self.now.resolve func }
+        ensures kinds { IfOk result (λ _. KindsFit (function_type self.now.resolve func) flats.now) }
+        ensures told { let f = function_type self.now.resolve func in
+            IfOk result (IsToldAhead (AreArguments f flats.now (C.memory caller.now)) (params_requests max_flat_params f.params) slots.old slots.new) }
+        ensures fault { IfErr result (IsTrapIn LiftArgs (IsArgumentFault (function_type self.now.resolve func) flats.now (C.memory caller.now))) }
+    {
+        let table = &Types::new(self.resolve, self.layouts);
+        ask_arguments(table, func, flats, caller, slots)
+    }
+
+    /// What `leave` will ask the caller for, in the same way: for what the answer denotes over the callee, the return area
+    /// aside, for which nothing is asked. Where it denotes nothing, the answer is the trap in `lift-result`.
+    pub fn leave_requests<E: Guest>(
+        &self,
+        func: FunctionId,
+        answer: &[Flat],
+        callee: &E,
+        slots: &mut [Request],
+    ) -> Result<usize, Fault>
+        requires function { IsFunction self.now.resolve func }
+        ensures told { let fs = result_fields (function_type self.now.resolve func).result in
+            IfOk result (IsToldAhead (Denotes max_flat_results fs (E.memory callee.now).bytes answer.now) (fields_requests fs) slots.old slots.new) }
+        ensures fault { let fs = result_fields (function_type self.now.resolve func).result in
+            IfErr result (IsTrapIn LiftResult (DenotesFault max_flat_results fs (E.memory callee.now).bytes answer.now)) }
+    {
+        let table = &Types::new(self.resolve, self.layouts);
+        ask_answer(table, func, answer, callee, slots)
+    }
+
+    /// The second half: what the core function answered is lifted from the callee, which is only read, and lowered into the
+    /// caller. Answers the flat values for the caller. `flats` are those that `enter` was given. A fault is in `lift-result` or
+    /// `lower-result`, and post-return isn't run after it. `nodes` then tells the nodes of this half beside those that it told.
+    /// Takes no memory of the host.
+    pub fn leave<C: Guest, E: Guest>(
+        &mut self,
+        func: FunctionId,
+        flats: &[Flat],
+        answer: &[Flat],
+        caller: &mut C,
+        callee: &E,
+    ) -> Result<Flats, Fault>
+        requires function { IsFunction self.old.resolve func }
+        ensures returned { IfOk result (λ back. HasReturned C.allocates (function_type self.old.resolve func) flats.now (E.memory callee.now).bytes answer.now
+            (C.memory caller.old) back.items (C.memory caller.new) self.new.back) }
+        ensures fault { IfErr result (λ fault. ReturnFails C.allocates (function_type self.old.resolve func) flats.now (E.memory callee.now).bytes answer.now
+            (C.memory caller.old) fault (C.memory caller.new) self.new.back) }
+        ensures no_memory { result ≢ Err Fault.NoMemory }
+        ensures no_shorter { IfOk result (λ _. length (C.memory caller.old).bytes ≤ length (C.memory caller.new).bytes) }
+        ensures there { self.new.there ≡ self.old.there }
+        ensures same_package { self.new.resolve ≡ self.old.resolve }
+        ensures same_layouts { self.new.layouts ≡ self.old.layouts }
+    {
+        self.back = 0;
+        let table = &Types::new(self.resolve, self.layouts);
+        pass_answer(table, func, flats, answer, caller, callee, &mut self.back)
+    }
+
     /// Calls a function of the package: the flat values are lifted from the caller and lowered into the
     /// callee, the body makes one run on them, and its answer goes the same way back. Then its post-return
     /// runs, unless there was a trap. Over honest guests within the limit and a live return area the callee
@@ -110,15 +218,14 @@ impl<'a> Link<'a> {
         ensures same_package { self.new.resolve ≡ self.old.resolve }
         ensures same_layouts { self.new.layouts ≡ self.old.layouts }
     {
-        self.there = 0;
-        self.back = 0;
-        let table = &Types::new(self.resolve, self.layouts);
-        let handed = pass_arguments(table, func, flats, caller, callee, &mut self.there)?;
+        // A link's package is within the limits of layouts.
+        let _resolve = self.resolve;
+        let handed = self.enter(func, flats, caller, callee)?;
         let Ok(answer) = body.call(callee, handed.as_slice()) else {
             return Err(trap(TrapKind::Body, Step::Body));
         };
         let answer = answer.as_slice();
-        let back = pass_answer(table, func, flats, answer, caller, callee, &mut self.back)?;
+        let back = self.leave(func, flats, answer, caller, callee)?;
         let Ok(()) = body.post_return(callee, answer) else {
             return Err(trap(TrapKind::Body, Step::Post));
         };

@@ -1,9 +1,9 @@
 //! The second way of a call: the result, from the callee into the caller.
 ghost use Rattle.std.specs.Prelude.{◌≡◌, ◌≤◌, length, map, IfOk, IfErr};
 ghost use Rattle.canonical_abi.specs.Reading.{low_bits, number_of};
+ghost use Rattle.canonical_abi.specs.Halves.{HasReturned, ReturnFails};
 ghost use Rattle.layout.specs.Layout.{AreWithin};
 ghost use Rattle.tables.specs.Closed.{IsFunction, function_type};
-ghost use Rattle.adapter.specs.Crossing.{guests, memories, HasReturned, ReturnFails};
 
 use crate::fault::{fault_of, trap};
 use canonical_abi::{Fault, Flat, Guest, Step, TrapKind};
@@ -26,10 +26,10 @@ pub(crate) fn pass_answer<C: Guest, E: Guest>(
     requires within { ∥ AreWithin table.now ∥₁ }
     requires function { IsFunction table.now func }
     requires fresh { nodes.old ≡ 0 }
-    ensures returned { IfOk result (λ back. HasReturned (guests C.allocates E.allocates) (function_type table.now func) flats.now
-        (memories (C.memory caller.old) (E.memory callee.now)) answer.now back.items (memories (C.memory caller.new) (E.memory callee.now)) nodes.new) }
-    ensures fault { IfErr result (λ fault. ReturnFails (guests C.allocates E.allocates) (function_type table.now func) flats.now
-        (memories (C.memory caller.old) (E.memory callee.now)) answer.now fault (memories (C.memory caller.new) (E.memory callee.now)) nodes.new) }
+    ensures returned { IfOk result (λ back. HasReturned C.allocates (function_type table.now func) flats.now (E.memory callee.now).bytes answer.now
+        (C.memory caller.old) back.items (C.memory caller.new) nodes.new) }
+    ensures fault { IfErr result (λ fault. ReturnFails C.allocates (function_type table.now func) flats.now (E.memory callee.now).bytes answer.now
+        (C.memory caller.old) fault (C.memory caller.new) nodes.new) }
     ensures no_shorter { IfOk result (λ _. length (C.memory caller.old).bytes ≤ length (C.memory caller.new).bytes) }
 {
     let signature = table.layouts().lifted(func);

@@ -8,14 +8,14 @@ use Rattle.canonical_abi.specs.Layout.{max_flat_params}
 use Rattle.canonical_abi.specs.Reading.{kind_of, low_bits, number_of}
 use Rattle.canonical_abi.specs.Flat.{Denotes}
 use Rattle.canonical_abi.specs.Guest.{Memory, IsLimited, IsWithin}
-use Rattle.canonical_abi.specs.Call.{Run, PostRun, Parties, World, exact}
+use Rattle.canonical_abi.specs.Call.{Run, PostRun, World, exact}
 use Rattle.canonical_abi.specs.Headline.{AreHonest, AreLimited, KeepsLive, KeepsPromise}
 use Rattle.canonical_abi.specs.declared.flat.Flat.{Flat}
 use Rattle.canonical_abi.specs.declared.flat.CoreKind.TheVariants.{I32}
 use Rattle.canonical_abi.specs.declared.trap.Fault.{Fault}
 use Rattle.canonical_abi.proofs.Frames.{take-same}
 use Rattle.canonical_abi.proofs.Images.{slice_get-drop}
-use Rattle.memory.specs.Space.{SpaceAllocates, SpaceReleases}
+use Rattle.memory.specs.Space.{SpaceReleases, spaces}
 use Rattle.memory.specs.SpaceLaws.{SpaceIsHonest, SpaceKeepsLimit}
 use Rattle.lift_lower.specs.declared.val.Val.{Val, String as Text, U32, the_lemmas}
 use Rattle.lift_lower.specs.Val.{value_of}
@@ -24,9 +24,6 @@ use Rattle.witcall.specs.Session.{typed_answer}
 use Rattle.example_client.specs.Order.{FindsOrder, KeepsLiveRanges, TakesOrder, word}
 
 -- ---- the premises hold of two `Space`s
-
-abbrev pub spaces : Run → PostRun → Parties
-spaces runs posts = record { caller_allocates = SpaceAllocates; callee_allocates = SpaceAllocates; runs = runs; posts = posts }
 
 pub honest : (runs : Run) (posts : PostRun) → AreHonest (spaces runs posts) SpaceReleases SpaceReleases
 honest runs posts = record { caller = SpaceIsHonest; callee = SpaceIsHonest }

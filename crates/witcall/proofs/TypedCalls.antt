@@ -17,7 +17,7 @@ use Rattle.lift_lower.specs.Val.{value_of}
 use Rattle.lift_lower.specs.NoValue.{AnswerStands}
 use Rattle.lift_lower.specs.Placing.{area_at}
 use Rattle.witcall.specs.Session.{typed_answer, IsReady, IsNotReady}
-use Rattle.adapter.proofs.Chains.{world}
+use Rattle.canonical_abi.specs.Halves.{world}
 
 module _ (parties : Parties) (f : FunctionType) (arguments : List Value) where
   pub placed : (caller caller' callee : Memory) (body : List ℕ) (flats : List Flat) (area : Option ℕ)

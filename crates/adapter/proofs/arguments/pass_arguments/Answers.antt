@@ -1,13 +1,10 @@
-use Rattle.std.proofs.Common.{◌≡◌, inl, inr, Ok, Err, List, map, refl, sym, ap, ◌∙◌, subst, arith, rules}
-use Rattle.canonical_abi.specs.Types.{ClosedType, Fields, record_type, record_fields}
+use Rattle.std.proofs.Common.{map, refl, sym, ap, ◌∙◌, subst, arith, rules}
+use Rattle.canonical_abi.specs.Types.{record_type, record_fields}
 use Rattle.canonical_abi.specs.Layout.{max_flat_params, passed_kinds}
 use Rattle.canonical_abi.specs.Reading.{kind_of}
-use Rattle.canonical_abi.specs.Script.{AddressFaulty}
-use Rattle.canonical_abi.specs.Call.{argument_flats, KindsFit}
-use Rattle.canonical_abi.specs.declared.flat.Flat.{Flat}
+use Rattle.canonical_abi.specs.Call.{KindsFit}
 use Rattle.layout.specs.Layout.{signature_of}
-use Rattle.tables.specs.Closed.{closed_type, function_type}
-use Rattle.crossing.specs.Ways.{ParamsWalk, WayEnds}
+use Rattle.tables.specs.Closed.{function_type}
 use Rattle.adapter.proofs.Signatures.{function-stands, params-row, params-inside}
 use Rattle.adapter.proofs.Crossings.{argument-kinds, same-arguments, EndsArguments, arguments-end}
 use Rattle.adapter.proofs.arguments.pass_arguments.Goals as goal
@@ -41,7 +38,6 @@ returns-in-Ok-clause-entered g c =
     let r = c.args.table.now in
     let f = function_type r c.args.func in
     let flats = c.args.flats.now in
-    let CA = g.C.Guest.allocates in
     let EA = g.E.Guest.allocates in
     let caller = g.C.Guest.memory c.args.caller.now in
     let callee = g.E.Guest.memory c.args.callee.now in
@@ -50,15 +46,14 @@ returns-in-Ok-clause-entered g c =
     let kinds : KindsFit f flats = search rules in
     let same = same-arguments f flats _ c.len-count.result (signature_of c.lifted.result) refl c.len-count.ensures.value (c.lifted.ensures r c.layouts-layouts.ensures c.requires.function) in
     let ends = rw (row, same, c.bytes.ensures) at c.cross_params-crossed.ensures in
-    let told = arguments-end CA EA f flats caller callee kinds _ c.cross_params-crossed.result callee' _ c.requires.fresh (omega arith) ends in
-    subst (EndsArguments CA EA f flats caller callee callee' c.cross_params-crossed.new.nodes) c.in-Ok.is told
+    let told = arguments-end EA f flats caller.bytes callee kinds _ c.cross_params-crossed.result callee' _ c.requires.fresh (omega arith) ends in
+    subst (EndsArguments EA f flats caller.bytes callee callee' c.cross_params-crossed.new.nodes) c.in-Ok.is told
 
 pub returns-in-Err-clause-fault : goal.returns-in-Err-clause-fault
 returns-in-Err-clause-fault g c =
     let r = c.args.table.now in
     let f = function_type r c.args.func in
     let flats = c.args.flats.now in
-    let CA = g.C.Guest.allocates in
     let EA = g.E.Guest.allocates in
     let caller = g.C.Guest.memory c.args.caller.now in
     let callee = g.E.Guest.memory c.args.callee.now in
@@ -67,5 +62,5 @@ returns-in-Err-clause-fault g c =
     let kinds : KindsFit f flats = search rules in
     let same = same-arguments f flats _ c.len-count.result (signature_of c.lifted.result) refl c.len-count.ensures.value (c.lifted.ensures r c.layouts-layouts.ensures c.requires.function) in
     let ends = rw (row, same, c.bytes.ensures) at c.cross_params-crossed.ensures in
-    let told = arguments-end CA EA f flats caller callee kinds _ c.cross_params-crossed.result callee' _ c.requires.fresh (omega arith) ends in
-    rw c.fault_of.ensures (subst (EndsArguments CA EA f flats caller callee callee' c.cross_params-crossed.new.nodes) c.in-Err.is told)
+    let told = arguments-end EA f flats caller.bytes callee kinds _ c.cross_params-crossed.result callee' _ c.requires.fresh (omega arith) ends in
+    rw c.fault_of.ensures (subst (EndsArguments EA f flats caller.bytes callee callee' c.cross_params-crossed.new.nodes) c.in-Err.is told)

@@ -1,10 +1,8 @@
-use Rattle.std.proofs.Common.{◌≡◌, ◌≤◌, ℕ, Ok, Err, List, map, refl, sym, ap, ◌∙◌, subst, arith, rules}
-use Rattle.canonical_abi.specs.Types.{Fields, record_type, result_fields}
-use Rattle.canonical_abi.specs.Layout.{size, max_flat_results, passed_kinds}
-use Rattle.canonical_abi.specs.Reading.{kind_of}
-use Rattle.canonical_abi.specs.Call.{area_of}
+use Rattle.std.proofs.Common.{◌≡◌, ◌≤◌, sym, ap, ◌∙◌, subst, arith}
+use Rattle.canonical_abi.specs.Types.{record_type, result_fields}
+use Rattle.canonical_abi.specs.Layout.{size}
 use Rattle.layout.specs.Layout.{signature_of}
-use Rattle.tables.specs.Closed.{closed_type, function_type}
+use Rattle.tables.specs.Closed.{function_type}
 use Rattle.lift_lower.specs.Crossing.{fields_of_types}
 use Rattle.lift_lower.specs.Members.{AreAllInside}
 use Rattle.adapter.proofs.Functions.{same_types}
@@ -35,7 +33,6 @@ returns-in-Ok-clause-returned g c =
     let f = function_type r c.args.func in
     let flats = c.args.flats.now in
     let CA = g.C.Guest.allocates in
-    let EA = g.E.Guest.allocates in
     let caller = g.C.Guest.memory c.args.caller.now in
     let caller' = g.C.Guest.memory c.cross_result-crossed.new.guest in
     let callee = g.E.Guest.memory c.args.callee.now in
@@ -44,8 +41,8 @@ returns-in-Ok-clause-returned g c =
     let own : fields_of_types r c.as_slice-types.result.now ≡ result_fields f.result = ap (fields_of_types r) (same_types s.result _ c.as_slice-types.ensures) ∙ result-fields r s.result ∙ ap result_fields (sym is) in
     let area = area-is f flats c.area_in-area.result c.len.result (signature_of c.lifted-signature.result) c.area_in-area.ensures c.len.ensures.value (c.lifted-signature.ensures r c.layouts.ensures c.requires.function) in
     let ends = rw (own, area, c.bytes.ensures) at c.cross_result-crossed.ensures in
-    let told = result-ends CA EA f flats caller callee c.args.answer.now _ c.cross_result-crossed.result caller' _ c.requires.fresh (omega arith) ends in
-    subst (EndsResult CA EA f flats caller callee c.args.answer.now caller' c.cross_result-crossed.new.nodes) c.in-Ok.is told
+    let told = result-ends CA f flats caller callee.bytes c.args.answer.now _ c.cross_result-crossed.result caller' _ c.requires.fresh (omega arith) ends in
+    subst (EndsResult CA f flats caller callee.bytes c.args.answer.now caller' c.cross_result-crossed.new.nodes) c.in-Ok.is told
 
 pub returns-in-Err-clause-fault : goal.returns-in-Err-clause-fault
 returns-in-Err-clause-fault g c =
@@ -53,7 +50,6 @@ returns-in-Err-clause-fault g c =
     let f = function_type r c.args.func in
     let flats = c.args.flats.now in
     let CA = g.C.Guest.allocates in
-    let EA = g.E.Guest.allocates in
     let caller = g.C.Guest.memory c.args.caller.now in
     let caller' = g.C.Guest.memory c.cross_result-crossed.new.guest in
     let callee = g.E.Guest.memory c.args.callee.now in
@@ -62,5 +58,5 @@ returns-in-Err-clause-fault g c =
     let own : fields_of_types r c.as_slice-types.result.now ≡ result_fields f.result = ap (fields_of_types r) (same_types s.result _ c.as_slice-types.ensures) ∙ result-fields r s.result ∙ ap result_fields (sym is) in
     let area = area-is f flats c.area_in-area.result c.len.result (signature_of c.lifted-signature.result) c.area_in-area.ensures c.len.ensures.value (c.lifted-signature.ensures r c.layouts.ensures c.requires.function) in
     let ends = rw (own, area, c.bytes.ensures) at c.cross_result-crossed.ensures in
-    let told = result-ends CA EA f flats caller callee c.args.answer.now _ c.cross_result-crossed.result caller' _ c.requires.fresh (omega arith) ends in
-    rw c.fault_of.ensures (subst (EndsResult CA EA f flats caller callee c.args.answer.now caller' c.cross_result-crossed.new.nodes) c.in-Err.is told)
+    let told = result-ends CA f flats caller callee.bytes c.args.answer.now _ c.cross_result-crossed.result caller' _ c.requires.fresh (omega arith) ends in
+    rw c.fault_of.ensures (subst (EndsResult CA f flats caller callee.bytes c.args.answer.now caller' c.cross_result-crossed.new.nodes) c.in-Err.is told)

@@ -14,7 +14,7 @@ use Rattle.lift_lower.specs.NoValue.{AnswerStands}
 use Rattle.lift_lower.specs.Placing.{area_at, IsAreaIn}
 use Rattle.lift_lower.specs.Val.{value_of}
 use Rattle.adapter.proofs.Signatures.{result-inside, result-is}
-use Rattle.adapter.proofs.Chains.{world}
+use Rattle.canonical_abi.specs.Halves.{world}
 use Rattle.witcall.specs.Session.{IsReady, IsNotReady}
 use Rattle.witcall.proofs.Prepared.{area_stays}
 use Rattle.witcall.proofs.Promised.{promised}

@@ -1,0 +1,53 @@
+use Rattle.std.proofs.Common.{inr, refl, map, sym, ap, ◌∙◌, rules}
+use Rattle.canonical_abi.specs.Types.{record_type, record_fields}
+use Rattle.canonical_abi.specs.Layout.{max_flat_params, passed_kinds}
+use Rattle.canonical_abi.specs.Reading.{kind_of}
+use Rattle.canonical_abi.specs.Call.{KindsFit}
+use Rattle.layout.specs.Layout.{signature_of}
+use Rattle.tables.specs.Closed.{function_type}
+use Rattle.adapter.proofs.Signatures.{function-stands, params-row, params-inside}
+use Rattle.adapter.proofs.Crossings.{argument-kinds, same-arguments}
+use Rattle.adapter.proofs.requests.ask_arguments.Goals as goal
+
+pub lowered-requires : goal.lowered-requires
+lowered-requires g c = function-stands c.args.table.now c.layouts-layouts.result.now c.args.func c.layouts-layouts.ensures c.requires.function
+
+pub lifted-requires : goal.lifted-requires
+lifted-requires g c = function-stands c.args.table.now c.layouts-layouts.result.now c.args.func c.layouts-layouts.ensures c.requires.function
+
+pub ask_params-requires-clause-inside : goal.ask_params-requires-clause-inside
+ask_params-requires-clause-inside g c = params-inside c.args.table.now c.args.func c.requires.function _ refl
+
+pub ask_params-requires-clause-is_record : goal.ask_params-requires-clause-is_record
+ask_params-requires-clause-is_record g c =
+    let row = params-row c.args.table.now c.args.func c.requires.function _ refl in
+    row ∙ sym (ap (λ t. record_type (record_fields t)) row)
+
+pub ask_params-requires-clause-kinds : goal.ask_params-requires-clause-kinds
+ask_params-requires-clause-kinds g c =
+    let r = c.args.table.now in
+    let f = function_type r c.args.func in
+    let flats = c.args.flats.now in
+    let row = params-row r c.args.func c.requires.function _ refl in
+    let kinds : KindsFit f flats = search rules in
+    let same = same-arguments f flats _ c.len-count.result (signature_of c.lifted.result) refl c.len-count.ensures.value (c.lifted.ensures r c.layouts-layouts.ensures c.requires.function) in
+    ap (map kind_of) same ∙ argument-kinds f flats kinds ∙ sym (ap (λ t. passed_kinds max_flat_params (record_fields t)) row)
+
+pub returns-in-Ok-clause-told : goal.returns-in-Ok-clause-told
+returns-in-Ok-clause-told g c =
+    let r = c.args.table.now in
+    let f = function_type r c.args.func in
+    let flats = c.args.flats.now in
+    let row = params-row r c.args.func c.requires.function _ refl in
+    let same = same-arguments f flats _ c.len-count.result (signature_of c.lifted.result) refl c.len-count.ensures.value (c.lifted.ensures r c.layouts-layouts.ensures c.requires.function) in
+    rw (row, same, c.bytes.ensures) at c.in-Ok.ensures.told
+
+pub returns-in-Err-clause-fault : goal.returns-in-Err-clause-fault
+returns-in-Err-clause-fault g c =
+    let r = c.args.table.now in
+    let f = function_type r c.args.func in
+    let flats = c.args.flats.now in
+    let row = params-row r c.args.func c.requires.function _ refl in
+    let kinds : KindsFit f flats = search rules in
+    let same = same-arguments f flats _ c.len-count.result (signature_of c.lifted.result) refl c.len-count.ensures.value (c.lifted.ensures r c.layouts-layouts.ensures c.requires.function) in
+    rw c.trap-in-Err.ensures (refl, inr (kinds, rw (row, same, c.bytes.ensures) at c.in-Err.ensures.fault))

@@ -1,0 +1,76 @@
+//! What the two ways of a call will ask their targets for.
+ghost use Rattle.std.specs.Prelude.{IfOk, IfErr};
+ghost use Rattle.asking.specs.Asking.{IsToldAhead};
+ghost use Rattle.canonical_abi.specs.Call.{KindsFit};
+ghost use Rattle.canonical_abi.specs.Flat.{Denotes, DenotesFault};
+ghost use Rattle.canonical_abi.specs.Headline.{AreArguments, IsArgumentFault};
+ghost use Rattle.canonical_abi.specs.Layout.{max_flat_params, max_flat_results};
+ghost use Rattle.canonical_abi.specs.Requests.{params_requests, fields_requests};
+ghost use Rattle.canonical_abi.specs.Types.{result_fields};
+ghost use Rattle.canonical_abi.specs.declared.trap.Step.TheVariants.{LiftArgs, LiftResult};
+ghost use Rattle.layout.specs.Layout.{AreWithin};
+ghost use Rattle.tables.specs.Closed.{IsFunction, function_type};
+ghost use Rattle.adapter.specs.Asked.{IsTrapIn};
+
+use crate::fault::trap;
+use asking::{Request, ask_params, ask_result};
+use canonical_abi::{Fault, Flat, Guest, Step, TrapKind};
+use lift_lower::{Types, are_kinds};
+use tables::{FunctionId, TypeId, ValType};
+
+/// Tells what the arguments will ask the callee for. The kinds of all flat values come first.
+pub(crate) fn ask_arguments<C: Guest>(
+    table: &Types,
+    func: FunctionId,
+    flats: &[Flat],
+    caller: &C,
+    slots: &mut [Request],
+) -> Result<usize, Fault>
+    requires function { IsFunction table.now func }
+    ensures kinds { IfOk result (λ _. KindsFit (function_type table.now func) flats.now) }
+    ensures told { let f = function_type table.now func in
+        IfOk result (IsToldAhead (AreArguments f flats.now (C.memory caller.now)) (params_requests max_flat_params f.params) slots.old slots.new) }
+    ensures fault { IfErr result (IsTrapIn LiftArgs (IsArgumentFault (function_type table.now func) flats.now (C.memory caller.now))) }
+{
+    let layouts = table.layouts();
+    if !are_kinds(layouts.lowered(func).params.as_slice(), flats) {
+        return Err(trap(TrapKind::CoreSignature, Step::LiftArgs));
+    }
+    let count = layouts.lifted(func).params.len();
+    // A memory's length is a number of 32 bits.
+    let _len = caller.len();
+    // A function's row is the record of its parameters.
+    let params = ValType::Id(TypeId(func.0));
+    match ask_params(table, params, caller.bytes(), &flats[..count], slots) {
+        Ok(told) => Ok(told),
+        Err(kind) => Err(trap(kind, Step::LiftArgs)),
+    }
+}
+
+/// Tells what the answer will ask the caller for. The kinds of its flat values come first.
+pub(crate) fn ask_answer<E: Guest>(
+    table: &Types,
+    func: FunctionId,
+    answer: &[Flat],
+    callee: &E,
+    slots: &mut [Request],
+) -> Result<usize, Fault>
+    requires within { ∥ AreWithin table.now ∥₁ }
+    requires function { IsFunction table.now func }
+    ensures told { let fs = result_fields (function_type table.now func).result in
+        IfOk result (IsToldAhead (Denotes max_flat_results fs (E.memory callee.now).bytes answer.now) (fields_requests fs) slots.old slots.new) }
+    ensures fault { let fs = result_fields (function_type table.now func).result in
+        IfErr result (IsTrapIn LiftResult (DenotesFault max_flat_results fs (E.memory callee.now).bytes answer.now)) }
+{
+    let signature = table.layouts().lifted(func);
+    if !are_kinds(signature.result.as_slice(), answer) {
+        return Err(trap(TrapKind::CoreSignature, Step::LiftResult));
+    }
+    // A memory's length is a number of 32 bits.
+    let _len = callee.len();
+    let types = table.resolve().signature(func).result.as_slice();
+    match ask_result(table, types, callee.bytes(), answer, slots) {
+        Ok(told) => Ok(told),
+        Err(kind) => Err(trap(kind, Step::LiftResult)),
+    }
+}

@@ -1,0 +1,13 @@
+use Rattle.std.proofs.Common.{inl, inr, arith}
+use Rattle.canonical_abi.specs.Requests.{request}
+use Rattle.asking.proofs.Told.{told-one}
+use Rattle.asking.proofs.request.tell.Goals as goal
+use Rattle.asking.proofs.request.tell.Goals.{then-count-slots, else-count-slots}
+
+pub returns : goal.returns
+returns c =
+    let r = request c.args.align c.args.size in
+    elim c.if-count-slots.branch [
+      | then-count-slots w ↦ told-one c.args.slots.now c.args.count.now r _ _ (inl (omega arith, w.slots-is)) (omega arith)
+      | else-count-slots w ↦ told-one c.args.slots.now c.args.count.now r _ _ (inr (omega arith, w.slots-is)) (omega arith)
+    ]

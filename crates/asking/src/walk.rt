@@ -1,0 +1,208 @@
+//! The walk over values that stand in a memory.
+ghost use Rattle.std.specs.Prelude.{◌≡◌, ◌+◌, ◌^◌, ◌<◌, ◌≤◌, length, IsTrue};
+ghost use Rattle.canonical_abi.specs.Types.{prim_type, string_type, list_type, variant_type, variant_cases, field_count, case_count};
+ghost use Rattle.canonical_abi.specs.Layout.{size, align, payload_place, end_from, field_extents};
+ghost use Rattle.canonical_abi.specs.Reading.{reading, text_at, list_at, reading_fields, reading_case, case_number};
+ghost use Rattle.canonical_abi.specs.Requests.{requests, fields_requests};
+ghost use Rattle.lift_lower.specs.Members.{AreInside, members_fields};
+ghost use Rattle.lift_lower.specs.Types.{IsInside};
+ghost use Rattle.tables.specs.Closed.{prim_of, closed_type};
+ghost use Rattle.asking.specs.Asking.{Asks, AsksNothing};
+
+use crate::request::{Request, tell};
+use canonical_abi::TrapKind;
+use layout::Shape;
+use lift_lower::Types;
+use lift_lower::nodes::{Members, discriminant_bytes, number_of_size, test_block, text_in, u32_at};
+use tables::{Primitive, ValType};
+
+/// Tests a primitive other than string, which asks for nothing.
+fn ask_primitive(
+    primitive: Primitive,
+    source: &[u8],
+    at: usize,
+    slots: &mut [Request],
+    count: &mut usize,
+) -> Result<(), TrapKind>
+    requires fits { at + size (prim_type (prim_of primitive)) ≤ length source.now }
+    ensures { let t = prim_type (prim_of primitive) in
+        Asks (reading t source.now at) (requests t) slots.old count.old result slots.new count.new }
+{
+    let Primitive::Char = primitive else {
+        return Ok(());
+    };
+    match char::from_u32(u32_at(source, at)) {
+        Some(_) => Ok(()),
+        None => Err(TrapKind::Char),
+    }
+}
+
+/// Whether the values of a type stand whatever their bytes are, and ask for nothing: numbers, bools and flags.
+fn asks_nothing(table: &Types, ty: ValType) -> bool
+    requires { IsInside table.now ty }
+    ensures { IsTrue result → AsksNothing (closed_type table.now ty) }
+{
+    match table.shape_of(ty) {
+        Shape::Primitive(primitive) => is_plain(primitive),
+        Shape::Flags(_) => true,
+        _ => false,
+    }
+}
+
+/// Whether a primitive is a number or a bool.
+fn is_plain(primitive: Primitive) -> bool
+    ensures { IsTrue result → AsksNothing (prim_type (prim_of primitive)) }
+{
+    let Primitive::Char = primitive else {
+        return true;
+    };
+    false
+}
+
+/// Tells the block of a text of so many bytes, once it is tested.
+pub(crate) fn ask_text(
+    source: &[u8],
+    start: usize,
+    len: usize,
+    slots: &mut [Request],
+    count: &mut usize,
+) -> Result<(), TrapKind>
+    requires start { start < 2 ^ 32 }
+    requires len { len < 2 ^ 32 }
+    ensures { Asks (text_at source.now start len) (requests string_type) slots.old count.old result slots.new count.new }
+{
+    let text = text_in(source, start, len)?;
+    tell(slots, count, 1, text.len());
+    Ok(())
+}
+
+/// Tells what the value at an address asks for.
+#[cycle(ask)]
+fn ask_at(
+    table: &Types,
+    ty: ValType,
+    source: &[u8],
+    at: usize,
+    slots: &mut [Request],
+    count: &mut usize,
+) -> Result<(), TrapKind>
+    requires inside { IsInside table.now ty }
+    requires short { length source.now < 2 ^ 32 }
+    requires fits { at + size (closed_type table.now ty) ≤ length source.now }
+    ensures { let t = closed_type table.now ty in
+        Asks (reading t source.now at) (requests t) slots.old count.old result slots.new count.new }
+{
+    match table.shape_of(ty) {
+        Shape::Primitive(primitive) => ask_primitive(primitive, source, at, slots, count),
+        Shape::String => {
+            let start = u32_at(source, at) as usize;
+            let len = u32_at(source, at + 4) as usize;
+            ask_text(source, start, len, slots, count)
+        }
+        Shape::List(element) => {
+            let start = u32_at(source, at) as usize;
+            let len = u32_at(source, at + 4) as usize;
+            ask_list(table, element, source, start, len, slots, count)
+        }
+        Shape::Record(fields) => {
+            let members = Members::Of(ty);
+            ask_fields(table, &members, fields, source, at, slots, count)
+        }
+        Shape::Variant(cases) => ask_variant(table, ty, cases, source, at, slots, count),
+        Shape::Flags(_) => Ok(()),
+    }
+}
+
+/// Tells the block of a list, once it is tested, and what its elements ask for.
+#[cycle(ask)]
+pub(crate) fn ask_list(
+    table: &Types,
+    element: ValType,
+    source: &[u8],
+    start: usize,
+    len: usize,
+    slots: &mut [Request],
+    count: &mut usize,
+) -> Result<(), TrapKind>
+    requires inside { IsInside table.now element }
+    requires short { length source.now < 2 ^ 32 }
+    requires start { start < 2 ^ 32 }
+    requires len { len < 2 ^ 32 }
+    ensures { let t = closed_type table.now element in
+        Asks (list_at (reading t source.now) source.now (align t) (size t) start len) (requests (list_type t))
+        slots.old count.old result slots.new count.new }
+{
+    let step = table.size_of(element);
+    let align = table.align_of(element);
+    test_block(source.len(), start, align, len * step)?;
+    tell(slots, count, align, len * step);
+    if asks_nothing(table, element) {
+        return Ok(());
+    }
+    for index in 0..len {
+        ask_at(table, element, source, start + index * step, slots, count)?;
+    }
+    Ok(())
+}
+
+/// Tells what the members of a record ask for, whose first begins at `at`, each at the next multiple of its alignment.
+#[cycle(ask)]
+pub(crate) fn ask_fields(
+    table: &Types,
+    members: &Members,
+    fields: usize,
+    source: &[u8],
+    at: usize,
+    slots: &mut [Request],
+    count: &mut usize,
+) -> Result<(), TrapKind>
+    requires inside { AreInside table.now members.now }
+    requires short { length source.now < 2 ^ 32 }
+    requires counted { field_count (members_fields table.now members.now) ≡ fields }
+    requires fits { at + end_from 0 (field_extents (members_fields table.now members.now)) ≤ length source.now }
+    ensures { let fs = members_fields table.now members.now in
+        Asks (reading_fields fs source.now at 0) (fields_requests fs) slots.old count.old result slots.new count.new }
+{
+    let mut end: usize = 0;
+    for index in 0..fields {
+        let Some(member) = table.member_type(members, index) else {
+            unreachable!()
+        };
+        let place = end.next_multiple_of(table.align_of(member));
+        ask_at(table, member, source, at + place, slots, count)?;
+        end = place + table.size_of(member);
+    }
+    Ok(())
+}
+
+/// Tells what the payload of the case that the discriminant names asks for.
+#[cycle(ask)]
+fn ask_variant(
+    table: &Types,
+    ty: ValType,
+    cases: usize,
+    source: &[u8],
+    at: usize,
+    slots: &mut [Request],
+    count: &mut usize,
+) -> Result<(), TrapKind>
+    requires inside { IsInside table.now ty }
+    requires short { length source.now < 2 ^ 32 }
+    requires variant { variant_type (variant_cases (closed_type table.now ty)) ≡ closed_type table.now ty }
+    requires counted { case_count (variant_cases (closed_type table.now ty)) ≡ cases }
+    requires fits { at + size (closed_type table.now ty) ≤ length source.now }
+    ensures { let cs = variant_cases (closed_type table.now ty) in
+        let i = case_number cs source.now at in
+        Asks (reading_case cs source.now (at + payload_place cs) i i) (requests (variant_type cs)) slots.old count.old result slots.new count.new }
+{
+    let case = number_of_size(source, at, discriminant_bytes(cases));
+    let Some(payload) = table.case_payload(ty, case as usize) else {
+        return Err(TrapKind::Case);
+    };
+    let Some(member) = payload else {
+        return Ok(());
+    };
+    // A payload stands at the variant's alignment.
+    let place = table.align_of(ty);
+    ask_at(table, member, source, at + place, slots, count)
+}

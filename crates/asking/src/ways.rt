@@ -1,0 +1,89 @@
+//! What whole ways of a call ask for: its parameters, and its result.
+ghost use Rattle.std.specs.Prelude.{◌≡◌, ◌^◌, ◌<◌, ◌≤◌, length, map, false, IfOk, IfErr};
+ghost use Rattle.canonical_abi.specs.Flat.{Denotes, DenotesFault};
+ghost use Rattle.canonical_abi.specs.Layout.{size, max_flat_params, max_flat_results, fits_flat, passed_kinds};
+ghost use Rattle.canonical_abi.specs.Reading.{kind_of};
+ghost use Rattle.canonical_abi.specs.Requests.{params_requests, fields_requests};
+ghost use Rattle.canonical_abi.specs.Types.{field_count, record_type, record_fields};
+ghost use Rattle.lift_lower.specs.Crossing.{fields_of_types};
+ghost use Rattle.lift_lower.specs.Members.{AreAllInside};
+ghost use Rattle.lift_lower.specs.Types.{IsInside};
+ghost use Rattle.tables.specs.Closed.{closed_type};
+ghost use Rattle.asking.specs.Asking.{IsToldAhead};
+
+use crate::flat::ask_flat_fields;
+use crate::request::{Request, tell};
+use crate::walk::ask_fields;
+use canonical_abi::{Flat, TrapKind};
+use layout::Shape;
+use lift_lower::nodes::{Members, test_block};
+use lift_lower::{Types, low_word};
+use tables::ValType;
+
+/// Tells what the parameters of a call ask for, given as the record of them, which `flats` denote over the source: the first
+/// requests, as many as there are slots, and how many there are in all, as far as 64 bits count. Where they denote none, it
+/// answers the first fault, and the slots then say nothing. The kinds of `flats` were tested before. CanonicalABI.md,
+/// "Lifting and Lowering Values".
+pub fn ask_params(
+    table: &Types,
+    params: ValType,
+    source: &[u8],
+    flats: &[Flat],
+    slots: &mut [Request],
+) -> Result<usize, TrapKind>
+    requires inside { IsInside table.now params }
+    requires is_record { closed_type table.now params ≡ record_type (record_fields (closed_type table.now params)) }
+    requires short { length source.now < 2 ^ 32 }
+    requires kinds { map kind_of flats.now ≡ passed_kinds max_flat_params (record_fields (closed_type table.now params)) }
+    ensures told { let ts = record_fields (closed_type table.now params) in
+        IfOk result (IsToldAhead (Denotes max_flat_params ts source.now flats.now) (params_requests max_flat_params ts) slots.old slots.new) }
+    ensures fault { IfErr result (DenotesFault max_flat_params (record_fields (closed_type table.now params)) source.now flats.now) }
+{
+    let Shape::Record(fields) = table.shape_of(params) else {
+        unreachable!()
+    };
+    let mut count = 0;
+    let members = Members::Of(params);
+    let Some(_) = table.kinds_within(&[params], 16) else {
+        let from = low_word(flats, 0) as usize;
+        let align = table.align_of(params);
+        let size = table.size_of(params);
+        test_block(source.len(), from, align, size)?;
+        tell(slots, &mut count, align, size);
+        ask_fields(table, &members, fields, source, from, slots, &mut count)?;
+        return Ok(count);
+    };
+    ask_flat_fields(table, &members, fields, source, flats, slots, &mut count)?;
+    Ok(count)
+}
+
+/// Tells the same of the result of a call, of at most one type. Where it doesn't go flat it is put into the return area, for
+/// which nothing is asked.
+pub fn ask_result(
+    table: &Types,
+    types: &[ValType],
+    source: &[u8],
+    flats: &[Flat],
+    slots: &mut [Request],
+) -> Result<usize, TrapKind>
+    requires inside { AreAllInside table.now types.now }
+    requires small { size (record_type (fields_of_types table.now types.now)) ≤ 16777216 }
+    requires short { length source.now < 2 ^ 32 }
+    requires kinds { map kind_of flats.now ≡ passed_kinds max_flat_results (fields_of_types table.now types.now) }
+    ensures told { let ts = fields_of_types table.now types.now in
+        IfOk result (IsToldAhead (Denotes max_flat_results ts source.now flats.now) (fields_requests ts) slots.old slots.new) }
+    ensures fault { IfErr result (DenotesFault max_flat_results (fields_of_types table.now types.now) source.now flats.now) }
+{
+    let mut count = 0;
+    let members = Members::Listed(types);
+    let fields = types.len();
+    let Some(_) = table.kinds_within(types, 1) else {
+        let (size, align) = table.record_extent(types);
+        let from = low_word(flats, 0) as usize;
+        test_block(source.len(), from, align, size)?;
+        ask_fields(table, &members, fields, source, from, slots, &mut count)?;
+        return Ok(count);
+    };
+    ask_flat_fields(table, &members, fields, source, flats, slots, &mut count)?;
+    Ok(count)
+}
