@@ -1,4 +1,5 @@
 pub mod AlikeExamples
+mod BlocksApart
 mod BumpAlike
 mod FirstFitAlike
 mod FirstFitGrowth
@@ -9,6 +10,7 @@ mod HoleLists
 mod HoleRows
 mod HoleSteps
 mod HoleTails
+pub mod LentNames
 mod OneWay
 mod PageSteps
 mod SpaceAlike

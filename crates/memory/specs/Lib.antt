@@ -1,4 +1,5 @@
 pub mod Alike
+pub mod Blocks
 pub mod Bump
 pub mod BumpLaws
 pub mod FirstFit
@@ -7,6 +8,8 @@ pub mod Growth
 pub mod GrowthLaws
 pub mod Holes
 pub mod HolesView
+pub mod Lent
+pub mod LentLaws
 pub mod Refusals
 pub mod Scripted
 pub mod Space

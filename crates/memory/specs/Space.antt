@@ -1,6 +1,7 @@
 -- A memory of one of several kinds: its state begins with the number of its kind.
 use Rattle.std.specs.Prelude.{◌≡◌, ◌⊎◌, ℕ, List, [], ◌∷◌}
 use Rattle.canonical_abi.specs.Guest.{Memory, Allocation, Release}
+use Rattle.canonical_abi.specs.Call.{Run, PostRun, Parties}
 use Rattle.memory.specs.Bump.{BumpAllocates, BumpReleases}
 use Rattle.memory.specs.FirstFit.{FirstFitAllocates, FirstFitReleases}
 use Rattle.memory.specs.Growth.{most_bytes}
@@ -31,3 +32,7 @@ SpaceAllocates old align size answer new =
 abbrev pub SpaceReleases : Release
 SpaceReleases old at size answer new =
     ReleasesAs 0 BumpReleases old at size answer new ⊎ ReleasesAs 1 FirstFitReleases old at size answer new
+
+-- a call between two such memories, on a body that may make these runs
+abbrev pub spaces : Run → PostRun → Parties
+spaces runs posts = record { caller_allocates = SpaceAllocates; callee_allocates = SpaceAllocates; runs = runs; posts = posts }

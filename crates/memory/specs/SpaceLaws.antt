@@ -1,7 +1,7 @@
 -- What is honest stays so under the number of a kind.
 use Rattle.std.specs.Prelude.{◌≡◌, ◌⊎◌, ◌≤◌, ℕ, true, Some, length, slice_get}
 use Rattle.std.proofs.Common.{sym, ap, ◌∙◌, arith, inl, inr}
-use Rattle.canonical_abi.specs.Guest.{Memory, Allocation, Release, IsAlignment, IsGrant, IsRelease, IsHonest, KeepsLimit}
+use Rattle.canonical_abi.specs.Guest.{Memory, Allocation, Release, IsAlignment, IsGrant, IsRelease, IsHonest, IsLimited, KeepsLimit}
 use Rattle.memory.specs.BumpLaws.{BumpIsHonest, BumpKeepsLimit}
 use Rattle.memory.specs.FirstFitLaws.{FirstFitIsHonest, FirstFitKeepsLimit}
 use Rattle.memory.specs.Space.{of_kind, AllocatesAs, ReleasesAs, SpaceAllocates, SpaceReleases}
@@ -64,7 +64,7 @@ pub kind_keeps_limit : (kind : ℕ) (allocates : Allocation) → KeepsLimit allo
 kind_keeps_limit kind allocates keeps old new align size at (before, after, old_is, step, new_is) few =
     let was : length old.bytes ≡ length before.bytes = ap (λ m. length m.bytes) old_is in
     let now : length new.bytes ≡ length after.bytes = ap (λ m. length m.bytes) new_is in
-    let kept : length after.bytes ≤ 16777216 = keeps before after align size at step (omega arith) in omega arith
+    let kept : IsLimited after = keeps before after align size at step (omega arith) in omega arith
 
 pub SpaceKeepsLimit : KeepsLimit SpaceAllocates
 SpaceKeepsLimit old new align size at (inl step) few = kind_keeps_limit 0 _ BumpKeepsLimit old new align size at step few

@@ -1,5 +1,5 @@
 //! Laws of the memories.
-ghost use Rattle.std.specs.Prelude.{ℕ, ◌↔◌};
+ghost use Rattle.std.specs.Prelude.{ℕ, ◌↔◌, ◌≤◌, length};
 ghost use Rattle.canonical_abi.specs.Guest.{IsLimited, KeepsLimit};
 ghost use Rattle.canonical_abi.specs.Told.{AllocatesInOneWay, IgnoresBytes};
 ghost use Rattle.memory.specs.Alike.{AnswersAlike, ReleasesAlike};
@@ -8,10 +8,12 @@ ghost use Rattle.memory.specs.FirstFit.{FirstFitAllocates, FirstFitReleases, IsH
 ghost use Rattle.memory.specs.Growth.{most_bytes};
 ghost use Rattle.memory.specs.Holes.{IsListed};
 ghost use Rattle.memory.specs.HolesView.{listed};
+ghost use Rattle.memory.specs.Lent.{LentAllocates};
 ghost use Rattle.memory.specs.Space.{kind_and_most_bytes, SpaceAllocates, SpaceReleases};
 
 use crate::bump::Bump;
 use crate::first_fit::FirstFit;
+use crate::lent::Lent;
 use crate::space::Space;
 use canonical_abi::Guest;
 
@@ -51,19 +53,27 @@ pub fn holes_are_longest_runs(_memory: &FirstFit)
         ↔ IsHole (⟦<FirstFit as Guest>⟧.memory _memory.now) start end }
 {}
 
-/// No `Bump` is longer than the limit.
+/// No `Bump` is longer than 16,777,216 bytes, and so none is past the limit of the promise.
 pub fn bumps_are_limited(_memory: &Bump)
-    ensures { IsLimited (⟦<Bump as Guest>⟧.memory _memory.now) }
+    ensures most { length (⟦<Bump as Guest>⟧.memory _memory.now).bytes ≤ 16777216 }
+    ensures limited { IsLimited (⟦<Bump as Guest>⟧.memory _memory.now) }
 {}
 
 /// Nor is a `FirstFit`.
 pub fn first_fits_are_limited(_memory: &FirstFit)
-    ensures { IsLimited (⟦<FirstFit as Guest>⟧.memory _memory.now) }
+    ensures most { length (⟦<FirstFit as Guest>⟧.memory _memory.now).bytes ≤ 16777216 }
+    ensures limited { IsLimited (⟦<FirstFit as Guest>⟧.memory _memory.now) }
 {}
 
 /// Nor is a `Space`.
 pub fn spaces_are_limited(_memory: &Space)
-    ensures { IsLimited (⟦<Space as Guest>⟧.memory _memory.now) }
+    ensures most { length (⟦<Space as Guest>⟧.memory _memory.now).bytes ≤ 16777216 }
+    ensures limited { IsLimited (⟦<Space as Guest>⟧.memory _memory.now) }
+{}
+
+/// Nor is a `Lent` past it.
+pub fn lents_are_limited<'a>(_memory: &Lent<'a>)
+    ensures { IsLimited (⟦<Lent<'a> as Guest>⟧.memory _memory.now) }
 {}
 
 /// No step of a `Bump`'s allocator takes its memory past the limit.
@@ -79,6 +89,11 @@ pub fn first_fits_keep_the_limit()
 /// Nor does one of a `Space`'s.
 pub fn spaces_keep_the_limit()
     ensures { KeepsLimit SpaceAllocates }
+{}
+
+/// Nor does one of a `Lent`'s.
+pub fn lents_keep_the_limit()
+    ensures { KeepsLimit LentAllocates }
 {}
 
 /// One memory and one request have one answer of a `Bump`, whatever its bytes are.

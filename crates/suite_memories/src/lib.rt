@@ -6,4 +6,6 @@ mod first_fit;
 #[cfg(test)]
 mod growth;
 #[cfg(test)]
+mod lent;
+#[cfg(test)]
 mod trees;

@@ -1,0 +1,79 @@
+//! The two halves of a call between memories that a host lends.
+ghost use Rattle.std.specs.Prelude.{◌≡◌, ◌<◌, IfOk, IfErr, IsTrue, length};
+ghost use Rattle.layout.specs.Layout.{layouts_of, AreWithin};
+ghost use Rattle.memory.specs.Blocks.{are_good};
+ghost use Rattle.tables.specs.Closed.{IsFunction, function_type};
+ghost use Rattle.lending.specs.Halves.{EntersLent, EntryOfLentFails, ReturnsLent, ReturnOfLentFails};
+
+use adapter::Link;
+use canonical_abi::{Fault, Flat};
+use layout::Layouts;
+use lift_lower::Flats;
+use memory::{Block, Lent};
+use tables::{FunctionId, Resolve};
+
+/// No place at all, where nothing is lent beside the blocks.
+pub const NOWHERE: Block = Block {
+    align: 1,
+    size: 0,
+    at: 0,
+};
+
+/// The first half of a call (`Link::enter`): puts the arguments into the callee's blocks, and answers the flat values for its core
+/// function. The caller is only read.
+pub fn enter_lent(
+    resolve: &Resolve,
+    layouts: &Layouts,
+    func: FunctionId,
+    flats: &[Flat],
+    caller: &mut [u8],
+    callee: &mut [u8],
+    blocks: &[Block],
+) -> Result<Flats, Fault>
+    requires laid_out { layouts.now ≡ layouts_of resolve.now }
+    requires within { ∥ AreWithin resolve.now ∥₁ }
+    requires function { IsFunction resolve.now func }
+    requires short { length caller.old < 4294967296 }
+    requires limited { length callee.old < 4294967296 }
+    requires good { IsTrue (are_good (length callee.old) blocks.now) }
+    ensures entered { IfOk result (λ handed. EntersLent (function_type resolve.now func) flats.now caller.old
+        callee.old blocks.now handed.items callee.new) }
+    ensures fault { IfErr result (λ fault. EntryOfLentFails (function_type resolve.now func) flats.now caller.old
+        callee.old blocks.now fault callee.new) }
+    ensures same_caller { caller.new ≡ caller.old }
+{
+    let source = Lent::new(caller, &[]);
+    let mut target = Lent::new(callee, blocks);
+    let mut link = Link::new(resolve, layouts);
+    link.enter(func, flats, &source, &mut target)
+}
+
+/// The second half (`Link::leave`): puts what the core function answered into the caller's blocks and its return area, and answers the
+/// flat values for the caller. The callee is only read. `can_lend` tests with the return area as its place that no block meets it.
+pub fn leave_lent(
+    resolve: &Resolve,
+    layouts: &Layouts,
+    func: FunctionId,
+    flats: &[Flat],
+    answer: &[Flat],
+    callee: &mut [u8],
+    caller: &mut [u8],
+    blocks: &[Block],
+) -> Result<Flats, Fault>
+    requires laid_out { layouts.now ≡ layouts_of resolve.now }
+    requires within { ∥ AreWithin resolve.now ∥₁ }
+    requires function { IsFunction resolve.now func }
+    requires short { length callee.old < 4294967296 }
+    requires limited { length caller.old < 4294967296 }
+    requires good { IsTrue (are_good (length caller.old) blocks.now) }
+    ensures returned { IfOk result (λ back. ReturnsLent (function_type resolve.now func) flats.now callee.old answer.now
+        caller.old blocks.now back.items caller.new) }
+    ensures fault { IfErr result (λ fault. ReturnOfLentFails (function_type resolve.now func) flats.now callee.old answer.now
+        caller.old blocks.now fault caller.new) }
+    ensures same_callee { callee.new ≡ callee.old }
+{
+    let source = Lent::new(callee, &[]);
+    let mut target = Lent::new(caller, blocks);
+    let mut link = Link::new(resolve, layouts);
+    link.leave(func, flats, answer, &mut target, &source)
+}
