@@ -22,6 +22,7 @@ pub mod Walk
 pub mod Sized
 pub mod Spelt
 pub mod OwnIds
+pub mod OwnPaths
 pub mod Whole
 pub mod Scopes
 pub mod Versions

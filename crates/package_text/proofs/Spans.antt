@@ -1,14 +1,14 @@
 -- Where the items of a file stand is nothing to its names: what is said of the file without places holds.
 use Rattle.std.proofs.Common.{◌≡◌, ◌≢◌, ℕ, List, [], ◌∷◌, ◌++◌, map, flat_map, filter_map, refl, sym, ap, subst, ◌∙◌, All}
-use Rattle.std.specs.Prelude.{◌&&◌}
+use Rattle.std.specs.Prelude.{◌&&◌, Contains}
 use Rattle.std.specs.List.{list_all}
-use Rattle.wit_syntax.specs.Syntax.{Local, Entry, Uses, Defines, Declares, WorldEntry, Whole, Single, FileEntry, AnInterface, AWorld, File}
+use Rattle.wit_syntax.specs.Syntax.{Entry, Uses, Defines, Declares, WorldEntry, Whole, Single, FileEntry, AnInterface, AWorld, File}
 use Rattle.package_form.specs.Scope.{AreDistinct}
 use Rattle.package_form.specs.Naming.{world_scopes}
-use Rattle.resolve.specs.Declarations.{InterfaceTree, WorldTree, ItemTree, entry_uses, entry_types, entry_functions, entry_names, entry_scopes, interface_tree, interface_of, interfaces, item_tree, world_of, worlds, package_named, full_interface, full_interfaces, full_world, full_worlds, interface_names}
+use Rattle.resolve.specs.Declarations.{InterfaceTree, WorldTree, ItemTree, entry_packages, world_entry_packages, file_entry_packages, other_packages, entry_uses, entry_types, entry_functions, entry_names, entry_scopes, interface_tree, interface_of, interfaces, item_tree, world_of, worlds, package_named, full_interface, full_interfaces, full_world, full_worlds, interface_names}
 use Rattle.resolve.specs.Resolved.{world_meaning}
 use Rattle.resolve.specs.Scopes.{file_name, interface_scopes, scopes}
-use Rattle.resolve.specs.Resolves.{Resolves, HasKnownNames, IsKnownWorld, HasNoFaults, IsPackageOf, body_fits, signature_fits, entry_fits, world_entry_fits, interface_fits, file_fits}
+use Rattle.resolve.specs.Resolves.{Resolves, earlier_packages, KnowsPackages, HasKnownNames, IsKnownWorld, HasNoFaults, IsPackageOf, body_fits, signature_fits, entry_fits, world_entry_fits, interface_fits, file_fits}
 use Rattle.tables.specs.Package.{package_of}
 use Rattle.tables.specs.PackageNames.{PackageParts}
 use Rattle.tables.specs.declared.tables.Resolve.{Resolve}
@@ -46,6 +46,22 @@ scopes-kept (Uses at p us ∷ es) = scopes-kept es
 scopes-kept (Defines at n d ∷ es) = let h = scopes-kept es in cc
 scopes-kept (Declares at n f ∷ es) = let h = scopes-kept es in cc
 
+paths-kept : (es : List Entry) → flat_map entry_packages (map unplaced_entry es) ≡ flat_map entry_packages es
+paths-kept [] = refl
+paths-kept (Uses at p us ∷ es) = let h = paths-kept es in cc
+paths-kept (Defines at n d ∷ es) = paths-kept es
+paths-kept (Declares at n f ∷ es) = paths-kept es
+
+world-paths-kept : (es : List WorldEntry) → flat_map world_entry_packages (map unplaced_world_entry es) ≡ flat_map world_entry_packages es
+world-paths-kept [] = refl
+world-paths-kept (Whole way p ∷ es) = let h = world-paths-kept es in cc
+world-paths-kept (Single way at n f ∷ es) = world-paths-kept es
+
+packages-kept : (es : List FileEntry) → flat_map file_entry_packages (map unplaced_file_entry es) ≡ flat_map file_entry_packages es
+packages-kept [] = refl
+packages-kept (AnInterface n is ∷ es) = let a = paths-kept is in let b = packages-kept es in rw (a, b) refl
+packages-kept (AWorld at n ws ∷ es) = let a = world-paths-kept ws in let b = packages-kept es in rw (a, b) refl
+
 tree-kept : (n : List ℕ) (es : List Entry) → interface_tree n (map unplaced_entry es) ≡ interface_tree n es
 tree-kept n es =
     let a = uses-kept es in let b = types-kept es in let c = functions-kept es in
@@ -63,7 +79,7 @@ file-names-kept (AWorld at n ws ∷ es) = let b = file-names-kept es in cc
 
 items-kept : (es : List WorldEntry) → map item_tree (map unplaced_world_entry es) ≡ map item_tree es
 items-kept [] = refl
-items-kept (Whole way (Local i) ∷ es) = let h = items-kept es in cc
+items-kept (Whole way p ∷ es) = let h = items-kept es in cc
 items-kept (Single way at n f ∷ es) = let h = items-kept es in cc
 
 worlds-kept : (es : List FileEntry) → filter_map world_of (map unplaced_file_entry es) ≡ filter_map world_of es
@@ -106,6 +122,12 @@ module _ (f g : File) (same : unplaced g ≡ unplaced f) where
   interfaces-same : interfaces g ≡ interfaces f
   interfaces-same = sym (interfaces-kept g.entries) ∙ (ap (filter_map interface_of) entries-same ∙ interfaces-kept f.entries)
 
+  packages-same : other_packages g ≡ other_packages f
+  packages-same = sym (packages-kept g.entries) ∙ (ap (flat_map file_entry_packages) entries-same ∙ packages-kept f.entries)
+
+  packages-known : KnowsPackages f → KnowsPackages g
+  packages-known h = subst (All (Contains earlier_packages)) (sym packages-same) h
+
   worlds-same : worlds g ≡ worlds f
   worlds-same = sym (worlds-kept g.entries) ∙ (ap (filter_map world_of) entries-same ∙ worlds-kept f.entries)
 
@@ -129,6 +151,7 @@ module _ (f g : File) (same : unplaced g ≡ unplaced f) where
 
   pub package-kept : (r : Resolve) → IsPackageOf f r → IsPackageOf g r
   package-kept r h = record {
+    earlier = packages-known h.earlier;
     packages = h.packages ∙ ap (λ (p : PackageParts). p ∷ []) (sym named-same);
     resolves = subst (λ (is : List InterfaceTree). Resolves is (full_worlds g) (package_of r)) (sym full-same)
         (subst (λ (ws : List WorldTree). Resolves (full_interfaces f) ws (package_of r)) (sym full-worlds-same) h.resolves);
@@ -153,6 +176,7 @@ module _ (f g : File) (same : unplaced g ≡ unplaced f) where
   faults-kept h = record {
     some = some-kept h.some;
     distinct = subst (All AreDistinct) (sym scopes-same) h.distinct;
+    packages = packages-known h.packages;
     known = record {
       in_interfaces = subst (λ (is : List InterfaceTree). All (HasKnownNames is) is) (sym interfaces-same) h.known.in_interfaces;
       in_worlds = subst (λ (ws : List WorldTree). All (IsKnownWorld (interface_names (interfaces g))) ws) (sym worlds-same)

@@ -50,7 +50,7 @@ use Rattle.tables.specs.declared.tables.WorldItemKind.TheVariants as item
 use Rattle.tables.specs.declared.tables.WorldItem.{WorldItem}
 use Rattle.tables.specs.Tables.{function_of, is_function_of, is_placed_item, is_placed_world, are_placed_worlds}
 use Rattle.tables.specs.Package.{IsFunction, IsType, function_item, item_meaning}
-use Rattle.wit_print.specs.Canonical.{world_entry_words, braced_words}
+use Rattle.wit_print.specs.Canonical.{blank, path_words, world_entry_words, braced_words}
 use Rattle.wit_print.specs.Printable.{IsPrintableWorldEntry}
 use Rattle.resolve.specs.Resolves.{signature_fits, world_entry_fits}
 use Rattle.std.proofs.lemmas.List.Folds.{list_all-append}
@@ -93,7 +93,11 @@ recursion-append P (x ∷ xs) ys h q = (h.0, recursion-append P xs ys h.1 q)
 
 entries-long : (es : List WorldEntry) → length es ≤ weight (braced_words world_entry_words es)
 entries-long [] = omega arith
-entries-long (Whole way p ∷ es) = let h = entries-long es in omega (arith, h)
+entries-long (Whole way p ∷ es) =
+    let h = entries-long es in
+    let a = weight-append (world_entry_words (Whole way p)) (braced_words world_entry_words es) in
+    let b = weight-append (path_words blank p) (mark_word [] mark.Semicolon ∷ []) in
+    omega (arith, h, a, b)
 entries-long (Single way at n f ∷ es) =
     let h = entries-long es in
     let a = weight-append (world_entry_words (Single way at n f)) (braced_words world_entry_words es) in

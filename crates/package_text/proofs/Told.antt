@@ -16,6 +16,7 @@ use Rattle.package_text.specs.Writable.{IsWritable}
 use Rattle.package_text.specs.Laws.{IsTreeOfPackage, IsTextOfPackage}
 use Rattle.package_form.specs.Entries.{labels_of}
 use Rattle.package_text.proofs.Texts.{tree-printable}
+use Rattle.package_text.proofs.OwnPaths.{own-paths}
 use Rattle.package_text.proofs.Spans.{package-kept, faults-kept, fits-kept}
 use Rattle.package_text.proofs.Scopes.{tree-interfaces-distinct, tree-distinct}
 use Rattle.package_text.proofs.Whole.{tree-interfaces, tree-names, known-trees, tree-package}
@@ -46,7 +47,7 @@ tree-of-package r w =
     let placed = tree-worlds-known r w.form in
     let here : All (IsKnownWorld (interface_names (interfaces f))) (worlds f) = subst (λ (ns : List (List ℕ)). All (IsKnownWorld ns) (worlds f)) (sym (tree-names r)) placed in
     let whole = tree-package r w.form (names-earlier (interfaces f) trees apart) (tree-labels r w) know placed (tree-worlds-read r w.form) in (
-      record { some = tree-some r w.form; distinct = tree-distinct r w.form whole.resolves.worlds w.distinct; known = record { in_interfaces = know; in_worlds = here } },
+      record { some = tree-some r w.form; distinct = tree-distinct r w.form whole.resolves.worlds w.distinct; packages = own-paths r; known = record { in_interfaces = know; in_worlds = here } },
       whole,
     )
 

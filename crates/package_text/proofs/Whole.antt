@@ -36,6 +36,7 @@ use Rattle.package_text.proofs.Knowing.{HasType, AreKnownTrees}
 use Rattle.package_text.proofs.Walk.{trees-from}
 use Rattle.package_text.proofs.Parts.{parts-from}
 use Rattle.package_text.proofs.OwnIds.{own-ids}
+use Rattle.package_text.proofs.OwnPaths.{own-paths}
 
 pub form-regions : (r : Resolve) → IsInPackageForm r → AreRegions r.definitions (home 0 0 r.interfaces) 0 [] r.interfaces r.definitions
 form-regions r f = regions-from r.definitions (home 0 0 r.interfaces) 0 [] r.definitions r.interfaces r.worlds refl f.parted f.interfaces f.worlds (λ n l. refl)
@@ -174,6 +175,7 @@ module _ (r : Resolve) (f : IsInPackageForm r) (earlier : NamesEarlier (interfac
 
   pub tree-package : IsPackageOf (file_of r) r
   tree-package = record {
+    earlier = own-paths r;
     packages = one;
     resolves = subst (Resolves (full_interfaces (file_of r)) (full_worlds (file_of r))) package-same (own-resolves (first_name r.packages));
     postfix = f.postfix;

@@ -1,7 +1,8 @@
 //! Interfaces: what is written for each of their rows.
 ghost use Rattle.std.specs.Prelude.{◌≡◌, ◌<◌, ◌∷◌, [], ◌++◌, map, flat_map, length, None, Some, MatchOption, IfOk, OnOk, IsTrue, slice_get, slice_index_or};
 ghost use Rattle.wit_tokens.specs.declared.token.Span.{Span};
-ghost use Rattle.wit_syntax.specs.View.{used_view, entry_view, item_view, function_view};
+ghost use Rattle.wit_syntax.specs.View.{path_view, used_view, entry_view, item_view, function_view};
+ghost use Rattle.wit_syntax.specs.Syntax.{Local};
 ghost use Rattle.wit_print.specs.Unplaced.{nowhere};
 ghost use Rattle.tables.specs.Tables.{kind_all, function_all, is_earlier, type_of};
 ghost use Rattle.tables.specs.declared.tables.ValType.TheVariants as val;
@@ -27,15 +28,13 @@ pub(crate) fn nowhere() -> Span
     Span { start: 0, end: 0 }
 }
 
-/// The interface of this name, by its name alone.
+/// The path to an interface of the package.
 pub(crate) fn path_to(alloc: Global, resolve: &Resolve, id: InterfaceId) -> Result<Path, AllocError>
     requires { id.0 < length resolve.now.interfaces }
-    ensures { IfOk result (λ p. p.name ≡ slice_index_or (own_names resolve.now) id.0 []) }
+    ensures { IfOk result (λ p. path_view p ≡ Local (slice_index_or (own_names resolve.now) id.0 [])) }
 {
     let interface = &resolve.interfaces.as_slice()[id.0 as usize];
-    Ok(Path {
-        name: interface.name.copy(alloc)?,
-    })
+    Ok(Path::Local(interface.name.copy(alloc)?))
 }
 
 /// The name of a type that another interface uses.

@@ -4,7 +4,7 @@ use Rattle.std.specs.Option.{option_map}
 use Rattle.std.specs.Str.{bytes_eq}
 use Rattle.std.proofs.lemmas.Slice.Eq.{bytes_eq-Decides}
 use Rattle.wit_syntax.specs.Syntax.{Entry, Uses, Defines, Declares}
-use Rattle.resolve.specs.Declarations.{TypeItem, FunctionItem, InterfaceTree, interface_names, interface_name, interface_tree, interface_at, no_interface, entry_uses, entry_types, entry_functions, used_item, type_names, named_definition, named_function}
+use Rattle.resolve.specs.Declarations.{TypeItem, FunctionItem, InterfaceTree, interface_names, interface_name, interface_tree, interface_at, no_interface, entry_uses, entry_types, entry_functions, path_uses, type_names, named_definition, named_function}
 use Rattle.resolve.specs.Knowing.{KnowsEntry, LacksEntry, LacksAny}
 use Rattle.resolve.specs.Lent.{lent}
 use Rattle.std.proofs.lemmas.List.{get_or-map, length-map}
@@ -93,7 +93,7 @@ module _ (d : Declarations) where
 module _ (is : List InterfaceTree) (i : InterfaceTree) where
   uses-known : (es : List Entry) → All (KnowsEntry is i) es → All (IsKnownUse is) (flat_map entry_uses es)
   uses-known [] h = all-none (IsKnownUse is)
-  uses-known (Uses at p us ∷ es) h = all-append (IsKnownUse is) (map (used_item p) us) (flat_map entry_uses es) (all-head (KnowsEntry is i) (Uses at p us) es h) (uses-known es (all-tail (KnowsEntry is i) (Uses at p us) es h))
+  uses-known (Uses at p us ∷ es) h = all-append (IsKnownUse is) (path_uses p us) (flat_map entry_uses es) (all-head (KnowsEntry is i) (Uses at p us) es h) (uses-known es (all-tail (KnowsEntry is i) (Uses at p us) es h))
   uses-known (Defines at n d ∷ es) h = uses-known es (all-tail (KnowsEntry is i) (Defines at n d) es h)
   uses-known (Declares at n f ∷ es) h = uses-known es (all-tail (KnowsEntry is i) (Declares at n f) es h)
 

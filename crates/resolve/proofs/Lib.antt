@@ -45,3 +45,4 @@ pub mod Counted
 pub mod Weighed
 pub mod StandardRows
 pub mod Only
+pub mod PathNames

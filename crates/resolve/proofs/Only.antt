@@ -5,7 +5,7 @@ use Rattle.std.proofs.lemmas.Bool.{false≢true}
 use Rattle.std.proofs.lemmas.List.Elements.{All-contains}
 use Rattle.wit_syntax.specs.Syntax.{File}
 use Rattle.tables.specs.Tables.{are_standard}
-use Rattle.tables.specs.PackageNames.{own_name}
+use Rattle.tables.specs.PackageNames.{PackageParts, own_name}
 use Rattle.tables.specs.Names.{full_name, world_name}
 use Rattle.tables.specs.declared.tables.Interface.{Interface}
 use Rattle.tables.specs.Package.{Package, package_of, references, trees as trees_in, interface_names as names_in}
@@ -15,9 +15,9 @@ use Rattle.tables.specs.declared.error.ResolveError.TheVariants as error
 use Rattle.package_form.specs.Scope.{AreDistinct}
 use Rattle.resolve.specs.Order.{IsPlacement}
 use Rattle.package_form.specs.Postfix.{IsPostfix}
-use Rattle.resolve.specs.Declarations.{UsedItem, InterfaceTree, ItemTree, InterfaceNamed, FunctionOf, interfaces, worlds, package_named, full_interface, full_interfaces, full_worlds, interface_at, interface_names, interface_name, type_names, named_definition, named_function}
+use Rattle.resolve.specs.Declarations.{UsedItem, InterfaceTree, ItemTree, InterfaceNamed, ForeignNamed, FunctionOf, other_packages, interfaces, worlds, package_named, full_interface, full_interfaces, full_worlds, interface_at, interface_names, interface_name, type_names, named_definition, named_function}
 use Rattle.resolve.specs.Scopes.{scopes}
-use Rattle.resolve.specs.Resolves.{HasPackage, IsTooLarge, Resolves, full_names, package_in, interface_uses, type_uses, PassesLimit, HasDuplicate, HasDistinctNames, IsKnownUse, IsUnknownUse, IsUnknownIn, HasUnknown, HasKnownNames, IsKnownItem, IsKnownWorld, IsUnknownItem, HasCycle, IsPackageOf, HasNoFaults, ResolveRefuses, AnswersOnly}
+use Rattle.resolve.specs.Resolves.{HasPackage, IsTooLarge, Resolves, full_names, package_in, interface_uses, type_uses, PassesLimit, HasDuplicate, HasDistinctNames, earlier_packages, LacksPackage, KnowsPackages, IsKnownUse, IsUnknownUse, IsUnknownIn, HasUnknown, HasKnownNames, IsKnownItem, IsKnownWorld, IsUnknownItem, HasCycle, IsPackageOf, HasNoFaults, ResolveRefuses, AnswersOnly}
 use Rattle.package_form.specs.Entries.{world_entries, Table, table_of, entries_of, type_entries}
 use Rattle.resolve.proofs.Trees.{distinct-interfaces}
 use Rattle.package_form.proofs.OneRow.{same-place}
@@ -37,6 +37,10 @@ no-duplicate : (f : File) (n : List ℕ) → HasDistinctNames f → HasDuplicate
 no-duplicate f n d x =
     let k = x.2 in
     (All-contains AreDistinct (scopes f) x.0 d x.1).each k.0 k.1 k.3
+
+-- a package that isn't there
+no-lack : (f : File) (p : PackageParts) → KnowsPackages f → LacksPackage f p → ⊥
+no-lack f p known x = x.1 (All-contains (Contains earlier_packages) (other_packages f) p known x.0)
 
 -- ---- a name that stands for nothing
 
@@ -72,6 +76,7 @@ no-unknown-in f n h i c x = by x
 
 no-unknown-item : (names : List (List ℕ)) (i : ItemTree) (n : List ℕ) → IsKnownItem names i → IsUnknownItem names i n → ⊥
 no-unknown-item names (InterfaceNamed way j) n known x = x.1 (subst (Contains names) (sym x.0) known)
+no-unknown-item names (ForeignNamed way q j) n known x = known
 no-unknown-item names (FunctionOf way g) n known x =
     let c = subst (λ (ns : List (List ℕ)). Contains ns n) known x in
     absurd (omega (arith, c.1))
@@ -135,7 +140,8 @@ only-memory : (f : File) (r : Resolve) (e : ResolveError) → HasPackage f r →
 only-memory f r error.EmptyPackage h x = absurd (h.faults.some x)
 only-memory f r error.NotThisShape h x = absurd x
 only-memory f r (error.Duplicate n) h x = absurd (no-duplicate f n h.faults.distinct x.1)
-only-memory f r (error.Unknown n) h x = absurd (no-unknown f n h.faults x.2)
+only-memory f r (error.NoPackage p) h x = absurd (no-lack f p h.faults.packages x.2)
+only-memory f r (error.Unknown n) h x = absurd (no-unknown f n h.faults x.3)
 only-memory f r error.Cycle h x = absurd (no-cycle-in f (package_of r) h.resolved.resolves x.1)
 only-memory f r error.Limit h (inl x) = absurd (false≢true (sym x.1 ∙ h.fits))
 only-memory f r error.Limit h (inr x) = absurd (not-too-large f r h.resolved x.1)

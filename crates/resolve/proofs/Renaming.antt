@@ -7,6 +7,7 @@ use Rattle.wit_syntax.specs.Syntax.{Ty, Prim, Named, ListOf, OptionOf, TupleOf, 
 use Rattle.wit_syntax.specs.declared.ast.Primitive.{Primitive as Keyword}
 use Rattle.wit_syntax.specs.declared.ast.Primitive.TheVariants as keyword
 use Rattle.tables.specs.Package.{Key, key_of, Tree, PrimTree, TextTree, Reference, ListTree, RecordTree, VariantTree, FlagsTree, Fields, no_fields, field, Choices, no_choices, empty, holding, Plain, AsTuple, AsResult, AsEnum, Meaning, IsUse, IsType, IsFunction, NamedDefinition, read_val, read_choice, read_tuple, read_fields, read_params, read_cases, read_enum, read_kind, reference, reference_by, meaning_of, named_function, function_meaning as called, named_by, definition_of, definitions_from, references, ItemMeaning, WithInterface, WithFunction, function_item, item_meaning}
+use Rattle.tables.specs.PackageNames.{own_name}
 use Rattle.tables.specs.Tables.{function_of}
 use Rattle.tables.specs.declared.tables.ValType.{ValType}
 use Rattle.tables.specs.declared.tables.ValType.TheVariants as val
@@ -25,7 +26,7 @@ use Rattle.tables.specs.declared.tables.WorldItemKind.TheVariants as item
 use Rattle.tables.specs.declared.tables.WorldItem.{WorldItem}
 use Rattle.tables.specs.declared.tables.Definition.{Definition}
 use Rattle.tables.specs.declared.tables.Definition.TheVariants as row
-use Rattle.resolve.specs.Declarations.{UsedItem, TypeItem, FunctionItem, InterfaceTree, ItemTree, InterfaceNamed, FunctionOf}
+use Rattle.resolve.specs.Declarations.{UsedItem, TypeItem, FunctionItem, InterfaceTree, ItemTree, InterfaceNamed, ForeignNamed, FunctionOf}
 use Rattle.resolve.specs.Resolved.{primitive_tree, fields_of, unlabelled, choice, choices_of, option_tree, resolved, resolved_all, resolved_maybe, resolved_if, member_meaning, case_meaning, definition_meaning, use_meaning, function_meaning, no_type, in_order, interface_meaning, direction_meaning, item_meaning as item_tree_meaning}
 
 -- each interface gets another name; none has none
@@ -270,11 +271,13 @@ module _ (to : List ℕ → List ℕ) (none-kept : to [] ≡ []) where
 
   abbrev pub item_under : ItemTree → ItemTree
   item_under (InterfaceNamed way i) = InterfaceNamed way (to i)
+  item_under (ForeignNamed way q i) = InterfaceNamed way (to (own_name q i))
   item_under (FunctionOf way f) = FunctionOf way f
 
   -- a function of a world is of no interface
   pub item-renamed : (i : ItemTree) → item_tree_meaning (item_under i) ≡ renamed_item (item_tree_meaning i)
   item-renamed (InterfaceNamed way n) = refl
+  item-renamed (ForeignNamed way q n) = refl
   item-renamed (FunctionOf way f) =
       let ms = f.function.params in
       let params : fields_of (map (member_meaning []) ms) ≡ renamed_fields (fields_of (map (member_meaning []) ms)) =

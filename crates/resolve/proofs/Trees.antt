@@ -19,15 +19,15 @@ use Rattle.package_form.specs.Scope.{AreDistinct}
 use Rattle.tables.specs.Package.{Tree, ItemMeaning, WithInterface, WorldMeaning, worlds as worlds_in, trees, world_meaning, references, package_of, interface_names as names_in, definitions_from}
 use Rattle.resolve.specs.Resolved.{interface_meaning}
 use Rattle.resolve.specs.Resolved as tree
-use Rattle.resolve.specs.Declarations.{UsedItem, InterfaceTree, ItemTree, InterfaceNamed, FunctionOf, WorldTree, full_item, interface_of, interfaces, worlds, package_named, full_use, full_interface, full_interfaces, full_world, full_worlds, no_interface, interface_at, interface_name, interface_names}
+use Rattle.resolve.specs.Declarations.{UsedItem, InterfaceTree, ItemTree, InterfaceNamed, ForeignNamed, FunctionOf, WorldTree, full_item, interface_of, other_packages, interfaces, worlds, package_named, full_use, full_interface, full_interfaces, full_world, full_worlds, no_interface, interface_at, interface_name, interface_names}
 use Rattle.resolve.specs.Scopes.{file_name, scopes}
 use Rattle.package_form.specs.Distinct.{RefusesScopes}
 use Rattle.package_form.specs.Entries.{Table, table_of, labels_of, type_entries}
-use Rattle.resolve.specs.Resolves.{Resolves, full_names, package_in, names_in_order, uses_of_interface, IsKnownUse, HasKnownNames, interface_uses, type_uses, IsKnownItem, IsKnownWorld, HasWorldsBehind, HasItems, PassesLimit, HasEntries, HasNoFaults, HasDistinctNames, HasCycle, IsPackageOf, ResolveRefuses}
+use Rattle.resolve.specs.Resolves.{Resolves, full_names, package_in, names_in_order, uses_of_interface, IsKnownUse, HasKnownNames, interface_uses, type_uses, IsKnownItem, IsKnownWorld, HasWorldsBehind, HasItems, PassesLimit, HasEntries, HasNoFaults, HasDistinctNames, KnowsPackages, HasCycle, IsPackageOf, ResolveRefuses}
 use Rattle.package_form.specs.Ids.{interfaces_from, interfaces_in}
 use Rattle.resolve.specs.Building.{DefinesPackage, table_trees, table_definitions}
 use Rattle.resolve.specs.Finished.{IsFinished, header}
-use Rattle.resolve.specs.Knowing.{RefusesUnknown}
+use Rattle.resolve.specs.Knowing.{RefusesPackage, RefusesUnknown}
 use Rattle.package_form.specs.Postfix.{IsPostfix}
 use Rattle.tables.specs.declared.error.ResolveError.{ResolveError}
 use Rattle.tables.specs.declared.error.ResolveError.TheVariants as error
@@ -72,10 +72,15 @@ refuses-duplicate f (error.Duplicate n) some h = (some, h)
 refuses-duplicate f error.NoMemory some h = tt
 refuses-duplicate f _ some h = absurd h
 
-pub refuses-unknown : (f : File) (is : List InterfaceTree) (e : ResolveError) → is ≡ interfaces f → HasEntries f → HasDistinctNames f → RefusesUnknown is (worlds f) e → ResolveRefuses f e
-refuses-unknown f is (error.Unknown n) same some distinct h = (some, distinct, subst (λ ts. RefusesUnknown ts (worlds f) (error.Unknown n)) same h)
-refuses-unknown f is error.NoMemory same some distinct h = tt
-refuses-unknown f is _ same some distinct h = absurd h
+pub refuses-package : (f : File) (e : ResolveError) → HasEntries f → HasDistinctNames f → RefusesPackage (other_packages f) e → ResolveRefuses f e
+refuses-package f (error.NoPackage p) some distinct h = (some, distinct, h)
+refuses-package f error.NoMemory some distinct h = tt
+refuses-package f _ some distinct h = absurd h
+
+pub refuses-unknown : (f : File) (is : List InterfaceTree) (e : ResolveError) → is ≡ interfaces f → HasEntries f → HasDistinctNames f → KnowsPackages f → RefusesUnknown is (worlds f) e → ResolveRefuses f e
+refuses-unknown f is (error.Unknown n) same some distinct there h = (some, distinct, there, subst (λ ts. RefusesUnknown ts (worlds f) (error.Unknown n)) same h)
+refuses-unknown f is error.NoMemory same some distinct there h = tt
+refuses-unknown f is _ same some distinct there h = absurd h
 
 pub refuses-cycle : (f : File) (e : ResolveError) → HasNoFaults f → (e ≡ error.NoMemory) ⊎ ((e ≡ error.Cycle) × HasCycle f) → ResolveRefuses f e
 refuses-cycle f e h (inl q) = subst (ResolveRefuses f) (sym q) tt
@@ -165,6 +170,7 @@ module _ (p : PackageParts) (is : List InterfaceTree) (order : List ℕ) (orders
   module _ (ws : List World) (trees : List WorldTree) (read : map (world_reads t) ws ≡ map tree.world_meaning trees) (here : All (IsKnownWorld t.interfaces) trees) where
     item-full : (i : ItemTree) → IsKnownItem t.interfaces i → renamed_item (full_if p) (none-full p) (tree.item_meaning i) ≡ tree.item_meaning (full_item p i)
     item-full (InterfaceNamed way n) c = ap (WithInterface (tree.direction_meaning way)) (full-is p n (some-ordered n c))
+    item-full (ForeignNamed way q n) c = absurd c
     item-full (FunctionOf way f) c = sym (item-renamed (full_if p) (none-full p) (FunctionOf way f))
 
     items-full : (is : List ItemTree) → All (IsKnownItem t.interfaces) is
@@ -233,7 +239,7 @@ names-kept : (rows : List Definition) (i : ℕ) (ns : List (List ℕ)) → map (
 names-kept rows i [] = refl
 names-kept rows i (n ∷ ns) = ap (λ (ms : List (List ℕ)). n ∷ ms) (names-kept rows (i + 1) ns)
 
-version-is : (v : Option (String Global)) → version_view v ≡ option_map string_bytes v
+pub version-is : (v : Option (String Global)) → version_view v ≡ option_map string_bytes v
 version-is None = refl
 version-is (Some v) = refl
 
@@ -284,8 +290,9 @@ module _ (p : PackageParts) (t : Table) (r : Resolve) (f : IsFinished p t r) whe
       ∙ ap (λ (ws : List WorldMeaning). record { interfaces = full_names p t; worlds = ws; definitions = (package_of r).definitions }) worlds
       ∙ ap (λ ds. record { interfaces = full_names p t; worlds = (package_in p t).worlds; definitions = ds }) definitions
 
-  pub is-package : (g : File) → p ≡ package_named g → IsTableOf g t → worlds_stand t 0 t.worlds ≡ true → IsPackageOf g r
-  is-package g named m stand = record {
+  pub is-package : (g : File) → KnowsPackages g → p ≡ package_named g → IsTableOf g t → worlds_stand t 0 t.worlds ≡ true → IsPackageOf g r
+  is-package g earlier named m stand = record {
+    earlier = earlier;
     packages = f.packages ∙ ap (λ (q : PackageParts). q ∷ []) named;
     resolves = subst (Resolves (full_interfaces g) (full_worlds g)) (ap (λ (q : PackageParts). package_in q t) (sym named) ∙ sym (package-same stand)) m.resolves;
     postfix = subst IsPostfix (sym f.definitions) m.postfix;

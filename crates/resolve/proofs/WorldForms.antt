@@ -25,7 +25,7 @@ use Rattle.package_form.specs.Ends.{behind_item, behind_items, world_end, world_
 use Rattle.package_form.specs.Form.{is_named, is_nameless_type, is_nameless, is_of_world, is_world_row, function_at, functions_of, has_items, have_items}
 use Rattle.package_form.proofs.Fronts.{stands_before, row-all, row-before}
 use Rattle.package_form.proofs.Lists.{get-front, all-none, all-append, all-cons, all-head, all-tail}
-use Rattle.resolve.specs.Declarations.{ItemTree, InterfaceNamed, FunctionOf, WorldTree, full_item, full_world}
+use Rattle.resolve.specs.Declarations.{ItemTree, InterfaceNamed, ForeignNamed, FunctionOf, WorldTree, full_item, full_world}
 use Rattle.resolve.specs.Resolved.{fields_of, member_meaning, resolved_if, item_meaning, world_meaning}
 use Rattle.resolve.specs.Resolves.{IsKnownItem, IsKnownWorld, is_behind}
 use Rattle.tables.proofs.Rows.{split, both}
@@ -53,6 +53,7 @@ pub record RefersNowhere (x : NamedDefinition) : Type 0 where
 
 item-nowhere : (q : PackageParts) (ns : List (List ℕ)) (i : ItemTree) → IsKnownItem ns i → All RefersNowhere (item_definitions (item_meaning (full_item q i)))
 item-nowhere q ns (InterfaceNamed way n) h = all-none RefersNowhere
+item-nowhere q ns (ForeignNamed way p n) h = absurd h
 item-nowhere q ns (FunctionOf way f) h =
     let ms = f.function.params in
     let r = f.function.result in

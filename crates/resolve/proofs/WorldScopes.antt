@@ -7,7 +7,10 @@ use Rattle.wit_syntax.specs.View.{world_entry_view}
 use Rattle.wit_syntax.specs.declared.ast.WorldItem.{WorldItem}
 use Rattle.wit_syntax.specs.declared.ast.WorldItemKind.{WorldItemKind}
 use Rattle.wit_syntax.specs.declared.ast.WorldItemKind.TheVariants as world
-use Rattle.package_form.specs.Naming.{item_direction, field_labels, world_scopes}
+use Rattle.wit_syntax.specs.declared.ast.Direction.{Direction}
+use Rattle.wit_syntax.specs.declared.ast.Path.{Path}
+use Rattle.wit_syntax.specs.declared.ast.Path.TheVariants as path
+use Rattle.package_form.specs.Naming.{item_direction, item_parameters, field_labels, world_scopes}
 use Rattle.resolve.specs.Declarations.{item_tree, full_item, full_world, world_tree, member_name}
 use Rattle.resolve.specs.Resolved.{direction_meaning, fields_of, member_meaning, item_meaning, world_meaning}
 use Rattle.resolve.specs.Sources.{item_in, world_in}
@@ -17,8 +20,14 @@ pub side-told : (p : PackageParts) (i : WorldItem) → item_direction (item_in p
 side-told p i = by i.kind
   where
     by : (k : WorldItemKind) → item_direction (item_in p (record { direction = i.direction; kind = k })) ≡ direction_meaning i.direction
-    by (world.Interface q) = refl
+    by (world.Interface (path.Local n)) = refl
+    by (world.Interface (path.Foreign id n)) = refl
     by (world.Func f) = refl
+
+-- an interface has none
+pub no-parameters : (p : PackageParts) (way : Direction) (q : Path) → item_parameters (item_in p (record { direction = way; kind = world.Interface q })) ≡ []
+no-parameters p way (path.Local n) = refl
+no-parameters p way (path.Foreign id n) = refl
 
 -- the parameters of a function item
 pub labels-meant : (n : List ℕ) (ms : List Member) → field_labels (fields_of (map (member_meaning n) ms)) ≡ map member_name ms

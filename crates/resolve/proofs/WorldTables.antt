@@ -16,7 +16,7 @@ use Rattle.tables.specs.declared.tables.World.{World}
 use Rattle.package_form.specs.Entries.{Table}
 use Rattle.package_form.specs.Form.{functions_of}
 use Rattle.resolve.specs.Order.{IsPlacement}
-use Rattle.resolve.specs.Declarations.{InterfaceTree, ItemTree, InterfaceNamed, FunctionOf, WorldTree, interfaces, worlds, package_named, interface_at, interface_names}
+use Rattle.resolve.specs.Declarations.{InterfaceTree, ItemTree, InterfaceNamed, ForeignNamed, FunctionOf, WorldTree, interfaces, worlds, package_named, interface_at, interface_names}
 use Rattle.resolve.specs.Resolved.{world_meaning}
 use Rattle.resolve.specs.Resolves.{interface_uses, type_uses, names_in_order, IsKnownItem, IsKnownWorld, KnowsAll, is_behind, HasWorldsBehind}
 use Rattle.resolve.specs.Building.{DefinesPackage, table_definitions, world_functions}
@@ -100,6 +100,7 @@ worlds-behind old new fs none a =
 
 known-more : (ns ms : List (List ℕ)) → ((n : List ℕ) → Contains ns n → Contains ms n) → (i : ItemTree) → IsKnownItem ns i → IsKnownItem ms i
 known-more ns ms f (InterfaceNamed way n) h = f n h
+known-more ns ms f (ForeignNamed way q n) h = absurd h
 known-more ns ms f (FunctionOf way g) h = h
 
 pub worlds-known : (is : List InterfaceTree) (order : List ℕ) (ns : List (List ℕ)) (trees : List WorldTree) → ns ≡ names_in_order is order → IsPlacement (interface_uses is) order

@@ -1,7 +1,7 @@
 -- What the interfaces of a syntax tree declare: used names, types and functions, each in source order; what its worlds import and export;
 -- and what they name.
 use Rattle.std.specs.Prelude.{ℕ, List, [], ◌∷◌, ◌++◌, map, flat_map, filter_map, Option, None, Some, slice_index_or}
-use Rattle.wit_syntax.specs.Syntax.{Ty, Prim, Named, ListOf, OptionOf, TupleOf, ResultOf, Tys, none, more, MaybeTy, Absent, Present, Definition, Alias, Record, Variant, Enumeration, FlagSet, Function, Member, CaseOf, PathTo, Local, UsedAs, Entry, Uses, Defines, Declares, WorldEntry, Whole, Single, FileEntry, AnInterface, AWorld, File}
+use Rattle.wit_syntax.specs.Syntax.{Ty, Prim, Named, ListOf, OptionOf, TupleOf, ResultOf, Tys, none, more, MaybeTy, Absent, Present, Definition, Alias, Record, Variant, Enumeration, FlagSet, Function, Member, CaseOf, PathTo, Local, Foreign, UsedAs, Entry, Uses, Defines, Declares, WorldEntry, Whole, Single, FileEntry, AnInterface, AWorld, File}
 use Rattle.tables.specs.PackageNames.{PackageParts, own_name}
 use Rattle.wit_syntax.specs.declared.ast.Direction.{Direction}
 
@@ -32,11 +32,16 @@ name_or (Some m) n = m
 abbrev pub local_name : UsedAs → List ℕ
 local_name u = name_or u.local u.name
 
-abbrev pub used_item : PathTo → UsedAs → UsedItem
-used_item (Local i) u = record { interface = i; name = u.name; local = local_name u }
+abbrev pub used_item : List ℕ → UsedAs → UsedItem
+used_item i u = record { interface = i; name = u.name; local = local_name u }
+
+-- names that are used of an interface of the file's own package; of another package's none is known
+abbrev pub path_uses : PathTo → List UsedAs → List UsedItem
+path_uses (Local i) us = map (used_item i) us
+path_uses (Foreign namespace name v i) us = []
 
 abbrev pub entry_uses : Entry → List UsedItem
-entry_uses (Uses at p us) = map (used_item p) us
+entry_uses (Uses at p us) = path_uses p us
 entry_uses (Defines at n d) = []
 entry_uses (Declares at n f) = []
 
@@ -66,9 +71,10 @@ interface_of (AWorld at n es) = None
 abbrev pub interfaces : File → List InterfaceTree
 interfaces f = filter_map interface_of f.entries
 
--- an item of a world: an interface by its name, or a function of its own
+-- an item of a world: an interface by its name, one of another package, or a function of its own
 pub data ItemTree : Type 0 where
   InterfaceNamed : Direction → List ℕ → ItemTree
+  ForeignNamed : Direction → PackageParts → List ℕ → ItemTree
   FunctionOf : Direction → FunctionItem → ItemTree
 
 pub record WorldTree : Type 0 where
@@ -77,6 +83,7 @@ pub record WorldTree : Type 0 where
 
 abbrev pub item_tree : WorldEntry → ItemTree
 item_tree (Whole way (Local i)) = InterfaceNamed way i
+item_tree (Whole way (Foreign namespace name v i)) = ForeignNamed way (record { namespace = namespace; name = name; version = v }) i
 item_tree (Single way at n f) = FunctionOf way (record { name = n; function = f })
 
 abbrev pub world_tree : List ℕ → List WorldEntry → WorldTree
@@ -89,6 +96,35 @@ world_of (AWorld at n es) = Some (world_tree n es)
 -- the worlds of a file
 abbrev pub worlds : File → List WorldTree
 worlds f = filter_map world_of f.entries
+
+-- ---- other packages
+
+-- the package that a path names, where it is another one
+abbrev pub path_packages : PathTo → List PackageParts
+path_packages (Local i) = []
+path_packages (Foreign namespace name v i) = record { namespace = namespace; name = name; version = v } ∷ []
+
+abbrev pub entry_packages : Entry → List PackageParts
+entry_packages (Uses at p us) = path_packages p
+entry_packages (Defines at n d) = []
+entry_packages (Declares at n f) = []
+
+abbrev pub world_entry_packages : WorldEntry → List PackageParts
+world_entry_packages (Whole way p) = path_packages p
+world_entry_packages (Single way at n f) = []
+
+abbrev pub file_entry_packages : FileEntry → List PackageParts
+file_entry_packages (AnInterface n es) = flat_map entry_packages es
+file_entry_packages (AWorld at n es) = flat_map world_entry_packages es
+
+-- the other packages that a file names, in source order
+abbrev pub other_packages : File → List PackageParts
+other_packages f = flat_map file_entry_packages f.entries
+
+-- the own name of the interface that a path names
+abbrev pub path_interface : PathTo → List ℕ
+path_interface (Local i) = i
+path_interface (Foreign namespace name v i) = i
 
 -- ---- WIT.md, "Package Names": full names
 
@@ -107,6 +143,7 @@ full_interface p i = record { name = own_name p i.name; uses = map (full_use p) 
 -- a world under its full name, and so each interface among its items
 abbrev pub full_item : PackageParts → ItemTree → ItemTree
 full_item p (InterfaceNamed way i) = InterfaceNamed way (own_name p i)
+full_item p (ForeignNamed way q i) = InterfaceNamed way (own_name q i)
 full_item p (FunctionOf way f) = FunctionOf way f
 
 abbrev pub full_world : PackageParts → WorldTree → WorldTree

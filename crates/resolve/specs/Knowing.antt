@@ -1,15 +1,16 @@
 -- Names that stand for something, item by item.
-use Rattle.std.specs.Prelude.{◌≡◌, ◌⊎◌, ℕ, List, map, All, Contains}
+use Rattle.std.specs.Prelude.{◌≡◌, ◌⊎◌, ℕ, List, All, Contains}
 use Rattle.std.specs.Map.{lookup}
 use Rattle.std.specs.Str.{bytes_eq}
 use Rattle.wit_syntax.specs.Syntax.{Entry, Uses, Defines, Declares, FileEntry, AnInterface, AWorld}
-use Rattle.resolve.specs.Declarations.{UsedItem, InterfaceTree, ItemTree, WorldTree, interface_tree, world_tree, interface_names, used_item, type_names, named_definition, named_function}
-use Rattle.resolve.specs.Resolves.{place_of, IsKnownUse, IsUnknownUse, IsUnknownName, IsUnknownIn, HasKnownNames, IsUnknownItem, IsUnknownInWorld, IsKnownWorld}
+use Rattle.resolve.specs.Declarations.{UsedItem, InterfaceTree, ItemTree, WorldTree, interface_tree, world_tree, interface_names, path_uses, type_names, named_definition, named_function}
+use Rattle.resolve.specs.Resolves.{place_of, earlier_packages, IsKnownUse, IsUnknownUse, IsUnknownName, IsUnknownIn, HasKnownNames, IsUnknownItem, IsUnknownInWorld, IsKnownWorld}
+use Rattle.tables.specs.PackageNames.{PackageParts}
 use Rattle.tables.specs.declared.error.ResolveError.{ResolveError}
 use Rattle.tables.specs.declared.error.ResolveError.TheVariants as error
 
 abbrev pub KnowsEntry : List InterfaceTree → InterfaceTree → Entry → Type 0
-KnowsEntry is i (Uses at p us) = All (IsKnownUse is) (map (used_item p) us)
+KnowsEntry is i (Uses at p us) = All (IsKnownUse is) (path_uses p us)
 KnowsEntry is i (Defines at n d) = All (Contains (type_names i)) (named_definition d)
 KnowsEntry is i (Declares at n f) = All (Contains (type_names i)) (named_function f)
 
@@ -17,7 +18,7 @@ abbrev pub LacksUse : List InterfaceTree → List UsedItem → List ℕ → Type
 LacksUse is us m = (u : UsedItem) × Contains us u × IsUnknownUse is u m
 
 abbrev pub LacksEntry : List InterfaceTree → InterfaceTree → Entry → List ℕ → Type 0
-LacksEntry is i (Uses at p us) m = LacksUse is (map (used_item p) us) m
+LacksEntry is i (Uses at p us) m = LacksUse is (path_uses p us) m
 LacksEntry is i (Defines at n d) m = IsUnknownName i (named_definition d) m
 LacksEntry is i (Declares at n f) m = IsUnknownName i (named_function f) m
 
@@ -41,6 +42,12 @@ RefusesUnknown is ws (error.Unknown n) =
     ((i : InterfaceTree) × Contains is i × IsUnknownIn is i n) ⊎ ((w : WorldTree) × Contains ws w × IsUnknownInWorld (interface_names is) w n)
 RefusesUnknown is ws error.NoMemory = Unit {0}
 RefusesUnknown is ws _ = ⊥
+
+-- one of these packages isn't there
+abbrev pub RefusesPackage : List PackageParts → ResolveError → Type 0
+RefusesPackage ps (error.NoPackage p) = Contains ps p × (¬ Contains earlier_packages p)
+RefusesPackage ps error.NoMemory = Unit {0}
+RefusesPackage ps _ = ⊥
 
 -- the entries give each name its first place
 abbrev pub TellsPlaces : {V : Type 0} → (V → List ℕ) → List (V × ℕ) → List (List ℕ) → Type 0

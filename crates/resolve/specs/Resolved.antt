@@ -11,8 +11,9 @@ use Rattle.tables.specs.declared.tables.Direction.TheVariants as direction
 use Rattle.tables.specs.declared.tables.Primitive.TheVariants as primitive
 use Rattle.tables.specs.declared.tables.ValType.{ValType}
 use Rattle.tables.specs.declared.tables.ValType.TheVariants as val
+use Rattle.tables.specs.PackageNames.{own_name}
 use Rattle.tables.specs.Package.{Tree, PrimTree, TextTree, Reference, ListTree, RecordTree, VariantTree, FlagsTree, Fields, no_fields, field, Choices, no_choices, empty, holding, Plain, AsTuple, AsEnum, AsOption, AsResult, NamedDefinition, IsUse, IsType, IsFunction, ItemMeaning, WithInterface, WithFunction, WorldMeaning, read_enum}
-use Rattle.resolve.specs.Declarations.{UsedItem, TypeItem, FunctionItem, InterfaceTree, ItemTree, InterfaceNamed, FunctionOf, WorldTree}
+use Rattle.resolve.specs.Declarations.{UsedItem, TypeItem, FunctionItem, InterfaceTree, ItemTree, InterfaceNamed, ForeignNamed, FunctionOf, WorldTree}
 
 abbrev pub primitive_tree : Keyword → Tree
 primitive_tree keyword.Bool = PrimTree primitive.Bool
@@ -149,6 +150,7 @@ direction_meaning syntax.Export = direction.Export
 -- a function of a world names no type, so the interface of its references is none
 abbrev pub item_meaning : ItemTree → ItemMeaning
 item_meaning (InterfaceNamed way i) = WithInterface (direction_meaning way) i
+item_meaning (ForeignNamed way q i) = WithInterface (direction_meaning way) (own_name q i)
 item_meaning (FunctionOf way f) =
     WithFunction (direction_meaning way) f.name (fields_of (map (member_meaning []) f.function.params)) (resolved_if [] f.function.result)
 

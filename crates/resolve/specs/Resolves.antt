@@ -3,7 +3,7 @@ use Rattle.std.specs.Prelude.{◌≡◌, ◌≢◌, ◌<◌, ◌≤◌, ℕ, suc
 use Rattle.std.specs.List.{list_all}
 use Rattle.std.specs.Option.{option_map}
 use Rattle.std.specs.Str.{bytes_eq}
-use Rattle.wit_syntax.specs.Syntax.{Ty, depth, Member, CaseOf, Definition as Body, Alias, Record, Variant, Enumeration, FlagSet, Function as Signature, Entry, Uses, Defines, Declares, WorldEntry, Whole, Single, FileEntry, AnInterface, AWorld, File}
+use Rattle.wit_syntax.specs.Syntax.{Ty, depth, Member, CaseOf, PathTo, Local, Foreign, Definition as Body, Alias, Record, Variant, Enumeration, FlagSet, Function as Signature, Entry, Uses, Defines, Declares, WorldEntry, Whole, Single, FileEntry, AnInterface, AWorld, File}
 use Rattle.tables.specs.PackageNames.{PackageParts, own_name}
 use Rattle.package_form.specs.Scope.{AreDistinct, IsDuplicate}
 use Rattle.resolve.specs.Order.{IsPlacement, IsCycle}
@@ -16,7 +16,7 @@ use Rattle.tables.specs.declared.tables.World.{World}
 use Rattle.tables.specs.declared.tables.Definition.{Definition}
 use Rattle.tables.specs.declared.tables.Definition.TheVariants as row
 use Rattle.package_form.specs.Postfix.{IsPostfix}
-use Rattle.resolve.specs.Declarations.{UsedItem, TypeItem, FunctionItem, InterfaceTree, ItemTree, InterfaceNamed, FunctionOf, WorldTree, interfaces, worlds, full_interfaces, full_worlds, package_named, interface_at, interface_names, use_interface, type_names, own_types, named_definition, named_function}
+use Rattle.resolve.specs.Declarations.{UsedItem, TypeItem, FunctionItem, InterfaceTree, ItemTree, InterfaceNamed, ForeignNamed, FunctionOf, WorldTree, other_packages, interfaces, worlds, full_interfaces, full_worlds, package_named, interface_at, interface_names, use_interface, type_names, own_types, named_definition, named_function}
 use Rattle.resolve.specs.Scopes.{scopes}
 use Rattle.resolve.specs.Resolved.{interface_meaning, world_meaning}
 use Rattle.tables.specs.declared.error.ResolveError.{ResolveError}
@@ -40,6 +40,11 @@ uses_of_interface ns i = places ns (map use_interface i.uses)
 -- which interfaces each interface uses
 abbrev pub interface_uses : List InterfaceTree → List (List ℕ)
 interface_uses is = map (uses_of_interface (interface_names is)) is
+
+-- the place of the interface that a path names, among those of the file's own package
+abbrev pub path_place : List (List ℕ) → PathTo → Option ℕ
+path_place ns (Local i) = place_of ns i
+path_place ns (Foreign namespace name v i) = None
 
 abbrev pub uses_of_type : List (List ℕ) → TypeItem → List ℕ
 uses_of_type ns t = places ns (named_definition t.definition)
@@ -112,6 +117,18 @@ HasDuplicate f n = (ns : List (List ℕ)) × Contains (scopes f) ns × IsDuplica
 abbrev pub HasDistinctNames : File → Type 0
 HasDistinctNames f = All AreDistinct (scopes f)
 
+-- the packages before that of a file, which its paths may name: in a set of one, none
+abbrev pub earlier_packages : List PackageParts
+earlier_packages = []
+
+-- a package that the file names isn't there
+abbrev pub LacksPackage : File → PackageParts → Type 0
+LacksPackage f p = Contains (other_packages f) p × (¬ Contains earlier_packages p)
+
+-- each package that the file names is there
+abbrev pub KnowsPackages : File → Type 0
+KnowsPackages f = All (Contains earlier_packages) (other_packages f)
+
 -- a used name stands in an interface of that name
 abbrev pub IsKnownUse : List InterfaceTree → UsedItem → Type 0
 IsKnownUse is u = (j : InterfaceTree) × Contains is j × (j.name ≡ u.interface) × Contains (type_names j) u.name
@@ -132,9 +149,10 @@ IsUnknownIn is i n =
     ⊎ (((t : TypeItem) × Contains i.types t × IsUnknownName i (named_definition t.definition) n)
     ⊎ ((f : FunctionItem) × Contains i.functions f × IsUnknownName i (named_function f.function) n))
 
--- an item of a world names an interface that is none of these, or a type, of which a world declares none
+-- an item of a world names an interface that is none of these, one of another package, or a type, of which a world declares none
 abbrev pub IsUnknownItem : List (List ℕ) → ItemTree → List ℕ → Type 0
 IsUnknownItem names (InterfaceNamed way i) n = (n ≡ i) × (¬ Contains names n)
+IsUnknownItem names (ForeignNamed way q i) n = n ≡ i
 IsUnknownItem names (FunctionOf way f) n = Contains (named_function f.function) n
 
 abbrev pub IsUnknownInWorld : List (List ℕ) → WorldTree → List ℕ → Type 0
@@ -152,6 +170,7 @@ pub record HasKnownNames (is : List InterfaceTree) (i : InterfaceTree) : Type 0 
 
 abbrev pub IsKnownItem : List (List ℕ) → ItemTree → Type 0
 IsKnownItem names (InterfaceNamed way i) = Contains names i
+IsKnownItem names (ForeignNamed way q i) = ⊥
 IsKnownItem names (FunctionOf way f) = named_function f.function ≡ []
 
 abbrev pub IsKnownWorld : List (List ℕ) → WorldTree → Type 0
@@ -213,6 +232,7 @@ file_fits f = list_all interface_fits f.entries
 -- The package of a tree. The rows without names, where functions of worlds stand and the ids of the interfaces are told as well, so that
 -- there is one answer alone.
 pub record IsPackageOf (f : File) (r : Resolve) : Type 0 where
+  pub earlier : KnowsPackages f
   pub packages : r.packages ≡ package_named f ∷ []
   pub resolves : Resolves (full_interfaces f) (full_worlds f) (package_of r)
   pub postfix : IsPostfix r.definitions
@@ -228,6 +248,7 @@ HasEntries f = f.entries ≢ []
 pub record HasNoFaults (f : File) : Type 0 where
   pub some : HasEntries f
   pub distinct : HasDistinctNames f
+  pub packages : KnowsPackages f
   pub known : KnowsAll f
 
 -- a table that the tree resolves to passes a limit
@@ -246,7 +267,8 @@ abbrev pub ResolveRefuses : File → ResolveError → Type 0
 ResolveRefuses f error.EmptyPackage = f.entries ≡ []
 ResolveRefuses f error.NotThisShape = ⊥
 ResolveRefuses f (error.Duplicate n) = HasEntries f × HasDuplicate f n
-ResolveRefuses f (error.Unknown n) = HasEntries f × HasDistinctNames f × HasUnknown f n
+ResolveRefuses f (error.NoPackage p) = HasEntries f × HasDistinctNames f × LacksPackage f p
+ResolveRefuses f (error.Unknown n) = HasEntries f × HasDistinctNames f × KnowsPackages f × HasUnknown f n
 ResolveRefuses f error.Cycle = HasNoFaults f × HasCycle f
 ResolveRefuses f error.Limit = (HasEntries f × (file_fits f ≡ false)) ⊎ (HasNoFaults f × IsTooLarge f)
 ResolveRefuses f error.NoMemory = Unit {0}

@@ -2,7 +2,7 @@
 ghost use Rattle.std.specs.Prelude.{◌≡◌, ◌++◌, map, All, OnOk, IfOk};
 ghost use Rattle.atoms.specs.Label.{IsLabel};
 ghost use Rattle.wit_syntax.specs.View.{entry_view, path_view, used_view};
-ghost use Rattle.resolve.specs.Declarations.{interface_tree, interface_name, interface_names, used_item, local_name, use_local, type_name};
+ghost use Rattle.resolve.specs.Declarations.{interface_tree, interface_name, interface_names, used_item, path_uses, local_name, use_local, type_name};
 ghost use Rattle.resolve.specs.Lent.{declared_type, used_item_of, lent};
 ghost use Rattle.resolve.specs.Sources.{declared_tree};
 
@@ -10,7 +10,7 @@ use crate::declared::{Declarations, UsedType};
 use crate::names::Names;
 use atoms::{KeyedState, Label};
 use std::alloc::{AllocError, Global};
-use wit_syntax::{Interface, InterfaceItem, TypeDef, Use, UsedName};
+use wit_syntax::{Interface, InterfaceItem, Path, TypeDef, Use, UsedName};
 
 /// The name that a used type gets.
 pub fn local_name(used: &UsedName) -> &Label
@@ -22,18 +22,32 @@ pub fn local_name(used: &UsedName) -> &Label
     }
 }
 
-/// Appends the names of a use.
-fn push_used<'a>(uses: &mut Vec<UsedType<'a>>, names: &'a Use) -> Result<(), AllocError>
-    ensures { OnOk result (map used_item_of uses.new.items ≡ map used_item_of uses.old.items ++ map (used_item (path_view names.now.interface)) (map used_view names.now.names.items)) }
+/// Appends names that are used of an interface.
+fn push_used<'a>(
+    uses: &mut Vec<UsedType<'a>>,
+    interface: &'a Label,
+    names: &'a [UsedName],
+) -> Result<(), AllocError>
+    ensures { OnOk result (map used_item_of uses.new.items ≡ map used_item_of uses.old.items ++ map (used_item interface.now) (map used_view names.now)) }
 {
-    for used in &names.names {
+    for used in names {
         uses.push(UsedType {
-            interface: &names.interface.name,
+            interface,
             name: &used.name,
             local: local_name(used),
         })?;
     }
     Ok(())
+}
+
+/// Appends the names of a use.
+fn push_use<'a>(uses: &mut Vec<UsedType<'a>>, used: &'a Use) -> Result<(), AllocError>
+    ensures { OnOk result (map used_item_of uses.new.items ≡ map used_item_of uses.old.items ++ path_uses (path_view used.now.interface) (map used_view used.now.names.items)) }
+{
+    match &used.interface {
+        Path::Local(interface) => push_used(uses, interface, &used.names),
+        Path::Foreign { .. } => Ok(()),
+    }
 }
 
 fn push_locals<'a>(names: &mut Vec<&'a Label>, uses: &[UsedType<'a>]) -> Result<(), AllocError>
@@ -93,7 +107,7 @@ impl<'a> Declarations<'a> {
         let mut functions = Vec::new(alloc);
         for item in &interface.items {
             match item {
-                InterfaceItem::Use(names) => push_used(&mut uses, names)?,
+                InterfaceItem::Use(used) => push_use(&mut uses, used)?,
                 InterfaceItem::TypeDef(definition) => types.push(definition)?,
                 InterfaceItem::Func(function) => functions.push(function)?,
             }

@@ -12,12 +12,13 @@ ghost use Rattle.package_form.specs.Distinct.{AreMet, AreMetOnSides, RefusesName
 ghost use Rattle.package_form.specs.Scope.{AreDistinct};
 
 use crate::declare::local_name;
+use crate::finish::package_name;
 use atoms::{KeyedState, Label};
 use package_form::{Scope, Sides};
 use std::alloc::{AllocError, Global};
 use tables::{Direction, Name, PackageName, ResolveError};
 use wit_syntax::{
-    Case, Field, InterfaceItem, Item, TypeDefKind, UsedName, WorldItem, WorldItemKind,
+    Case, Field, InterfaceItem, Item, Path, TypeDefKind, UsedName, WorldItem, WorldItemKind,
 };
 
 fn distinct_labels(alloc: Global, keyed: KeyedState, labels: &[Label]) -> Result<(), ResolveError>
@@ -141,7 +142,10 @@ fn world_item_name(
     ensures { IfOk result (λ n. n ≡ item_name (item_in «package».now item.now)) }
 {
     match &item.kind {
-        WorldItemKind::Interface(path) => package.full_name(alloc, &path.name),
+        WorldItemKind::Interface(Path::Local(name)) => package.full_name(alloc, name),
+        WorldItemKind::Interface(Path::Foreign { package, interface }) => {
+            package_name(alloc, package)?.full_name(alloc, interface)
+        }
         WorldItemKind::Func(function) => Name::of(alloc, &function.name),
     }
 }

@@ -1,5 +1,6 @@
 //! The key of a syntax tree's names.
 use crate::declare::local_name;
+use crate::paths::interface_label;
 use atoms::{KeyedState, Label, NameKey};
 use package_form::FEW;
 use wit_syntax::{
@@ -71,7 +72,7 @@ fn write_items(key: &mut NameKey, items: &[InterfaceItem]) {
 fn write_world_items(key: &mut NameKey, items: &[WorldItem]) {
     for item in items {
         match &item.kind {
-            WorldItemKind::Interface(path) => key.write(path.name.as_bytes()),
+            WorldItemKind::Interface(path) => key.write(interface_label(path).as_bytes()),
             WorldItemKind::Func(function) => {
                 key.write(function.name.as_bytes());
                 write_fields(key, &function.ty.params);

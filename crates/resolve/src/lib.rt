@@ -21,6 +21,7 @@ mod named;
 mod names;
 mod nested;
 mod order;
+mod paths;
 mod queue;
 mod tree;
 mod unknown;

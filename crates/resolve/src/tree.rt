@@ -17,6 +17,7 @@ use crate::finish::{finish, package_name};
 use crate::graphs::{interface_order, type_orders};
 use crate::keys::keyed_by_tree;
 use crate::nested::are_nested;
+use crate::paths::known_packages;
 use crate::unknown::known_names;
 use crate::worlds::define_worlds;
 use atoms::KeyedState;
@@ -60,6 +61,7 @@ fn declarations<'a>(
         return Err(ResolveError::Limit);
     }
     distinct_names(alloc, keyed, package, &ast.items)?;
+    known_packages(alloc, &ast.items)?;
     let all = all_declarations(alloc, keyed, &ast.items)?;
     known_names(alloc, keyed, &all, &ast.items)?;
     Ok(all)
@@ -85,9 +87,9 @@ fn resolved_package(alloc: Global, ast: &Ast) -> Result<Resolve, ResolveError>
 /// The package of a syntax tree. Its definitions stand in package order, in which each interface comes after
 /// those that it uses, and within an interface uses, types and functions; behind all interfaces stand the functions
 /// of worlds, world by world. Types that stand inside a definition stand before it, inner ones first. 43 where the
-/// tree has neither interface nor world, 40 where a name stands twice in a scope, 41 where a name stands for
-/// nothing, 42 where interfaces use each other or types name each other, 45 where the package passes a limit, in
-/// this order; 45 also where a type is nested more than 64 deep or has no members, as in no text; 46 where memory
+/// tree has neither interface nor world, 40 where a name stands twice in a scope, 47 where a path names a package, since
+/// none stands before the tree, 41 where a name stands for nothing, 42 where interfaces use each other or types name
+/// each other, 45 where the package passes a limit, in this order; 45 also where a type is nested more than 64 deep or has no members, as in no text; 46 where memory
 /// is wanting. Where the tree's names make full names, as those of every text do, the package is in the form that
 /// packages have, and in each scope its names differ in more than the case of their letters.
 pub fn from_ast(alloc: Global, ast: &Ast) -> Result<Resolve, ResolveError>

@@ -2,7 +2,7 @@
 ghost use Rattle.std.specs.Prelude.{◌≡◌, ◌<◌, All, Contains, IfOk, IfErr, OnOk, IfSome, IfNone, MatchOption, map, filter_map, length};
 ghost use Rattle.atoms.specs.Label.{IsLabel};
 ghost use Rattle.wit_syntax.specs.View.{entry_view, path_view, used_view, world_entry_view, item_view};
-ghost use Rattle.resolve.specs.Declarations.{InterfaceTree, used_item, item_tree, interface_of, world_of, interface_at, interface_names};
+ghost use Rattle.resolve.specs.Declarations.{InterfaceTree, used_item, path_uses, item_tree, interface_of, world_of, interface_at, interface_names};
 ghost use Rattle.resolve.specs.Resolves.{IsKnownUse, IsUnknownUse, HasKnownNames, IsKnownItem, IsUnknownItem, IsKnownWorld};
 ghost use Rattle.resolve.specs.Lent.{lent};
 ghost use Rattle.resolve.specs.Sources.{declared_tree, use_of};
@@ -12,10 +12,11 @@ use crate::declare::interface_names;
 use crate::declared::Declarations;
 use crate::named::{definition_names, function_names};
 use crate::names::Names;
+use crate::paths::{interface_label, interface_place};
 use atoms::{KeyedState, Label};
 use std::alloc::{AllocError, Global};
 use tables::ResolveError;
-use wit_syntax::{InterfaceItem, Item, Use, WorldItem, WorldItemKind};
+use wit_syntax::{InterfaceItem, Item, Path, Use, UsedName, WorldItem, WorldItemKind};
 
 /// The first of these names that isn't known.
 fn first_unknown<'a>(known: &Names, names: &[&'a Label]) -> Option<&'a Label>
@@ -66,17 +67,35 @@ fn unknown_used<'a>(
     }
 }
 
-fn unknown_in_use<'a>(all: &[Declarations], names: &Names, used: &'a Use) -> Option<&'a Label>
+/// The interface where it isn't there, or the first of these names that it lacks.
+fn unknown_in_names<'a>(
+    all: &[Declarations],
+    names: &Names,
+    interface: &'a Label,
+    used: &'a [UsedName],
+) -> Option<&'a Label>
     requires { names.now ≡ interface_names (map declared_tree all.now) }
-    ensures none { IfNone result (All (IsKnownUse (map declared_tree all.now)) (map (used_item (path_view used.now.interface)) (map used_view used.now.names.items))) }
-    ensures some { IfSome result (λ m. LacksUse (map declared_tree all.now) (map (used_item (path_view used.now.interface)) (map used_view used.now.names.items)) m.now) }
+    ensures none { IfNone result (All (IsKnownUse (map declared_tree all.now)) (map (used_item interface.now) (map used_view used.now))) }
+    ensures some { IfSome result (λ m. LacksUse (map declared_tree all.now) (map (used_item interface.now) (map used_view used.now)) m.now) }
 {
-    for item in &used.names {
-        if let Some(name) = unknown_used(all, names, &used.interface.name, &item.name) {
+    for item in used {
+        if let Some(name) = unknown_used(all, names, interface, &item.name) {
             return Some(name);
         }
     }
     None
+}
+
+/// The same of a use. Of another package's interface nothing is asked here.
+fn unknown_in_use<'a>(all: &[Declarations], names: &Names, used: &'a Use) -> Option<&'a Label>
+    requires { names.now ≡ interface_names (map declared_tree all.now) }
+    ensures none { IfNone result (All (IsKnownUse (map declared_tree all.now)) (path_uses (path_view used.now.interface) (map used_view used.now.names.items))) }
+    ensures some { IfSome result (λ m. LacksUse (map declared_tree all.now) (path_uses (path_view used.now.interface) (map used_view used.now.names.items)) m.now) }
+{
+    match &used.interface {
+        Path::Local(interface) => unknown_in_names(all, names, interface, &used.names),
+        Path::Foreign { .. } => None,
+    }
 }
 
 fn unknown_in_item<'a>(
@@ -133,9 +152,9 @@ fn unknown_in_world_item<'a>(
     ensures some { IfOk result (λ o. IfSome o (λ m. IsUnknownItem names.now (item_tree (world_entry_view item.now)) m.now)) }
 {
     match &item.kind {
-        WorldItemKind::Interface(path) => match names.place_of(&path.name) {
+        WorldItemKind::Interface(path) => match interface_place(names, path) {
             Some(_) => Ok(None),
-            None => Ok(Some(&path.name)),
+            None => Ok(Some(interface_label(path))),
         },
         WorldItemKind::Func(function) => {
             let named = function_names(alloc, &function.ty)?;

@@ -16,6 +16,7 @@ use crate::duplicates::side_of;
 use crate::known::{KnownTypes, TypeIds};
 use crate::lower::lower_optional;
 use crate::names::Names;
+use crate::paths::interface_place;
 use atoms::KeyedState;
 use std::alloc::{AllocError, Global};
 use tables::{
@@ -66,7 +67,7 @@ fn define_item(
 {
     let direction = side_of(item.direction);
     match &item.kind {
-        wit_syntax::WorldItemKind::Interface(path) => match names.place_of(&path.name) {
+        wit_syntax::WorldItemKind::Interface(path) => match interface_place(names, path) {
             Some(place) => {
                 let kind = WorldItemKind::Interface(interface_id(place)?);
                 Ok(WorldItem { direction, kind })

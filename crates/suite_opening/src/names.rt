@@ -25,6 +25,12 @@ package a:b; interface c { variant v { x, x(u8) } } => error 40 duplicate x
 package a:b; interface c { enum e { x, y, X } } => error 40 duplicate X
 package a:b; interface c { flags g { x, %x } } => error 40 duplicate x
 package a:b; interface c { f: func(x: u8, X: u8); } => error 40 duplicate X
+package a:b; interface c { use d:e/y@1.0.0.{t}; f: func(p: t) -> t; } => error 47 no package d:e@1.0.0
+package a:b; interface c { use d:e/y.{t}; } => error 47 no package d:e
+package a:b; interface c { use a:b/d.{t}; } interface d { type t = u8; } => error 47 no package a:b
+package a:b@1.0.0; interface c { use a:b/d@1.0.0.{t}; } interface d { type t = u8; } => error 47 no package a:b@1.0.0
+package a:b; interface c { use d:e/y.{t}; use f:g/z.{t as T}; } => error 40 duplicate T
+package a:b; interface c { f: func(x: q); use q.{r}; } interface d { use D:e/y.{t}; use f:g/z.{u}; } => error 47 no package D:e
 package a:b; interface c { use d.{t}; } => error 41 unknown d
 package a:b; interface c { use d.{t}; } interface d { } => error 41 unknown t
 package a:b; interface c { use d.{f}; } interface d { f: func(); } => error 41 unknown f

@@ -236,7 +236,7 @@ fn files(rt: HostRuntime) -> Result<(), Fail> {
 
 // The items of an interface.
 const ITEMS: &str = "\
-package a:b; interface c { use x } => error 32 expected . at 33..34
+package a:b; interface c { use x } => error 32 expected : at 33..34
 package a:b; interface c { type x } => error 32 expected = at 34..35
 package a:b; interface c { record x } => error 32 expected { at 36..37
 package a:b; interface c { variant x } => error 32 expected { at 37..38

@@ -17,6 +17,11 @@ package a:b; interface c { } world w { import c; export c; } => ok
 package a:b; interface c { } world w { import c: func(); import c; } => ok
 package a:b; interface c { type t = u8; } world w { import f: func(x: t); } => error 41 unknown t
 package a:b; interface c { type t = u8; } world w { import c; export f: func() -> list<t>; } => error 41 unknown t
+package a:b; world w { import d:e/y@1.0.0; } => error 47 no package d:e@1.0.0
+package a:b; world w { import d; export d:e/y; export f:g/z; } => error 47 no package d:e
+package a:b; interface c { } world w { import c; export a:b/c; } => error 47 no package a:b
+package a:b; interface c { } world w { import c; import a:b/c; } => error 40 duplicate a:b/c
+package a:b; world w { import d:e/y; export d:e/y; import D:e/y; } => error 40 duplicate D:e/y
 package a:b; world w { import d; } => error 41 unknown d
 package a:b; world d { } world w { import d; } => error 41 unknown d
 package a:b; world w { import c; } interface c { } => ok

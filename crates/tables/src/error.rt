@@ -3,6 +3,7 @@ ghost use Rattle.std.specs.Prelude.{◌≡◌};
 ghost use Rattle.tables.specs.declared.error.ResolveError.TheVariants.{NoMemory};
 
 use crate::name::Name;
+use crate::tables::PackageName;
 use atoms::Label;
 use std::alloc::{AllocError, AllocFailed};
 use thiserror::Error;
@@ -32,6 +33,9 @@ pub enum ResolveError {
     /// 46
     #[error("error 46 no memory")]
     NoMemory,
+    /// 47: a path names a package that isn't there.
+    #[error("error 47 no package {0}")]
+    NoPackage(PackageName),
 }
 
 impl From<AllocError> for ResolveError {

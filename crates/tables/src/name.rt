@@ -5,6 +5,7 @@ ghost use Rattle.tables.specs.PackageNames.{own_name};
 use crate::tables::PackageName;
 use atoms::Label;
 use std::alloc::{AllocError, Global};
+use std::fmt;
 use std::marker::Model;
 
 /// A name as it is told: a label, or a full name.
@@ -59,5 +60,16 @@ impl PackageName {
             text.push_str(version.as_str())?;
         }
         Ok(Name::new(text))
+    }
+}
+
+impl fmt::Display for PackageName {
+    fn fmt<W: fmt::Write>(&self, f: &mut fmt::Formatter<W>) -> fmt::Result {
+        let namespace = self.namespace.as_str();
+        let name = self.name.as_str();
+        match &self.version {
+            Some(version) => write!(f, "{namespace}:{name}@{version}"),
+            None => write!(f, "{namespace}:{name}"),
+        }
     }
 }

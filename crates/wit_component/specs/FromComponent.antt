@@ -35,3 +35,4 @@ FromComponentRefuses raw (error.Duplicate n) = ∥ ((r : Resolve) × ComponentSt
 FromComponentRefuses raw (error.Unknown n) = ⊥
 FromComponentRefuses raw error.Cycle = ⊥
 FromComponentRefuses raw error.Limit = ⊥
+FromComponentRefuses raw (error.NoPackage p) = ⊥

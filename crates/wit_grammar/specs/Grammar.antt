@@ -4,7 +4,7 @@ use Rattle.std.specs.Prelude.{ℕ, zero, suc, Bool, true, false, ◌&&◌, ◌||
 use Rattle.std.specs.Str.{is_utf8}
 use Rattle.atoms.specs.Label.{is_label}
 use Rattle.atoms.specs.FullName.{is_package_label, is_version}
-use Rattle.productions.specs.Production.{give, never, ◌>>=◌, one, only, when, optional, unless_some, many, listed, comma_or, entries, all}
+use Rattle.productions.specs.Production.{give, never, ◌>>=◌, one, when, optional, unless_some, many, listed, comma_or, entries, all}
 use Rattle.wit_tokens.specs.declared.token.Keyword.{Keyword}
 use Rattle.wit_tokens.specs.declared.token.Keyword.TheVariants as kw
 use Rattle.wit_tokens.specs.declared.token.Punctuation.{Punctuation}
@@ -29,7 +29,7 @@ use Rattle.wit_tokens.specs.Lexing.{limit}
 use Rattle.wit_tokens.specs.Tokens.{Lexeme}
 use Rattle.wit_grammar.specs.Faults.{wanted, is, feature_or, unless_feature}
 use Rattle.wit_grammar.specs.Lookahead.{Phrase}
-use Rattle.wit_syntax.specs.Syntax.{Ty, Prim, Named, ListOf, OptionOf, TupleOf, ResultOf, Absent, Present, tys_of, Member, CaseOf, UsedAs, Definition, Alias, Record, Variant, Enumeration, FlagSet, Function, Local, Entry, Uses, Defines, Declares, WorldEntry, Whole, Single, FileEntry, AnInterface, AWorld, File}
+use Rattle.wit_syntax.specs.Syntax.{Ty, Prim, Named, ListOf, OptionOf, TupleOf, ResultOf, Absent, Present, tys_of, Member, CaseOf, UsedAs, Definition, Alias, Record, Variant, Enumeration, FlagSet, Function, PathTo, Local, Foreign, Entry, Uses, Defines, Declares, WorldEntry, Whole, Single, FileEntry, AnInterface, AWorld, File}
 
 -- ---- tokens
 
@@ -125,14 +125,14 @@ gate_feature t = first_feature t.token.kind
 unfoldable pub first_fault : ℕ → List Lexeme → TextError
 first_fault end = unless_feature end gate_feature (want.Keyword kw.Package)
 
--- a version may stand where none was read: one that is met there is malformed
-abbrev pub header_wanted : Option (List ℕ) → Lexeme → Expected
-header_wanted None t = if is kind.Version t then want.Version else want.Punctuation mark.Semicolon
-header_wanted (Some v) t = want.Punctuation mark.Semicolon
+-- behind a version that may be left out, before this mark: a version that is met where none was read is malformed
+abbrev pub version_or : Option (List ℕ) → Punctuation → Lexeme → Expected
+version_or None p t = if is kind.Version t then want.Version else want.Punctuation p
+version_or (Some v) p t = want.Punctuation p
 
 unfoldable pub header_fault : ℕ → Option (List ℕ) → List Lexeme → TextError
 header_fault end v [] = wanted end (want.Punctuation mark.Semicolon) []
-header_fault end v (t ∷ ts) = feature_or (feature_at open_brace feature.NestedPackage t) (header_wanted v t) t.token.span
+header_fault end v (t ∷ ts) = feature_or (feature_at open_brace feature.NestedPackage t) (version_or v mark.Semicolon t) t.token.span
 
 unfoldable pub package_word : ℕ → Phrase Lexeme
 package_word end = one (is (kind.Keyword kw.Package)) (first_fault end)
@@ -380,6 +380,45 @@ whole_function end n = do
   b ← function_end end f
   give f
 
+-- ---- paths
+
+-- another package's interface, behind the names of its package
+unfoldable pub foreign : ℕ → (namespace name : List ℕ) → Phrase PathTo
+foreign end namespace name = do
+  a ← punctuation end mark.Slash
+  interface ← id end
+  v ← version
+  give (Foreign namespace name v interface)
+
+-- the same behind the `:` of its package's name
+unfoldable pub behind_namespace : ℕ → (namespace : List ℕ) → Phrase PathTo
+behind_namespace end namespace = do
+  name ← id end
+  foreign end namespace name
+
+abbrev pub path_or : List ℕ → Option PathTo → PathTo
+path_or first None = Local first
+path_or first (Some p) = p
+
+-- a path behind its first id
+unfoldable pub path : ℕ → (first : List ℕ) → Phrase PathTo
+path end first = do
+  p ← optional (is colon) (λ t. behind_namespace end first)
+  give (path_or first p)
+
+-- what is wanted behind a path that this mark ends
+abbrev pub path_wanted : PathTo → Punctuation → List Lexeme → Expected
+path_wanted (Local i) p ts = want.Punctuation mark.Colon
+path_wanted (Foreign namespace name v i) p [] = want.Punctuation p
+path_wanted (Foreign namespace name v i) p (t ∷ ts) = version_or v p t
+
+unfoldable pub path_fault : ℕ → PathTo → Punctuation → List Lexeme → TextError
+path_fault end x p ts = wanted end (path_wanted x p ts) ts
+
+-- the mark behind a path
+unfoldable pub path_end : ℕ → PathTo → Punctuation → Phrase Lexeme
+path_end end x p = one (is (kind.Punctuation p)) (path_fault end x p)
+
 -- ---- uses
 
 -- `as` and a name, or nothing
@@ -401,19 +440,16 @@ used_fault end u = wanted end (after_used u)
 abbrev pub used_list : ℕ → ℕ → Phrase (List UsedAs)
 used_list end = listed (is comma) (is close_brace) (used_fault end) (used end)
 
--- `.`, where `:` would name another package
-unfoldable pub use_dot : ℕ → Phrase Lexeme
-use_dot end = one (is (kind.Punctuation mark.Dot)) (unless_feature end (feature_at colon feature.ForeignInterface) (want.Punctuation mark.Dot))
-
 -- behind `use`, which stands at this span
 unfoldable pub use_item : ℕ → Span → Phrase Entry
 use_item end at = do
   i ← id end
-  a ← use_dot end
+  p ← path end i
+  a ← path_end end p mark.Dot
   b ← punctuation end mark.OpenBrace
   us ← used_list end limit
   c ← punctuation end mark.Semicolon
-  give (Uses at (Local i) us)
+  give (Uses at p us)
 
 -- ---- type definitions, each behind its keyword
 
@@ -634,32 +670,42 @@ single_kind _ = None
 abbrev pub single_feature : Lexeme → Option Feature
 single_feature t = single_kind t.token.kind
 
--- `:` with the identifier behind it, if one stands there
-unfoldable pub colon_id : ℕ → Phrase (Lexeme × Option Lexeme)
-colon_id end = do
-  c ← punctuation end mark.Colon
-  i ← peek kind.Identifier
-  give (c, i)
+unfoldable pub single_fault : ℕ → List Lexeme → TextError
+single_fault end = unless_feature end single_feature want.Identifier
 
-abbrev pub foreign_fault : Lexeme × Option Lexeme → List Lexeme → Option TextError
-foreign_fault x ts = if is_some x.1 then Some (error.Unsupported feature.ForeignInterface x.0.token.span) else None
+-- a path to another package's interface goes on with a name, a function with `func`
+unfoldable pub begins_behind_colon : Lexeme → Bool
+begins_behind_colon t = is_name t || is (kind.Keyword kw.Func) t
 
--- `:` that no identifier follows, as it would where another package's interface is named
-unfoldable pub world_colon : ℕ → Phrase (Lexeme × Option Lexeme)
-world_colon end = only (colon_id end) foreign_fault
+-- another package's interface, behind the names of its package
+unfoldable pub whole_foreign : ℕ → Direction → (namespace name : List ℕ) → Phrase WorldEntry
+whole_foreign end d namespace name = do
+  p ← foreign end namespace name
+  b ← path_end end p mark.Semicolon
+  give (Whole d p)
 
+-- a function behind `func`
 unfoldable pub single : ℕ → ℕ → Direction → Span → List ℕ → Phrase WorldEntry
 single end n d at name = do
-  a ← world_colon end
-  b ← func_word end single_feature
   f ← whole_function end n
   give (Single d at name f)
+
+-- behind `:` and the token behind it
+unfoldable pub colon_behind : ℕ → ℕ → Direction → Span → List ℕ → Lexeme → Phrase WorldEntry
+colon_behind end n d at name t = when (is_name t) (whole_foreign end d name t.text) (single end n d at name)
+
+-- from the `:` on
+unfoldable pub world_colon : ℕ → ℕ → Direction → Span → List ℕ → Phrase WorldEntry
+world_colon end n d at name = do
+  a ← punctuation end mark.Colon
+  t ← one begins_behind_colon (single_fault end)
+  colon_behind end n d at name t
 
 unfoldable pub world_entry_behind : ℕ → ℕ → Direction → Span → Phrase WorldEntry
 world_entry_behind end n d at = do
   name ← id end
   s ← peek semicolon
-  unless_some s (give (Whole d (Local name))) (single end n d at name)
+  unless_some s (give (Whole d (Local name))) (world_colon end n d at name)
 
 abbrev pub directed : ℕ → ℕ → Option Direction → Span → Phrase WorldEntry
 directed end n (Some d) at = world_entry_behind end n d at

@@ -1,40 +1,24 @@
 -- Reading looks at one token past those that it takes, and its faults stand at that token. `end` is the length of the
 -- text.
-use Rattle.std.specs.Prelude.{◌≡◌, ◌⊎◌, ℕ, List, [], ◌∷◌, ◌++◌}
-use Rattle.std.proofs.Common.{refl, ap, sym, subst, ◌∙◌, append_assoc, inl, inr}
+use Rattle.std.specs.Prelude.{◌≡◌, ℕ, List, [], ◌∷◌, ◌++◌}
+use Rattle.std.proofs.Common.{refl, ap, sym, subst, ◌∙◌, append_assoc}
 use Rattle.productions.specs.Production.{Production, next}
 use Rattle.productions.specs.Exactness.{Rules}
 use Rattle.wit_tokens.specs.declared.error.TextError.{TextError}
-use Rattle.wit_tokens.specs.declared.error.TextError.TheVariants as error
-use Rattle.wit_tokens.specs.declared.error.Feature.TheVariants.{ForeignInterface}
 use Rattle.wit_tokens.specs.Tokens.{Lexeme}
 use Rattle.wit_grammar.specs.Faults.{StandsAt}
-
--- The one fault that stands a token earlier: the `:` of another package's interface in a world, known by the name behind it.
-abbrev pub IsForeign : List Lexeme → TextError → Type 0
-IsForeign front e = (before : List Lexeme) × (colon : Lexeme) × (front ≡ before ++ colon ∷ []) × (e ≡ error.Unsupported ForeignInterface colon.token.span)
-
--- between the tokens in front and those from the one met on
-abbrev pub LookaheadStands : ℕ → List Lexeme → List Lexeme → TextError → Type 0
-LookaheadStands end front met e = StandsAt end met e ⊎ IsForeign front e
 
 -- The fault is known by the token met, whatever follows it.
 pub record Looks (end : ℕ) (E : List Lexeme → TextError → Type 0) (ts : List Lexeme) (e : TextError) : Type 0 where
   pub front : List Lexeme
   pub met : List Lexeme
   pub whole : ts ≡ front ++ met
-  pub place : LookaheadStands end front met e
+  pub place : StandsAt end met e
   pub same : (other : List Lexeme) → next other ≡ next met → E (front ++ other) e
 
 next_behind : (front other met : List Lexeme) → next other ≡ next met → next (front ++ other) ≡ next (front ++ met)
 next_behind [] other met same = same
 next_behind (t ∷ front) other met same = refl
-
-stands_behind : (end : ℕ) (text front met : List Lexeme) (e : TextError) → LookaheadStands end front met e → LookaheadStands end (text ++ front) met e
-stands_behind end text front met e place = elim place [
-  | inl h ↦ inl h
-  | inr h ↦ inr (text ++ h.0, h.1, ap (λ (t : List Lexeme). text ++ t) h.2 ∙ sym (append_assoc text h.0 (h.1 ∷ [])), h.3)
-]
 
 pub looks_first : (end : ℕ) (E E' : List Lexeme → TextError → Type 0) (ts : List Lexeme) (e : TextError) → ((other : List Lexeme) → E other e → E' other e) → Looks end E ts e → Looks end E' ts e
 looks_first end E E' ts e h l = record { front = l.front; met = l.met; whole = l.whole; place = l.place; same = λ other n. h (l.front ++ other) (l.same other n) }
@@ -44,7 +28,7 @@ looks_behind end E E' text rest e h l = record {
   front = text ++ l.front;
   met = l.met;
   whole = ap (λ (t : List Lexeme). text ++ t) l.whole ∙ sym (append_assoc text l.front l.met);
-  place = stands_behind end text l.front l.met e l.place;
+  place = l.place;
   same = λ other n. subst (λ (t : List Lexeme). E' t e) (sym (append_assoc text l.front other)) (h (l.front ++ other) (next_behind l.front other l.met n ∙ ap next (sym l.whole)) (l.same other n));
 }
 
@@ -66,5 +50,5 @@ pub record NoneBegins {X : Type 0} (end : ℕ) (spells : List Lexeme → X → T
   pub front : List Lexeme
   pub met : List Lexeme
   pub whole : ts ≡ front ++ met
-  pub place : LookaheadStands end front met e
+  pub place : StandsAt end met e
   pub none : (other : List Lexeme) → next other ≡ next met → (x : X) → spells (front ++ other) x → ⊥

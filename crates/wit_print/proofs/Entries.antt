@@ -1,6 +1,6 @@
 -- Items of interfaces and worlds: they are spelled by their words, and these stand.
 use Rattle.std.proofs.Common.{◌≡◌, ◌≤◌, ℕ, zero, suc, List, [], ◌∷◌, ◌++◌, map, length, refl, sym, ap, subst, ◌∙◌, arith}
-use Rattle.std.specs.Prelude.{true, false, Option, Some, None, is_some}
+use Rattle.std.specs.Prelude.{true, Option, Some, None, is_some}
 use Rattle.std.specs.List.{AllByRecursion}
 use Rattle.std.proofs.lemmas.Bool.{or_left, or_right}
 use Rattle.productions.specs.Production.{give, many}
@@ -14,19 +14,20 @@ use Rattle.wit_tokens.specs.Tokens.{Lexeme}
 use Rattle.wit_tokens.specs.Lexing.{limit}
 use Rattle.wit_syntax.specs.declared.ast.Direction.{Direction}
 use Rattle.wit_syntax.specs.declared.ast.Direction.TheVariants as direction
-use Rattle.wit_syntax.specs.Syntax.{UsedAs, Function, Local, Alias, Record, Variant, Enumeration, FlagSet, Entry, Uses, Defines, Declares, WorldEntry, Whole, Single}
+use Rattle.wit_syntax.specs.Syntax.{UsedAs, Function, PathTo, Local, Foreign, Alias, Record, Variant, Enumeration, FlagSet, Entry, Uses, Defines, Declares, WorldEntry, Whole, Single}
 use Rattle.wit_grammar.specs.declared.starts.ItemStart.{ItemStart}
 use Rattle.wit_grammar.specs.declared.starts.ItemStart.TheVariants as begin
 use Rattle.wit_grammar.specs.Faults.{is}
 use Rattle.wit_grammar.specs.Lookahead.{Phrase}
-use Rattle.wit_grammar.specs.Grammar.{punctuation, id, is_name, nesting, comma, close_brace, semicolon, local_name, used, used_list, used_fault, use_dot, use_item, func_word, declared, keyword_entry, item_kind, is_item_start, begins_entry, entry_behind, entry, direction_of, begins_world_entry, world_colon, colon_id, single, world_entry_behind, directed, world_entry}
+use Rattle.wit_grammar.specs.Grammar.{punctuation, id, is_name, nesting, comma, close_brace, semicolon, local_name, used, used_list, used_fault, path, path_end, use_item, func_word, declared, keyword_entry, item_kind, is_item_start, begins_entry, entry_behind, entry, direction_of, begins_world_entry, begins_behind_colon, whole_foreign, single, colon_behind, world_colon, world_entry_behind, directed, world_entry}
 use Rattle.wit_print.specs.Words.{Word, text_of, mark_word, keyword_word, name_word}
-use Rattle.wit_print.specs.Canonical.{blank, line, item_line, local_words, used_words, uses_words, function_words, entry_words, direction_keyword, world_entry_words, braced_words}
-use Rattle.wit_print.specs.Printable.{IsLabel, IsLabelOrNone, IsPrintableUse, ArePrintable, IsPrintableFunction, IsPrintableEntry, IsPrintableWorldEntry}
+use Rattle.wit_print.specs.Canonical.{blank, line, item_line, local_words, used_words, uses_words, path_words, function_words, entry_words, direction_keyword, world_entry_words, braced_words}
+use Rattle.wit_print.specs.Printable.{IsLabel, IsLabelOrNone, IsPrintableUse, ArePrintable, IsPrintableFunction, IsPrintableVersionOrNone, IsPrintablePath, IsPrintableEntry, IsPrintableWorldEntry}
 use Rattle.wit_print.specs.Unplaced.{nowhere, unplaced_entry, unplaced_world_entry}
 use Rattle.wit_print.proofs.Fronts.{breaks}
 use Rattle.wit_print.proofs.Standing.{IsSpace, AllStand, StandEverywhere, followed, followed-by, mark-stands, keyword-stands, name-stands}
 use Rattle.wit_print.proofs.Tokens.{no-name, is-mark, is-keyword, either-mark, other-mark, mark-then, keyword-then, id-writes, is-the-name, name-text}
+use Rattle.wit_print.proofs.Paths.{path_first, foreign_words, path_rest, first-label, foreign-writes, path-writes, path-breaks, path-stands}
 use Rattle.wit_print.proofs.Functions.{function_behind, function-writes, function-stands}
 use Rattle.wit_print.proofs.Definitions.{defined-writes, definition-stands}
 use Rattle.wit_print.proofs.Written.{Writes, IsThe, IsSome, loosen, give_writes, bind_writes, made_writes, then_writes, none_writes, some_writes, when_writes, else_writes, unless_writes, stop_writes, more_writes, last_writes, ended_writes, full_writes, item_writes}
@@ -59,16 +60,18 @@ all-uses : (end : ℕ) (us : List UsedAs) → ArePrintable IsPrintableUse us →
 all-uses end [] h = absurd (omega (arith, h.some))
 all-uses end (u ∷ us) h = uses-writes end limit [] u us h.few h.each
 
-use-writes : (end : ℕ) (at : Span) (n : List ℕ) (us : List UsedAs) → IsLabel n → ArePrintable IsPrintableUse us
-    → Writes (use_item end at).spells (name_word blank n ∷ mark_word [] mark.Dot ∷ mark_word [] mark.OpenBrace ∷ (uses_words [] us ++ mark_word [] mark.Semicolon ∷ [])) (λ e. unplaced_entry e ≡ Uses nowhere (Local n) us)
-unfolding use_item use_dot punctuation
-use-writes end at n us l h =
-    let Q : Entry → Type 0 = λ e. unplaced_entry e ≡ Uses nowhere (Local n) us in
-    bind_writes (name_word blank n ∷ []) _ (λ x. x ≡ n) Q (id-writes end blank n l)
-    (λ m em. mark-then [] mark.Dot _ Q
+use-writes : (end : ℕ) (at : Span) (x : PathTo) (us : List UsedAs) → IsPrintablePath x → ArePrintable IsPrintableUse us
+    → Writes (use_item end at).spells (name_word blank (path_first x) ∷ (path_rest x ++ mark_word [] mark.Dot ∷ mark_word [] mark.OpenBrace ∷ (uses_words [] us ++ mark_word [] mark.Semicolon ∷ [])))
+    (λ e. unplaced_entry e ≡ Uses nowhere x us)
+unfolding use_item path_end punctuation
+use-writes end at x us l h =
+    let Q : Entry → Type 0 = λ e. unplaced_entry e ≡ Uses nowhere x us in
+    bind_writes (name_word blank (path_first x) ∷ []) _ (λ n. n ≡ path_first x) Q (id-writes end blank (path_first x) (first-label x l))
+    (λ n en. bind_writes (path_rest x) _ (λ y. y ≡ x) Q (subst (λ m. Writes (path end m).spells (path_rest x) (λ y. y ≡ x)) (sym en) (path-writes end x l))
+    (λ y ey. mark-then [] mark.Dot _ Q
     (λ a. mark-then [] mark.OpenBrace _ Q
     (λ b. bind_writes (uses_words [] us) (mark_word [] mark.Semicolon ∷ []) (λ xs. xs ≡ us) Q (all-uses end us h)
-    (λ xs exs. mark-then [] mark.Semicolon [] Q (λ c. give_writes (Uses at (Local m) xs) Q (rw (em, exs) refl))))))
+    (λ xs exs. mark-then [] mark.Semicolon [] Q (λ c. give_writes (Uses at y xs) Q (rw (ey, exs) refl)))))))
 
 local-stands : (o : Option (List ℕ)) → IsLabelOrNone o → StandEverywhere (local_words o)
 local-stands None h rest b = tt
@@ -113,7 +116,8 @@ declared-writes end n f l h =
 
 pub entry-writes : (end : ℕ) (e : Entry) → IsPrintableEntry e → Writes (entry end nesting).spells (entry_words e) (λ x. unplaced_entry x ≡ unplaced_entry e)
 unfolding keyword_entry
-entry-writes end (Uses at (Local n) us) h = keyword-writes end kw.Use begin.Use _ _ refl refl (λ s. use-writes end s n us h.0 h.1)
+entry-writes end (Uses at (Local n) us) h = keyword-writes end kw.Use begin.Use _ _ refl refl (λ s. use-writes end s (Local n) us h.0 h.1)
+entry-writes end (Uses at (Foreign namespace name v i) us) h = keyword-writes end kw.Use begin.Use _ _ refl refl (λ s. use-writes end s (Foreign namespace name v i) us h.0 h.1)
 entry-writes end (Defines at n (Alias t)) h = keyword-writes end kw.«Type» begin.Alias _ _ refl refl (λ s. defined-writes end s n (Alias t) h.0 h.1)
 entry-writes end (Defines at n (Record ms)) h = keyword-writes end kw.Record begin.Record _ _ refl refl (λ s. defined-writes end s n (Record ms) h.0 h.1)
 entry-writes end (Defines at n (Variant cs)) h = keyword-writes end kw.Variant begin.Variant _ _ refl refl (λ s. defined-writes end s n (Variant cs) h.0 h.1)
@@ -121,24 +125,21 @@ entry-writes end (Defines at n (Enumeration ns)) h = keyword-writes end kw.Enum 
 entry-writes end (Defines at n (FlagSet ns)) h = keyword-writes end kw.Flags begin.Flags _ _ refl refl (λ s. defined-writes end s n (FlagSet ns) h.0 h.1)
 entry-writes end (Declares at n f) h = declared-writes end n f h.0 h.1
 
-use-stands : (n : List ℕ) (us : List UsedAs) → IsLabel n → AllByRecursion IsPrintableUse us → (rest : List ℕ)
-    → AllStand (keyword_word item_line kw.Use ∷ name_word blank n ∷ mark_word [] mark.Dot ∷ mark_word [] mark.OpenBrace ∷ (uses_words [] us ++ mark_word [] mark.Semicolon ∷ [])) rest
-use-stands n us l h rest = (
-  keyword-stands item_line kw.Use _ refl refl,
-  (
-    name-stands blank n _ refl l refl,
+use-stands : (x : PathTo) (us : List UsedAs) → IsPrintablePath x → AllByRecursion IsPrintableUse us → (rest : List ℕ)
+    → AllStand (keyword_word item_line kw.Use ∷ (path_words blank x ++ mark_word [] mark.Dot ∷ mark_word [] mark.OpenBrace ∷ (uses_words [] us ++ mark_word [] mark.Semicolon ∷ []))) rest
+use-stands x us l h rest = (
+  keyword-stands item_line kw.Use _ refl (path-breaks x _ rest),
+  path-stands x _ rest l refl refl (
+    mark-stands [] mark.Dot _ refl refl,
     (
-      mark-stands [] mark.Dot _ refl refl,
-      (
-        mark-stands [] mark.OpenBrace _ refl refl,
-        followed-by (uses_words [] us) (mark_word [] mark.Semicolon ∷ []) rest (uses-stand [] us refl h) (mark-stands [] mark.Semicolon rest refl refl, tt),
-      ),
+      mark-stands [] mark.OpenBrace _ refl refl,
+      followed-by (uses_words [] us) (mark_word [] mark.Semicolon ∷ []) rest (uses-stand [] us refl h) (mark-stands [] mark.Semicolon rest refl refl, tt),
     ),
   ),
 )
 
 pub entry-stands : (e : Entry) → IsPrintableEntry e → (rest : List ℕ) → AllStand (entry_words e) rest
-entry-stands (Uses at (Local n) us) h rest = use-stands n us h.0 h.1.each rest
+entry-stands (Uses at x us) h rest = use-stands x us h.0 h.1.each rest
 entry-stands (Defines at n (Alias t)) h rest = definition-stands n (Alias t) h.0 h.1 rest
 entry-stands (Defines at n (Record ms)) h rest = definition-stands n (Record ms) h.0 h.1 rest
 entry-stands (Defines at n (Variant cs)) h rest = definition-stands n (Variant cs) h.0 h.1 rest
@@ -148,24 +149,39 @@ entry-stands (Declares at n f) h rest = (name-stands item_line n _ refl h.0 refl
 
 -- ---- items of worlds
 
--- `:` that no name follows
-colon-writes : (end : ℕ) → Writes (world_colon end).spells (mark_word [] mark.Colon ∷ []) (λ x. Unit {0})
-unfolding world_colon colon_id punctuation
-colon-writes end = record { each = λ ls e. colon ls (parts.each ls e) }
-  where
-    parts : Writes (colon_id end).spells (mark_word [] mark.Colon ∷ []) (λ x. x.1 ≡ None)
-    parts = mark-then [] mark.Colon [] (λ x. x.1 ≡ None) (λ c. made_writes (λ i. (c, i)) [] (λ o. o ≡ None) (λ x. x.1 ≡ None) (none_writes (is kind.Identifier) give) (λ o e. e))
+whole-writes : (end : ℕ) (d : Direction) (namespace name : List ℕ) (v : Option (List ℕ)) (i : List ℕ) → IsPrintableVersionOrNone v → IsLabel i
+    → Writes (whole_foreign end d namespace name).spells (foreign_words v i ++ mark_word [] mark.Semicolon ∷ []) (λ e. unplaced_world_entry e ≡ Whole d (Foreign namespace name v i))
+unfolding whole_foreign path_end
+whole-writes end d namespace name v i h l =
+    let Q : WorldEntry → Type 0 = λ e. unplaced_world_entry e ≡ Whole d (Foreign namespace name v i) in
+    bind_writes (foreign_words v i) (mark_word [] mark.Semicolon ∷ []) (λ x. x ≡ Foreign namespace name v i) Q (foreign-writes end namespace name v i h l)
+    (λ x ex. mark-then [] mark.Semicolon [] Q (λ c. give_writes (Whole d x) Q (ap (Whole d) ex)))
 
-    colon : (ls : List Lexeme) → ((x : Lexeme × Option Lexeme) × (colon_id end).spells ls x × (x.1 ≡ None)) → (x : Lexeme × Option Lexeme) × (world_colon end).spells ls x × Unit {0}
-    colon ls found = (found.0, (found.1, λ all. rw found.2 refl), tt)
-
-single-writes : (end : ℕ) (d : Direction) (at : Span) (n : List ℕ) (f : Function) → IsPrintableFunction f → Writes (single end nesting d at n).spells (function_words f) (λ e. unplaced_world_entry e ≡ Single d nowhere n f)
-unfolding single func_word
+single-writes : (end : ℕ) (d : Direction) (at : Span) (n : List ℕ) (f : Function) → IsPrintableFunction f → Writes (single end nesting d at n).spells (function_behind f) (λ e. unplaced_world_entry e ≡ Single d nowhere n f)
+unfolding single
 single-writes end d at n f h =
-    let Q : WorldEntry → Type 0 = λ e. unplaced_world_entry e ≡ Single d nowhere n f in
-    bind_writes (mark_word [] mark.Colon ∷ []) _ (λ x. Unit {0}) Q (colon-writes end)
-    (λ a u. keyword-then blank kw.Func (function_behind f) Q
-    (λ b. made_writes (λ g. Single d at n g) (function_behind f) (λ g. g ≡ f) Q (function-writes end f h) (λ g eg. ap (Single d nowhere n) eg)))
+    made_writes (λ g. Single d at n g) (function_behind f) (λ g. g ≡ f) (λ e. unplaced_world_entry e ≡ Single d nowhere n f) (function-writes end f h) (λ g eg. ap (Single d nowhere n) eg)
+
+-- an item whose name no `;` follows
+colon-writes : (end : ℕ) (d : Direction) (at : Span) (n : List ℕ) (ws : List Word) (Q : WorldEntry → Type 0) → IsLabel n
+    → Writes (world_colon end nesting d at n).spells ws Q → Writes (world_entry_behind end nesting d at).spells (name_word blank n ∷ ws) Q
+unfolding world_entry_behind
+colon-writes end d at n ws Q l h =
+    bind_writes (name_word blank n ∷ []) ws (λ x. x ≡ n) Q (id-writes end blank n l)
+    (λ m em. bind_writes [] ws (λ o. o ≡ None) Q (none_writes (is semicolon) give)
+    (λ o e. unless_writes o (give (Whole d (Local m))) (world_colon end nesting d at m) ws Q e (subst (λ x. Writes (world_colon end nesting d at x).spells ws Q) (sym em) h)))
+
+foreign-behind : (end : ℕ) (d : Direction) (at : Span) (namespace name : List ℕ) (v : Option (List ℕ)) (i : List ℕ) → IsPrintablePath (Foreign namespace name v i)
+    → Writes (world_colon end nesting d at namespace).spells (path_rest (Foreign namespace name v i) ++ mark_word [] mark.Semicolon ∷ []) (λ e. unplaced_world_entry e ≡ Whole d (Foreign namespace name v i))
+unfolding world_colon begins_behind_colon colon_behind punctuation
+foreign-behind end d at namespace name v i h =
+    let Q : WorldEntry → Type 0 = λ e. unplaced_world_entry e ≡ Whole d (Foreign namespace name v i) in
+    let ws : List Word = foreign_words v i ++ mark_word [] mark.Semicolon ∷ [] in
+    mark-then [] mark.Colon _ Q
+    (λ a. then_writes begins_behind_colon (name_word [] name) ws Q
+    (λ t e. or_left (is_name t) (is (kind.Keyword kw.Func) t) (is-the-name [] name h.1 t e))
+    (λ t e. when_writes _ _ (is_name t) ws Q (is-the-name [] name h.1 t e)
+    (subst (λ n. Writes (whole_foreign end d namespace n).spells ws Q) (sym (name-text [] name t h.1 e)) (whole-writes end d namespace name v i h.2 h.3))))
 
 whole-behind : (end : ℕ) (d : Direction) (at : Span) (n : List ℕ) → IsLabel n → Writes (world_entry_behind end nesting d at).spells (name_word blank n ∷ mark_word [] mark.Semicolon ∷ []) (λ e. unplaced_world_entry e ≡ Whole d (Local n))
 unfolding world_entry_behind
@@ -174,17 +190,17 @@ whole-behind end d at n l =
     bind_writes (name_word blank n ∷ []) (mark_word [] mark.Semicolon ∷ []) (λ x. x ≡ n) Q (id-writes end blank n l)
     (λ m em. bind_writes (mark_word [] mark.Semicolon ∷ []) [] (IsSome (IsThe (mark_word [] mark.Semicolon))) Q
     (some_writes (is semicolon) give (mark_word [] mark.Semicolon) [] (IsThe (mark_word [] mark.Semicolon)) (is-mark [] mark.Semicolon) (λ t e. give_writes t (IsThe (mark_word [] mark.Semicolon)) e))
-    (λ o h. stop_writes o (give (Whole d (Local m))) (single end nesting d at m) [] Q h.0 h.1 (give_writes (Whole d (Local m)) Q (ap (λ x. Whole d (Local x)) em))))
+    (λ o h. stop_writes o (give (Whole d (Local m))) (world_colon end nesting d at m) [] Q h.0 h.1 (give_writes (Whole d (Local m)) Q (ap (λ x. Whole d (Local x)) em))))
 
-single-behind : (end : ℕ) (d : Direction) (at : Span) (n : List ℕ) (f : Function) → IsLabel n → IsPrintableFunction f
-    → Writes (world_entry_behind end nesting d at).spells (name_word blank n ∷ function_words f) (λ e. unplaced_world_entry e ≡ Single d nowhere n f)
-unfolding world_entry_behind
-single-behind end d at n f l h =
+single-behind : (end : ℕ) (d : Direction) (at : Span) (n : List ℕ) (f : Function) → IsPrintableFunction f
+    → Writes (world_colon end nesting d at n).spells (function_words f) (λ e. unplaced_world_entry e ≡ Single d nowhere n f)
+unfolding world_colon begins_behind_colon colon_behind punctuation
+single-behind end d at n f h =
     let Q : WorldEntry → Type 0 = λ e. unplaced_world_entry e ≡ Single d nowhere n f in
-    bind_writes (name_word blank n ∷ []) (function_words f) (λ x. x ≡ n) Q (id-writes end blank n l)
-    (λ m em. bind_writes [] (function_words f) (λ o. o ≡ None) Q (none_writes (is semicolon) give)
-    (λ o e. unless_writes o (give (Whole d (Local m))) (single end nesting d at m) (function_words f) Q e
-    (subst (λ x. Writes (single end nesting d at x).spells (function_words f) Q) (sym em) (single-writes end d at n f h))))
+    mark-then [] mark.Colon _ Q
+    (λ a. then_writes begins_behind_colon (keyword_word blank kw.Func) (function_behind f) Q
+    (λ t e. or_right (is_name t) (is (kind.Keyword kw.Func) t) (is-keyword blank kw.Func t e))
+    (λ t e. else_writes _ _ (is_name t) (function_behind f) Q (no-name blank kw.Func t e) (single-writes end d at n f h)))
 
 -- behind `import` or `export`
 directed-writes : (end : ℕ) (d : Direction) (ws : List Word) (Q : WorldEntry → Type 0) → ((at : Span) → Writes (world_entry_behind end nesting d at).spells ws Q)
@@ -203,10 +219,11 @@ directed-writes end d ws Q behind =
 
 pub world-entry-writes : (end : ℕ) (e : WorldEntry) → IsPrintableWorldEntry e → Writes (world_entry end nesting).spells (world_entry_words e) (λ x. unplaced_world_entry x ≡ unplaced_world_entry e)
 world-entry-writes end (Whole d (Local n)) h = directed-writes end d _ _ (λ at. whole-behind end d at n h)
-world-entry-writes end (Single d at n f) h = directed-writes end d _ _ (λ s. single-behind end d s n f h.0 h.1)
+world-entry-writes end (Whole d (Foreign namespace name v i)) h = directed-writes end d _ _ (λ at. colon-writes end d at namespace _ _ h.0 (foreign-behind end d at namespace name v i h))
+world-entry-writes end (Single d at n f) h = directed-writes end d _ _ (λ s. colon-writes end d s n _ _ h.0 (single-behind end d s n f h.1))
 
 pub world-entry-stands : (e : WorldEntry) → IsPrintableWorldEntry e → (rest : List ℕ) → AllStand (world_entry_words e) rest
-world-entry-stands (Whole d (Local n)) h rest = (keyword-stands item_line (direction_keyword d) _ refl refl, (name-stands blank n _ refl h refl, (mark-stands [] mark.Semicolon rest refl refl, tt)))
+world-entry-stands (Whole d x) h rest = (keyword-stands item_line (direction_keyword d) _ refl (path-breaks x _ rest), path-stands x _ rest h refl refl (mark-stands [] mark.Semicolon rest refl refl, tt))
 world-entry-stands (Single d at n f) h rest = (keyword-stands item_line (direction_keyword d) _ refl refl, (name-stands blank n _ refl h.0 refl, function-stands f h.1 rest))
 
 -- ---- items between braces

@@ -1,9 +1,8 @@
 -- Files: the text of their words is read as they are, but for where their items stand.
-use Rattle.std.proofs.Common.{◌≡◌, ◌≤◌, ℕ, zero, suc, List, [], ◌∷◌, ◌++◌, map, length, refl, ap, subst, ◌∙◌, append_assoc, arith}
-use Rattle.std.specs.Prelude.{true, false, Option, Some, None}
+use Rattle.std.proofs.Common.{◌≡◌, ◌≤◌, ℕ, zero, suc, List, [], ◌∷◌, ◌++◌, map, length, refl, ap, subst, append_assoc, arith}
+use Rattle.std.specs.Prelude.{false, Option}
 use Rattle.std.specs.List.{AllByRecursion}
 use Rattle.std.proofs.lemmas.Bool.{or_left, or_right}
-use Rattle.productions.specs.Production.{give}
 use Rattle.wit_tokens.specs.declared.token.Keyword.TheVariants as kw
 use Rattle.wit_tokens.specs.declared.token.Punctuation.TheVariants as mark
 use Rattle.wit_tokens.specs.declared.token.TokenKind.TheVariants as kind
@@ -13,18 +12,18 @@ use Rattle.wit_tokens.specs.Tokens.{Lexeme, lexemes, same_kind}
 use Rattle.wit_tokens.specs.Lexing.{limit}
 use Rattle.wit_syntax.specs.Syntax.{Entry, WorldEntry, FileEntry, AnInterface, AWorld, File}
 use Rattle.wit_grammar.specs.Faults.{is, wanted}
-use Rattle.wit_grammar.specs.Grammar.{punctuation, nesting, is_version_token, version, package_word, header_end, header, entry, interface, world_entry, world, is_interface, begins_item, item, items, file, file_fault}
-use Rattle.wit_print.specs.Words.{Word, text_of, mark_word, keyword_word, name_word, version_word}
+use Rattle.wit_grammar.specs.Grammar.{punctuation, nesting, package_word, header_end, header, entry, interface, world_entry, world, is_interface, begins_item, item, items, file, file_fault}
+use Rattle.wit_print.specs.Words.{Word, mark_word, keyword_word, name_word}
 use Rattle.wit_print.specs.Canonical.{blank, line, empty_line, entry_words, world_entry_words, braced_words, file_entry_words, items_words, version_words, file_words, canonical_text}
-use Rattle.wit_print.specs.Printable.{IsPrintableEntry, IsPrintableWorldEntry, IsPrintableFileEntry, IsPrintableVersionOrNone, IsPrintable}
+use Rattle.wit_print.specs.Printable.{IsPrintableEntry, IsPrintableWorldEntry, IsPrintableFileEntry, IsPrintable}
 use Rattle.wit_print.specs.Unplaced.{unplaced_entry, unplaced_world_entry, unplaced_file_entry, unplaced}
 use Rattle.wit_print.specs.Laws.{IsReadBack}
-use Rattle.wit_print.proofs.Fronts.{breaks}
-use Rattle.wit_print.proofs.Standing.{AllStand, followed-by, mark-stands, keyword-stands, name-stands, version-stands}
-use Rattle.wit_print.proofs.Tokens.{is-keyword, mark-then, keyword-then, id-writes, lower-id-writes, package-is-label, version-text, is-the-version}
+use Rattle.wit_print.proofs.Standing.{AllStand, followed-by, mark-stands, keyword-stands, name-stands}
+use Rattle.wit_print.proofs.Tokens.{is-keyword, mark-then, keyword-then, id-writes, lower-id-writes, package-is-label}
+use Rattle.wit_print.proofs.Paths.{version-writes, version-stand, version-breaks}
 use Rattle.wit_print.proofs.Entries.{AreAlike, entry-writes, entry-stands, world-entry-writes, world-entry-stands, braced-writes, braced-stand}
 use Rattle.wit_print.proofs.Lexed.{tokens_from, words-are-lexed, words-are-read}
-use Rattle.wit_print.proofs.Written.{Writes, IsThe, loosen, give_writes, bind_writes, made_writes, none_writes, some_writes, when_writes, else_writes, none_left_writes, next_writes}
+use Rattle.wit_print.proofs.Written.{Writes, IsThe, loosen, give_writes, bind_writes, made_writes, when_writes, else_writes, none_left_writes, next_writes}
 
 -- ---- interfaces and worlds, each behind its keyword
 
@@ -86,13 +85,6 @@ items-stand (e ∷ es) h rest = followed-by (file_entry_words e) (items_words es
 
 -- ---- the package
 
-version-writes : (v : Option (List ℕ)) → IsPrintableVersionOrNone v → Writes version.spells (version_words v) (λ x. x ≡ v)
-unfolding version
-version-writes None h = none_writes is_version_token (λ t. give t.text)
-version-writes (Some v) h =
-    loosen (λ o e. e.1 ∙ ap Some e.2)
-    (some_writes is_version_token (λ t. give t.text) (version_word v) [] (λ x. x ≡ v) (is-the-version v h.version) (λ l e. give_writes l.text (λ x. x ≡ v) (version-text v l e)))
-
 abbrev header_words : File → List Word
 header_words f = keyword_word [] kw.Package ∷ name_word blank f.namespace ∷ mark_word [] mark.Colon ∷ name_word [] f.name ∷ (version_words f.version ++ mark_word [] mark.Semicolon ∷ [])
 
@@ -108,14 +100,6 @@ header-writes end f h =
     (λ b. bind_writes (name_word [] f.name ∷ []) _ (λ x. x ≡ f.name) (IsHeader f) (lower-id-writes end [] f.name h.name)
     (λ m em. bind_writes (version_words f.version) (mark_word [] mark.Semicolon ∷ []) (λ x. x ≡ f.version) (IsHeader f) (version-writes f.version h.version)
     (λ v ev. mark-then [] mark.Semicolon [] (IsHeader f) (λ c. give_writes (n, m, v) (IsHeader f) (rw (en, em, ev) refl)))))))
-
-version-stand : (v : Option (List ℕ)) (vs : List Word) (rest : List ℕ) → IsPrintableVersionOrNone v → AllStand vs rest → AllStand (version_words v ++ mark_word [] mark.Semicolon ∷ vs) rest
-version-stand None vs rest h k = (mark-stands [] mark.Semicolon _ refl refl, k)
-version-stand (Some v) vs rest h k = (version-stands v (text_of vs rest) h, (mark-stands [] mark.Semicolon _ refl refl, k))
-
-version-breaks : (v : Option (List ℕ)) (vs : List Word) (rest : List ℕ) → breaks (text_of (version_words v ++ mark_word [] mark.Semicolon ∷ vs) rest) ≡ true
-version-breaks None vs rest = refl
-version-breaks (Some v) vs rest = refl
 
 -- ---- files
 
@@ -137,8 +121,8 @@ file-stands f h rest = (
     (
       mark-stands [] mark.Colon _ refl refl,
       (
-        name-stands [] f.name _ refl (package-is-label f.name h.name) (version-breaks f.version (items_words f.entries) rest),
-        version-stand f.version (items_words f.entries) rest h.version (items-stand f.entries h.entries rest),
+        name-stands [] f.name _ refl (package-is-label f.name h.name) (version-breaks f.version (mark_word [] mark.Semicolon ∷ items_words f.entries) rest refl),
+        version-stand f.version (mark_word [] mark.Semicolon ∷ items_words f.entries) rest refl h.version (mark-stands [] mark.Semicolon _ refl refl, items-stand f.entries h.entries rest),
       ),
     ),
   ),

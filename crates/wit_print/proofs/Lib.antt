@@ -9,5 +9,6 @@ mod Tokens
 mod Types
 mod Functions
 mod Definitions
+mod Paths
 mod Entries
 mod Files

@@ -1,8 +1,9 @@
 -- Where words stand in a text: a word that runs on, where the text breaks behind it.
 use Rattle.std.proofs.Common.{◌≡◌, ◌<◌, ◌+◌, ℕ, suc, List, [], ◌∷◌, ◌++◌, length, refl, sym, ap, subst, ◌∙◌, arith}
-use Rattle.std.specs.Prelude.{Bool, true, false, is_some, if◌then◌else◌, Option, Some, None}
+use Rattle.std.specs.Prelude.{Bool, true, false, is_some, if◌then◌else◌, ◌==◌, Option, Some, None}
 use Rattle.std.specs.List.{list_all}
 use Rattle.std.proofs.lemmas.Bool.{false≢true}
+use Rattle.std.proofs.lemmas.Bool.Decides.{nat_tests}
 use Rattle.atoms.specs.Label.{is_label}
 use Rattle.wit_tokens.specs.declared.token.Keyword.{Keyword}
 use Rattle.wit_tokens.specs.declared.token.Keyword.TheVariants as kw
@@ -11,11 +12,11 @@ use Rattle.wit_tokens.specs.declared.token.Punctuation.TheVariants as mark
 use Rattle.wit_tokens.specs.declared.token.TokenKind.TheVariants as kind
 use Rattle.wit_tokens.specs.declared.lexer.Front.TheVariants as front
 use Rattle.wit_tokens.specs.Keywords.{spelling, keywords, keyword_of}
-use Rattle.wit_tokens.specs.Lexing.{front_of, punctuation_front, at_front, version_run, dotted, is_in_version, begins_digit, word_kind, keyword_kind, is_blank}
+use Rattle.wit_tokens.specs.Lexing.{front_of, slash_front, punctuation_front, at_front, version_run, dotted, is_in_version, begins_digit, begins_letter, word_kind, keyword_kind, is_blank}
 use Rattle.wit_tokens.specs.Marks.{mark_text}
-use Rattle.wit_print.specs.Words.{Word, text_of, mark_word, keyword_word, name_word, version_word}
+use Rattle.wit_print.specs.Words.{Word, text_of, escaped, mark_word, keyword_word, name_word, version_word}
 use Rattle.wit_print.specs.Printable.{IsPrintableVersion}
-use Rattle.wit_print.proofs.Fronts.{breaks, word_stands, escaped_stands}
+use Rattle.wit_print.proofs.Fronts.{breaks, from-start, letter-first, word_stands, escaped_stands}
 use Rattle.wit_print.proofs.Texts.{text-append}
 
 abbrev pub IsSpace : List ℕ → Type 0
@@ -49,7 +50,7 @@ followed-by ws vs rest h k = stand-append ws vs rest (h (text_of vs rest)) k
 
 -- ---- marks
 
--- all that a canonical text has
+-- all that a canonical text has, but for `/`
 abbrev pub is_printed : Punctuation → Bool
 is_printed mark.Slash = false
 is_printed mark.At = false
@@ -92,6 +93,28 @@ mark-some mark.At = omega arith
 
 pub mark-stands : (space : List ℕ) (p : Punctuation) (rest : List ℕ) → IsSpace space → is_printed p ≡ true → WordStands (mark_word space p) rest
 mark-stands space p rest s h = record { blank = s; some = mark-some p; token = mark-token p rest h }
+
+-- `/` before a name
+letter-behind : (n rest : List ℕ) → begins_letter n ≡ true → front_of (47 ∷ (n ++ rest)) ≡ front.Token (kind.Punctuation mark.Slash) 1
+unfolding front_of slash_front
+letter-behind [] rest h = absurd (false≢true h)
+letter-behind (c ∷ cs) rest h = by (c == 47) (c == 42) refl refl
+  where
+    by : (s t : Bool) → (c == 47) ≡ s → (c == 42) ≡ t → front_of (47 ∷ c ∷ (cs ++ rest)) ≡ front.Token (kind.Punctuation mark.Slash) 1
+    by false false es et = rw (es, et) refl
+    by true t es et = absurd (grind (arith, nat_tests))
+    by false true es et = absurd (grind (arith, nat_tests))
+
+name-behind : (n rest : List ℕ) → is_label n ≡ true → front_of (47 ∷ (escaped n ++ rest)) ≡ front.Token (kind.Punctuation mark.Slash) 1
+unfolding front_of slash_front
+name-behind n rest h = by (is_some (keyword_of n)) refl
+  where
+    by : (k : Bool) → is_some (keyword_of n) ≡ k → front_of (47 ∷ (escaped n ++ rest)) ≡ front.Token (kind.Punctuation mark.Slash) 1
+    by true e = rw e refl
+    by false e = rw e (letter-behind n rest (letter-first n (from-start n h)))
+
+pub slash-stands : (n rest : List ℕ) → is_label n ≡ true → WordStands (mark_word [] mark.Slash) (escaped n ++ rest)
+slash-stands n rest h = record { blank = refl; some = omega arith; token = name-behind n rest h }
 
 -- ---- keywords
 
@@ -225,10 +248,11 @@ digit-before : (v rest : List ℕ) → begins_digit v ≡ true → begins_digit 
 digit-before [] rest h = absurd (false≢true h)
 digit-before (c ∷ cs) rest h = h
 
-pub version-stands : (v rest : List ℕ) → IsPrintableVersion v → WordStands (version_word v) (59 ∷ rest)
+-- a version that nothing behind it goes on with
+pub version-stands : (v rest : List ℕ) → version_run rest ≡ 0 → IsPrintableVersion v → WordStands (version_word v) rest
 unfolding front_of at_front
-version-stands v rest h = record {
+version-stands v rest ends h = record {
   blank = refl;
   some = omega arith;
-  token = rw (digit-before v (59 ∷ rest) h.begins, run-before v (59 ∷ rest) refl, h.runs) (ap (front.Token kind.Version) (one-more (length v)));
+  token = rw (digit-before v rest h.begins, run-before v rest ends, h.runs) (ap (front.Token kind.Version) (one-more (length v)));
 }

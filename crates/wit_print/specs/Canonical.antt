@@ -8,7 +8,7 @@ use Rattle.wit_syntax.specs.declared.ast.Primitive.{Primitive}
 use Rattle.wit_syntax.specs.declared.ast.Primitive.TheVariants as primitive
 use Rattle.wit_syntax.specs.declared.ast.Direction.{Direction}
 use Rattle.wit_syntax.specs.declared.ast.Direction.TheVariants as direction
-use Rattle.wit_syntax.specs.Syntax.{Ty, Prim, Named, ListOf, OptionOf, TupleOf, ResultOf, Tys, none, more, Absent, Present, Member, CaseOf, UsedAs, Definition, Alias, Record, Variant, Enumeration, FlagSet, Function, PathTo, Local, Entry, Uses, Defines, Declares, WorldEntry, Whole, Single, FileEntry, AnInterface, AWorld, File}
+use Rattle.wit_syntax.specs.Syntax.{Ty, Prim, Named, ListOf, OptionOf, TupleOf, ResultOf, Tys, none, more, Absent, Present, Member, CaseOf, UsedAs, Definition, Alias, Record, Variant, Enumeration, FlagSet, Function, PathTo, Local, Foreign, Entry, Uses, Defines, Declares, WorldEntry, Whole, Single, FileEntry, AnInterface, AWorld, File}
 use Rattle.wit_print.specs.Words.{Word, text_of, mark_word, keyword_word, name_word, version_word}
 
 -- ---- blanks: one, a new line, one with two blanks or with four, and an empty line
@@ -128,13 +128,18 @@ used_words space u = name_word space u.name ∷ local_words u.local
 abbrev pub uses_words : List ℕ → List UsedAs → List Word
 uses_words = listed_words used_words (mark_word [] mark.CloseBrace)
 
-abbrev pub path_name : PathTo → List ℕ
-path_name (Local n) = n
+abbrev pub version_words : Option (List ℕ) → List Word
+version_words None = []
+version_words (Some v) = version_word v ∷ []
+
+abbrev pub path_words : List ℕ → PathTo → List Word
+path_words space (Local n) = name_word space n ∷ []
+path_words space (Foreign namespace name v i) = name_word space namespace ∷ mark_word [] mark.Colon ∷ name_word [] name ∷ mark_word [] mark.Slash ∷ name_word [] i ∷ version_words v
 
 abbrev pub entry_words : Entry → List Word
 entry_words (Uses at path us) =
-    keyword_word item_line kw.Use ∷ name_word blank (path_name path) ∷ mark_word [] mark.Dot ∷ mark_word [] mark.OpenBrace
-    ∷ (uses_words [] us ++ mark_word [] mark.Semicolon ∷ [])
+    keyword_word item_line kw.Use ∷ (path_words blank path ++ mark_word [] mark.Dot ∷ mark_word [] mark.OpenBrace
+    ∷ (uses_words [] us ++ mark_word [] mark.Semicolon ∷ []))
 entry_words (Defines at n d) = definition_words n d
 entry_words (Declares at n f) = name_word item_line n ∷ function_words f
 
@@ -143,7 +148,7 @@ direction_keyword direction.Import = kw.Import
 direction_keyword direction.Export = kw.Export
 
 abbrev pub world_entry_words : WorldEntry → List Word
-world_entry_words (Whole d path) = keyword_word item_line (direction_keyword d) ∷ name_word blank (path_name path) ∷ mark_word [] mark.Semicolon ∷ []
+world_entry_words (Whole d path) = keyword_word item_line (direction_keyword d) ∷ (path_words blank path ++ mark_word [] mark.Semicolon ∷ [])
 world_entry_words (Single d at n f) = keyword_word item_line (direction_keyword d) ∷ name_word blank n ∷ function_words f
 
 -- items, with the brace that closes them
@@ -160,10 +165,6 @@ file_entry_words (AWorld at n es) = keyword_word empty_line kw.World ∷ name_wo
 abbrev pub items_words : List FileEntry → List Word
 items_words [] = []
 items_words (e ∷ es) = file_entry_words e ++ items_words es
-
-abbrev pub version_words : Option (List ℕ) → List Word
-version_words None = []
-version_words (Some v) = version_word v ∷ []
 
 abbrev pub file_words : File → List Word
 file_words f =

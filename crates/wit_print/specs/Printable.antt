@@ -4,7 +4,7 @@ use Rattle.std.specs.List.{AllByRecursion}
 use Rattle.atoms.specs.Label.{is_label}
 use Rattle.atoms.specs.FullName.{is_package_label}
 use Rattle.wit_tokens.specs.Lexing.{limit, begins_digit, version_run}
-use Rattle.wit_syntax.specs.Syntax.{Ty, Prim, Named, ListOf, OptionOf, TupleOf, ResultOf, Tys, none, more, MaybeTy, Absent, Present, depth, Member, CaseOf, UsedAs, Definition, Alias, Record, Variant, Enumeration, FlagSet, Function, PathTo, Local, Entry, Uses, Defines, Declares, WorldEntry, Whole, Single, FileEntry, AnInterface, AWorld, File}
+use Rattle.wit_syntax.specs.Syntax.{Ty, Prim, Named, ListOf, OptionOf, TupleOf, ResultOf, Tys, none, more, MaybeTy, Absent, Present, depth, Member, CaseOf, UsedAs, Definition, Alias, Record, Variant, Enumeration, FlagSet, Function, PathTo, Local, Foreign, Entry, Uses, Defines, Declares, WorldEntry, Whole, Single, FileEntry, AnInterface, AWorld, File}
 use Rattle.wit_grammar.specs.Grammar.{nesting, is_version_text}
 
 abbrev pub types_count : Tys → ℕ
@@ -75,8 +75,19 @@ pub record IsPrintableFunction (f : Function) : Type 0 where
   pub params : AllByRecursion IsPrintableMember f.params
   pub result : IsPrintableOption f.result
 
+-- a version that is one token behind its `@`
+pub record IsPrintableVersion (v : List ℕ) : Type 0 where
+  pub version : is_version_text v ≡ true
+  pub begins : begins_digit v ≡ true
+  pub runs : version_run v ≡ length v
+
+abbrev pub IsPrintableVersionOrNone : Option (List ℕ) → Type 0
+IsPrintableVersionOrNone None = Unit {0}
+IsPrintableVersionOrNone (Some v) = IsPrintableVersion v
+
 abbrev pub IsPrintablePath : PathTo → Type 0
 IsPrintablePath (Local n) = IsLabel n
+IsPrintablePath (Foreign namespace name v i) = IsLabel namespace × IsLabel name × IsPrintableVersionOrNone v × IsLabel i
 
 abbrev pub IsPrintableEntry : Entry → Type 0
 IsPrintableEntry (Uses at path us) = IsPrintablePath path × ArePrintable IsPrintableUse us
@@ -90,16 +101,6 @@ IsPrintableWorldEntry (Single d at n f) = IsLabel n × IsPrintableFunction f
 abbrev pub IsPrintableFileEntry : FileEntry → Type 0
 IsPrintableFileEntry (AnInterface n es) = IsLabel n × (length es ≤ limit) × AllByRecursion IsPrintableEntry es
 IsPrintableFileEntry (AWorld at n es) = IsLabel n × (length es ≤ limit) × AllByRecursion IsPrintableWorldEntry es
-
--- a version that is one token behind its `@`
-pub record IsPrintableVersion (v : List ℕ) : Type 0 where
-  pub version : is_version_text v ≡ true
-  pub begins : begins_digit v ≡ true
-  pub runs : version_run v ≡ length v
-
-abbrev pub IsPrintableVersionOrNone : Option (List ℕ) → Type 0
-IsPrintableVersionOrNone None = Unit {0}
-IsPrintableVersionOrNone (Some v) = IsPrintableVersion v
 
 pub record IsPrintable (f : File) : Type 0 where
   pub namespace : is_package_label f.namespace ≡ true

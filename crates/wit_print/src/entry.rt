@@ -1,16 +1,16 @@
 //! Items of interfaces and of worlds.
 ghost use Rattle.std.specs.Prelude.{◌≡◌, [], ◌++◌, map, OnOk};
-ghost use Rattle.wit_syntax.specs.View.{used_view, entry_view, world_entry_view};
-ghost use Rattle.wit_print.specs.Canonical.{local_words, used_words, uses_words, direction_keyword, entry_words, world_entry_words, braced_words};
+ghost use Rattle.wit_syntax.specs.View.{used_view, version_view, path_view, entry_view, world_entry_view};
+ghost use Rattle.wit_print.specs.Canonical.{local_words, used_words, uses_words, version_words, path_words, direction_keyword, entry_words, world_entry_words, braced_words};
 ghost use Rattle.wit_print.specs.Adding.{Adds};
 
 use crate::definition::{ITEM_LINE, write_definition};
 use crate::function::write_function;
 use crate::list::write_comma;
-use crate::word::{write_keyword, write_mark, write_name};
+use crate::word::{write_keyword, write_mark, write_name, write_version};
 use atoms::Label;
 use std::alloc::AllocError;
-use wit_syntax::{Direction, InterfaceItem, Use, UsedName, WorldItem, WorldItemKind};
+use wit_syntax::{Direction, InterfaceItem, Path, Use, UsedName, WorldItem, WorldItemKind};
 use wit_tokens::{Keyword, Punctuation};
 
 fn write_local(out: &mut String, local: &Option<Label>) -> Result<(), AllocError>
@@ -41,11 +41,41 @@ fn write_names(out: &mut String, names: &[UsedName]) -> Result<(), AllocError>
     write_mark(out, "", Punctuation::CloseBrace)
 }
 
+/// Puts a version behind the text, if there is one.
+pub(crate) fn write_optional_version(
+    out: &mut String,
+    version: &Option<String>,
+) -> Result<(), AllocError>
+    ensures { OnOk result (Adds (version_words (version_view version.now)) out.old out.new) }
+{
+    match version {
+        Some(version) => write_version(out, version.as_str()),
+        None => Ok(()),
+    }
+}
+
+/// Puts the name of an interface behind the text, of another package's in full.
+fn write_path(out: &mut String, space: &str, path: &Path) -> Result<(), AllocError>
+    ensures { OnOk result (Adds (path_words space.now (path_view path.now)) out.old out.new) }
+{
+    match path {
+        Path::Local(name) => write_name(out, space, name),
+        Path::Foreign { package, interface } => {
+            write_name(out, space, &package.namespace)?;
+            write_mark(out, "", Punctuation::Colon)?;
+            write_name(out, "", &package.name)?;
+            write_mark(out, "", Punctuation::Slash)?;
+            write_name(out, "", interface)?;
+            write_optional_version(out, &package.version)
+        }
+    }
+}
+
 fn write_use(out: &mut String, item: &Use) -> Result<(), AllocError>
     ensures { OnOk result (Adds (entry_words (entry_view (InterfaceItem.Use item.now))) out.old out.new) }
 {
     write_keyword(out, ITEM_LINE, Keyword::Use)?;
-    write_name(out, " ", &item.interface.name)?;
+    write_path(out, " ", &item.interface)?;
     write_mark(out, "", Punctuation::Dot)?;
     write_mark(out, "", Punctuation::OpenBrace)?;
     write_names(out, item.names.as_slice())?;
@@ -94,7 +124,7 @@ fn write_world_entry(out: &mut String, item: &WorldItem) -> Result<(), AllocErro
     write_keyword(out, ITEM_LINE, direction_keyword(item.direction))?;
     match &item.kind {
         WorldItemKind::Interface(path) => {
-            write_name(out, " ", &path.name)?;
+            write_path(out, " ", path)?;
             write_mark(out, "", Punctuation::Semicolon)
         }
         WorldItemKind::Func(func) => {

@@ -1,12 +1,12 @@
 //! Whole files.
 ghost use Rattle.std.specs.Prelude.{◌≡◌, [], ◌++◌, map, OnOk, OnErr};
 ghost use Rattle.std.specs.String.{string_bytes};
-ghost use Rattle.wit_syntax.specs.View.{item_view, version_view, file_view};
-ghost use Rattle.wit_print.specs.Canonical.{file_entry_words, items_words, version_words, file_words, canonical_text};
+ghost use Rattle.wit_syntax.specs.View.{item_view, file_view};
+ghost use Rattle.wit_print.specs.Canonical.{file_entry_words, items_words, file_words, canonical_text};
 ghost use Rattle.wit_print.specs.Adding.{Adds};
 
-use crate::entry::{write_entries, write_world_entries};
-use crate::word::{write_keyword, write_mark, write_name, write_version};
+use crate::entry::{write_entries, write_optional_version, write_world_entries};
+use crate::word::{write_keyword, write_mark, write_name};
 use std::alloc::{AllocError, Global};
 use wit_syntax::{Ast, Item};
 use wit_tokens::{Keyword, Punctuation};
@@ -37,15 +37,6 @@ fn write_items(out: &mut String, items: &[Item]) -> Result<(), AllocError>
         write_item(out, item)?;
     }
     Ok(())
-}
-
-fn write_optional_version(out: &mut String, version: &Option<String>) -> Result<(), AllocError>
-    ensures { OnOk result (Adds (version_words (version_view version.now)) out.old out.new) }
-{
-    match version {
-        Some(version) => write_version(out, version.as_str()),
-        None => Ok(()),
-    }
 }
 
 fn write_file(out: &mut String, ast: &Ast) -> Result<(), AllocError>

@@ -66,9 +66,10 @@ pub record Function : Type 0 where
   pub params : List Member
   pub result : Option Ty
 
--- the interface that a use or an item of a world names
+-- the interface that a use or an item of a world names: one of the text's own package, or one of another
 pub data PathTo : Type 0 where
   Local : (name : List ℕ) → PathTo
+  Foreign : (namespace name : List ℕ) → (version : Option (List ℕ)) → (interface : List ℕ) → PathTo
 
 -- the span is that of the first token
 pub data Entry : Type 0 where

@@ -4,13 +4,14 @@ use Rattle.std.specs.declared.boxed.Box.{Box}
 use Rattle.std.specs.declared.alloc.Global.{Global}
 use Rattle.std.specs.String.{string_bytes}
 use Rattle.std.specs.declared.string.String.{String}
-use Rattle.wit_syntax.specs.Syntax.{Ty, MaybeTy, Prim, Named, ListOf, OptionOf, TupleOf, ResultOf, Absent, Present, tys_of, Member, CaseOf, UsedAs, Definition, Alias, Record, Variant, Enumeration, FlagSet, Function, PathTo, Local, Entry, Uses, Defines, Declares, WorldEntry, Whole, Single, FileEntry, AnInterface, AWorld, File}
+use Rattle.wit_syntax.specs.Syntax.{Ty, MaybeTy, Prim, Named, ListOf, OptionOf, TupleOf, ResultOf, Absent, Present, tys_of, Member, CaseOf, UsedAs, Definition, Alias, Record, Variant, Enumeration, FlagSet, Function, PathTo, Local, Foreign, Entry, Uses, Defines, Declares, WorldEntry, Whole, Single, FileEntry, AnInterface, AWorld, File}
 use Rattle.wit_syntax.specs.declared.ast.Ast.{Ast}
 use Rattle.wit_syntax.specs.declared.ast.Item.{Item}
 use Rattle.wit_syntax.specs.declared.ast.Item.TheVariants as item
 use Rattle.wit_syntax.specs.declared.ast.InterfaceItem.{InterfaceItem}
 use Rattle.wit_syntax.specs.declared.ast.InterfaceItem.TheVariants as entry
 use Rattle.wit_syntax.specs.declared.ast.Path.{Path}
+use Rattle.wit_syntax.specs.declared.ast.Path.TheVariants as path
 use Rattle.wit_syntax.specs.declared.ast.UsedName.{UsedName}
 use Rattle.wit_syntax.specs.declared.ast.TypeDefKind.{TypeDefKind}
 use Rattle.wit_syntax.specs.declared.ast.TypeDefKind.TheVariants as definition
@@ -58,8 +59,13 @@ case_view c = record { name = c.name; payload = optional_view c.payload }
 abbrev pub used_view : UsedName → UsedAs
 used_view u = record { name = u.name; local = u.local }
 
+abbrev pub version_view : Option (String Global) → Option (List ℕ)
+version_view None = None
+version_view (Some v) = Some (string_bytes v)
+
 abbrev pub path_view : Path → PathTo
-path_view p = Local p.name
+path_view (path.Local n) = Local n
+path_view (path.Foreign p n) = Foreign p.namespace p.name (version_view p.version) n
 
 abbrev pub definition_view : TypeDefKind → Definition
 definition_view (definition.Alias t) = Alias (ty_view t)
@@ -86,10 +92,6 @@ world_entry_view w = world_kind_view w.direction w.kind
 abbrev pub item_view : Item → FileEntry
 item_view (item.Interface i) = AnInterface i.name (map entry_view i.items.items)
 item_view (item.World w) = AWorld w.span w.name (map world_entry_view w.items.items)
-
-abbrev pub version_view : Option (String Global) → Option (List ℕ)
-version_view None = None
-version_view (Some v) = Some (string_bytes v)
 
 abbrev pub file_view : Ast → File
 file_view a = record { namespace = a.package.namespace; name = a.package.name; version = version_view a.package.version; entries = map item_view a.items.items }

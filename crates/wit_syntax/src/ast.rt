@@ -46,8 +46,14 @@ pub struct Use {
 
 /// The interface that a use or an item of a world names.
 #[derive(Debug, Drop)]
-pub struct Path {
-    pub name: Label,
+pub enum Path {
+    /// One of the text's own package.
+    Local(Label),
+    /// One of another package.
+    Foreign {
+        package: PackageId,
+        interface: Label,
+    },
 }
 
 #[derive(Debug, Drop)]

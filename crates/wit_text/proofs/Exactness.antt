@@ -1,9 +1,9 @@
 -- Each production is read exactly.
-use Rattle.std.proofs.Common.{◌≡◌, ℕ, zero, suc, Bool, true, false, List, [], ◌∷◌, Option, Some, None, Result, Ok, Err, refl, sym, ap, subst, ◌∙◌, inr}
-use Rattle.std.specs.Prelude.{◌&&◌, ◌||◌}
-use Rattle.productions.specs.Production.{next, passes, give, never, ◌>>=◌, one, only, when, optional, entries}
+use Rattle.std.proofs.Common.{◌≡◌, ℕ, zero, suc, Bool, true, false, List, [], ◌∷◌, Option, Some, None, refl, sym, ◌∙◌}
+use Rattle.std.specs.Prelude.{◌||◌}
+use Rattle.productions.specs.Production.{passes, give, never, ◌>>=◌, one, when, optional, entries}
 use Rattle.productions.specs.Exactness.{Exact, Anything, Unless, AtEnd}
-use Rattle.productions.proofs.Exact.{ok_is, after_ok, stopped, Opens, exact-give, exact-then, exact-last, exact-before, exact-when, exact-optional, exact-peek, exact-only, exact-many, exact-listed, exact-comma_or, exact-entries, exact-all, leads-comma_or, opens-bind, opens-one}
+use Rattle.productions.proofs.Exact.{Opens, exact-give, exact-then, exact-last, exact-before, exact-when, exact-optional, exact-peek, exact-many, exact-listed, exact-comma_or, exact-entries, exact-all, leads-comma_or, opens-bind, opens-one}
 use Rattle.wit_tokens.specs.declared.token.Keyword.TheVariants as kw
 use Rattle.wit_tokens.specs.declared.token.Punctuation.{Punctuation}
 use Rattle.wit_tokens.specs.declared.token.Punctuation.TheVariants as mark
@@ -12,9 +12,6 @@ use Rattle.wit_tokens.specs.declared.token.TokenKind.TheVariants as kind
 use Rattle.wit_tokens.specs.declared.token.Span.{Span}
 use Rattle.wit_tokens.specs.declared.error.Expected.TheVariants as want
 use Rattle.wit_tokens.specs.declared.error.Feature.{Feature}
-use Rattle.wit_tokens.specs.declared.error.Feature.TheVariants as feature
-use Rattle.wit_tokens.specs.declared.error.TextError.{TextError}
-use Rattle.wit_tokens.specs.declared.error.TextError.TheVariants as error
 use Rattle.wit_grammar.specs.declared.types.Start.{Start}
 use Rattle.wit_grammar.specs.declared.types.Start.TheVariants as start
 use Rattle.wit_grammar.specs.declared.starts.ItemStart.{ItemStart}
@@ -22,9 +19,9 @@ use Rattle.wit_grammar.specs.declared.starts.ItemStart.TheVariants as begin
 use Rattle.wit_syntax.specs.declared.ast.Direction.{Direction}
 use Rattle.wit_tokens.specs.Lexing.{limit}
 use Rattle.wit_tokens.specs.Tokens.{Lexeme}
-use Rattle.wit_syntax.specs.Syntax.{Ty, Member, Single}
+use Rattle.wit_syntax.specs.Syntax.{Ty, Member, PathTo, Local, Foreign}
 use Rattle.wit_grammar.specs.Faults.{wanted, is, StandsAt}
-use Rattle.wit_grammar.specs.Lookahead.{lookahead, Looks, Phrase}
+use Rattle.wit_grammar.specs.Lookahead.{lookahead, Phrase}
 use Rattle.wit_grammar.specs.Grammar as g
 use Rattle.wit_text.proofs.KindLemmas.{same_true}
 use Rattle.wit_text.proofs.FaultLemmas.{ByNext, exact-token, exact-fault, owed, owed-end, next-first, next-wanted, next-feature, feature_place}
@@ -70,9 +67,6 @@ exact-lower_id : (end : ℕ) → look end (g.lower_id end)
 unfolding g.lower_id
 exact-lower_id end = exact-then (lookahead end) (one g.is_lower_name (wanted end want.Identifier)) _ (exact-token end _ (next-wanted end _) _) (λ t. exact-give (lookahead end) _)
 
-exact-peeked : (end : ℕ) (k : TokenKind) → Exact (lookahead end) (Unless (is k) Anything) (g.peek k)
-exact-peeked end k = exact-optional (lookahead end) (is k) give (λ t. exact-give (lookahead end) {stops = Anything} t)
-
 -- a name is an identifier
 name_kind : (t : Lexeme) → g.is_name t ≡ true → is kind.Identifier t ≡ true
 unfolding g.is_name
@@ -101,7 +95,7 @@ next-header end v = next-first end (g.header_fault end v) (λ t ts us. refl) pla
   where
     placed : (ts : List Lexeme) → StandsAt end ts (g.header_fault end v ts)
     placed [] = refl
-    placed (t ∷ ts) = feature_place end _ (g.header_wanted v t) (t ∷ ts)
+    placed (t ∷ ts) = feature_place end _ (g.version_or v mark.Semicolon t) (t ∷ ts)
 
 exact-package_word : (end : ℕ) → look end (g.package_word end)
 unfolding g.package_word
@@ -111,17 +105,17 @@ exact-version : (end : ℕ) → Exact (lookahead end) (Unless g.is_version_token
 unfolding g.version
 exact-version end = exact-optional (lookahead end) g.is_version_token _ (λ t. exact-give (lookahead end) _)
 
-version_ends : (v : Option (List ℕ)) (t : Lexeme) → is g.semicolon t ≡ true → Unless g.is_version_token Anything v (Some t)
+version_ends : (p : Punctuation) (v : Option (List ℕ)) (t : Lexeme) → is (kind.Punctuation p) t ≡ true → Unless g.is_version_token Anything v (Some t)
 unfolding g.is_version_token
-version_ends (Some v) t h = tt
-version_ends None t h = let e : is kind.Version t ≡ false = apart g.semicolon kind.Version t h in rw e refl
+version_ends p (Some v) t h = tt
+version_ends p None t h = let e : is kind.Version t ≡ false = apart (kind.Punctuation p) kind.Version t h in rw e refl
 
 exact-header : (end : ℕ) → look end (g.header end)
 unfolding g.header g.header_end
 exact-header end =
     exact-then (lookahead end) (g.package_word end) _ (exact-package_word end) (λ a. exact-then (lookahead end) (g.lower_id end) _ (exact-lower_id end) (λ namespace.
     exact-then (lookahead end) (g.punctuation end _) _ (exact-punctuation end _) (λ b. exact-then (lookahead end) (g.lower_id end) _ (exact-lower_id end) (λ name.
-    exact-before (lookahead end) g.version _ _ _ (exact-version end) (λ v. exact-then (lookahead end) _ _ (exact-token end _ (next-header end v) _) (λ c. exact-give (lookahead end) _)) version_ends))))
+    exact-before (lookahead end) g.version _ _ _ (exact-version end) (λ v. exact-then (lookahead end) _ _ (exact-token end _ (next-header end v) _) (λ c. exact-give (lookahead end) _)) (version_ends mark.Semicolon)))))
 
 -- ---- types
 
@@ -309,6 +303,43 @@ exact-whole_function : (end n : ℕ) → look end (g.whole_function end n)
 unfolding g.whole_function g.function_end
 exact-whole_function end n = exact-before (lookahead end) (g.function end n) _ _ _ (exact-function end n) (λ f. exact-then (lookahead end) _ _ (exact-token end _ (next-wanted end _) _) (λ b. exact-give (lookahead end) _)) (λ f. function_ends f.result)
 
+-- ---- paths
+
+-- what doesn't come next behind a path: a `:` behind a name alone, and a version where none was read
+abbrev PathEnds : PathTo → Option Lexeme → Type 0
+PathEnds (Local i) n = passes (is g.colon) n ≡ false
+PathEnds (Foreign namespace name v i) n = Unless g.is_version_token Anything v n
+
+exact-foreign : (end : ℕ) (namespace name : List ℕ) → Exact (lookahead end) PathEnds (g.foreign end namespace name)
+unfolding g.foreign
+exact-foreign end namespace name = exact-then (lookahead end) (g.punctuation end _) _ (exact-punctuation end _) (λ a. exact-then (lookahead end) (g.id end) _ (exact-id end) (λ i.
+    exact-last (lookahead end) g.version (λ v. Foreign namespace name v i) (exact-version end) (λ v n h. h)))
+
+exact-behind_namespace : (end : ℕ) (namespace : List ℕ) → Exact (lookahead end) PathEnds (g.behind_namespace end namespace)
+unfolding g.behind_namespace
+exact-behind_namespace end namespace = exact-then (lookahead end) (g.id end) _ (exact-id end) (λ name. exact-foreign end namespace name)
+
+exact-path : (end : ℕ) (first : List ℕ) → Exact (lookahead end) PathEnds (g.path end first)
+unfolding g.path
+exact-path end first = exact-last (lookahead end) (optional (is g.colon) (λ t. g.behind_namespace end first)) (g.path_or first) (exact-optional (lookahead end) (is g.colon) _ (λ t. exact-behind_namespace end first)) ends
+  where
+    ends : (x : Option PathTo) (n : Option Lexeme) → PathEnds (g.path_or first x) n → Unless (is g.colon) PathEnds x n
+    ends None n h = h
+    ends (Some x) n h = h
+
+next-path : (end : ℕ) (x : PathTo) (p : Punctuation) → ByNext end (g.path_fault end x p)
+unfolding g.path_fault
+next-path end x p = next-first end (g.path_fault end x p) (alike x) (λ ts. refl)
+  where
+    alike : (y : PathTo) (t : Lexeme) (ts us : List Lexeme) → g.path_fault end y p (t ∷ us) ≡ g.path_fault end y p (t ∷ ts)
+    alike (Local i) t ts us = refl
+    alike (Foreign namespace name v i) t ts us = refl
+
+-- a mark that isn't `:` ends a path
+path_ends : (p : Punctuation) → ((t : Lexeme) → is (kind.Punctuation p) t ≡ true → is g.colon t ≡ false) → (x : PathTo) (t : Lexeme) → is (kind.Punctuation p) t ≡ true → PathEnds x (Some t)
+path_ends p other (Local i) t h = other t h
+path_ends p other (Foreign namespace name v i) t h = version_ends p v t h
+
 -- ---- uses
 
 abbrev NotAs : Option (List ℕ) → Option Lexeme → Type 0
@@ -334,9 +365,11 @@ exact-used_list : (end k : ℕ) → look end (g.used_list end k)
 exact-used_list end k = exact-listed (lookahead end) (g.used end) (exact-used end) (is g.close_brace) (opens-used mark.CloseBrace end) (is g.comma) _ (λ x. owed end _ (next-wanted end _) _) (λ x. owed end _ (next-wanted end _) _) (λ u. either_as u.local) (λ u. not_as mark.CloseBrace u.local) k
 
 exact-use : (end : ℕ) (at : Span) → look end (g.use_item end at)
-unfolding g.use_item g.use_dot
-exact-use end at = exact-then (lookahead end) (g.id end) _ (exact-id end) (λ i. exact-then (lookahead end) (one (is (kind.Punctuation mark.Dot)) _) _ (exact-token end _ (next-feature end _ _) _) (λ a. exact-then (lookahead end) (g.punctuation end _) _ (exact-punctuation end _) (λ b.
+unfolding g.use_item g.path_end
+exact-use end at = exact-then (lookahead end) (g.id end) _ (exact-id end) (λ i. exact-before (lookahead end) (g.path end i) _ _ _ (exact-path end i) (λ x.
+    exact-then (lookahead end) _ _ (exact-token end _ (next-path end x mark.Dot) _) (λ a. exact-then (lookahead end) (g.punctuation end _) _ (exact-punctuation end _) (λ b.
     exact-then (lookahead end) (g.used_list end limit) _ (exact-used_list end limit) (λ us. exact-then (lookahead end) (g.punctuation end _) _ (exact-punctuation end _) (λ c. exact-give (lookahead end) _)))))
+    (path_ends mark.Dot (λ t. apart (kind.Punctuation mark.Dot) g.colon t)))
 
 -- ---- type definitions
 
@@ -487,77 +520,35 @@ next-world : (end : ℕ) → ByNext end (g.world_fault end)
 unfolding g.world_fault
 next-world end = next-feature end _ _
 
--- an identifier doesn't come next where none was read
-abbrev NoId : {Y : Type 0} → Y × Option Lexeme → Option Lexeme → Type 0
-NoId x = Unless (is kind.Identifier) Anything x.1
+next-single : (end : ℕ) → ByNext end (g.single_fault end)
+unfolding g.single_fault
+next-single end = next-feature end _ _
 
-exact-colon_id : (end : ℕ) → Exact (lookahead end) NoId (g.colon_id end)
-unfolding g.colon_id
-exact-colon_id end = exact-then (lookahead end) (g.punctuation end _) _ (exact-punctuation end _) (λ c. exact-last (lookahead end) (g.peek kind.Identifier) (λ i. let pair : Lexeme × Option Lexeme = (c, i) in pair) (exact-peeked end kind.Identifier) (λ x n h. h))
-
--- the same is peeked whatever follows the next token
-peek_same : (k : TokenKind) (us other : List Lexeme) (i : Lexeme) (vs : List Lexeme) → next other ≡ next us → (g.peek k).read us ≡ Ok (Some i, vs) → (ws : List Lexeme) × ((g.peek k).read other ≡ Ok (Some i, ws))
-peek_same k [] other i vs n h = absurd (let e : ◌≡◌ {A = Option Lexeme × List Lexeme} (None, []) (Some i, vs) = ok_is (None, []) (Some i, vs) h in let o : ◌≡◌ {A = Option Lexeme} None (Some i) = ap (λ (p : Option Lexeme × List Lexeme). p.0) e in cc)
-peek_same k (t ∷ us) [] i vs n h = absurd cc
-peek_same k (t ∷ us) (u ∷ other) i vs n h = by (is k t) refl
-  where
-    by : (b : Bool) → is k t ≡ b → (ws : List Lexeme) × ((g.peek k).read (u ∷ other) ≡ Ok (Some i, ws))
-    by true e =
-        let same : u ≡ t = cc in
-        let told : ◌≡◌ {A = Result (Option Lexeme × List Lexeme) TextError} (Ok (Some t, us)) (Ok (Some i, vs)) = rw e at h in
-        let o : ◌≡◌ {A = Option Lexeme} (Some t) (Some i) = ap (λ (p : Option Lexeme × List Lexeme). p.0) (ok_is (Some t, us) (Some i, vs) told) in
-        let it : t ≡ i = cc in
-        (other, rw (same, e) (ap (λ (x : Lexeme). Ok (Some x, other)) it))
-    by false e = absurd (
-        let told : ◌≡◌ {A = Result (Option Lexeme × List Lexeme) TextError} (Ok (None, t ∷ us)) (Ok (Some i, vs)) = rw e at h in
-        let o : ◌≡◌ {A = Option Lexeme} None (Some i) = ap (λ (p : Option Lexeme × List Lexeme). p.0) (ok_is (None, t ∷ us) (Some i, vs) told) in cc)
-
-foreign : (end : ℕ) (ts : List Lexeme) (x : Lexeme × Option Lexeme) (rest : List Lexeme) (f : TextError) → (g.colon_id end).read ts ≡ Ok (x, rest) → g.foreign_fault x ts ≡ Some f → Looks end (λ other e. (only (g.colon_id end) g.foreign_fault).read other ≡ Err e) ts f
-unfolding g.colon_id g.punctuation
-foreign end ts x rest f h k =
-    let a = after_ok ((g.punctuation end mark.Colon).read ts) _ (x, rest) h in
-    let b = after_ok ((g.peek kind.Identifier).read a.0.1) _ (x, rest) a.2 in
-    let pair = ok_is ((a.0.0, b.0.0), b.0.1) (x, rest) b.2 in
-    let is_x : (a.0.0, b.0.0) ≡ x = ap (λ (p : (Lexeme × Option Lexeme) × List Lexeme). p.0) pair in
-    by a.0.0 a.0.1 b.0.0 b.0.1 a.1 b.1 is_x
-  where
-    by : (c : Lexeme) (us : List Lexeme) (o : Option Lexeme) (vs : List Lexeme) → (g.punctuation end mark.Colon).read ts ≡ Ok (c, us) → (g.peek kind.Identifier).read us ≡ Ok (o, vs) → (c, o) ≡ x → Looks end (λ other e. (only (g.colon_id end) g.foreign_fault).read other ≡ Err e) ts f
-    by c us None vs r p e = absurd (let none : ◌≡◌ {A = Option TextError} None (Some f) = subst (λ (y : Lexeme × Option Lexeme). g.foreign_fault y ts ≡ Some f) (sym e) k in cc)
-    by c us (Some i) vs r p e =
-        let first = (exact-punctuation end mark.Colon).sound ts c us tt r in
-        let told : ◌≡◌ {A = Option TextError} (Some (error.Unsupported feature.ForeignInterface c.token.span)) (Some f) = subst (λ (y : Lexeme × Option Lexeme). g.foreign_fault y ts ≡ Some f) (sym e) k in
-        let is_f : error.Unsupported feature.ForeignInterface c.token.span ≡ f = cc in
-        record {
-          front = first.text;
-          met = us;
-          whole = first.parts;
-          place = inr ([], c, first.spelt.0, sym is_f);
-          same = λ other n. let w = peek_same kind.Identifier us other i vs n p in rw (first.again other n, w.1) (ap (stopped ((Lexeme × Option Lexeme) × List Lexeme)) is_f);
-        }
-
-exact-world_colon : (end : ℕ) → Exact (lookahead end) NoId (g.world_colon end)
-unfolding g.world_colon
-exact-world_colon end = exact-only (lookahead end) (g.colon_id end) g.foreign_fault (λ x ts other h. h) (exact-colon_id end) (foreign end)
-
-func_ends : {Y : Type 0} (y : Y) (o : Option Lexeme) (t : Lexeme) → is (kind.Keyword kw.Func) t ≡ true → NoId (y, o) (Some t)
-func_ends y (Some i) t h = tt
-func_ends y None t h = apart (kind.Keyword kw.Func) kind.Identifier t h
+exact-whole_foreign : (end : ℕ) (d : Direction) (namespace name : List ℕ) → look end (g.whole_foreign end d namespace name)
+unfolding g.whole_foreign g.path_end
+exact-whole_foreign end d namespace name = exact-before (lookahead end) (g.foreign end namespace name) _ _ _ (exact-foreign end namespace name) (λ x.
+    exact-then (lookahead end) _ _ (exact-token end _ (next-path end x mark.Semicolon) _) (λ b. exact-give (lookahead end) _))
+    (path_ends mark.Semicolon (λ t. apart g.semicolon g.colon t))
 
 exact-single : (end n : ℕ) (d : Direction) (at : Span) (name : List ℕ) → look end (g.single end n d at name)
-unfolding g.single g.func_word
-exact-single end n d at name = exact-before (lookahead end) (g.world_colon end) _ _ _ (exact-world_colon end) (λ a. exact-then (lookahead end) _ _ (exact-token end _ (next-feature end _ _) _) (λ b. exact-then (lookahead end) (g.whole_function end n) _ (exact-whole_function end n) (λ f. exact-give (lookahead end) _))) (λ x. func_ends x.0 x.1)
+unfolding g.single
+exact-single end n d at name = exact-then (lookahead end) (g.whole_function end n) _ (exact-whole_function end n) (λ f. exact-give (lookahead end) _)
 
-opens-colon_id : (end : ℕ) → Opens (lookahead end) (is g.semicolon) (g.colon_id end)
-unfolding g.colon_id g.punctuation
-opens-colon_id end = opens-bind (lookahead end) (is g.semicolon) (g.token end g.colon (want.Punctuation mark.Colon)) (λ c. g.peek kind.Identifier >>= λ i. give (c, i)) (opens-one (lookahead end) (is g.semicolon) (is g.colon) (wanted end (want.Punctuation mark.Colon)) (apart g.colon g.semicolon))
+exact-colon_behind : (end n : ℕ) (d : Direction) (at : Span) (name : List ℕ) (t : Lexeme) → look end (g.colon_behind end n d at name t)
+unfolding g.colon_behind
+exact-colon_behind end n d at name t = exact-when (lookahead end) (g.is_name t) _ _ (exact-whole_foreign end d name t.text) (exact-single end n d at name)
 
-opens-single : (end n : ℕ) (d : Direction) (at : Span) (name : List ℕ) → Opens (lookahead end) (is g.semicolon) (g.single end n d at name)
-unfolding g.single g.world_colon
-opens-single end n d at name = opens-bind (lookahead end) (is g.semicolon) (only (g.colon_id end) g.foreign_fault) (λ a. g.func_word end g.single_feature >>= λ b. g.whole_function end n >>= λ f. give (Single d at name f)) (λ x text rest s. opens-colon_id end x text rest s.0)
+exact-world_colon : (end n : ℕ) (d : Direction) (at : Span) (name : List ℕ) → look end (g.world_colon end n d at name)
+unfolding g.world_colon
+exact-world_colon end n d at name = exact-then (lookahead end) (g.punctuation end _) _ (exact-punctuation end _) (λ a. exact-then (lookahead end) (one g.begins_behind_colon (g.single_fault end)) _ (exact-token end _ (next-single end) _) (exact-colon_behind end n d at name))
+
+opens-world_colon : (end n : ℕ) (d : Direction) (at : Span) (name : List ℕ) → Opens (lookahead end) (is g.semicolon) (g.world_colon end n d at name)
+unfolding g.world_colon g.punctuation
+opens-world_colon end n d at name = opens-bind (lookahead end) (is g.semicolon) (g.token end g.colon (want.Punctuation mark.Colon)) (λ a. one g.begins_behind_colon (g.single_fault end) >>= λ t. g.colon_behind end n d at name t) (opens-one (lookahead end) (is g.semicolon) (is g.colon) (wanted end (want.Punctuation mark.Colon)) (apart g.colon g.semicolon))
 
 exact-world_entry_behind : (end n : ℕ) (d : Direction) (at : Span) → look end (g.world_entry_behind end n d at)
 unfolding g.world_entry_behind
-exact-world_entry_behind end n d at = exact-then (lookahead end) (g.id end) _ (exact-id end) (λ name. exact-peek (lookahead end) (is g.semicolon) (give _) (g.single end n d at name) (exact-give (lookahead end) _) (exact-single end n d at name) (opens-single end n d at name))
+exact-world_entry_behind end n d at = exact-then (lookahead end) (g.id end) _ (exact-id end) (λ name. exact-peek (lookahead end) (is g.semicolon) (give _) (g.world_colon end n d at name) (exact-give (lookahead end) _) (exact-world_colon end n d at name) (opens-world_colon end n d at name))
 
 exact-directed : (end n : ℕ) (o : Option Direction) (at : Span) → look end (g.directed end n o at)
 exact-directed end n (Some d) at = exact-world_entry_behind end n d at

@@ -1,5 +1,5 @@
 -- What is answered where a token isn't allowed depends on that token alone, and stands there.
-use Rattle.std.proofs.Common.{◌≡◌, ℕ, Bool, false, List, [], ◌∷◌, ◌++◌, Option, Some, None, Err, refl, sym, ap, subst, ◌∙◌, inl}
+use Rattle.std.proofs.Common.{◌≡◌, ℕ, Bool, false, List, [], ◌∷◌, ◌++◌, Option, Some, None, Err, refl, sym, ap, subst, ◌∙◌}
 use Rattle.std.proofs.lemmas.List.{append-nil}
 use Rattle.productions.specs.Production.{next, passes, one_of, never, one, read_end}
 use Rattle.productions.specs.Exactness.{Exact}
@@ -17,14 +17,14 @@ pub record ByNext (end : ℕ) (fault : List Lexeme → TextError) : Type 0 where
 
 module _ (end : ℕ) (fault : List Lexeme → TextError) (by : ByNext end fault) where
   here : {X : Type 0} → (ts : List Lexeme) → Looks end (λ other g. stopped (X × List Lexeme) (fault other) ≡ Err g) ts (fault ts)
-  here {X} ts = record { front = []; met = ts; whole = refl; place = inl (by.place ts); same = λ other n. ap (stopped (X × List Lexeme)) (by.same ts other n) }
+  here {X} ts = record { front = []; met = ts; whole = refl; place = by.place ts; same = λ other n. ap (stopped (X × List Lexeme)) (by.same ts other n) }
 
   not_one : (test : Lexeme → Bool) (ts : List Lexeme) → passes test (next ts) ≡ false → one_of test fault ts ≡ Err (fault ts)
   not_one test [] no' = refl
   not_one test (t ∷ ts) no' = rw no' refl
 
   pub owed : (test : Lexeme → Bool) → Owed (lookahead end) test fault
-  owed test ts no' = record { front = []; met = ts; whole = refl; place = inl (by.place ts); same = λ other n. not_one test other (ap (passes test) n ∙ no') ∙ ap (stopped _) (by.same ts other n) }
+  owed test ts no' = record { front = []; met = ts; whole = refl; place = by.place ts; same = λ other n. not_one test other (ap (passes test) n ∙ no') ∙ ap (stopped _) (by.same ts other n) }
 
   pub exact-token : {stops : Lexeme → Option Lexeme → Type 0} (test : Lexeme → Bool) → Exact (lookahead end) stops (one test fault)
   exact-token test = exact-one (lookahead end) test fault (owed test)
@@ -38,7 +38,7 @@ module _ (end : ℕ) (fault : List Lexeme → TextError) (by : ByNext end fault)
 
   pub owed-end : (ts : List Lexeme) → (ts ≡ [] → ⊥) → Looks end (λ other g. read_end fault other ≡ Err g) ts (fault ts)
   owed-end [] some = absurd (some refl)
-  owed-end (t ∷ ts) some = record { front = []; met = t ∷ ts; whole = refl; place = inl (by.place (t ∷ ts)); same = λ other n. not_end other t ts n ∙ ap (stopped _) (by.same (t ∷ ts) other n) }
+  owed-end (t ∷ ts) some = record { front = []; met = t ∷ ts; whole = refl; place = by.place (t ∷ ts); same = λ other n. not_end other t ts n ∙ ap (stopped _) (by.same (t ∷ ts) other n) }
 
 module _ (end : ℕ) (fault : List Lexeme → TextError) (alike : (t : Lexeme) (ts us : List Lexeme) → fault (t ∷ us) ≡ fault (t ∷ ts)) where
   by_first : (ts other : List Lexeme) → next other ≡ next ts → fault other ≡ fault ts

@@ -200,11 +200,19 @@ module _ (end n m : ℕ) (nm : Alike (g.ty end n) (g.ty end m)) where
 
   agrees-single : (d : Direction) (at : Span) (name : List ℕ) → Alike (g.single end (suc n) d at name) (g.single end (suc m) d at name)
   unfolding g.single
-  agrees-single d at name = agrees-bind IsDepth (g.world_colon end) (g.world_colon end) _ _ (same _) (λ a. agrees-bind IsDepth (g.func_word end _) (g.func_word end _) _ _ (same _) (λ b. agrees-bind IsDepth (g.whole_function end (suc n)) (g.whole_function end (suc m)) _ _ agrees-whole_function (λ f. same _)))
+  agrees-single d at name = agrees-bind IsDepth (g.whole_function end (suc n)) (g.whole_function end (suc m)) _ _ agrees-whole_function (λ f. same _)
+
+  agrees-colon_behind : (d : Direction) (at : Span) (name : List ℕ) (t : Lexeme) → Alike (g.colon_behind end (suc n) d at name t) (g.colon_behind end (suc m) d at name t)
+  unfolding g.colon_behind
+  agrees-colon_behind d at name t = agrees-when IsDepth (g.is_name t) _ _ _ _ (same _) (agrees-single d at name)
+
+  agrees-world_colon : (d : Direction) (at : Span) (name : List ℕ) → Alike (g.world_colon end (suc n) d at name) (g.world_colon end (suc m) d at name)
+  unfolding g.world_colon
+  agrees-world_colon d at name = agrees-bind IsDepth (g.punctuation end _) (g.punctuation end _) _ _ (same _) (λ a. agrees-bind IsDepth (one g.begins_behind_colon (g.single_fault end)) (one g.begins_behind_colon (g.single_fault end)) _ _ (same _) (agrees-colon_behind d at name))
 
   agrees-world_entry_behind : (d : Direction) (at : Span) → Alike (g.world_entry_behind end (suc n) d at) (g.world_entry_behind end (suc m) d at)
   unfolding g.world_entry_behind
-  agrees-world_entry_behind d at = agrees-bind IsDepth (g.id end) (g.id end) _ _ (same _) (λ name. agrees-bind IsDepth (g.peek g.semicolon) (g.peek g.semicolon) _ _ (same _) (λ s. agrees-unless IsDepth s _ _ _ _ (same _) (agrees-single d at name)))
+  agrees-world_entry_behind d at = agrees-bind IsDepth (g.id end) (g.id end) _ _ (same _) (λ name. agrees-bind IsDepth (g.peek g.semicolon) (g.peek g.semicolon) _ _ (same _) (λ s. agrees-unless IsDepth s _ _ _ _ (same _) (agrees-world_colon d at name)))
 
   agrees-directed : (o : Option Direction) (at : Span) → Alike (g.directed end (suc n) o at) (g.directed end (suc m) o at)
   agrees-directed (Some d) at = agrees-world_entry_behind d at

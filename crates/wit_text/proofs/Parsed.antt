@@ -1,5 +1,5 @@
 -- What reading a file's tokens says of the text.
-use Rattle.std.proofs.Common.{◌≡◌, ◌≤◌, ℕ, List, [], Result, Ok, Err, length, refl, sym, ap, subst, ◌∙◌, inl, inr, arith}
+use Rattle.std.proofs.Common.{◌≡◌, ◌≤◌, ℕ, List, [], Result, Ok, Err, length, refl, sym, ap, subst, ◌∙◌, arith}
 use Rattle.std.specs.Prelude.{IfOk, IfErr}
 use Rattle.std.proofs.lemmas.List.{append-nil}
 use Rattle.productions.proofs.Exact.{ok_is, no_err}
@@ -9,11 +9,10 @@ use Rattle.wit_tokens.specs.declared.error.TextError.TheVariants as error
 use Rattle.wit_tokens.specs.Lexing.{limit, Lexes, LexFault}
 use Rattle.wit_tokens.specs.Tokens.{Lexeme, lexemes}
 use Rattle.wit_syntax.specs.Syntax.{File}
-use Rattle.wit_grammar.specs.Faults.{Fails, AnswersRead}
+use Rattle.wit_grammar.specs.Faults.{StandsAt, Fails, AnswersRead}
 use Rattle.wit_syntax.specs.View.{file_view}
 use Rattle.wit_syntax.specs.declared.ast.Ast.{Ast}
-use Rattle.wit_tokens.specs.declared.error.Feature.TheVariants.{ForeignInterface}
-use Rattle.wit_grammar.specs.Lookahead.{NoneBegins, LookaheadStands}
+use Rattle.wit_grammar.specs.Lookahead.{NoneBegins}
 use Rattle.wit_text.specs.Reading.{IsRead, IsFile, IsDepth, GrammarFault, Faulty}
 use Rattle.wit_grammar.specs.Grammar.{nesting, file}
 use Rattle.wit_tokens.specs.Laws.{OneLexing, BadIsRefused, OpenIsRefused}
@@ -72,13 +71,13 @@ module _ (text : List ℕ) (ts : List Token) (short : length text ≤ limit) (le
   anyhow e other h = refused e h (none-at-any-nesting (length text) (lexemes text ts) e other h)
 
   -- no fault of another class stands at a token
-  misplaced : (e : TextError) → ((front met : List Lexeme) → LookaheadStands (length text) front met e → ⊥) → answer ≡ Err e → ⊥
-  misplaced e off h = let n = within e h in off n.front n.met n.place
+  misplaced : (e : TextError) → ((met : List Lexeme) → StandsAt (length text) met e → ⊥) → answer ≡ Err e → ⊥
+  misplaced e off h = let n = within e h in off n.met n.place
 
   pub is_faulty : (e : TextError) → Fails e answer → Faulty text e
-  is_faulty (error.BadChar s) h = absurd (misplaced (error.BadChar s) (λ front met p. elim p [ inl x ↦ x | inr x ↦ let e : error.BadChar s ≡ error.Unsupported ForeignInterface x.1.token.span = x.3 in cc ]) h)
-  is_faulty (error.OpenComment s) h = absurd (misplaced (error.OpenComment s) (λ front met p. elim p [ inl x ↦ x | inr x ↦ let e : error.OpenComment s ≡ error.Unsupported ForeignInterface x.1.token.span = x.3 in cc ]) h)
-  is_faulty error.Limit h = absurd (misplaced error.Limit (λ front met p. elim p [ inl x ↦ x | inr x ↦ let e : error.Limit ≡ error.Unsupported ForeignInterface x.1.token.span = x.3 in cc ]) h)
+  is_faulty (error.BadChar s) h = absurd (misplaced (error.BadChar s) (λ met p. p) h)
+  is_faulty (error.OpenComment s) h = absurd (misplaced (error.OpenComment s) (λ met p. p) h)
+  is_faulty error.Limit h = absurd (misplaced error.Limit (λ met p. p) h)
   is_faulty error.NoMemory h = tt
   is_faulty (error.Expected k s) h = anyhow (error.Expected k s) (λ d. let e : error.Expected k s ≡ error.Depth d.0 = d.1 in cc) h
   is_faulty (error.Unsupported k s) h = anyhow (error.Unsupported k s) (λ d. let e : error.Unsupported k s ≡ error.Depth d.0 = d.1 in cc) h

@@ -5,7 +5,7 @@ ghost use Rattle.wit_tokens.specs.Tokens.{lexeme, lexemes};
 ghost use Rattle.wit_tokens.specs.declared.token.Span.{Span};
 ghost use Rattle.wit_syntax.specs.View.{version_view};
 ghost use Rattle.wit_grammar.specs.Faults.{AnswersRead};
-ghost use Rattle.wit_grammar.specs.Grammar.{is_version_text, is_version_token, version, is_lower_name, lower_id, gate, first_feature, first_fault, package_word, header_wanted, header_fault, header_end, header};
+ghost use Rattle.wit_grammar.specs.Grammar.{is_version_text, is_version_token, version, is_lower_name, lower_id, gate, first_feature, first_fault, package_word, version_or, header_fault, header_end, header};
 
 use atoms::{Label, is_package_label, is_version};
 use std::alloc::{AllocError, Global};
@@ -84,9 +84,9 @@ fn first_fault(source: &[u8], tokens: &[Token]) -> TextError
     feature_or(source, tokens, feature, Expected::Keyword(Keyword::Package))
 }
 
-/// The version behind the package's name, if a well-formed one stands there.
+/// The version behind the name of a package or of its interface, if a well-formed one stands there.
 #[tactic(auto, unfolding(wit_grammar::specs::Grammar::version, wit_grammar::specs::Grammar::is_version_token))]
-fn version<'a>(
+pub fn version<'a>(
     alloc: Global,
     source: &[u8],
     tokens: &'a [Token],
@@ -106,14 +106,14 @@ fn version<'a>(
     }
 }
 
-/// What is wanted behind the package's name, where a token of this kind stands.
-fn header_wanted(version: &Option<String>, kind: TokenKind) -> Expected
-    ensures { (span : Span) → (text : List ℕ) → result ≡ header_wanted (version_view version.now) (record { token = record { kind = kind; span = span }; text = text }) }
+/// What is wanted behind a version that may be left out, before this mark, where a token of this kind stands.
+pub fn version_or(version: &Option<String>, mark: Punctuation, kind: TokenKind) -> Expected
+    ensures { (span : Span) → (text : List ℕ) → result ≡ version_or (version_view version.now) mark (record { token = record { kind = kind; span = span }; text = text }) }
 {
     if version.is_none() && same(kind, TokenKind::Version) {
         Expected::Version
     } else {
-        Expected::Punctuation(Punctuation::Semicolon)
+        Expected::Punctuation(mark)
     }
 }
 
@@ -127,7 +127,10 @@ fn header_fault(source: &[u8], version: &Option<String>, tokens: &[Token]) -> Te
         [first, ..] if same(first.kind, brace) => {
             TextError::Unsupported(Feature::NestedPackage, first.span)
         }
-        [first, ..] => TextError::Expected(header_wanted(version, first.kind), first.span),
+        [first, ..] => {
+            let wanted = version_or(version, Punctuation::Semicolon, first.kind);
+            TextError::Expected(wanted, first.span)
+        }
         [] => {
             let semicolon = Expected::Punctuation(Punctuation::Semicolon);
             TextError::Expected(semicolon, met(source, tokens))

@@ -10,6 +10,7 @@ mod functions;
 mod header;
 mod interfaces;
 mod laws;
+mod paths;
 mod uses;
 mod worlds;
 

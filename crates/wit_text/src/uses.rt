@@ -1,16 +1,17 @@
 //! Uses of other interfaces' types.
 ghost use Rattle.std.specs.Prelude.{◌≡◌, ◌<◌, ◌≤◌, length, IfOk};
 ghost use Rattle.wit_tokens.specs.Lexing.{limit};
-ghost use Rattle.wit_tokens.specs.Tokens.{lexeme, lexemes};
+ghost use Rattle.wit_tokens.specs.Tokens.{lexemes};
 ghost use Rattle.wit_syntax.specs.View.{used_view, entry_view};
 ghost use Rattle.wit_grammar.specs.Faults.{AnswersRead};
-ghost use Rattle.wit_grammar.specs.Grammar.{local_name, used, use_dot, use_item};
+ghost use Rattle.wit_grammar.specs.Grammar.{local_name, used, use_item};
 
+use crate::paths::{path, path_end};
 use atoms::Label;
 use std::alloc::Global;
-use wit_grammar::{EntryReader, comma_list, identifier, met, punctuation, same};
-use wit_syntax::{InterfaceItem, Path, Use, UsedName};
-use wit_tokens::{Expected, Feature, Keyword, Punctuation, Span, TextError, Token, TokenKind};
+use wit_grammar::{EntryReader, comma_list, identifier, punctuation, same};
+use wit_syntax::{InterfaceItem, Use, UsedName};
+use wit_tokens::{Expected, Keyword, Punctuation, Span, TextError, Token, TokenKind};
 
 /// `as` and a name, or nothing.
 #[tactic(auto, unfolding(wit_grammar::specs::Grammar::local_name))]
@@ -83,27 +84,6 @@ impl EntryReader for UsedNames {
     }
 }
 
-/// The `.` behind the interface of a use.
-#[tactic(auto, unfolding(wit_grammar::specs::Grammar::use_dot))]
-fn use_dot<'a>(source: &[u8], tokens: &'a [Token]) -> Result<(Token, &'a [Token]), TextError>
-    ensures gives { AnswersRead (λ x. (lexeme source.now x.0, lexemes source.now x.1.now)) result ((use_dot (length source.now)).read (lexemes source.now tokens.now)) }
-    ensures shorter { IfOk result (λ x. length x.1.now < length tokens.now) }
-{
-    let dot = TokenKind::Punctuation(Punctuation::Dot);
-    let colon = TokenKind::Punctuation(Punctuation::Colon);
-    match tokens {
-        [first, rest @ ..] if same(first.kind, dot) => Ok((*first, rest)),
-        [first, ..] if same(first.kind, colon) => {
-            let feature = Feature::ForeignInterface;
-            Err(TextError::Unsupported(feature, first.span))
-        }
-        _ => {
-            let dot = Expected::Punctuation(Punctuation::Dot);
-            Err(TextError::Expected(dot, met(source, tokens)))
-        }
-    }
-}
-
 /// Behind `use`, which stands at `span`.
 #[tactic(auto, unfolding(wit_grammar::specs::Grammar::use_item))]
 pub fn use_item<'a>(
@@ -116,12 +96,12 @@ pub fn use_item<'a>(
     ensures gives { AnswersRead (λ x. (entry_view x.0, lexemes source.now x.1.now)) result ((use_item (length source.now) span).read (lexemes source.now tokens.now)) }
     ensures shorter { IfOk result (λ x. length x.1.now < length tokens.now) }
 {
-    let (name, tokens) = identifier(alloc, source, tokens)?;
-    let (_, tokens) = use_dot(source, tokens)?;
+    let (first, tokens) = identifier(alloc, source, tokens)?;
+    let (interface, tokens) = path(alloc, source, first, tokens)?;
+    let (_, tokens) = path_end(source, &interface, Punctuation::Dot, tokens)?;
     let (_, tokens) = punctuation(source, tokens, Punctuation::OpenBrace)?;
     let (names, tokens) = comma_list(&UsedNames, alloc, source, tokens)?;
     let (_, tokens) = punctuation(source, tokens, Punctuation::Semicolon)?;
-    let interface = Path { name };
     let item = Use {
         span,
         interface,

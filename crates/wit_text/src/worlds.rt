@@ -1,18 +1,17 @@
 //! Worlds.
-ghost use Rattle.std.specs.Prelude.{◌≡◌, ◌<◌, ◌≤◌, length, map, None, IfOk};
+ghost use Rattle.std.specs.Prelude.{◌≡◌, ◌<◌, ◌≤◌, length, map, IfOk};
 ghost use Rattle.wit_tokens.specs.Lexing.{limit};
-ghost use Rattle.wit_tokens.specs.Tokens.{lexeme, optional_lexeme, lexemes};
-ghost use Rattle.wit_tokens.specs.declared.error.Expected.TheVariants as want;
-ghost use Rattle.wit_tokens.specs.declared.token.Keyword.TheVariants as kw;
+ghost use Rattle.wit_tokens.specs.Tokens.{lexeme, lexemes};
 ghost use Rattle.wit_syntax.specs.View.{world_entry_view, item_view};
-ghost use Rattle.wit_grammar.specs.Faults.{AnswersRead, unless_feature};
-ghost use Rattle.wit_grammar.specs.Grammar.{nesting, direction_keyword, direction_of, world_keyword, world_feature, world_fault, world_colon, single_keyword, single_kind, single_feature, func_word, single, world_entry_behind, world_entry, world_list, world};
+ghost use Rattle.wit_grammar.specs.Faults.{AnswersRead};
+ghost use Rattle.wit_grammar.specs.Grammar.{nesting, direction_keyword, direction_of, world_keyword, world_feature, world_fault, single_keyword, single_kind, single_fault, begins_behind_colon, whole_foreign, single, colon_behind, world_colon, world_entry_behind, world_entry, world_list, world};
 
 use crate::functions::whole_function;
 use crate::header::gate;
+use crate::paths::{foreign, path_end};
 use atoms::Label;
 use std::alloc::Global;
-use wit_grammar::{feature_or, identifier, peek, punctuation, same};
+use wit_grammar::{feature_or, identifier, is_name, label_of, peek, punctuation, same};
 use wit_syntax::{Direction, Func, Item, Path, World, WorldItem, WorldItemKind};
 use wit_tokens::{Expected, Feature, Keyword, Punctuation, Span, TextError, Token, TokenKind};
 
@@ -92,45 +91,45 @@ fn single_kind(kind: TokenKind) -> Option<Feature>
     }
 }
 
-/// What is answered where no `func` stands.
+/// What is answered where neither a name nor `func` stands.
+#[tactic(auto, unfolding(wit_grammar::specs::Grammar::single_fault))]
 fn single_fault(source: &[u8], tokens: &[Token]) -> TextError
-    ensures { result ≡ unless_feature (length source.now) single_feature (want.Keyword kw.Func) (lexemes source.now tokens.now) }
+    ensures { result ≡ single_fault (length source.now) (lexemes source.now tokens.now) }
 {
     let feature = match tokens {
         [first, ..] => single_kind(first.kind),
         [] => None,
     };
-    feature_or(source, tokens, feature, Expected::Keyword(Keyword::Func))
+    feature_or(source, tokens, feature, Expected::Identifier)
 }
 
-/// The `:` behind a name, where no identifier follows it.
-#[tactic(auto, unfolding(wit_grammar::specs::Grammar::world_colon, wit_grammar::specs::Grammar::colon_id))]
-fn world_colon<'a>(source: &[u8], tokens: &'a [Token]) -> Result<(Token, &'a [Token]), TextError>
-    ensures gives { AnswersRead (λ x. ((lexeme source.now x.0, optional_lexeme source.now None), lexemes source.now x.1.now)) result ((world_colon (length source.now)).read (lexemes source.now tokens.now)) }
+#[tactic(auto, unfolding(wit_grammar::specs::Grammar::begins_behind_colon))]
+fn begins_behind_colon(source: &[u8], token: Token) -> bool
+    ensures { result ≡ begins_behind_colon (lexeme source.now token) }
+{
+    is_name(source, token) || same(token.kind, TokenKind::Keyword(Keyword::Func))
+}
+
+/// Another package's interface in a world, behind the names of its package.
+#[tactic(auto, unfolding(wit_grammar::specs::Grammar::whole_foreign))]
+fn whole_foreign<'a>(
+    alloc: Global,
+    source: &[u8],
+    direction: Direction,
+    namespace: Label,
+    name: Label,
+    tokens: &'a [Token],
+) -> Result<(WorldItem, &'a [Token]), TextError>
+    ensures gives { AnswersRead (λ x. (world_entry_view x.0, lexemes source.now x.1.now)) result ((whole_foreign (length source.now) direction namespace name).read (lexemes source.now tokens.now)) }
     ensures shorter { IfOk result (λ x. length x.1.now < length tokens.now) }
 {
-    let (colon, rest) = punctuation(source, tokens, Punctuation::Colon)?;
-    let (name, rest) = peek(source, rest, TokenKind::Identifier);
-    match name {
-        Some(_) => Err(TextError::Unsupported(Feature::ForeignInterface, colon.span)),
-        None => Ok((colon, rest)),
-    }
+    let (path, tokens) = foreign(alloc, source, namespace, name, tokens)?;
+    let (_, tokens) = path_end(source, &path, Punctuation::Semicolon, tokens)?;
+    let kind = WorldItemKind::Interface(path);
+    Ok((WorldItem { direction, kind }, tokens))
 }
 
-/// `func` in a world.
-#[tactic(auto, unfolding(wit_grammar::specs::Grammar::func_word))]
-fn world_func<'a>(source: &[u8], tokens: &'a [Token]) -> Result<(Token, &'a [Token]), TextError>
-    ensures gives { AnswersRead (λ x. (lexeme source.now x.0, lexemes source.now x.1.now)) result ((func_word (length source.now) single_feature).read (lexemes source.now tokens.now)) }
-    ensures shorter { IfOk result (λ x. length x.1.now < length tokens.now) }
-{
-    let func = TokenKind::Keyword(Keyword::Func);
-    match tokens {
-        [first, rest @ ..] if same(first.kind, func) => Ok((*first, rest)),
-        _ => Err(single_fault(source, tokens)),
-    }
-}
-
-/// A function of a world behind its name; the item stands at `span`.
+/// A function of a world behind `func`; the item stands at `span`.
 #[tactic(auto, unfolding(wit_grammar::specs::Grammar::single))]
 fn single<'a>(
     alloc: Global,
@@ -144,11 +143,54 @@ fn single<'a>(
     ensures gives { AnswersRead (λ x. (world_entry_view x.0, lexemes source.now x.1.now)) result ((single (length source.now) nesting direction span name).read (lexemes source.now tokens.now)) }
     ensures shorter { IfOk result (λ x. length x.1.now < length tokens.now) }
 {
-    let (_, tokens) = world_colon(source, tokens)?;
-    let (_, tokens) = world_func(source, tokens)?;
     let (ty, tokens) = whole_function(alloc, source, tokens)?;
     let kind = WorldItemKind::Func(Func { span, name, ty });
     Ok((WorldItem { direction, kind }, tokens))
+}
+
+/// An item of a world behind the `:` and the token behind it.
+#[tactic(auto, unfolding(wit_grammar::specs::Grammar::colon_behind))]
+fn colon_behind<'a>(
+    alloc: Global,
+    source: &[u8],
+    direction: Direction,
+    span: Span,
+    name: Label,
+    first: Token,
+    tokens: &'a [Token],
+) -> Result<(WorldItem, &'a [Token]), TextError>
+    requires { length tokens.now ≤ limit }
+    ensures gives { AnswersRead (λ x. (world_entry_view x.0, lexemes source.now x.1.now)) result ((colon_behind (length source.now) nesting direction span name (lexeme source.now first)).read (lexemes source.now tokens.now)) }
+    ensures shorter { IfOk result (λ x. length x.1.now < length tokens.now) }
+{
+    if is_name(source, first) {
+        let package = label_of(alloc, source, first)?;
+        return whole_foreign(alloc, source, direction, name, package, tokens);
+    }
+    single(alloc, source, direction, span, name, tokens)
+}
+
+/// An item of a world from the `:` behind its name on; the item stands at `span`.
+#[tactic(auto, unfolding(wit_grammar::specs::Grammar::world_colon))]
+fn world_colon<'a>(
+    alloc: Global,
+    source: &[u8],
+    direction: Direction,
+    span: Span,
+    name: Label,
+    tokens: &'a [Token],
+) -> Result<(WorldItem, &'a [Token]), TextError>
+    requires { length tokens.now ≤ limit }
+    ensures gives { AnswersRead (λ x. (world_entry_view x.0, lexemes source.now x.1.now)) result ((world_colon (length source.now) nesting direction span name).read (lexemes source.now tokens.now)) }
+    ensures shorter { IfOk result (λ x. length x.1.now < length tokens.now) }
+{
+    let (_, tokens) = punctuation(source, tokens, Punctuation::Colon)?;
+    match tokens {
+        [first, rest @ ..] if begins_behind_colon(source, *first) => {
+            colon_behind(alloc, source, direction, span, name, *first, rest)
+        }
+        _ => Err(single_fault(source, tokens)),
+    }
 }
 
 /// An item of a world behind its direction, which stands at `span`.
@@ -168,10 +210,10 @@ fn world_entry_behind<'a>(
     let (name, tokens) = identifier(alloc, source, tokens)?;
     match tokens {
         [first, rest @ ..] if same(first.kind, semicolon) => {
-            let kind = WorldItemKind::Interface(Path { name });
+            let kind = WorldItemKind::Interface(Path::Local(name));
             Ok((WorldItem { direction, kind }, rest))
         }
-        _ => single(alloc, source, direction, span, name, tokens),
+        _ => world_colon(alloc, source, direction, span, name, tokens),
     }
 }
 

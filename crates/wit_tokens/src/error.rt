@@ -44,7 +44,6 @@ pub enum Feature {
     WorldUse,
     WorldType,
     InlineInterface,
-    ForeignInterface,
     FixedLengthList,
     NamedResults,
 }
@@ -66,7 +65,6 @@ impl fmt::Display for Feature {
             Feature::WorldUse => "world-use",
             Feature::WorldType => "world-type",
             Feature::InlineInterface => "inline-interface",
-            Feature::ForeignInterface => "foreign-interface",
             Feature::FixedLengthList => "fixed-length-list",
             Feature::NamedResults => "named-results",
         })

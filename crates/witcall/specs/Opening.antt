@@ -96,8 +96,8 @@ IsWantOfMemory (error.Text e) = e ≡ text_error.NoMemory
 IsWantOfMemory (error.NotUtf8 place) = ⊥
 IsWantOfMemory (error.Read place) = ⊥
 
--- A text's refusals are in this order: 36, 60, those of its tokens and of its grammar (30 to 35), those of its names (43, 40, 41,
--- 42, 45), those of its layouts (51, 50). The cause of each says that none of those before it stands.
+-- A text's refusals are in this order: 36, 60, those of its tokens and of its grammar (30 to 35), those of its names (43, 40, 47,
+-- 41, 42, 45), those of its layouts (51, 50). The cause of each says that none of those before it stands.
 
 -- 36 is asked of all bytes, the text's other refusals of UTF-8 alone
 abbrev pub IsUtf8Behind36 : List ℕ → TextError → Type 0

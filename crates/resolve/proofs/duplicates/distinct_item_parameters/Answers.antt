@@ -7,7 +7,8 @@ use Rattle.package_form.specs.Distinct.{RefusesNames}
 use Rattle.package_form.specs.Naming.{item_parameters}
 use Rattle.resolve.specs.Declarations.{member_name}
 use Rattle.resolve.specs.Sources.{item_in}
-use Rattle.resolve.proofs.WorldScopes.{labels-meant}
+use Rattle.resolve.proofs.Members.{none-distinct}
+use Rattle.resolve.proofs.WorldScopes.{no-parameters, labels-meant}
 use Rattle.resolve.proofs.duplicates.distinct_item_parameters.Goals as goal
 
 pub returns-in-Func-clause-ok : goal.returns-in-Func-clause-ok
@@ -25,3 +26,9 @@ returns-in-Func-clause-err c = λ p.
     subst (λ (k : WorldItemKind). IfErr r (RefusesNames (item_parameters (item_in p (record { direction = c.args.item.now.direction; kind = k }))))) (sym c.in-Func.is)
     (subst (λ (ns : List (List ℕ)). IfErr r (RefusesNames ns)) (sym (labels-meant _ (map field_view ps)))
     (subst (λ (fs : List Field). IfErr r (RefusesNames (map member_name (map field_view fs)))) c.deref.ensures.value c.distinct_fields.ensures.err))
+
+pub returns-in-Interface-clause-ok : goal.returns-in-Interface-clause-ok
+returns-in-Interface-clause-ok c = λ p.
+    let way = c.args.item.now.direction in
+    subst (λ (k : WorldItemKind). AreDistinct (item_parameters (item_in p (record { direction = way; kind = k })))) (sym c.in-Interface.is)
+    (subst AreDistinct (sym (no-parameters p way c.in-Interface.field-0)) none-distinct)

@@ -1,4 +1,4 @@
-use Rattle.std.proofs.Common.{◌≡◌, ◌<◌, ◌∙◌, List, All, inl, map, length, ap, sym, subst, arith}
+use Rattle.std.proofs.Common.{◌≡◌, ◌<◌, ◌∙◌, List, All, Contains, inl, map, flat_map, length, ap, sym, subst, arith}
 use Rattle.std.specs.List.{filter_map, list_all}
 use Rattle.std.proofs.lemmas.Result.{err_from_is_err_and}
 use Rattle.std.proofs.lemmas.Bool.Decides.{nat_tests}
@@ -8,12 +8,12 @@ use Rattle.wit_syntax.specs.View.{item_view, file_view}
 use Rattle.wit_syntax.specs.declared.ast.Item.{Item}
 use Rattle.package_form.specs.Scope.{AreDistinct}
 use Rattle.package_form.specs.Distinct.{RefusesScopes}
-use Rattle.resolve.specs.Declarations.{InterfaceTree, WorldTree, interface_of, world_of, interfaces, worlds, interface_names, package_named}
-use Rattle.resolve.specs.Knowing.{RefusesUnknown}
-use Rattle.resolve.specs.Resolves.{HasKnownNames, IsKnownWorld, interface_fits}
+use Rattle.resolve.specs.Declarations.{InterfaceTree, WorldTree, file_entry_packages, interface_of, world_of, interfaces, worlds, interface_names, package_named}
+use Rattle.resolve.specs.Knowing.{RefusesPackage, RefusesUnknown}
+use Rattle.resolve.specs.Resolves.{earlier_packages, HasKnownNames, IsKnownWorld, interface_fits}
 use Rattle.resolve.specs.Scopes.{scopes_in}
 use Rattle.resolve.specs.Sources.{declared_tree}
-use Rattle.resolve.proofs.Trees.{has-entries, refuses-duplicate, refuses-unknown}
+use Rattle.resolve.proofs.Trees.{has-entries, refuses-duplicate, refuses-package, refuses-unknown}
 use Rattle.resolve.proofs.tree.declarations.Goals as goal
 
 pub returns-then-not-are_nested-clause-err : goal.returns-then-not-are_nested-clause-err
@@ -32,10 +32,22 @@ returns-in_err-distinct_names-clause-err c =
     let named = subst (λ (q : PackageParts). RefusesScopes (scopes_in q (map item_view c.deref-2.result.now)) e) c.requires c.in_err-distinct_names.ensures.err in
     rw (p.1, p.2) (refuses-duplicate f e (has-entries item_view items some) (subst (λ (is : List Item). RefusesScopes (scopes_in (package_named f) (map item_view is)) e) c.deref-2.ensures.value named))
 
+pub returns-in_err-known_packages-clause-err : goal.returns-in_err-known_packages-clause-err
+returns-in_err-known_packages-clause-err c =
+    let p = err_from_is_err_and c.from_residual-in_err-known_packages.result c.from_residual-in_err-known_packages.ensures.1 in
+    let f = file_view c.args.ast.now in
+    let items = c.args.ast.now.items.items in
+    let some : 0 < length items = grind (arith, nat_tests, c.is_empty.ensures, c.if-is_empty.false) in
+    let e = c.in_err-known_packages.field-0.0 in
+    let distinct = subst (λ (is : List Item). All AreDistinct (scopes_in (package_named f) (map item_view is))) c.deref-2.ensures.value
+    (subst (λ (q : PackageParts). All AreDistinct (scopes_in q (map item_view c.deref-2.result.now))) c.requires c.in_ok-distinct_names.ensures.ok) in
+    rw (p.1, p.2) (refuses-package f e (has-entries item_view items some) distinct
+    (subst (λ (is : List Item). RefusesPackage (flat_map file_entry_packages (map item_view is)) e) c.deref-3.ensures.value c.in_err-known_packages.ensures.err))
+
 pub known_names-requires : goal.known_names-requires
 known_names-requires c =
-    ap (map declared_tree) c.deref-4.ensures.value ∙ c.in_ok-all.ensures
-    ∙ ap (λ (is : List Item). filter_map interface_of (map item_view is)) (c.deref-3.ensures.value ∙ sym c.deref-5.ensures.value)
+    ap (map declared_tree) c.deref-5.ensures.value ∙ c.in_ok-all.ensures
+    ∙ ap (λ (is : List Item). filter_map interface_of (map item_view is)) (c.deref-4.ensures.value ∙ sym c.deref-6.ensures.value)
 
 pub returns-in_err-known_names-clause-err : goal.returns-in_err-known_names-clause-err
 returns-in_err-known_names-clause-err c =
@@ -44,38 +56,40 @@ returns-in_err-known_names-clause-err c =
     let items = c.args.ast.now.items.items in
     let some : 0 < length items = grind (arith, nat_tests, c.is_empty.ensures, c.if-is_empty.false) in
     let e = c.in_err-known_names.field-0.0 in
-    let same : map declared_tree c.deref-4.result.now ≡ interfaces f = ap (map declared_tree) c.deref-4.ensures.value ∙ c.in_ok-all.ensures
-    ∙ ap (λ (is : List Item). filter_map interface_of (map item_view is)) c.deref-3.ensures.value in
+    let same : map declared_tree c.deref-5.result.now ≡ interfaces f = ap (map declared_tree) c.deref-5.ensures.value ∙ c.in_ok-all.ensures
+    ∙ ap (λ (is : List Item). filter_map interface_of (map item_view is)) c.deref-4.ensures.value in
     let distinct = subst (λ (is : List Item). All AreDistinct (scopes_in (package_named f) (map item_view is))) c.deref-2.ensures.value
     (subst (λ (q : PackageParts). All AreDistinct (scopes_in q (map item_view c.deref-2.result.now))) c.requires c.in_ok-distinct_names.ensures.ok) in
-    rw (p.1, p.2) (refuses-unknown f (map declared_tree c.deref-4.result.now) e same (has-entries item_view items some) distinct
-    (subst (λ (is : List Item). RefusesUnknown (map declared_tree c.deref-4.result.now) (filter_map world_of (map item_view is)) e) c.deref-5.ensures.value c.in_err-known_names.ensures.err))
+    let there = subst (λ (is : List Item). All (Contains earlier_packages) (flat_map file_entry_packages (map item_view is))) c.deref-3.ensures.value c.in_ok-known_packages.ensures.ok in
+    rw (p.1, p.2) (refuses-unknown f (map declared_tree c.deref-5.result.now) e same (has-entries item_view items some) distinct there
+    (subst (λ (is : List Item). RefusesUnknown (map declared_tree c.deref-5.result.now) (filter_map world_of (map item_view is)) e) c.deref-6.ensures.value c.in_err-known_names.ensures.err))
 
 pub returns-clause-ok : goal.returns-clause-ok
-returns-clause-ok c = c.in_ok-all.ensures ∙ ap (λ (is : List Item). filter_map interface_of (map item_view is)) c.deref-3.ensures.value
+returns-clause-ok c = c.in_ok-all.ensures ∙ ap (λ (is : List Item). filter_map interface_of (map item_view is)) c.deref-4.ensures.value
 
 pub returns-clause-faults : goal.returns-clause-faults
 returns-clause-faults c =
     let f = file_view c.args.ast.now in
     let items = c.args.ast.now.items.items in
     let some : 0 < length items = grind (arith, nat_tests, c.is_empty.ensures, c.if-is_empty.false) in
-    let same : map declared_tree c.deref-4.result.now ≡ interfaces f = ap (map declared_tree) c.deref-4.ensures.value ∙ c.in_ok-all.ensures
-    ∙ ap (λ (is : List Item). filter_map interface_of (map item_view is)) c.deref-3.ensures.value in
-    let there : filter_map world_of (map item_view c.deref-5.result.now) ≡ worlds f = ap (λ (is : List Item). filter_map world_of (map item_view is)) c.deref-5.ensures.value in
+    let same : map declared_tree c.deref-5.result.now ≡ interfaces f = ap (map declared_tree) c.deref-5.ensures.value ∙ c.in_ok-all.ensures
+    ∙ ap (λ (is : List Item). filter_map interface_of (map item_view is)) c.deref-4.ensures.value in
+    let there : filter_map world_of (map item_view c.deref-6.result.now) ≡ worlds f = ap (λ (is : List Item). filter_map world_of (map item_view is)) c.deref-6.ensures.value in
     record {
       some = has-entries item_view items some;
       distinct = subst (λ (is : List Item). All AreDistinct (scopes_in (package_named f) (map item_view is))) c.deref-2.ensures.value
           (subst (λ (q : PackageParts). All AreDistinct (scopes_in q (map item_view c.deref-2.result.now))) c.requires c.in_ok-distinct_names.ensures.ok);
+      packages = subst (λ (is : List Item). All (Contains earlier_packages) (flat_map file_entry_packages (map item_view is))) c.deref-3.ensures.value c.in_ok-known_packages.ensures.ok;
       known = record {
         in_interfaces = subst (λ (is : List InterfaceTree). All (HasKnownNames is) is) same c.in_ok-known_names.ensures.ok;
         in_worlds = subst (λ (is : List InterfaceTree). All (IsKnownWorld (interface_names is)) (worlds f)) same
-            (subst (λ (ws : List WorldTree). All (IsKnownWorld (interface_names (map declared_tree c.deref-4.result.now))) ws) there c.in_ok-known_names.ensures.worlds);
+            (subst (λ (ws : List WorldTree). All (IsKnownWorld (interface_names (map declared_tree c.deref-5.result.now))) ws) there c.in_ok-known_names.ensures.worlds);
       };
     }
 
 pub returns-clause-labels : goal.returns-clause-labels
 returns-clause-labels c =
     let f = file_view c.args.ast.now in
-    let same : map declared_tree c.deref-4.result.now ≡ interfaces f = ap (map declared_tree) c.deref-4.ensures.value ∙ c.in_ok-all.ensures
-    ∙ ap (λ (is : List Item). filter_map interface_of (map item_view is)) c.deref-3.ensures.value in
+    let same : map declared_tree c.deref-5.result.now ≡ interfaces f = ap (map declared_tree) c.deref-5.ensures.value ∙ c.in_ok-all.ensures
+    ∙ ap (λ (is : List Item). filter_map interface_of (map item_view is)) c.deref-4.ensures.value in
     subst (λ (is : List InterfaceTree). All IsLabel (interface_names is)) same c.in_ok-known_names.ensures.labels

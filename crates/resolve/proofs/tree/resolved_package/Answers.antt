@@ -80,7 +80,7 @@ returns-clause-ok c =
     (c.in_ok-orders.ensures.ok k (omega (arith, l, ap length second, length-map c.deref-2.result.now declared_tree)))) in
     let worlds = subst (λ (xs : List Item). DefinesWorlds old new ws (map world_meaning (filter_map world_of (map item_view xs)))) c.deref-6.ensures.value c.in_ok-worlds.ensures in
     let table = is-table f c.in_ok-order.order c.deref-5.result.now old new ws placed types made c.in_ok-builder.ensures.none c.in_ok-all.ensures.labels c.in_ok-all.ensures.faults.known worlds in
-    ok-map c.finish.result _ _ (λ r h. is-package c.in_ok-package.«package» (with_worlds new ws) r h f (c.in_ok-package.ensures ∙ header-is c.args.ast.now.«package» f refl refl refl) table worlds.stand) c.finish.ensures.ok
+    ok-map c.finish.result _ _ (λ r h. is-package c.in_ok-package.«package» (with_worlds new ws) r h f c.in_ok-all.ensures.faults.packages (c.in_ok-package.ensures ∙ header-is c.args.ast.now.«package» f refl refl refl) table worlds.stand) c.finish.ensures.ok
 
 pub returns-clause-err : goal.returns-clause-err
 returns-clause-err c =

@@ -10,5 +10,5 @@ pub returns : goal.returns
 returns c =
     let names = adds_same (ap (λ (xs : List UsedName). uses_words [] (map used_view xs)) (sym c.as_slice.ensures.value)) c.in_ok-write_names.ensures in
     on_ok_weaker c.write_mark-3.result
-    (λ h. adds_then c.in_ok-write_keyword.ensures (adds_then c.in_ok-write_name.ensures (adds_then c.in_ok-write_mark.ensures (adds_then c.in_ok-write_mark-2.ensures (adds_then names h)))))
+    (λ h. adds_then c.in_ok-write_keyword.ensures (adds_then c.in_ok-write_path.ensures (adds_then c.in_ok-write_mark.ensures (adds_then c.in_ok-write_mark-2.ensures (adds_then names h)))))
     c.write_mark-3.ensures

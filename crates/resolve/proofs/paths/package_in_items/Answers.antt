@@ -1,0 +1,23 @@
+use Rattle.std.proofs.Common.{◌≡◌, List, [], map, flat_map, arith}
+use Rattle.wit_syntax.specs.View.{entry_view}
+use Rattle.wit_syntax.specs.declared.ast.InterfaceItem.{InterfaceItem}
+use Rattle.resolve.specs.Declarations.{entry_packages}
+use Rattle.package_form.proofs.Lists.{contains-map, contains-at, contains-flat}
+use Rattle.package_form.proofs.Meeting.{all-taken}
+use Rattle.resolve.proofs.Finding.{if-none}
+use Rattle.resolve.proofs.PathNames.{none-more}
+use Rattle.resolve.proofs.paths.package_in_items.Goals as goal
+
+pub returns-in-Some-clause-some : goal.returns-in-Some-clause-some
+returns-in-Some-clause-some c =
+    let xs = c.args.items.now in
+    let x = c.item-item.result in
+    contains-flat entry_packages (map entry_view xs) (entry_view x) _ (contains-map entry_view xs x (contains-at xs c.loop-item.item-index x (omega arith) c.item-item.is)) c.in-Some.ensures.some
+
+pub loop-item-preserved : goal.loop-item-preserved
+loop-item-preserved c =
+    let here = if-none c.item_package.result _ (λ n e. c.in_default.not-Some n e) c.item_package.ensures.none in
+    none-more entry_packages entry_view c.args.items.now c.loop-item.item-index c.item-item.result (omega arith) c.item-item.is c.loop-item.invariant here
+
+pub returns-clause-none : goal.returns-clause-none
+returns-clause-none c = all-taken (λ (xs : List InterfaceItem). flat_map entry_packages (map entry_view xs) ≡ []) c.args.items.now c.loop-item.item-index (omega arith) c.loop-item.invariant
