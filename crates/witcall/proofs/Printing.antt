@@ -12,7 +12,8 @@ use Rattle.tables.specs.Closed.{function_at, function_type}
 use Rattle.tables.specs.Names.{IsNamed}
 use Rattle.tables.specs.declared.tables.FunctionId.{FunctionId}
 use Rattle.tables.specs.declared.tables.Resolve.{Resolve}
-use Rattle.witcall.specs.Calling.{Asks, CallAnswers, CallRefuses, fresh, program_parties}
+use Rattle.memory.specs.Space.{spaces}
+use Rattle.witcall.specs.Calling.{Asks, CallAnswers, CallRefuses, fresh}
 use Rattle.witcall.specs.Json.{IsArrayTextOf}
 use Rattle.witcall.specs.Signature.{signature_of}
 use Rattle.witcall.specs.Status.{refusal_of}
@@ -27,13 +28,13 @@ asks r iface func args f values handed named read same =
 pub answers : (B : Type 0) (runs : B → Run) (posts : B → PostRun) (state : B → List ℕ) (b boxed : B) (r own : Resolve) (f : FunctionId)
     (vs : List Value) (answer : Result (Option Value) Fault) (caller callee : Memory) (new : World)
     → boxed ≡ b → own ≡ r → caller ≡ fresh 65536 1048576 → callee ≡ fresh 65536 1048576
-    → TypedCall (program_parties (runs boxed) (posts boxed)) exact (function_type own f) vs (record { caller = caller; callee = callee; body = state boxed }) answer new
+    → TypedCall (spaces (runs boxed) (posts boxed)) exact (function_type own f) vs (record { caller = caller; callee = callee; body = state boxed }) answer new
     → CallAnswers r f vs (runs b) (posts b) (state b) answer
 answers B runs posts state b boxed r own f vs answer caller callee new same_body same_package same_caller same_callee called =
-    let own_body = subst (λ x. TypedCall (program_parties (runs x) (posts x)) exact (function_type own f) vs (record { caller = caller; callee = callee; body = state x }) answer new) same_body called in
-    let own_type = subst (λ q. TypedCall (program_parties (runs b) (posts b)) exact (function_type q f) vs (record { caller = caller; callee = callee; body = state b }) answer new) same_package own_body in
-    let own_caller = subst (λ m. TypedCall (program_parties (runs b) (posts b)) exact (function_type r f) vs (record { caller = m; callee = callee; body = state b }) answer new) same_caller own_type in
-    (new, subst (λ m. TypedCall (program_parties (runs b) (posts b)) exact (function_type r f) vs (record { caller = fresh 65536 1048576; callee = m; body = state b }) answer new) same_callee own_caller)
+    let own_body = subst (λ x. TypedCall (spaces (runs x) (posts x)) exact (function_type own f) vs (record { caller = caller; callee = callee; body = state x }) answer new) same_body called in
+    let own_type = subst (λ q. TypedCall (spaces (runs b) (posts b)) exact (function_type q f) vs (record { caller = caller; callee = callee; body = state b }) answer new) same_package own_body in
+    let own_caller = subst (λ m. TypedCall (spaces (runs b) (posts b)) exact (function_type r f) vs (record { caller = m; callee = callee; body = state b }) answer new) same_caller own_type in
+    (new, subst (λ m. TypedCall (spaces (runs b) (posts b)) exact (function_type r f) vs (record { caller = fresh 65536 1048576; callee = m; body = state b }) answer new) same_callee own_caller)
 
 -- a fault of the call, as a refusal
 pub call-refuses : (r : Resolve) (f : FunctionId) (vs : List Value) (runs : Run) (posts : PostRun) (state : List ℕ) (e : Fault)

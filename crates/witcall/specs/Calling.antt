@@ -2,10 +2,10 @@
 use Rattle.std.specs.Prelude.{◌≡◌, ℕ, List, [], ◌∷◌, ◌++◌, Option, Some, None, Result, Ok, Err}
 use Rattle.canonical_abi.specs.Values.{Value}
 use Rattle.canonical_abi.specs.Guest.{Memory}
-use Rattle.canonical_abi.specs.Call.{Run, PostRun, Parties, World, exact}
+use Rattle.canonical_abi.specs.Call.{Run, PostRun, World, exact}
 use Rattle.canonical_abi.specs.Session.{TypedCall}
 use Rattle.memory.specs.Holes.{all_free}
-use Rattle.memory.specs.Space.{of_kind, SpaceAllocates}
+use Rattle.memory.specs.Space.{of_kind, spaces}
 use Rattle.tables.specs.Closed.{function_at, function_type}
 use Rattle.tables.specs.Names.{IsNamed}
 use Rattle.tables.specs.declared.tables.FunctionId.{FunctionId}
@@ -33,9 +33,6 @@ IsOutputOf r (Some t) (Some v) output = IsLineOf r t v output
 IsOutputOf r None None output = output ≡ []
 IsOutputOf r _ _ output = ⊥
 
-abbrev pub program_parties : Run → PostRun → Parties
-program_parties runs posts = record { caller_allocates = SpaceAllocates; callee_allocates = SpaceAllocates; runs = runs; posts = posts }
-
 abbrev pub program_world : List ℕ → World
 program_world state = record { caller = fresh 65536 1048576; callee = fresh 65536 1048576; body = state }
 
@@ -47,7 +44,7 @@ pub record Asks (r : Resolve) (iface func args : List ℕ) (f : FunctionId) (vs 
 -- a call of the function over two fresh memories, on a body that may make these runs, has this answer
 abbrev pub CallAnswers : Resolve → FunctionId → List Value → Run → PostRun → List ℕ → Result (Option Value) Fault → Type 0
 CallAnswers r f vs runs posts state answer =
-    (new : World) × TypedCall (program_parties runs posts) exact (function_type r f) vs (program_world state) answer new
+    (new : World) × TypedCall (spaces runs posts) exact (function_type r f) vs (program_world state) answer new
 
 -- the call that the words ask for is made on a body that may make these runs, and this is its output
 pub record Prints (r : Resolve) (iface func args : List ℕ) (runs : Run) (posts : PostRun) (state output : List ℕ) : Type 0 where
