@@ -17,7 +17,7 @@ import sys
 
 import run
 
-COMMIT = "b40231c"
+COMMIT = "ac4faa2"
 RUNS = 30
 # how many runs a short text gets
 SHORT_RUNS = 300
