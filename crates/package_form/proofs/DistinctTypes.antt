@@ -1,7 +1,7 @@
 -- Where names differ, no interface has two types of one name.
-use Rattle.std.proofs.Common.{◌≡◌, ℕ, suc, ◌+◌, ◌<◌, ◌≤◌, Bool, true, false, ◌||◌, nat_lt, List, [], ◌∷◌, ◌++◌, map, length, get_or, slice_get, Option, None, Some, refl, ap, sym, subst, ◌∙◌, arith, append_assoc, All}
+use Rattle.std.proofs.Common.{◌≡◌, ℕ, suc, ◌+◌, ◌<◌, ◌≤◌, Bool, true, false, ◌||◌, nat_lt, List, [], ◌∷◌, ◌++◌, length, slice_get, Option, None, Some, refl, ap, sym, subst, ◌∙◌, arith, append_assoc, All}
 use Rattle.std.proofs.lemmas.Bool.Decides.{nat_tests}
-use Rattle.std.proofs.lemmas.List.{length-map, append-nil, get_or-map, get_or_default}
+use Rattle.std.proofs.lemmas.List.{append-nil}
 use Rattle.std.proofs.lemmas.Slice.Eq.{bytes_eq-Decides}
 use Rattle.std.specs.Str.{bytes_eq}
 use Rattle.tables.specs.Package.{Key, key_of, is_same_key, is_known, interface_names, IsDistinctName, HasDistinctTypes}
@@ -15,13 +15,12 @@ use Rattle.tables.proofs.Rows.{split}
 use Rattle.package_form.specs.Scope.{AreDistinct}
 use Rattle.package_form.specs.Ends.{end_of, interfaces_end}
 use Rattle.package_form.specs.Form.{are_interfaces, IsInPackageForm}
-use Rattle.package_form.specs.Naming.{interface_name, interfaces_scopes}
+use Rattle.package_form.specs.Naming.{interfaces_scopes}
 use Rattle.package_form.specs.Laws.{NamesTypesApart}
-use Rattle.tables.specs.Names.{full_name}
-use Rattle.package_form.proofs.OnePackage.{single, one-full-name, first-place, own-full-name}
+use Rattle.package_form.proofs.OwnPackage.{HasOneOfEachInterface}
 use Rattle.package_form.proofs.Lists.{get-front}
-use Rattle.package_form.proofs.Scopes.{interfaces-distinct, names-distinct}
-use Rattle.package_form.proofs.OneRow.{named, IsNamedAt, same-place, NoneFrom, none-named, worlds-parted, forms-on, locals-in, is-own, unique}
+use Rattle.package_form.proofs.Scopes.{interfaces-distinct}
+use Rattle.package_form.proofs.OneRow.{named, IsNamedAt, NoneFrom, none-named, worlds-parted, forms-on, locals-in, is-own, unique}
 
 -- ---- the keys of the types of these rows
 
@@ -91,7 +90,7 @@ module _ (rows : List Definition) where
 
 -- ---- a package
 
-module _ (r : Resolve) (form : IsInPackageForm r) (distinct : All AreDistinct (interfaces_scopes r.definitions 0 r.interfaces)) (names : AreDistinct (map interface_name r.interfaces)) where
+module _ (r : Resolve) (form : IsInPackageForm r) (distinct : All AreDistinct (interfaces_scopes r.definitions 0 r.interfaces)) (one : HasOneOfEachInterface r) where
   abbrev ns : List (List ℕ)
   ns = interface_names r
 
@@ -101,26 +100,10 @@ module _ (r : Resolve) (form : IsInPackageForm r) (distinct : All AreDistinct (i
   in-names : (a : ℕ) (y : TypeName) → IsNamedAt r.definitions a y → y.interface.0 < length r.interfaces
   in-names a y h = omega (arith, in-range r.definitions 0 0 r.interfaces none-behind form.interfaces a y (omega arith) h)
 
-  -- full names differ where names do
-  same-interface : (m n : ℕ) → m < length r.interfaces → n < length r.interfaces → get_or ns m [] ≡ get_or ns n [] → m ≡ n
-  same-interface m n l k e =
-      let one = single r.packages form.alone in
-      let i : Interface = get_or r.interfaces m nowhere in
-      let j : Interface = get_or r.interfaces n nowhere in
-      let first = own-full-name r one.0 one.1 i (first-place r one.0 one.1 i (m, l, get_or_default r.interfaces m i nowhere l)) in
-      let second = own-full-name r one.0 one.1 j (first-place r one.0 one.1 j (n, k, get_or_default r.interfaces n j nowhere k)) in
-      let whole = sym first ∙ sym (get_or-map (full_name r) r.interfaces m nowhere [] l) ∙ e ∙ get_or-map (full_name r) r.interfaces n nowhere [] k ∙ second in
-      let labels = get_or-map interface_name r.interfaces m nowhere [] l ∙ one-full-name one.0 i.name j.name whole ∙ sym (get_or-map interface_name r.interfaces n nowhere [] k) in
-      let counted = length-map r.interfaces interface_name in
-      same-place (map interface_name r.interfaces) m n names (omega (arith, l, counted)) (omega (arith, k, counted)) labels
-    where
-      nowhere : Interface
-      nowhere = record { «package» = record { 0 = 0 }; name = []; uses = []; types = []; functions = [] }
-
   one-key : (a b : ℕ) (m n : TypeName) → IsNamedAt r.definitions a m → IsNamedAt r.definitions b n → is_same_key (key_of ns m) (key_of ns n) ≡ true → a ≡ b
   one-key a b m n x y h =
       let s = same-key (key_of ns m) (key_of ns n) h in
-      let at = same-interface m.interface.0 n.interface.0 (in-names a m x) (in-names b n y) s.0 in
+      let at = one.each m.interface.0 n.interface.0 (in-names a m x) (in-names b n y) s.0 in
       let same : m ≡ n = rw (at, s.1) refl in
       unique r.definitions 0 0 r.interfaces none-behind form.interfaces distinct a b n (omega arith) (omega arith) (subst (IsNamedAt r.definitions a) same x) y
 
@@ -155,6 +138,5 @@ module _ (r : Resolve) (form : IsInPackageForm r) (distinct : All AreDistinct (i
       by (Some n) k q rest =
           (new-key pre k n ds q, subst (HasDistinctTypes ns ds) (keys-end ns pre (row.Type (record { name = Some n; kind = k }))) rest)
 
-pub types-apart : (r : Resolve) → NamesTypesApart r
-types-apart r form distinct =
-    apart r form (interfaces-distinct r distinct) (names-distinct r distinct) [] r.definitions refl
+pub types-apart : (r : Resolve) → HasOneOfEachInterface r → NamesTypesApart r
+types-apart r one form distinct = apart r form (interfaces-distinct r distinct) one [] r.definitions refl

@@ -1,11 +1,12 @@
 -- The test of a package's form.
-use Rattle.std.proofs.Common.{◌≡◌, ◌<◌, ◌≤◌, subst, ◌+◌, ℕ, Bool, true, false, not, ◌==◌, nat_lt, IsTrue, length, map, sum, refl, ap, sym, ◌∙◌, arith, ◌↔◌, eqb-true, Result, Ok, Err, IfOk}
+use Rattle.std.proofs.Common.{◌≡◌, ◌≤◌, subst, ◌+◌, ℕ, Bool, true, false, not, nat_lt, IsTrue, length, map, sum, refl, ap, sym, ◌∙◌, arith, ◌↔◌, Result, Ok, Err, IfOk}
 use Rattle.std.proofs.lemmas.List.{length-map}
 use Rattle.std.proofs.lemmas.Bool.Decides.{nat_tests}
 use Rattle.package_form.specs.Entries.{entries_of, world_entries, type_entries, table_of}
 use Rattle.package_form.proofs.RowEntries.{within-entries, few-rows}
 use Rattle.tables.specs.declared.tables.Interface.{Interface}
 use Rattle.tables.specs.declared.tables.Resolve.{Resolve}
+use Rattle.package_form.specs.Closed.{is_closed}
 use Rattle.package_form.specs.Form.{IsInPackageForm, is_in_form}
 use Rattle.tables.proofs.Rows.{split, both}
 use Rattle.package_form.proofs.Postfix.{used-postfix, postfix-used}
@@ -17,12 +18,6 @@ not-true false h = refl
 false-not : (b : Bool) → b ≡ false → IsTrue (not b)
 false-not b h = ap not h
 
-is-some : (n : ℕ) → (n == 0) ≡ false → 0 < n
-is-some n h = grind (arith, nat_tests)
-
-some-is : (n : ℕ) → 0 < n → (n == 0) ≡ false
-some-is n h = grind (arith, nat_tests)
-
 within : (n : ℕ) → n ≤ 65535 → nat_lt 65535 n ≡ false
 within n h = grind (arith, nat_tests)
 
@@ -32,9 +27,8 @@ entries-in r = 1 + length r.interfaces + (sum (map world_entries r.worlds) + sum
 
 entries-few : (r : Resolve) → IsTrue (is_in_form r) → entries-in r ≤ 65535
 entries-few r h =
-    let some = split _ _ h in
-    let alone = split (length r.packages == 1) _ some.1 in
-    let entries = split _ _ alone.1 in
+    let closed = split (is_closed r) _ h in
+    let entries = split _ _ closed.1 in
     within-entries r.worlds r.definitions (length r.interfaces) _ refl (not-true _ entries.0)
 
 entries-same : (r : Resolve) → type_entries (table_of r) ≡ entries-in r
@@ -43,16 +37,14 @@ entries-same r =
 
 in-form : (r : Resolve) → is_in_form r ≡ true → IsInPackageForm r
 in-form r h =
-    let some = split _ _ h in
-    let alone = split (length r.packages == 1) _ some.1 in
-    let entries = split _ _ alone.1 in
+    let closed = split (is_closed r) _ h in
+    let entries = split _ _ closed.1 in
     let parted = split _ _ entries.1 in
     let names = split _ _ parted.1 in
     let each = split _ _ names.1 in
     let worlds = split _ _ each.1 in
     record {
-      some = is-some (length r.interfaces + length r.worlds) (not-true _ some.0);
-      alone = eqb-true (length r.packages) 1 alone.0;
+      closed = closed.0;
       names = names.0;
       parted = parted.0;
       interfaces = each.0;
@@ -70,13 +62,12 @@ rows-few r f = few-rows r.worlds r.definitions (length r.interfaces) (entries-to
 
 form-in : (r : Resolve) → IsInPackageForm r → is_in_form r ≡ true
 form-in r f =
-    both _ _ (false-not _ (some-is (length r.interfaces + length r.worlds) f.some))
-    (both _ _ (ap (λ n. n == 1) f.alone)
+    both _ _ f.closed
     (both _ _ (false-not _ (within _ (entries-told r f)))
     (both _ _ f.parted
     (both _ _ f.names
     (both _ _ f.interfaces
-    (both _ _ f.worlds (postfix-used r.definitions r.earlier f.postfix)))))))
+    (both _ _ f.worlds (postfix-used r.definitions r.earlier f.postfix))))))
 
 pub tested : {E : Type 0} (r : Resolve) (result : Result Bool E) → IfOk result (λ b. b ≡ is_in_form r) → IfOk result (λ b. IsTrue b ↔ IsInPackageForm r)
 tested r (Ok b) h = (λ q. in-form r (sym h ∙ q), λ f. h ∙ form-in r f)

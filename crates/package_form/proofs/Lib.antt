@@ -1,7 +1,9 @@
 pub mod Lists
 pub mod MetNames
+pub mod EachPackage
 pub mod Meeting
 pub mod Naming
+pub mod Marks
 pub mod RowEnds
 pub mod RowEntries
 pub mod Postfixed
@@ -12,5 +14,6 @@ pub mod OnePackage
 pub mod OneRow
 pub mod Scopes
 pub mod WorldItems
+pub mod OwnPackage
 pub mod OneFunction
 pub mod DistinctTypes

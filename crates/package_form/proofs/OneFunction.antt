@@ -1,11 +1,12 @@
 -- Where names differ, a name of an interface stands for one function.
-use Rattle.std.proofs.Common.{◌≡◌, ℕ, zero, suc, ◌+◌, ◌-◌, ◌<◌, ◌≤◌, Bool, true, false, cond, ◌&&◌, List, [], ◌∷◌, map, flat_map, drop, length, slice_get, Option, None, Some, refl, ap, sym, subst, ◌∙◌, arith, All, Contains, inl, inr}
+use Rattle.std.proofs.Common.{◌≡◌, ℕ, zero, suc, ◌+◌, ◌-◌, ◌<◌, ◌≤◌, Bool, true, false, cond, ◌&&◌, List, [], ◌∷◌, map, flat_map, drop, length, get_or, slice_get, Option, None, Some, refl, ap, sym, subst, ◌∙◌, arith, All, Contains, inl, inr}
 use Rattle.std.specs.Option.{option_map}
 use Rattle.std.specs.List.{list_all}
-use Rattle.std.proofs.lemmas.List.{length-take}
+use Rattle.std.proofs.lemmas.List.{length-take, get_or-map, get_or_default}
 use Rattle.std.proofs.lemmas.Slice.Eq.{bytes_eq-Decides}
 use Rattle.tables.specs.Tables.{function_of}
 use Rattle.tables.specs.Names.{full_name}
+use Rattle.tables.specs.Package.{interface_names}
 use Rattle.tables.specs.declared.tables.FunctionId.{FunctionId}
 use Rattle.tables.specs.declared.tables.Function.{Function}
 use Rattle.tables.specs.declared.tables.Definition.{Definition}
@@ -17,12 +18,12 @@ use Rattle.package_form.specs.Scope.{AreDistinct}
 use Rattle.package_form.specs.Ends.{end_of, rows_of}
 use Rattle.package_form.specs.Ids.{places_where, function_id}
 use Rattle.package_form.specs.Form.{is_named, ids_of, is_local, has_ids, are_interfaces}
-use Rattle.package_form.specs.Naming.{interface_name, row_names, rows_scopes, interfaces_scopes}
+use Rattle.package_form.specs.Naming.{row_names, rows_scopes, interfaces_scopes}
 use Rattle.package_form.specs.Laws.{NamesOneFunction}
 use Rattle.package_form.proofs.Lists.{all-head, all-left, all-right, contains-here, contains-right, contains-map, compared}
-use Rattle.package_form.proofs.OnePackage.{single, one-full-name, first-place, own-full-name}
-use Rattle.package_form.proofs.Scopes.{interfaces-distinct, names-distinct}
-use Rattle.package_form.proofs.OneRow.{distinct-apart, distinct-back, twice, in-rows, forms-on}
+use Rattle.package_form.proofs.OwnPackage.{HasOneOfEachInterface}
+use Rattle.package_form.proofs.Scopes.{interfaces-distinct}
+use Rattle.package_form.proofs.OneRow.{twice, in-rows, forms-on}
 
 -- ---- the place of a function
 
@@ -75,39 +76,30 @@ module _ (rows : List Definition) where
         ]
       ]
 
-  one-of : (k start : ℕ) (is : List Interface) → are_interfaces rows k start is ≡ true → AreDistinct (map interface_name is)
-      → All AreDistinct (interfaces_scopes rows start is) → (i j : Interface) → Contains is i → Contains is j → i.name ≡ j.name
-      → (f g : FunctionId) (n : List ℕ) → Contains i.functions f → Contains j.functions g → IsFunctionAt rows f n → IsFunctionAt rows g n → f.0 ≡ g.0
-  one-of k start [] a ns d i j ci cj e f g n cf cg x y = absurd (omega (arith, ci.1))
-  one-of k start (h ∷ is) a ns d i j (zero, l, hi) (zero, m, hj) e f g n cf cg x y =
+  one-of : (k start : ℕ) (is : List Interface) → are_interfaces rows k start is ≡ true → All AreDistinct (interfaces_scopes rows start is) → (i : Interface) → Contains is i
+      → (f g : FunctionId) (n : List ℕ) → Contains i.functions f → Contains i.functions g → IsFunctionAt rows f n → IsFunctionAt rows g n → f.0 ≡ g.0
+  one-of k start [] a d i c f g n cf cg x y = absurd (omega (arith, c.1))
+  one-of k start (h ∷ is) a d i (zero, l, e) f g n cf cg x y =
       let ids = (split (has_ids rows start h) _ (split (has_ids rows start h && list_all (is_local rows k) (rows_of rows start h)) _ a).0).0 in
       let scope = all-head AreDistinct _ _ (all-left AreDistinct (rows_scopes (rows_of rows start h)) (interfaces_scopes rows (end_of start h) is) d) in
-      one-here start h f g n ids scope (subst (λ (z : Interface). Contains z.functions f) (sym hi) cf) (subst (λ (z : Interface). Contains z.functions g) (sym hj) cg) x y
-  one-of k start (h ∷ is) a ns d i j (zero, l, hi) (suc b, m, hj) e f g n cf cg x y =
-      absurd (distinct-apart (h.name ∷ []) (map interface_name is) j.name ns
-      (subst (Contains (h.name ∷ [])) (ap interface_name hi ∙ e) (contains-here h.name []))
-      (contains-map interface_name is j (b, omega (arith, m), hj)))
-  one-of k start (h ∷ is) a ns d i j (suc b, l, hi) (zero, m, hj) e f g n cf cg x y =
-      absurd (distinct-apart (h.name ∷ []) (map interface_name is) i.name ns
-      (subst (Contains (h.name ∷ [])) (ap interface_name hj ∙ sym e) (contains-here h.name []))
-      (contains-map interface_name is i (b, omega (arith, l), hi)))
-  one-of k start (h ∷ is) a ns d i j (suc b, l, hi) (suc c, m, hj) e f g n cf cg x y =
-      one-of (k + 1) (end_of start h) is (forms-on rows k start h is a) (distinct-back (h.name ∷ []) (map interface_name is) ns)
-      (all-right AreDistinct (rows_scopes (rows_of rows start h)) (interfaces_scopes rows (end_of start h) is) d) i j (b, omega (arith, l), hi) (c, omega (arith, m), hj) e f g n cf cg x y
+      one-here start h f g n ids scope (subst (λ (z : Interface). Contains z.functions f) (sym e) cf) (subst (λ (z : Interface). Contains z.functions g) (sym e) cg) x y
+  one-of k start (h ∷ is) a d i (suc b, l, e) f g n cf cg x y =
+      one-of (k + 1) (end_of start h) is (forms-on rows k start h is a)
+      (all-right AreDistinct (rows_scopes (rows_of rows start h)) (interfaces_scopes rows (end_of start h) is) d) i (b, omega (arith, l), e) f g n cf cg x y
 
 -- ---- full names
 
-same-name : (r : Resolve) → length r.packages ≡ 1 → (i j : Interface) → Contains r.interfaces i → Contains r.interfaces j → full_name r i ≡ full_name r j → i.name ≡ j.name
-same-name r alone i j ci cj e =
-    let one = single r.packages alone in
-    let p = one.0 in
-    one-full-name p i.name j.name
-    (sym (own-full-name r p one.1 i (first-place r p one.1 i ci)) ∙ e ∙ own-full-name r p one.1 j (first-place r p one.1 j cj))
+same-interface : (r : Resolve) → HasOneOfEachInterface r → (i j : Interface) → Contains r.interfaces i → Contains r.interfaces j → full_name r i ≡ full_name r j → i ≡ j
+same-interface r one i j ci cj e =
+    let m = ci.0 in
+    let n = cj.0 in
+    let named : get_or (interface_names r) m [] ≡ get_or (interface_names r) n [] =
+    get_or-map (full_name r) r.interfaces m i [] ci.1 ∙ ap (full_name r) ci.2 ∙ e ∙ ap (full_name r) (sym cj.2) ∙ sym (get_or-map (full_name r) r.interfaces n j [] cj.1) in
+    let at = one.each m n ci.1 cj.1 named in
+    sym ci.2 ∙ ap (λ (k : ℕ). get_or r.interfaces k i) at ∙ get_or_default r.interfaces n i j cj.1 ∙ cj.2
 
-pub one-function : (r : Resolve) → NamesOneFunction r
-one-function r form distinct iface name f g x y =
-    let scopes = interfaces-distinct r distinct in
-    let names = names-distinct r distinct in
-    let same = same-name r form.alone x.0 y.0 x.1 y.1 (sym x.2 ∙ y.2) in
-    ap function_id (one-of r.definitions 0 0 r.interfaces form.interfaces names scopes x.0 y.0 x.1 y.1 same f g name x.3.0 y.3.0
+pub one-function : (r : Resolve) → HasOneOfEachInterface r → NamesOneFunction r
+one-function r one form distinct iface name f g x y =
+    let same = same-interface r one x.0 y.0 x.1 y.1 (sym x.2 ∙ y.2) in
+    ap function_id (one-of r.definitions 0 0 r.interfaces form.interfaces (interfaces-distinct r distinct) x.0 x.1 f g name x.3.0 (subst (λ (z : Interface). Contains z.functions g) (sym same) y.3.0)
     (function-at r.definitions f name x.3.1) (function-at r.definitions g name y.3.1))

@@ -71,22 +71,26 @@ same-place ns a b d l m e = elim (compared a b) [
   ]
 ]
 
-contains-get : (ds : List Definition) (k : ℕ) (d : Definition) → slice_get ds k ≡ Some d → Contains ds d
-contains-get [] k d e = absurd (cc)
-contains-get (c ∷ ds) zero d e = let is : c ≡ d = cc in subst (Contains (c ∷ ds)) is (contains-here c ds)
-contains-get (c ∷ ds) (suc k) d e = let h = contains-get ds k d e in (suc h.0, omega (arith, h.1), h.2)
+contains-get : {A : Type 0} (xs : List A) (k : ℕ) (x : A) → slice_get xs k ≡ Some x → Contains xs x
+contains-get [] k x e = absurd (cc)
+contains-get (y ∷ xs) zero x e = let is : y ≡ x = cc in subst (Contains (y ∷ xs)) is (contains-here y xs)
+contains-get (y ∷ xs) (suc k) x e = let h = contains-get xs k x e in (suc h.0, omega (arith, h.1), h.2)
+
+-- two things of a scope have one name
+pub twice-of : {A : Type 0} (f : A → List (List ℕ)) (xs : List A) (a b : ℕ) (x y : A) (n : List ℕ) → a < b → slice_get xs a ≡ Some x → slice_get xs b ≡ Some y → Contains (f x) n → Contains (f y) n
+    → AreDistinct (flat_map f xs) → ⊥
+twice-of f [] a b x y n l e g cx cy h = absurd (cc)
+twice-of f (z ∷ xs) zero zero x y n l e g cx cy h = absurd (omega (arith, l))
+twice-of f (z ∷ xs) zero (suc b) x y n l e g cx cy h =
+    let is : z ≡ x = cc in
+    distinct-apart (f z) (flat_map f xs) n h (subst (λ w. Contains (f w) n) (sym is) cx) (contains-flat f xs y n (contains-get xs b y g) cy)
+twice-of f (z ∷ xs) (suc a) zero x y n l e g cx cy h = absurd (omega (arith, l))
+twice-of f (z ∷ xs) (suc a) (suc b) x y n l e g cx cy h = twice-of f xs a b x y n (omega (arith, l)) e g cx cy (distinct-back (f z) (flat_map f xs) h)
 
 -- two rows of a scope have one name
 pub twice : (ds : List Definition) (a b : ℕ) (c d : Definition) (n : List ℕ) → a < b → slice_get ds a ≡ Some c → slice_get ds b ≡ Some d → Contains (row_names c) n → Contains (row_names d) n
     → AreDistinct (flat_map row_names ds) → ⊥
-twice [] a b c d n l e f x y h = absurd (cc)
-twice (g ∷ ds) zero zero c d n l e f x y h = absurd (omega (arith, l))
-twice (g ∷ ds) zero (suc b) c d n l e f x y h =
-    let is : g ≡ c = cc in
-    distinct-apart (row_names g) (flat_map row_names ds) n h (subst (λ (z : Definition). Contains (row_names z) n) (sym is) x)
-    (contains-flat row_names ds d n (contains-get ds b d f) y)
-twice (g ∷ ds) (suc a) zero c d n l e f x y h = absurd (omega (arith, l))
-twice (g ∷ ds) (suc a) (suc b) c d n l e f x y h = twice ds a b c d n (omega (arith, l)) e f x y (distinct-back (row_names g) (flat_map row_names ds) h)
+twice = twice-of row_names
 
 -- ---- rows of an interface
 

@@ -1,57 +1,53 @@
 -- The scopes of a package, each of which has different names.
-use Rattle.std.proofs.Common.{◌≡◌, ◌⊎◌, ℕ, zero, suc, ◌+◌, ◌<◌, true, List, [], ◌∷◌, ◌++◌, map, flat_map, length, take, get_or, ap, sym, subst, ◌∙◌, arith, append_assoc, All, Contains, Result, Ok, Err, OnOk, IfErr}
-use Rattle.std.proofs.lemmas.List.{map-append}
+use Rattle.std.proofs.Common.{◌≡◌, ℕ, ◌+◌, ◌<◌, true, List, [], ◌∷◌, ◌++◌, map, flat_map, length, take, get_or, ap, sym, subst, ◌∙◌, All, Contains, inl, inr, Result, Ok, Err, OnOk, IfErr}
 use Rattle.tables.specs.Tables.{is_placed_world, are_placed_worlds}
 use Rattle.tables.specs.declared.error.ResolveError.{ResolveError}
-use Rattle.tables.specs.declared.error.ResolveError.TheVariants as error
 use Rattle.tables.specs.declared.tables.Definition.{Definition}
 use Rattle.tables.specs.declared.tables.World.{World}
 use Rattle.tables.proofs.Rows.{split}
-use Rattle.package_form.specs.Distinct.{AreMet, RefusesScopes}
-use Rattle.package_form.proofs.Meeting.{met-push, refuses-more, refuses-scope, refuses-among, refuses-within, part-contained, split-at}
+use Rattle.package_form.specs.Distinct.{AreMetInEach, RefusesScopes}
+use Rattle.package_form.proofs.Meeting.{refuses-among, part-contained}
 use Rattle.tables.specs.Package.{WorldMeaning, worlds}
 use Rattle.tables.specs.declared.tables.Resolve.{Resolve}
-use Rattle.package_form.specs.Scope.{lowered, AreDistinct, IsDuplicate}
-use Rattle.package_form.specs.Naming.{interface_name, label_of, interfaces_scopes, world_scopes, package_scopes}
-use Rattle.package_form.proofs.Lists.{flat_map-append, flat_map-one, map-more, all-cons, all-append, all-head, all-tail, all-left, all-right, contains-here, contains-later, contains-left, contains-right}
+use Rattle.package_form.specs.Scope.{AreDistinct}
+use Rattle.package_form.specs.Naming.{interface_labels_of, world_labels_of, of_each, interfaces_scopes, world_scopes, package_scopes}
+use Rattle.package_form.proofs.EachPackage.{distinct-each}
+use Rattle.tables.specs.PackageNames.{PackageParts}
+use Rattle.package_form.proofs.Lists.{flat_map-append, flat_map-one, map-more, all-append, all-left, all-right, contains-left, contains-right, contains-either}
 use Rattle.package_form.proofs.OneRow.{distinct-front}
 
 module _ (r : Resolve) (distinct : All AreDistinct (package_scopes r)) where
+  abbrev labels : List (List (List ℕ))
+  labels = of_each (λ k. interface_labels_of r.interfaces k ++ world_labels_of r.worlds k) 0 r.packages
+
+  inside : All AreDistinct (interfaces_scopes r.definitions 0 r.interfaces ++ flat_map world_scopes (worlds r))
+  inside = all-right AreDistinct labels (interfaces_scopes r.definitions 0 r.interfaces ++ flat_map world_scopes (worlds r)) distinct
+
   -- those of its interfaces
   pub interfaces-distinct : All AreDistinct (interfaces_scopes r.definitions 0 r.interfaces)
-  interfaces-distinct = all-left AreDistinct (interfaces_scopes r.definitions 0 r.interfaces) (flat_map world_scopes (worlds r)) (all-tail AreDistinct _ _ distinct)
+  interfaces-distinct = all-left AreDistinct (interfaces_scopes r.definitions 0 r.interfaces) (flat_map world_scopes (worlds r)) inside
 
   -- those of its worlds
   pub worlds-distinct : All AreDistinct (flat_map world_scopes (worlds r))
-  worlds-distinct = all-right AreDistinct (interfaces_scopes r.definitions 0 r.interfaces) (flat_map world_scopes (worlds r)) (all-tail AreDistinct _ _ distinct)
+  worlds-distinct = all-right AreDistinct (interfaces_scopes r.definitions 0 r.interfaces) (flat_map world_scopes (worlds r)) inside
 
-  -- the names of its interfaces
-  pub names-distinct : AreDistinct (map interface_name r.interfaces)
-  names-distinct = distinct-front (map interface_name r.interfaces) (map label_of r.worlds) (all-head AreDistinct _ _ distinct)
+  -- the names of the interfaces and the worlds of a package
+  pub labels-distinct : (k : ℕ) → k < length r.packages → AreDistinct (interface_labels_of r.interfaces k ++ world_labels_of r.worlds k)
+  labels-distinct =
+      distinct-each (λ k. interface_labels_of r.interfaces k ++ world_labels_of r.worlds k) r.packages
+      (all-left AreDistinct labels (interfaces_scopes r.definitions 0 r.interfaces ++ flat_map world_scopes (worlds r)) distinct)
+
+  -- the names of the interfaces of a package
+  pub names-distinct : (k : ℕ) → k < length r.packages → AreDistinct (interface_labels_of r.interfaces k)
+  names-distinct k l = distinct-front (interface_labels_of r.interfaces k) (world_labels_of r.worlds k) (labels-distinct k l)
 
 -- ---- one world after the other
 
 module _ (g : World → WorldMeaning) (ws : List World) (k : ℕ) (w : World) (l : k < length ws) (is : w ≡ get_or ws k w) where
-  pub refuses-world-scopes : (names : List (List ℕ)) (e : ResolveError) → RefusesScopes (world_scopes (g w)) e → RefusesScopes (names ∷ flat_map world_scopes (map g ws)) e
-  refuses-world-scopes names e h =
-      refuses-among (world_scopes (g w)) (names ∷ flat_map world_scopes (map g ws)) e
-      (λ ns c. contains-later names ns (flat_map world_scopes (map g ws)) (part-contained world_scopes g ws k w l is ns c)) h
-
-  pub refuses-world-name : (ns old : List (List ℕ)) (e : ResolveError) (rest : List (List (List ℕ))) → AreMet (ns ++ map label_of (take k ws)) old
-      → (e ≡ error.NoMemory) ⊎ ((e ≡ error.Duplicate w.name) × Contains old (lowered w.name)) → RefusesScopes ((ns ++ map label_of ws) ∷ rest) e
-  refuses-world-name ns old e rest m h =
-      let r = split-at ws k w l is in
-      let all : map label_of ws ≡ (map label_of (take k ws) ++ w.name ∷ []) ++ map label_of r.0 =
-      ap (map label_of) r.1 ∙ map-append label_of (take k ws ++ w ∷ []) r.0 ∙ ap (λ (zs : List (List ℕ)). zs ++ map label_of r.0) (map-append label_of (take k ws) (w ∷ [])) in
-      refuses-scope (ns ++ map label_of ws) ((ns ++ map label_of ws) ∷ rest) e (contains-here (ns ++ map label_of ws) rest)
-      (refuses-within ns (map label_of (take k ws)) w.name (map label_of r.0) (map label_of ws) old e all m h)
-
-  pub world-names-more : (ns old new : List (List ℕ)) → AreMet (ns ++ map label_of (take k ws)) old → ¬ Contains old (lowered w.name) → new ≡ old ++ lowered w.name ∷ []
-      → AreMet (ns ++ map label_of (take (k + 1) ws)) new
-  world-names-more ns old new m fresh more =
-      subst (λ (zs : List (List ℕ)). AreMet zs new)
-      (append_assoc ns (map label_of (take k ws)) (w.name ∷ []) ∙ ap (λ (zs : List (List ℕ)). ns ++ zs) (sym (map-more label_of ws k w l is)))
-      (met-push (ns ++ map label_of (take k ws)) w.name old new m fresh more)
+  pub refuses-world-scopes : (labels : List (List (List ℕ))) (e : ResolveError) → RefusesScopes (world_scopes (g w)) e → RefusesScopes (labels ++ flat_map world_scopes (map g ws)) e
+  refuses-world-scopes labels e h =
+      refuses-among (world_scopes (g w)) (labels ++ flat_map world_scopes (map g ws)) e
+      (λ ns c. contains-right labels (flat_map world_scopes (map g ws)) ns (part-contained world_scopes g ws k w l is ns c)) h
 
   pub world-scopes-more : All AreDistinct (flat_map world_scopes (map g (take k ws))) → All AreDistinct (world_scopes (g w)) → All AreDistinct (flat_map world_scopes (map g (take (k + 1) ws)))
   world-scopes-more h p =
@@ -69,33 +65,33 @@ worlds-placed-on rows count n w ws h = (split (is_placed_world rows count n w) (
 
 -- ---- all names of a package
 
-module _ (names : List (List ℕ)) (parts : List (List (List ℕ))) (more : List (List ℕ)) (rest : List (List (List ℕ))) where
-  pub refused-first : (e : ResolveError) → RefusesScopes (names ∷ parts) e → RefusesScopes ((names ++ more) ∷ (parts ++ rest)) e
-  refused-first (error.Duplicate n) h = by h.0 h.1 h.2
+module _ (labels parts rest : List (List (List ℕ))) where
+  pub refuses-last : (e : ResolveError) → RefusesScopes (labels ++ rest) e → RefusesScopes (labels ++ (parts ++ rest)) e
+  refuses-last e h = refuses-among (labels ++ rest) (labels ++ (parts ++ rest)) e among h
     where
-      by : (ns : List (List ℕ)) → Contains (names ∷ parts) ns → IsDuplicate ns n → RefusesScopes ((names ++ more) ∷ (parts ++ rest)) (error.Duplicate n)
-      by ns (zero, l, e) d =
-          let is : names ≡ ns = e in
-          refuses-scope (names ++ more) ((names ++ more) ∷ (parts ++ rest)) (error.Duplicate n) (contains-here (names ++ more) (parts ++ rest))
-          (refuses-more names more (error.Duplicate n) (subst (λ zs. IsDuplicate zs n) (sym is) d))
-      by ns (suc k, l, e) d =
-          (ns, contains-later (names ++ more) ns (parts ++ rest) (contains-left parts rest ns (k, omega (arith, l), e)), d)
-  refused-first error.NoMemory h = tt
-  refused-first _ h = absurd h
+      among : (ns : List (List ℕ)) → Contains (labels ++ rest) ns → Contains (labels ++ (parts ++ rest)) ns
+      among ns c = elim (contains-either labels rest ns c) [
+        | inl h ↦ contains-left labels (parts ++ rest) ns h
+        | inr h ↦ contains-right labels (parts ++ rest) ns (contains-right parts rest ns h)
+      ]
 
-  pub refused-last : (e : ResolveError) → RefusesScopes ((names ++ more) ∷ rest) e → RefusesScopes ((names ++ more) ∷ (parts ++ rest)) e
-  refused-last e h = refuses-among ((names ++ more) ∷ rest) ((names ++ more) ∷ (parts ++ rest)) e among h
+module _ {T : Type 0} (r : Result T ResolveError) (f g : ℕ → List (List ℕ)) (ps : List PackageParts) (parts rest met : List (List (List ℕ))) (m : AreMetInEach (length ps) f met) where
+  pub all-met : All AreDistinct parts
+      → OnOk r ((names : ℕ → List (List ℕ)) → AreMetInEach (length ps) names met → All AreDistinct (of_each (λ k. names k ++ g k) 0 ps)) → OnOk r (All AreDistinct rest)
+      → OnOk r (All AreDistinct (of_each (λ k. f k ++ g k) 0 ps ++ (parts ++ rest)))
+  all-met = by r
     where
-      among : (ns : List (List ℕ)) → Contains ((names ++ more) ∷ rest) ns → Contains ((names ++ more) ∷ (parts ++ rest)) ns
-      among ns (zero, l, e) = (zero, omega arith, e)
-      among ns (suc k, l, e) = contains-later (names ++ more) ns (parts ++ rest) (contains-right parts rest ns (k, omega (arith, l), e))
+      by : (r : Result T ResolveError) → All AreDistinct parts
+          → OnOk r ((names : ℕ → List (List ℕ)) → AreMetInEach (length ps) names met → All AreDistinct (of_each (λ k. names k ++ g k) 0 ps)) → OnOk r (All AreDistinct rest)
+          → OnOk r (All AreDistinct (of_each (λ k. f k ++ g k) 0 ps ++ (parts ++ rest)))
+      by (Ok x) p h q = all-append AreDistinct (of_each (λ k. f k ++ g k) 0 ps) (parts ++ rest) (h f m) (all-append AreDistinct parts rest p q)
+      by (Err e) p h q = tt
 
-pub all-met : {T : Type 0} (r : Result T ResolveError) (names more old : List (List ℕ)) (parts rest : List (List (List ℕ))) → AreMet names old → All AreDistinct parts
-    → OnOk r ((ns : List (List ℕ)) → AreMet ns old → AreDistinct (ns ++ more)) → OnOk r (All AreDistinct rest) → OnOk r (All AreDistinct ((names ++ more) ∷ (parts ++ rest)))
-all-met (Ok x) names more old parts rest m p f q = all-cons AreDistinct (names ++ more) (parts ++ rest) (f names m) (all-append AreDistinct parts rest p q)
-all-met (Err e) names more old parts rest m p f q = tt
-
-pub all-refused : {T : Type 0} (r : Result T ResolveError) (names more old : List (List ℕ)) (parts rest : List (List (List ℕ))) → AreMet names old
-    → IfErr r (λ e. (ns : List (List ℕ)) → AreMet ns old → RefusesScopes ((ns ++ more) ∷ rest) e) → IfErr r (RefusesScopes ((names ++ more) ∷ (parts ++ rest)))
-all-refused (Ok x) names more old parts rest m h = tt
-all-refused (Err e) names more old parts rest m h = refused-last names parts more rest e (h names m)
+  pub all-refused : IfErr r (λ e. (names : ℕ → List (List ℕ)) → AreMetInEach (length ps) names met → RefusesScopes (of_each (λ k. names k ++ g k) 0 ps ++ rest) e)
+      → IfErr r (RefusesScopes (of_each (λ k. f k ++ g k) 0 ps ++ (parts ++ rest)))
+  all-refused = by r
+    where
+      by : (r : Result T ResolveError) → IfErr r (λ e. (names : ℕ → List (List ℕ)) → AreMetInEach (length ps) names met → RefusesScopes (of_each (λ k. names k ++ g k) 0 ps ++ rest) e)
+          → IfErr r (RefusesScopes (of_each (λ k. f k ++ g k) 0 ps ++ (parts ++ rest)))
+      by (Ok x) h = tt
+      by (Err e) h = refuses-last (of_each (λ k. f k ++ g k) 0 ps) parts rest e (h f m)

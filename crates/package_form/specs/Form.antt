@@ -1,5 +1,5 @@
 -- The tables that packages have: what from_ast makes, and what a component type spells.
-use Rattle.std.specs.Prelude.{◌≡◌, ◌<◌, ◌≤◌, ℕ, ◌+◌, Bool, true, false, ◌&&◌, not, ◌==◌, nat_lt, List, [], ◌∷◌, ◌++◌, map, flat_map, sum, length, IsTrue, Option, None, Some, is_some, slice_get}
+use Rattle.std.specs.Prelude.{◌≤◌, ℕ, ◌+◌, Bool, true, false, ◌&&◌, not, ◌==◌, nat_lt, List, [], ◌∷◌, ◌++◌, map, flat_map, sum, length, IsTrue, Option, None, Some, is_some, slice_get}
 use Rattle.std.specs.List.{list_all}
 use Rattle.std.specs.Str.{bytes_eq}
 use Rattle.atoms.specs.FullName.{is_package_label, is_version_or_none}
@@ -18,6 +18,7 @@ use Rattle.tables.specs.declared.tables.WorldItemKind.TheVariants as item
 use Rattle.tables.specs.declared.tables.WorldItem.{WorldItem}
 use Rattle.tables.specs.declared.tables.World.{World}
 use Rattle.tables.specs.declared.tables.Resolve.{Resolve}
+use Rattle.package_form.specs.Closed.{is_closed}
 use Rattle.package_form.specs.Postfix.{is_unnamed, IsPostfix}
 use Rattle.package_form.specs.Ids.{is_owned_by, is_use, places_where}
 use Rattle.package_form.specs.Entries.{entries_of, world_entries, type_entries, table_of}
@@ -138,12 +139,11 @@ are_interfaces rows k start [] = true
 are_interfaces rows k start (i ∷ is) =
     (has_ids rows start i && list_all (is_local rows k) (rows_of rows start i)) && are_interfaces rows (k + 1) (end_of start i) is
 
--- One package, of an interface or a world at least. Rows stand interface by interface, in each its uses, then its types, each behind the
--- rows without names that it is made of, then its functions; they refer to rows of their own interface, and a use to a named type of an
--- earlier one. Behind them stand the functions of worlds, world by world, which refer to rows without names.
+-- A closed table: one package behind the interfaces of others that it reaches. Rows stand interface by interface, in each its uses, then its
+-- types, each behind the rows without names that it is made of, then its functions; they refer to rows of their own interface, and a use to a
+-- named type of an earlier one. Behind them stand the functions of worlds, world by world, which refer to rows without names.
 pub record IsInPackageForm (r : Resolve) : Type 0 where
-  pub some : 0 < length r.interfaces + length r.worlds
-  pub alone : length r.packages ≡ 1
+  pub closed : IsTrue (is_closed r)
   pub names : IsTrue (has_full_names r)
   pub parted : IsTrue (is_parted (length r.definitions) 0 r.interfaces r.worlds)
   pub interfaces : IsTrue (are_interfaces r.definitions 0 0 r.interfaces)
@@ -154,11 +154,10 @@ pub record IsInPackageForm (r : Resolve) : Type 0 where
 -- the same as a test, but for the order of the rows without names
 abbrev pub is_in_form : Resolve → Bool
 is_in_form r =
-    not (length r.interfaces + length r.worlds == 0)
-    && (length r.packages == 1
+    is_closed r
     && (not (nat_lt 65535 (1 + length r.interfaces + (sum (map world_entries r.worlds) + sum (map entries_of r.definitions))))
     && (is_parted (length r.definitions) 0 r.interfaces r.worlds
     && (has_full_names r
     && (are_interfaces r.definitions 0 0 r.interfaces
     && (have_items r.definitions 0 (interfaces_end 0 r.interfaces) r.worlds
-    && are_used r.definitions 0 [] r.definitions))))))
+    && are_used r.definitions 0 [] r.definitions)))))

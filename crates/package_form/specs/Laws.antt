@@ -1,12 +1,17 @@
 -- What holds of every package in form whose names differ in each of their scopes.
 use Rattle.std.specs.Prelude.{◌≡◌, ℕ, List, [], All}
+use Rattle.atoms.specs.Label.{IsLabel}
 use Rattle.tables.specs.Names.{IsNamed}
 use Rattle.tables.specs.Package.{HasDistinctTypes, IsClosedByNames, interface_names}
 use Rattle.tables.specs.declared.tables.FunctionId.{FunctionId}
+use Rattle.tables.specs.declared.tables.Interface.{Interface}
 use Rattle.tables.specs.declared.tables.Resolve.{Resolve}
 use Rattle.package_form.specs.Scope.{AreDistinct}
 use Rattle.package_form.specs.Form.{IsInPackageForm}
 use Rattle.package_form.specs.Naming.{package_scopes}
+
+abbrev pub IsLabelled : Interface → Type 0
+IsLabelled i = IsLabel i.name
 
 -- the names of an interface and of a function stand for one function at most
 abbrev pub HasOneOfEachName : Resolve → Type 0

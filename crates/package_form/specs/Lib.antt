@@ -7,6 +7,9 @@ pub mod Ids
 pub mod Postfix
 pub mod References
 pub mod Unused
+pub mod Reached
+pub mod Marks
+pub mod Closed
 pub mod Form
 pub mod Naming
 pub mod Laws

@@ -1,5 +1,5 @@
 -- WIT.md, "Identifiers": the scopes of a package's table, in which names differ in more than the case of their letters.
-use Rattle.std.specs.Prelude.{ℕ, Bool, true, false, if◌then◌else◌, List, [], ◌∷◌, ◌++◌, map, flat_map, Option, None, Some, Contains}
+use Rattle.std.specs.Prelude.{ℕ, ◌+◌, ◌==◌, Bool, true, false, if◌then◌else◌, List, [], ◌∷◌, ◌++◌, map, flat_map, Option, None, Some, Contains}
 use Rattle.tables.specs.declared.tables.TypeDefKind.{TypeDefKind}
 use Rattle.tables.specs.declared.tables.TypeDefKind.TheVariants as kind
 use Rattle.tables.specs.declared.tables.TypeName.{TypeName}
@@ -13,6 +13,7 @@ use Rattle.tables.specs.declared.tables.Direction.{Direction}
 use Rattle.tables.specs.declared.tables.Direction.TheVariants as direction
 use Rattle.tables.specs.declared.tables.World.{World}
 use Rattle.tables.specs.declared.tables.Resolve.{Resolve}
+use Rattle.tables.specs.PackageNames.{PackageParts}
 use Rattle.tables.specs.Package.{Fields, no_fields, field, ItemMeaning, WithInterface, WithFunction, WorldMeaning, worlds}
 use Rattle.package_form.specs.Scope.{IsDuplicate}
 use Rattle.package_form.specs.Ends.{end_of, rows_of}
@@ -98,12 +99,31 @@ world_scopes w = flat_map (name_in direction.Import) w.items ∷ flat_map (name_
 abbrev pub label_of : World → List ℕ
 label_of w = w.name
 
--- the names of interfaces and of worlds are one scope
-abbrev pub table_scopes : List Definition → List Interface → List World → List WorldMeaning → List (List (List ℕ))
-table_scopes rows is ws meanings = (map interface_name is ++ map label_of ws) ∷ (interfaces_scopes rows 0 is ++ flat_map world_scopes meanings)
+-- ---- the names of the interfaces and of the worlds of one package are a scope
+
+abbrev pub interface_label_of : ℕ → Interface → List (List ℕ)
+interface_label_of k i = if i.«package».0 == k then i.name ∷ [] else []
+
+abbrev pub world_label_of : ℕ → World → List (List ℕ)
+world_label_of k w = if w.«package».0 == k then w.name ∷ [] else []
+
+abbrev pub interface_labels_of : List Interface → ℕ → List (List ℕ)
+interface_labels_of is k = flat_map (interface_label_of k) is
+
+abbrev pub world_labels_of : List World → ℕ → List (List ℕ)
+world_labels_of ws k = flat_map (world_label_of k) ws
+
+-- a scope of each of these packages, the first of which is package k
+abbrev pub of_each : (ℕ → List (List ℕ)) → ℕ → List PackageParts → List (List (List ℕ))
+of_each names k [] = []
+of_each names k (p ∷ ps) = names k ∷ of_each names (k + 1) ps
+
+abbrev pub table_scopes : List PackageParts → List Definition → List Interface → List World → List WorldMeaning → List (List (List ℕ))
+table_scopes ps rows is ws meanings =
+    of_each (λ k. interface_labels_of is k ++ world_labels_of ws k) 0 ps ++ (interfaces_scopes rows 0 is ++ flat_map world_scopes meanings)
 
 abbrev pub package_scopes : Resolve → List (List (List ℕ))
-package_scopes r = table_scopes r.definitions r.interfaces r.worlds (worlds r)
+package_scopes r = table_scopes r.packages r.definitions r.interfaces r.worlds (worlds r)
 
 -- a name of this spelling is one before it of its scope again
 abbrev pub Repeats : Resolve → List ℕ → Type 0

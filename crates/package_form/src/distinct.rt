@@ -1,12 +1,12 @@
 //! 40: names of one scope differ in more than the case of their letters.
-ghost use Rattle.std.specs.Prelude.{◌≡◌, ◌++◌, ◌∷◌, [], List, ℕ, All, IsTrue, map, flat_map, length, IfOk, IfErr, OnOk};
-ghost use Rattle.package_form.specs.Scope.{AreDistinct};
-ghost use Rattle.package_form.specs.Distinct.{AreMet, AreMetOnSides, RefusesNames, RefusesScopes, RefusesSides};
+ghost use Rattle.std.specs.Prelude.{◌≡◌, ◌<◌, ◌⊎◌, ◌++◌, ◌∷◌, [], List, ℕ, All, Contains, IsTrue, map, flat_map, length, slice_index_or, slice_set, IfOk, IfErr, OnOk};
+ghost use Rattle.package_form.specs.Scope.{lowered, AreDistinct};
+ghost use Rattle.package_form.specs.Distinct.{AreMet, AreMetInEach, AreMetOnSides, RefusesNames, RefusesScopes, RefusesSides};
 ghost use Rattle.package_form.specs.Ends.{is_parted};
-ghost use Rattle.tables.specs.Tables.{is_placed_item, is_placed_world, are_placed_worlds};
+ghost use Rattle.tables.specs.Tables.{are_grouped, is_placed_item, is_placed_world, are_placed_worlds};
 ghost use Rattle.tables.specs.Names.{full_name};
 ghost use Rattle.tables.specs.Package.{ItemMeaning, item_meaning, world_meaning, interface_names, trees, worlds};
-ghost use Rattle.package_form.specs.Naming.{field_name, case_name, parameter_name, interface_name, label_of, kind_members, row_members, row_names, rows_scopes, interfaces_scopes, item_name, item_direction, item_parameters, world_scopes, package_scopes};
+ghost use Rattle.package_form.specs.Naming.{field_name, case_name, parameter_name, kind_members, row_members, row_names, rows_scopes, interfaces_scopes, item_name, item_direction, item_parameters, world_scopes, interface_labels_of, world_labels_of, of_each, package_scopes};
 
 use crate::ends::end_of;
 use crate::keys::keyed_by_table;
@@ -14,8 +14,8 @@ use crate::scope::{NameTable, Scope};
 use atoms::{KeyedState, Label};
 use std::alloc::{AllocError, Global};
 use tables::{
-    Case, Definition, Direction, Field, Interface, Name, Parameter, Resolve, ResolveError,
-    TypeDefKind, World, WorldItem, WorldItemKind,
+    Case, Definition, Direction, Field, Interface, Name, PackageId, PackageName, Parameter,
+    Resolve, ResolveError, TypeDefKind, World, WorldItem, WorldItemKind,
 };
 
 fn distinct_labels(alloc: Global, keyed: KeyedState, labels: &[Label]) -> Result<(), ResolveError>
@@ -131,29 +131,63 @@ fn distinct_rows(alloc: Global, keyed: KeyedState, rows: &[Definition]) -> Resul
     Ok(())
 }
 
-/// Meets the names of these interfaces: 40 for the first that its scope has before, an interface's rows before
-/// its name.
+/// No names of so many packages.
+fn scopes_of_packages<'a>(
+    alloc: Global,
+    keyed: KeyedState,
+    count: usize,
+) -> Result<Vec<Scope<'a>>, AllocError>
+    ensures { IfOk result (λ v. AreMetInEach count (λ k. []) v.items) }
+{
+    let mut scopes = Vec::new(alloc);
+    for _ in 0..count {
+        scopes.push(Scope::new(alloc, keyed))?;
+    }
+    Ok(scopes)
+}
+
+/// Meets a name in its package's scope. 40 where it was met there before.
+fn meet_in<'a>(
+    alloc: Global,
+    scopes: &mut Vec<Scope<'a>>,
+    package: PackageId,
+    name: &'a Label,
+) -> Result<(), ResolveError>
+    requires { «package».0 < length scopes.old.items }
+    ensures new { OnOk result (¬ Contains (slice_index_or scopes.old.items «package».0 []) (lowered name.now)) }
+    ensures ok { OnOk result (scopes.new.items ≡ slice_set scopes.old.items «package».0 (slice_index_or scopes.old.items «package».0 [] ++ lowered name.now ∷ [])) }
+    ensures err { IfErr result (λ e. (e ≡ ResolveError.NoMemory)
+        ⊎ ((e ≡ ResolveError.Duplicate name.now) × Contains (slice_index_or scopes.old.items «package».0 []) (lowered name.now))) }
+{
+    let scope = &mut scopes[package.0 as usize];
+    scope.meet(alloc, name)
+}
+
+/// Meets the names of these interfaces, each in its package's scope: 40 for the first that its scope has before, an
+/// interface's rows before its name.
 fn meet_interfaces<'a>(
     alloc: Global,
     keyed: KeyedState,
+    packages: &[PackageName],
     rows: &[Definition],
     interfaces: &'a [Interface],
     worlds: &[World],
-) -> Result<Scope<'a>, ResolveError>
-    requires { IsTrue (is_parted (length rows.now) 0 interfaces.now worlds.now) }
-    ensures names { IfOk result (AreMet (map interface_name interfaces.now)) }
+) -> Result<Vec<Scope<'a>>, ResolveError>
+    requires parted { IsTrue (is_parted (length rows.now) 0 interfaces.now worlds.now) }
+    requires grouped { IsTrue (are_grouped (length packages.now) 0 interfaces.now) }
+    ensures names { IfOk result (λ v. AreMetInEach (length packages.now) (interface_labels_of interfaces.now) v.items) }
     ensures parts { OnOk result (All AreDistinct (interfaces_scopes rows.now 0 interfaces.now)) }
-    ensures err { IfErr result (RefusesScopes (map interface_name interfaces.now ∷ interfaces_scopes rows.now 0 interfaces.now)) }
+    ensures err { IfErr result (RefusesScopes (of_each (interface_labels_of interfaces.now) 0 packages.now ++ interfaces_scopes rows.now 0 interfaces.now)) }
 {
-    let mut scope = Scope::new(alloc, keyed);
+    let mut scopes = scopes_of_packages(alloc, keyed, packages.len())?;
     let mut start = 0;
     for interface in interfaces {
         let end = end_of(start, interface);
         distinct_rows(alloc, keyed, &rows[start..end])?;
-        scope.meet(alloc, &interface.name)?;
+        meet_in(alloc, &mut scopes, interface.package, &interface.name)?;
         start = end;
     }
-    Ok(scope)
+    Ok(scopes)
 }
 
 /// The names of a world's imports and of its exports.
@@ -270,23 +304,25 @@ fn distinct_items(
     Ok(())
 }
 
-/// 40 for the first name of the worlds that its scope has before, a world's items before its name. `met` has the
-/// names of the interfaces.
+/// 40 for the first name of the worlds that its package's scope has before, a world's items before its name. `met`
+/// has the names of the interfaces.
 fn distinct_worlds<'a>(
     alloc: Global,
     keyed: KeyedState,
     resolve: &'a Resolve,
-    met: Scope<'a>,
+    met: Vec<Scope<'a>>,
 ) -> Result<(), ResolveError>
-    ensures ok { OnOk result ((ns : List (List ℕ)) → AreMet ns met.entry → AreDistinct (ns ++ map label_of resolve.now.worlds)) }
+    requires { length met.items ≡ length resolve.now.packages }
+    ensures ok { OnOk result ((names : ℕ → List (List ℕ)) → AreMetInEach (length resolve.now.packages) names met.entry.items
+        → All AreDistinct (of_each (λ k. names k ++ world_labels_of resolve.now.worlds k) 0 resolve.now.packages)) }
     ensures parts { OnOk result (All AreDistinct (flat_map world_scopes (worlds resolve.now))) }
-    ensures err { IfErr result (λ e. (ns : List (List ℕ)) → AreMet ns met.entry
-        → RefusesScopes ((ns ++ map label_of resolve.now.worlds) ∷ flat_map world_scopes (worlds resolve.now)) e) }
+    ensures err { IfErr result (λ e. (names : ℕ → List (List ℕ)) → AreMetInEach (length resolve.now.packages) names met.entry.items
+        → RefusesScopes (of_each (λ k. names k ++ world_labels_of resolve.now.worlds k) 0 resolve.now.packages ++ flat_map world_scopes (worlds resolve.now)) e) }
 {
-    let mut scope = met;
+    let mut scopes = met;
     for (place, world) in resolve.worlds.as_slice().iter().enumerate() {
         distinct_items(alloc, keyed, resolve, place, world)?;
-        scope.meet(alloc, &world.name)?;
+        meet_in(alloc, &mut scopes, world.package, &world.name)?;
     }
     Ok(())
 }
@@ -297,9 +333,11 @@ pub fn distinct_names(alloc: Global, resolve: &Resolve) -> Result<(), ResolveErr
     ensures ok { OnOk result (All AreDistinct (package_scopes resolve.now)) }
     ensures err { IfErr result (RefusesScopes (package_scopes resolve.now)) }
 {
+    let packages = resolve.packages.as_slice();
     let rows = resolve.definitions.as_slice();
     let interfaces = resolve.interfaces.as_slice();
+    let worlds = resolve.worlds.as_slice();
     let keyed = keyed_by_table(resolve);
-    let names = meet_interfaces(alloc, keyed, rows, interfaces, resolve.worlds.as_slice())?;
-    distinct_worlds(alloc, keyed, resolve, names)
+    let scopes = meet_interfaces(alloc, keyed, packages, rows, interfaces, worlds)?;
+    distinct_worlds(alloc, keyed, resolve, scopes)
 }

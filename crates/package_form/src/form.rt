@@ -7,6 +7,7 @@ ghost use Rattle.package_form.specs.Ids.{places_where};
 ghost use Rattle.package_form.specs.Ends.{end_of, interfaces_end, world_end, are_worlds_parted, is_parted};
 ghost use Rattle.package_form.specs.Form.{is_package_name, has_full_names, is_own_name, is_own, is_earlier_name, is_earlier, uses_earlier, is_owned, is_local, is_named, ids_of, is_use_at, has_ids, are_interfaces, is_nameless, is_of_world, is_world_row, functions_of, has_items, have_items, is_in_form, IsInPackageForm};
 
+use crate::closed::is_closed;
 use crate::ends::{end_of, interfaces_end, world_end};
 use crate::entries::passes_entries;
 use crate::references::push_references;
@@ -429,7 +430,7 @@ fn passes_tests(alloc: Global, resolve: &Resolve) -> Result<bool, AllocError>
     let rows = resolve.definitions.as_slice();
     let interfaces = resolve.interfaces.as_slice();
     let worlds = resolve.worlds.as_slice();
-    if (interfaces.is_empty() && worlds.is_empty()) || resolve.packages.len() != 1 {
+    if !is_closed(alloc, resolve)? {
         return Ok(false);
     }
     if passes_entries(interfaces.len(), worlds, rows)

@@ -5,6 +5,7 @@
 //! and `atoms`.
 #![tactic(auto)]
 
+mod closed;
 mod distinct;
 mod ends;
 mod entries;
@@ -15,8 +16,10 @@ mod references;
 mod scope;
 mod unused;
 
+pub use closed::{is_same_version, own_package, used_name};
 pub use distinct::{Sides, distinct_names};
 pub use ends::{end_of, interfaces_end, world_end};
 pub use entries::passes_entries;
 pub use form::is_in_form;
+pub use references::push_references;
 pub use scope::{FEW, Scope};

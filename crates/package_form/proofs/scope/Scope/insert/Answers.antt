@@ -1,4 +1,4 @@
-use Rattle.std.proofs.Common.{◌≡◌, ◌++◌, List, ℕ, true, false, map, Contains, ap, sym, subst, ◌∙◌, Bor, Result, Ok, Err, IfOk}
+use Rattle.std.proofs.Common.{◌≡◌, List, ℕ, map, Contains, subst, Bor, Result, Ok, Err, IfOk}
 use Rattle.package_form.specs.Scope.{lowered, lowered_name}
 use Rattle.package_form.proofs.MetNames.{met-in-many, new-in-both}
 use Rattle.package_form.proofs.scope.Scope.insert.Goals as goal
