@@ -5,7 +5,8 @@ use Rattle.std.proofs.lemmas.List.{append-nil}
 use Rattle.atoms.specs.FullName.{NameParts, Lacks, IsName, IsFullName, name_text, package_text}
 use Rattle.atoms.proofs.FullNames.{label_lacks, package_lacks}
 use Rattle.ctype_format.specs.Names.{cut_at}
-use Rattle.component_reader.specs.Component.{before, behind, second, namespace_in, behind_namespace, package_in, behind_package, interface_in, version_in}
+use Rattle.component_reader.specs.Component.{before, behind, second, namespace_in, behind_namespace, package_in, behind_package, interface_in, version_in, package_named}
+use Rattle.component_reader.specs.Names.{package_parts}
 
 module _ (mark : ℕ) where
   no-mark : (c : ℕ) (cs : List ℕ) → Lacks mark (c ∷ cs) → eqb c mark ≡ false
@@ -49,3 +50,7 @@ parts-cut text parts h =
       ap (λ (t : List ℕ). before t (cut_at 64 t)) behind_named ∙ last.0,
       ap (λ (t : List ℕ). second (cut_at 64 t)) behind_named ∙ last.1,
     )
+
+-- so is the name of its package
+pub package-cut : (text : List ℕ) (parts : NameParts) → IsFullName text parts → package_named text ≡ package_parts parts
+package-cut text parts h = let cut = parts-cut text parts h in λ j. record { namespace = cut.0 j; name = cut.1 j; version = cut.3 j }

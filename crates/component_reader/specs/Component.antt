@@ -1,5 +1,5 @@
 -- The package that a component may stand for: its declarations read one after the other. Whether it stands for it is seen by writing it again.
-use Rattle.std.specs.Prelude.{◌≡◌, ◌⊎◌, ℕ, Result, Ok, Err, List, [], ◌∷◌, ◌++◌, length, slice_get, Option, None, Some, if◌then◌else◌}
+use Rattle.std.specs.Prelude.{◌≡◌, ◌⊎◌, ◌-◌, ℕ, Bool, false, Result, Ok, Err, List, [], ◌∷◌, ◌++◌, length, slice_get, Option, None, Some, if◌then◌else◌}
 use Rattle.std.specs.Option.{option_map}
 use Rattle.atoms.specs.Label.{is_label}
 use Rattle.ctype_format.specs.Names.{cut_at}
@@ -9,9 +9,11 @@ use Rattle.ctype_format.specs.declared.raw.RawAlias.TheVariants as alias
 use Rattle.ctype_format.specs.declared.raw.RawDescription.{RawDescription}
 use Rattle.ctype_format.specs.declared.raw.RawDescription.TheVariants as described
 use Rattle.package_form.specs.Scoped.{Entry as Named}
+use Rattle.package_form.specs.Closed.{is_same_package}
 use Rattle.package_form.specs.Ids.{package_id}
 use Rattle.tables.specs.PackageNames.{PackageParts}
 use Rattle.tables.specs.Parts.{is_package}
+use Rattle.tables.specs.declared.tables.PackageId.{PackageId}
 use Rattle.tables.specs.declared.tables.TypeId.{TypeId}
 use Rattle.tables.specs.declared.tables.Definition.{Definition}
 use Rattle.tables.specs.declared.tables.Interface.{Interface}
@@ -25,9 +27,10 @@ use Rattle.component_reader.specs.World.{WorldRead, world_read}
 
 -- ---- the component type
 
--- What was read of the component type: the table, the interfaces, the types that each exports, the worlds, of each type index the row or the
+-- What was read of the component type: the packages, the table, the interfaces, the types that each exports, the worlds, of each type index the row or the
 -- interface whose instance type it is, and an instance type or a component type whose export hasn't come yet.
 pub record ComponentRead : Type 0 where
+  pub packages : List PackageParts
   pub rows : List Definition
   pub interfaces : List Interface
   pub exports : List (List Named)
@@ -38,13 +41,14 @@ pub record ComponentRead : Type 0 where
   pub awaited_world : Option WorldRead
 
 abbrev pub no_component : ComponentRead
-no_component = record { rows = []; interfaces = []; exports = []; worlds = []; indices = []; instances = []; awaited = None; awaited_world = None }
+no_component = record { packages = []; rows = []; interfaces = []; exports = []; worlds = []; indices = []; instances = []; awaited = None; awaited_world = None }
 
 abbrev pub exported_type : List (List Named) → ℕ → List ℕ → Option TypeId
 exported_type exports i n = if_found (slice_get exports i) (λ es. type_named es n)
 
 abbrev pub with_type : ComponentRead → TypeId → ComponentRead
 with_type s t = record {
+  packages = s.packages;
   rows = s.rows;
   interfaces = s.interfaces;
   exports = s.exports;
@@ -61,6 +65,7 @@ alias_read (alias.Outer count i) s = None
 
 abbrev pub with_instance : ComponentRead → InstanceRead → ComponentRead
 with_instance s i = record {
+  packages = s.packages;
   rows = i.rows;
   interfaces = s.interfaces;
   exports = s.exports;
@@ -73,6 +78,7 @@ with_instance s i = record {
 
 abbrev pub with_component : ComponentRead → WorldRead → ComponentRead
 with_component s w = record {
+  packages = s.packages;
   rows = w.inside.rows;
   interfaces = s.interfaces;
   exports = s.exports;
@@ -121,14 +127,30 @@ interface_in text = before (behind_package text) (cut_at 64 (behind_package text
 abbrev pub version_in : List ℕ → Option (List ℕ)
 version_in text = second (cut_at 64 (behind_package text))
 
-abbrev pub interface_named : List ℕ → InstanceRead → Interface
-interface_named text i = record { «package» = package_id 0; name = interface_in text; uses = i.uses; types = i.types; functions = i.functions }
+-- the name of the package in a full name
+abbrev pub package_named : List ℕ → PackageParts
+package_named text = record { namespace = namespace_in text; name = package_in text; version = version_in text }
 
--- the instance type read last is exported as an interface of this full name
+abbrev pub has_name : Option PackageParts → PackageParts → Bool
+has_name None p = false
+has_name (Some q) p = is_same_package q p
+
+-- a package is the last one, or begins behind it
+abbrev pub with_package : List PackageParts → PackageParts → List PackageParts
+with_package ps p = if has_name (slice_get ps (length ps - 1)) p then ps else ps ++ p ∷ []
+
+abbrev pub last_package : List PackageParts → PackageId
+last_package ps = package_id (length ps - 1)
+
+abbrev pub interface_named : PackageId → List ℕ → InstanceRead → Interface
+interface_named p text i = record { «package» = p; name = interface_in text; uses = i.uses; types = i.types; functions = i.functions }
+
+-- the instance type read last is an interface of this full name, imported or exported
 abbrev pub with_interface : List ℕ → ComponentRead → InstanceRead → ComponentRead
 with_interface text s i = record {
+  packages = with_package s.packages (package_named text);
   rows = s.rows;
-  interfaces = s.interfaces ++ interface_named text i ∷ [];
+  interfaces = s.interfaces ++ interface_named (last_package (with_package s.packages (package_named text))) text i ∷ [];
   exports = s.exports ++ i.names ∷ [];
   worlds = s.worlds;
   indices = s.indices;
@@ -137,19 +159,20 @@ with_interface text s i = record {
   awaited_world = s.awaited_world;
 }
 
-abbrev pub instance_exported : List ℕ → ComponentRead → Option ComponentRead
-instance_exported text s = option_map (with_interface text s) s.awaited
+abbrev pub instance_named : List ℕ → ComponentRead → Option ComponentRead
+instance_named text s = option_map (with_interface text s) s.awaited
 
-abbrev pub world_named : List ℕ → WorldRead → World
-world_named text w = record { «package» = package_id 0; name = interface_in text; items = w.items }
+abbrev pub world_named : PackageId → List ℕ → WorldRead → World
+world_named p text w = record { «package» = p; name = interface_in text; items = w.items }
 
 -- the component type read last is exported as a world of this full name
 abbrev pub with_world : List ℕ → ComponentRead → WorldRead → ComponentRead
 with_world text s w = record {
+  packages = with_package s.packages (package_named text);
   rows = s.rows;
   interfaces = s.interfaces;
   exports = s.exports;
-  worlds = s.worlds ++ world_named text w ∷ [];
+  worlds = s.worlds ++ world_named (last_package (with_package s.packages (package_named text))) text w ∷ [];
   indices = s.indices;
   instances = s.instances;
   awaited = s.awaited;
@@ -160,36 +183,26 @@ abbrev pub component_exported : List ℕ → ComponentRead → Option ComponentR
 component_exported text s = option_map (with_world text s) s.awaited_world
 
 abbrev pub export_read : List ℕ → RawDescription → ComponentRead → Option ComponentRead
-export_read text (described.Instance i) s = if is_label text then None else instance_exported text s
+export_read text (described.Instance i) s = if is_label text then None else instance_named text s
 export_read text (described.Function i) s = None
 export_read text (described.TypeEqual i) s = None
 export_read text (described.Component i) s = if is_label text then None else component_exported text s
 
+abbrev pub import_read : List ℕ → RawDescription → ComponentRead → Option ComponentRead
+import_read text (described.Instance i) s = if is_label text then None else instance_named text s
+import_read text (described.Function i) s = None
+import_read text (described.TypeEqual i) s = None
+import_read text (described.Component i) s = None
+
 abbrev pub declaration_read : Decl → ComponentRead → Option ComponentRead
 declaration_read (Alias a) s = alias_read a s
 declaration_read (Entry t) s = type_read t s
-declaration_read (Import text d) s = None
+declaration_read (Import text d) s = import_read text d s
 declaration_read (Export text d) s = export_read text d s
 
 abbrev pub declarations_read : Decls → ComponentRead → Option ComponentRead
 declarations_read none s = Some s
 declarations_read (more d ds) s = if_found (declaration_read d s) (declarations_read ds)
-
--- the full name that a declaration exports
-abbrev pub full_name_declared : Decl → Option (List ℕ)
-full_name_declared (Export text d) = if is_label text then None else Some text
-full_name_declared (Entry t) = None
-full_name_declared (Alias a) = None
-full_name_declared (Import text d) = None
-
-abbrev pub first_of : {A : Type 0} → Option A → Option A → Option A
-first_of None rest = rest
-first_of (Some x) rest = Some x
-
--- the first full name that is exported
-abbrev pub first_full_name : Decls → Option (List ℕ)
-first_full_name none = None
-first_full_name (more d ds) = first_of (full_name_declared d) (first_full_name ds)
 
 -- ---- the package
 
@@ -200,18 +213,14 @@ pub record Candidate : Type 0 where
   pub worlds : List World
   pub definitions : List Definition
 
--- the name of the package in a full name
-abbrev pub package_named : List ℕ → PackageParts
-package_named text = record { namespace = namespace_in text; name = package_in text; version = version_in text }
-
-abbrev pub candidate_named : List ℕ → ComponentRead → Option Candidate
-candidate_named text s =
-    if is_package 1 s.rows s.interfaces s.worlds
-    then Some (record { packages = package_named text ∷ []; interfaces = s.interfaces; worlds = s.worlds; definitions = s.rows })
+abbrev pub candidate_read : ComponentRead → Option Candidate
+candidate_read s =
+    if is_package (length s.packages) s.rows s.interfaces s.worlds
+    then Some (record { packages = s.packages; interfaces = s.interfaces; worlds = s.worlds; definitions = s.rows })
     else None
 
 abbrev pub candidate_of_decls : Decls → Option Candidate
-candidate_of_decls ds = if_found (first_full_name ds) (λ text. if_found (declarations_read ds no_component) (candidate_named text))
+candidate_of_decls ds = if_found (declarations_read ds no_component) candidate_read
 
 abbrev pub candidate_of_type : AnyType → Option Candidate
 candidate_of_type (Component ds) = candidate_of_decls ds

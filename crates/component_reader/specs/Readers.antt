@@ -39,6 +39,7 @@ world_with rows w = record { inside = read_with rows w.inside; items = w.items.i
 
 abbrev pub component_view : ComponentReader → ComponentRead
 component_view c = record {
+  packages = c.packages.items;
   rows = c.rows.items;
   interfaces = c.interfaces.items;
   exports = map (λ m. names_view m.entries) c.exports.items;

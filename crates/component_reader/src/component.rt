@@ -1,13 +1,14 @@
 //! The package that a raw component may stand for: whether it does is seen by writing it again.
-ghost use Rattle.std.specs.Prelude.{◌≡◌, length, map, IfOk, IfSome, IfNone, None, Some};
+ghost use Rattle.std.specs.Prelude.{◌≡◌, ◌-◌, length, map, slice_get, IfOk, OnOk};
+ghost use Rattle.package_form.specs.Closed.{is_same_package};
 ghost use Rattle.atoms.specs.FullName.{IsFullName, full_name_text};
 ghost use Rattle.ctype_format.specs.Names.{name_view};
 ghost use Rattle.ctype_bin.specs.FileView.{file_view};
 ghost use Rattle.ctype_format.specs.View.{decl_view, decls_of, type_view};
 ghost use Rattle.ctype_format.specs.Raw.{Component, Instance};
 ghost use Rattle.component_reader.specs.Types.{ReadsAs, Becomes};
-ghost use Rattle.component_reader.specs.Component.{Makes, no_component, alias_read, type_read, instance_exported, component_exported, export_read, declaration_read, declarations_read, full_name_declared, first_full_name, package_named, candidate_named, candidate_of_decls, candidate_of_type, candidate_of};
-ghost use Rattle.component_reader.specs.Names.{parts_view};
+ghost use Rattle.component_reader.specs.Component.{Makes, no_component, alias_read, type_read, instance_named, component_exported, import_read, export_read, declaration_read, declarations_read, package_named, has_name, with_package, last_package, candidate_read, candidate_of_decls, candidate_of_type, candidate_of};
+ghost use Rattle.component_reader.specs.Names.{parts_view, package_parts};
 ghost use Rattle.component_reader.specs.Readers.{component_view};
 
 use crate::instance::InstanceReader;
@@ -18,15 +19,17 @@ use crate::world::WorldReader;
 use atoms::{KeyedState, Label};
 use ctype_bin::{ExternName, RawAlias, RawComponent, RawDecl, RawDescription, RawType};
 use indexmap::IndexMap;
+use package_form::is_same_version;
 use std::alloc::{AllocError, Global};
 use tables::{
-    Definition, Interface, InterfaceId, PackageName, Resolve, Sequence, TypeId, World, WorldId,
-    copy_version,
+    Definition, Interface, InterfaceId, PackageId, PackageName, Resolve, Sequence, TypeId, World,
+    WorldId, copy_version,
 };
 
 /// What was read of a component type.
 #[derive(Drop)]
 pub struct ComponentReader {
+    packages: Vec<PackageName>,
     rows: Vec<Definition>,
     interfaces: Vec<Interface>,
     /// The types that each interface exports, by their names.
@@ -69,6 +72,7 @@ impl ComponentReader {
         ensures { component_view result ≡ no_component }
     {
         ComponentReader {
+            packages: Vec::new(alloc),
             rows: Vec::new(alloc),
             interfaces: Vec::new(alloc),
             exports: Vec::new(alloc),
@@ -149,15 +153,17 @@ impl ComponentReader {
         }
     }
 
-    /// Exports the instance type that is awaited, as an interface of this full name.
-    fn export_instance(&mut self, alloc: Global, name: FullNameParts<'_>) -> Result<(), Unread>
+    /// Names the instance type that is awaited, as an interface of this full name.
+    fn name_instance(&mut self, alloc: Global, name: FullNameParts<'_>) -> Result<(), Unread>
         requires { IsFullName (full_name_text (parts_view name)) (parts_view name) }
-        ensures { Becomes (instance_exported (full_name_text (parts_view name.entry)) (component_view self.old)) (component_view self.new) result }
+        ensures { Becomes (instance_named (full_name_text (parts_view name.entry)) (component_view self.old)) (component_view self.new) result }
     {
         let Some(reader) = self.awaited.take() else {
             return Err(Unread::NotThisShape);
         };
-        let (interface, types) = reader.into_interface(Label::from_bytes(alloc, name.name)?);
+        let package = package_of(alloc, &mut self.packages, name)?;
+        let label = Label::from_bytes(alloc, name.name)?;
+        let (interface, types) = reader.into_interface(package, label);
         self.interfaces.push(interface)?;
         self.exports.push(types)?;
         Ok(())
@@ -171,9 +177,27 @@ impl ComponentReader {
         let Some(reader) = self.awaited_world.take() else {
             return Err(Unread::NotThisShape);
         };
-        let world = reader.into_world(Label::from_bytes(alloc, name.name)?);
-        self.worlds.push(world)?;
+        let package = package_of(alloc, &mut self.packages, name)?;
+        let label = Label::from_bytes(alloc, name.name)?;
+        self.worlds.push(reader.into_world(package, label))?;
         Ok(())
+    }
+
+    /// Imports an interface.
+    fn import(
+        &mut self,
+        alloc: Global,
+        name: &ExternName,
+        description: &RawDescription,
+    ) -> Result<(), Unread>
+        ensures { Becomes (import_read (name_view name.now) description.now (component_view self.old)) (component_view self.new) result }
+    {
+        match (name_parts(name), description) {
+            (NameParts::FullName(name), RawDescription::Instance(_)) => {
+                self.name_instance(alloc, name)
+            }
+            _ => Err(Unread::NotThisShape),
+        }
     }
 
     fn export(
@@ -186,7 +210,7 @@ impl ComponentReader {
     {
         match (name_parts(name), description) {
             (NameParts::FullName(name), RawDescription::Instance(_)) => {
-                self.export_instance(alloc, name)
+                self.name_instance(alloc, name)
             }
             (NameParts::FullName(name), RawDescription::Component(_)) => {
                 self.export_component(alloc, name)
@@ -203,7 +227,7 @@ impl ComponentReader {
             RawDecl::Alias(alias) => self.alias(alias),
             RawDecl::Type(ty) => self.define(alloc, ty),
             RawDecl::Export(name, description) => self.export(alloc, name, description),
-            RawDecl::Import(_, _) => Err(Unread::NotThisShape),
+            RawDecl::Import(name, description) => self.import(alloc, name, description),
         }
     }
 
@@ -218,14 +242,12 @@ impl ComponentReader {
         Ok(reader)
     }
 
-    /// The package of what was read, under this full name.
-    fn finish(self, alloc: Global, name: FullNameParts<'_>) -> Result<Resolve, Unread>
-        requires { IsFullName (full_name_text (parts_view name)) (parts_view name) }
-        ensures { Makes (candidate_named (full_name_text (parts_view name.entry)) (component_view self)) result }
+    /// The package of what was read.
+    fn finish(self) -> Result<Resolve, Unread>
+        ensures { Makes (candidate_read (component_view self)) result }
     {
-        let package = package_name(alloc, name)?;
         let resolve = Resolve::from_parts(
-            Sequence::new(vec![in alloc; package]?),
+            Sequence::new(self.packages),
             Sequence::new(self.interfaces),
             Sequence::new(self.worlds),
             Sequence::new(self.rows),
@@ -234,6 +256,25 @@ impl ComponentReader {
             Ok(resolve) => Ok(resolve),
             Err(_) => Err(Unread::NotThisShape),
         }
+    }
+}
+
+/// Whether a package has the name in a full name.
+fn has_name(package: &PackageName, name: FullNameParts<'_>) -> bool
+    ensures { result ≡ is_same_package «package».now (package_parts (parts_view name.entry)) }
+{
+    package.namespace.as_bytes() == name.namespace
+        && package.name.as_bytes() == name.package
+        && is_same_version(&package.version, name.version)
+}
+
+/// Whether the last of these packages has the name in a full name.
+fn is_of_last(packages: &[PackageName], name: FullNameParts<'_>) -> bool
+    ensures { result ≡ has_name (slice_get packages.now (length packages.now - 1)) (package_parts (parts_view name.entry)) }
+{
+    match packages.last() {
+        Some(package) => has_name(package, name),
+        None => false,
     }
 }
 
@@ -249,45 +290,38 @@ fn package_name(alloc: Global, name: FullNameParts<'_>) -> Result<PackageName, A
     })
 }
 
-/// The full name that a declaration exports.
-#[tactic(auto, unfolding(ctype_format::specs::View::decl_view))]
-fn full_name_of(decl: &RawDecl) -> Option<FullNameParts<'_>>
-    ensures some { IfSome result (λ name. full_name_declared (decl_view decl.now) ≡ Some (full_name_text (parts_view name))) }
-    ensures named { IfSome result (λ name. IsFullName (full_name_text (parts_view name)) (parts_view name)) }
-    ensures none { IfNone result (full_name_declared (decl_view decl.now) ≡ None) }
+/// The place of the last package. No memory where an id can't tell it.
+fn last_package(packages: &[PackageName]) -> Result<PackageId, AllocError>
+    ensures { IfOk result (λ id. id ≡ last_package packages.now) }
 {
-    match decl {
-        RawDecl::Export(name, _) => match name_parts(name) {
-            NameParts::FullName(name) => Some(name),
-            NameParts::Label(_) => None,
-        },
-        RawDecl::Type(_) | RawDecl::Alias(_) | RawDecl::Import(_, _) => None,
+    match u32::try_from(packages.len().saturating_sub(1)) {
+        Ok(place) => Ok(PackageId(place)),
+        Err(_) => Err(AllocError),
     }
 }
 
-/// The first full name that is exported.
-fn first_full_name(decls: &[RawDecl]) -> Option<FullNameParts<'_>>
-    ensures some { IfSome result (λ name. first_full_name (decls_of (map decl_view decls.now)) ≡ Some (full_name_text (parts_view name))) }
-    ensures named { IfSome result (λ name. IsFullName (full_name_text (parts_view name)) (parts_view name)) }
-    ensures none { IfNone result (first_full_name (decls_of (map decl_view decls.now)) ≡ None) }
+/// The package of a full name: the last of these, or a new one behind it. No memory where an id can't tell it.
+fn package_of(
+    alloc: Global,
+    packages: &mut Vec<PackageName>,
+    name: FullNameParts<'_>,
+) -> Result<PackageId, AllocError>
+    requires { IsFullName (full_name_text (parts_view name)) (parts_view name) }
+    ensures packages { OnOk result (packages.new.items ≡ with_package packages.old.items (package_named (full_name_text (parts_view name.entry)))) }
+    ensures last { IfOk result (λ id. id ≡ last_package packages.new.items) }
 {
-    for decl in decls {
-        if let Some(name) = full_name_of(decl) {
-            return Some(name);
-        }
+    if !is_of_last(packages, name) {
+        packages.push(package_name(alloc, name)?)?;
     }
-    None
+    last_package(packages)
 }
 
 /// The package of a component type with these declarations.
 fn candidate_of_decls(alloc: Global, decls: &[RawDecl]) -> Result<Resolve, Unread>
     ensures { Makes (candidate_of_decls (decls_of (map decl_view decls.now))) result }
 {
-    let Some(name) = first_full_name(decls) else {
-        return Err(Unread::NotThisShape);
-    };
     let reader = ComponentReader::read_all(alloc, decls)?;
-    reader.finish(alloc, name)
+    reader.finish()
 }
 
 #[tactic(auto, using(ctype_format::proofs::Views::views), unfolding(ctype_format::specs::View::type_view))]

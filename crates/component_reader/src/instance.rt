@@ -339,12 +339,16 @@ impl InstanceReader {
     }
 
     /// The interface of this name in the first package, and the types that it exports by their names.
-    pub fn into_interface(self, name: Label) -> (Interface, IndexMap<Vec<u8>, TypeId, KeyedState>)
-        ensures interface { result.0 ≡ record { «package» = package_id 0; name = name; uses = self.uses.items; types = self.types.items; functions = self.functions.items } }
+    pub fn into_interface(
+        self,
+        package: PackageId,
+        name: Label,
+    ) -> (Interface, IndexMap<Vec<u8>, TypeId, KeyedState>)
+        ensures interface { result.0 ≡ record { «package» = «package»; name = name; uses = self.uses.items; types = self.types.items; functions = self.functions.items } }
         ensures names { result.1 ≡ self.names }
     {
         let interface = Interface {
-            package: PackageId(0),
+            package,
             name,
             uses: Sequence::new(self.uses),
             types: Sequence::new(self.types),

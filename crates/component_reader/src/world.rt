@@ -187,11 +187,11 @@ impl WorldReader {
     }
 
     /// The world of this name in the first package.
-    pub fn into_world(self, name: Label) -> World
-        ensures { result ≡ record { «package» = package_id 0; name = name; items = self.items.items } }
+    pub fn into_world(self, package: PackageId, name: Label) -> World
+        ensures { result ≡ record { «package» = «package»; name = name; items = self.items.items } }
     {
         World {
-            package: PackageId(0),
+            package,
             name,
             items: Sequence::new(self.items),
         }

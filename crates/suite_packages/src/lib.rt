@@ -5,6 +5,8 @@
 #[cfg(test)]
 mod changed;
 #[cfg(test)]
+mod imports;
+#[cfg(test)]
 mod packages;
 #[cfg(test)]
 mod reopened;

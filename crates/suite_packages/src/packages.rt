@@ -60,7 +60,7 @@ pub fn assert_line(rt: &impl Abort, found: &str, wanted: &str) {
 }
 
 /// The bytes that a package is written as.
-fn spelt(alloc: Global, package: &Resolve) -> Result<Vec<u8>, Fail> {
+pub fn spelt(alloc: Global, package: &Resolve) -> Result<Vec<u8>, Fail> {
     let raw = to_raw(alloc, package)?;
     let mut spelt = Vec::new(alloc);
     encode(alloc, &raw, &mut spelt)?;
@@ -165,7 +165,13 @@ fn answer(alloc: Global, bytes: &[u8]) -> Result<String, Fail> {
     })
 }
 
-fn assert_refused(rt: &impl Abort, alloc: Global, bytes: &[u8], line: &str) -> Result<(), Fail> {
+/// Whether these bytes are refused with this line.
+pub fn assert_refused(
+    rt: &impl Abort,
+    alloc: Global,
+    bytes: &[u8],
+    line: &str,
+) -> Result<(), Fail> {
     let said = answer(alloc, bytes)?;
     assert_line(rt, said.as_str(), line);
     Ok(())

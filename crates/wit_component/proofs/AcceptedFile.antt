@@ -40,7 +40,9 @@ use Rattle.package_form.specs.References.{row_references}
 use Rattle.wit_component.specs.Rows.{Place, outer_alias, declarations_of, places_after, place_after}
 use Rattle.wit_component.specs.Worlds.{directed, rows_between, function_declared, Surroundings, items_declared, StandFrom}
 use Rattle.package_form.specs.Ends.{behind_types, behind_functions, end_of, rows_of, interfaces_end, behind_items, world_end, is_parted}
-use Rattle.wit_component.specs.Component.{used_by, used_in, name_of, name_at, instance_export, row_alias, aliases_of, Front, first_place, interface_declarations, front_after, interfaces_declared, no_front, interfaces_front, surroundings, world_front, worlds_declared, package_declarations, component_of}
+use Rattle.wit_component.specs.Component.{instance_export, row_alias, aliases_of, Front, first_place, interface_direction, interface_declarations, front_after, interfaces_declared, no_front, interfaces_front, surroundings, world_front, worlds_declared, package_declarations, component_of}
+use Rattle.package_form.specs.Closed.{own_package}
+use Rattle.package_form.specs.Reached.{used_by, used_in, name_of, name_at}
 use Rattle.package_form.specs.Form.{is_own, is_own_name, is_earlier_name, is_earlier_type, uses_earlier, is_owned, is_local, is_named, ids_of, is_use_type, is_use_at, has_ids, are_interfaces, IsInPackageForm}
 use Rattle.package_form.specs.Unused.{inner_rows, can_use, is_next, unused_after, are_used}
 use Rattle.tables.proofs.Rows.{split, both}
@@ -49,7 +51,7 @@ use Rattle.package_form.proofs.OneRow.{none-named, worlds-parted}
 use Rattle.wit_component.proofs.AcceptedRows.{all-split, CanStand, row-allowed, row-entries}
 use Rattle.wit_component.proofs.AcceptedStates.{named_at, closed-stands}
 use Rattle.wit_component.proofs.AcceptedWalk.{behind, is_use_place, Walk, Walked, walked}
-use Rattle.wit_component.proofs.AcceptedWorlds.{BeforeRows, items-range}
+use Rattle.wit_component.proofs.AcceptedWorlds.{directed-range, BeforeRows, items-range}
 use Rattle.wit_component.proofs.RowsBetween.{rest-is, first-row}
 use Rattle.wit_component.proofs.RowFacts.{all-take, all-drop}
 use Rattle.wit_component.proofs.WorldItems.{items-stand, AreWorlds, world-first, worlds-later}
@@ -171,7 +173,7 @@ module _ (rows : List Definition) (start : ℕ) (i : Interface) (before : start 
   later-rows : later_rows ≡ drop (end_of start i) rows
   later-rows = let e : start + (end_of start i - start) ≡ end_of start i = omega (arith, before) in drop-drop (end_of start i - start) start rows ∙ ap (λ n. drop n rows) e
 
-  module _ (k : ℕ) (at : Front) (rest : List Decl) (name : List ℕ) (front : Before rows k start at.indices) (placed : is_placed rows i ≡ true)
+  module _ (k : ℕ) (at : Front) (rest : List Decl) (way : Direction) (name : List ℕ) (front : Before rows k start at.indices) (placed : is_placed rows i ≡ true)
       (earlier : are_earlier start (drop start rows) ≡ true) (used : are_used rows start [] (drop start rows) ≡ true) (ids : has_ids rows start i ≡ true) (local : list_all (is_local rows k) (rows_of rows start i) ≡ true) where
     abbrev count : ℕ
     count = at.types + length (aliases_of rows own_rows)
@@ -217,12 +219,13 @@ module _ (rows : List Definition) (start : ℕ) (i : Interface) (before : start 
     ended : DeclsInRange (0 ∷ count ∷ []) 0 0 (decls_of (declarations_of (first_place at) own_rows)) × Walked rows k count (start + length own_rows) (places_after (first_place at) own_rows) later_rows
     ended = walked rows k count own_rows later_rows start (first_place at) [] (use_places i) (other_places i) start walk
 
-    interface-range : DeclsInRange (0 ∷ []) (count + 1) (k + 1) (decls_of rest) → DeclsInRange (0 ∷ []) at.types k (decls_of (interface_declarations rows at own_rows name ++ rest))
+    interface-range : DeclsInRange (0 ∷ []) (count + 1) (k + 1) (decls_of rest) → DeclsInRange (0 ∷ []) at.types k (decls_of (interface_declarations rows at own_rows way name ++ rest))
     unfolding DeclsInRange
     interface-range h =
         subst (λ (ds : List Decl). DeclsInRange (0 ∷ []) at.types k (decls_of ds))
-        (sym (append_assoc (aliases_of rows own_rows) (Entry (Instance (decls_of (declarations_of (first_place at) own_rows))) ∷ Export name (described.Instance count) ∷ []) rest))
-        (aliases-range rows k own_rows at.types (Entry (Instance (decls_of (declarations_of (first_place at) own_rows))) ∷ Export name (described.Instance count) ∷ rest) local (ended.0, (omega arith, h)))
+        (sym (append_assoc (aliases_of rows own_rows) (Entry (Instance (decls_of (declarations_of (first_place at) own_rows))) ∷ directed way name (described.Instance count) ∷ []) rest))
+        (aliases-range rows k own_rows at.types (Entry (Instance (decls_of (declarations_of (first_place at) own_rows))) ∷ directed way name (described.Instance count) ∷ rest) local
+        (ended.0, directed-range (0 ∷ []) (count + 1) k way name (described.Instance count) rest (omega arith) h))
 
     behind-rows : Walked rows k count (end_of start i) (places_after (first_place at) own_rows) (drop (end_of start i) rows)
     behind-rows =
@@ -235,6 +238,9 @@ module _ (rows : List Definition) (start : ℕ) (i : Interface) (before : start 
 module _ (r : Resolve) where
   abbrev rows : List Definition
   rows = r.definitions
+
+  abbrev way : Interface → Direction
+  way i = interface_direction (own_package r.packages) i
 
   parts : (start : ℕ) (i : Interface) (is : List Interface) → is_parted (length rows) start (i ∷ is) r.worlds ≡ true → (start ≤ end_of start i) × (end_of start i ≤ length rows) × (is_parted (length rows) (end_of start i) is r.worlds ≡ true)
   parts start i is h =
@@ -282,16 +288,16 @@ module _ (r : Resolve) where
       let q = split (is_placed rows i) (are_placed rows is) placed in
       let ds = rows_of rows start i in
       let rest = interfaces_declared r (front_after rows at ds) (end_of start i) is ++ more in
-      let next = behind-rows rows start i p.0 p.1 k at rest (full_name r i) front.indices q.0 front.earlier front.used own.0 own.1 in
+      let next = behind-rows rows start i p.0 p.1 k at rest (way i) (full_name r i) front.indices q.0 front.earlier front.used own.0 own.1 in
       let after : Ended (k + 1) (end_of start i) (front_after rows at ds) = record {
-        indices = front-next rows start i p.0 p.1 k at rest (full_name r i) front.indices q.0 front.earlier front.used own.0 own.1;
+        indices = front-next rows start i p.0 p.1 k at rest (way i) (full_name r i) front.indices q.0 front.earlier front.used own.0 own.1;
         instances = instances-next k at ds front.instances;
         earlier = next.earlier;
         used = next.used;
       } in
       let count : k + 1 + length is ≡ k + length (i ∷ is) = omega arith in
-      subst (λ (xs : List Decl). DeclsInRange (0 ∷ []) at.types k (decls_of xs)) (sym (append_assoc (interface_declarations rows at ds (full_name r i)) (interfaces_declared r (front_after rows at ds) (end_of start i) is) more))
-      (interface-range rows start i p.0 p.1 k at rest (full_name r i) front.indices q.0 front.earlier front.used own.0 own.1
+      subst (λ (xs : List Decl). DeclsInRange (0 ∷ []) at.types k (decls_of xs)) (sym (append_assoc (interface_declarations rows at ds (way i) (full_name r i)) (interfaces_declared r (front_after rows at ds) (end_of start i) is) more))
+      (interface-range rows start i p.0 p.1 k at rest (way i) (full_name r i) front.indices q.0 front.earlier front.used own.0 own.1
       (interfaces-range more is (k + 1) (end_of start i) (front_after rows at ds) after p.2 s.1 q.1
       (λ e. subst (λ (n : ℕ). DeclsInRange (0 ∷ []) (interfaces_front rows (front_after rows at ds) (end_of start i) is).types n (decls_of more)) (sym count)
       (then (subst (λ (n : ℕ). Ended n (interfaces_end (end_of start i) is) (interfaces_front rows (front_after rows at ds) (end_of start i) is)) count e)))))
@@ -356,14 +362,27 @@ module _ (r : Resolve) where
       let all : sum (map entries_of (d ∷ ds)) ≡ entries_of d + sum (map entries_of ds) = sum_by-cons (λ n. n) (entries_of d) (map entries_of ds) in
       omega (arith, here, more, all, length-append (row_alias rows d) (aliases_of rows ds))
 
-  interface-entries : (at : Front) (ds : List Definition) (name : List ℕ) (rest : List Decl) → All CanStand ds → entries (interface_declarations rows at ds name ++ rest) ≤ 1 + sum (map entries_of ds) + entries rest
+  entries-append : (xs ys : List Decl) → entries (xs ++ ys) ≡ entries xs + entries ys
   unfolding entries_of_decls
-  interface-entries at ds name rest h =
-      let all : entries (interface_declarations rows at ds name ++ rest) ≡ length (aliases_of rows ds) + (1 + entries (declarations_of (first_place at) ds) + (0 + entries rest)) =
-      ap entries (append_assoc (aliases_of rows ds) (Entry (Instance (decls_of (declarations_of (first_place at) ds))) ∷ Export name (described.Instance (at.types + length (aliases_of rows ds))) ∷ []) rest)
-      ∙ aliases-entries ds (Entry (Instance (decls_of (declarations_of (first_place at) ds))) ∷ Export name (described.Instance (at.types + length (aliases_of rows ds))) ∷ rest) in
+  entries-append [] ys = omega arith
+  entries-append (x ∷ xs) ys = let more = entries-append xs ys in omega (arith, more)
+
+  directed-entries : (way : Direction) (name : List ℕ) (d : RawDescription) → description_entries d ≡ 0 → entries (directed way name d ∷ []) ≡ 0
+  unfolding entries_of_decls
+  directed-entries direction.Import name d none = omega (arith, none)
+  directed-entries direction.Export name d none = omega (arith, none)
+
+  interface-entries : (at : Front) (ds : List Definition) (way : Direction) (name : List ℕ) (rest : List Decl) → All CanStand ds → entries (interface_declarations rows at ds way name ++ rest) ≤ 1 + sum (map entries_of ds) + entries rest
+  unfolding entries_of_decls
+  interface-entries at ds way name rest h =
+      let named = directed way name (described.Instance (at.types + length (aliases_of rows ds))) in
+      let all : entries (interface_declarations rows at ds way name ++ rest) ≡ length (aliases_of rows ds) + (1 + entries (declarations_of (first_place at) ds) + entries (named ∷ rest)) =
+      ap entries (append_assoc (aliases_of rows ds) (Entry (Instance (decls_of (declarations_of (first_place at) ds))) ∷ named ∷ []) rest)
+      ∙ aliases-entries ds (Entry (Instance (decls_of (declarations_of (first_place at) ds))) ∷ named ∷ rest) in
       let own = rows-entries ds (first_place at) h in
-      omega (arith, all, own)
+      let none = entries-append (named ∷ []) rest in
+      let zero = directed-entries way name (described.Instance (at.types + length (aliases_of rows ds))) refl in
+      omega (arith, all, own, none, zero)
 
   interfaces-entries : (more : List Decl) (is : List Interface) (start : ℕ) (at : Front) → is_parted (length rows) start is r.worlds ≡ true → All CanStand (drop start rows)
       → (entries (interfaces_declared r at start is ++ more) + sum (map entries_of (drop (interfaces_end start is) rows)) ≤ length is + sum (map entries_of (drop start rows)) + entries more)
@@ -377,23 +396,13 @@ module _ (r : Resolve) where
       let sums : sum (map entries_of (drop start rows)) ≡ sum (map entries_of (rows_of rows start i)) + sum (map entries_of (drop (end_of start i) rows)) =
       ap (λ (ds : List Definition). sum (map entries_of ds)) is-cut ∙ sum-append (rows_of rows start i) (drop (end_of start i) rows) in
       let rest = interfaces_declared r (front_after rows at (rows_of rows start i)) (end_of start i) is in
-      let here = interface-entries at (rows_of rows start i) (full_name r i) (rest ++ more) s.0 in
+      let here = interface-entries at (rows_of rows start i) (way i) (full_name r i) (rest ++ more) s.0 in
       let again = interfaces-entries more is (end_of start i) (front_after rows at (rows_of rows start i)) p.2 s.1 in
-      let same : entries (interfaces_declared r at start (i ∷ is) ++ more) ≡ entries (interface_declarations rows at (rows_of rows start i) (full_name r i) ++ (rest ++ more)) =
-      ap entries (append_assoc (interface_declarations rows at (rows_of rows start i) (full_name r i)) rest more) in
+      let same : entries (interfaces_declared r at start (i ∷ is) ++ more) ≡ entries (interface_declarations rows at (rows_of rows start i) (way i) (full_name r i) ++ (rest ++ more)) =
+      ap entries (append_assoc (interface_declarations rows at (rows_of rows start i) (way i) (full_name r i)) rest more) in
       (omega (arith, sums, here, again.0, same), again.1)
 
   -- ---- those of worlds
-
-  entries-append : (xs ys : List Decl) → entries (xs ++ ys) ≡ entries xs + entries ys
-  unfolding entries_of_decls
-  entries-append [] ys = omega arith
-  entries-append (x ∷ xs) ys = let more = entries-append xs ys in omega (arith, more)
-
-  directed-entries : (way : Direction) (name : List ℕ) (d : RawDescription) → description_entries d ≡ 0 → entries (directed way name d ∷ []) ≡ 0
-  unfolding entries_of_decls
-  directed-entries direction.Import name d none = omega (arith, none)
-  directed-entries direction.Export name d none = omega (arith, none)
 
   alias-entries : (n : ℕ) (rest : List Decl) → entries (outer_alias n ∷ rest) ≡ 1 + entries rest
   unfolding entries_of_decls
@@ -476,12 +485,20 @@ module _ (r : Resolve) where
       subst (λ (xs : List Decl). AllowedDecls depth true (decls_of xs)) (sym (append_assoc (row_alias rows d) (aliases_of rows ds) rest))
       (export-allowed (name_at rows (used_in d)) depth (aliases_of rows ds ++ rest) (aliases-allowed ds depth rest h))
 
-  interface-allowed : (at : Front) (ds : List Definition) (name : List ℕ) (depth : ℕ) (rest : List Decl) → list_all is_standard ds ≡ true → AllowedDecls (suc depth) true (decls_of rest) → AllowedDecls (suc depth) true (decls_of (interface_declarations rows at ds name ++ rest))
+  directed-allowed : (depth : ℕ) (way : Direction) (name : List ℕ) (d : RawDescription) (rest : List Decl) → AllowedDecls depth true (decls_of rest) → AllowedDecls depth true (decls_of (directed way name d ∷ rest))
   unfolding AllowedDecls
-  interface-allowed at ds name depth rest standard h =
+  directed-allowed depth direction.Import name d rest h = (refl, h)
+  directed-allowed depth direction.Export name d rest h = (tt, h)
+
+  interface-allowed : (at : Front) (ds : List Definition) (way : Direction) (name : List ℕ) (depth : ℕ) (rest : List Decl) → list_all is_standard ds ≡ true → AllowedDecls (suc depth) true (decls_of rest)
+      → AllowedDecls (suc depth) true (decls_of (interface_declarations rows at ds way name ++ rest))
+  unfolding AllowedDecls
+  interface-allowed at ds way name depth rest standard h =
+      let named = directed way name (described.Instance (at.types + length (aliases_of rows ds))) in
       subst (λ (xs : List Decl). AllowedDecls (suc depth) true (decls_of xs))
-      (sym (append_assoc (aliases_of rows ds) (Entry (Instance (decls_of (declarations_of (first_place at) ds))) ∷ Export name (described.Instance (at.types + length (aliases_of rows ds))) ∷ []) rest))
-      (aliases-allowed ds (suc depth) (Entry (Instance (decls_of (declarations_of (first_place at) ds))) ∷ Export name (described.Instance (at.types + length (aliases_of rows ds))) ∷ rest) (rows-allowed depth false ds (first_place at) standard, (tt, h)))
+      (sym (append_assoc (aliases_of rows ds) (Entry (Instance (decls_of (declarations_of (first_place at) ds))) ∷ named ∷ []) rest))
+      (aliases-allowed ds (suc depth) (Entry (Instance (decls_of (declarations_of (first_place at) ds))) ∷ named ∷ rest)
+      (rows-allowed depth false ds (first_place at) standard, directed-allowed (suc depth) way name (described.Instance (at.types + length (aliases_of rows ds))) rest h))
 
   interfaces-allowed : (more : List Decl) (is : List Interface) (start : ℕ) (at : Front) (depth : ℕ) → is_parted (length rows) start is r.worlds ≡ true → list_all is_standard (drop start rows) ≡ true
       → AllowedDecls (suc depth) true (decls_of more) → AllowedDecls (suc depth) true (decls_of (interfaces_declared r at start is ++ more))
@@ -493,15 +510,10 @@ module _ (r : Resolve) where
       let is-cut : drop start rows ≡ ds ++ drop (end_of start i) rows = cut rows start i p.0 p.1 ∙ ap (λ (es : List Definition). ds ++ es) (later-rows rows start i p.0 p.1) in
       let s = split (list_all is_standard ds) (list_all is_standard (drop (end_of start i) rows)) (sym (ap (list_all is_standard) is-cut ∙ list_all-append is_standard ds (drop (end_of start i) rows)) ∙ h) in
       let rest = interfaces_declared r (front_after rows at ds) (end_of start i) is in
-      subst (λ (xs : List Decl). AllowedDecls (suc depth) true (decls_of xs)) (sym (append_assoc (interface_declarations rows at ds (full_name r i)) rest more))
-      (interface-allowed at ds (full_name r i) depth (rest ++ more) s.0 (interfaces-allowed more is (end_of start i) (front_after rows at ds) depth p.2 s.1 then))
+      subst (λ (xs : List Decl). AllowedDecls (suc depth) true (decls_of xs)) (sym (append_assoc (interface_declarations rows at ds (way i) (full_name r i)) rest more))
+      (interface-allowed at ds (way i) (full_name r i) depth (rest ++ more) s.0 (interfaces-allowed more is (end_of start i) (front_after rows at ds) depth p.2 s.1 then))
 
   -- ---- those of worlds
-
-  directed-allowed : (depth : ℕ) (way : Direction) (name : List ℕ) (d : RawDescription) (rest : List Decl) → AllowedDecls depth true (decls_of rest) → AllowedDecls depth true (decls_of (directed way name d ∷ rest))
-  unfolding AllowedDecls
-  directed-allowed depth direction.Import name d rest h = (refl, h)
-  directed-allowed depth direction.Export name d rest h = (tt, h)
 
   append-allowed : (depth : ℕ) (xs ys : List Decl) → AllowedDecls depth true (decls_of xs) → AllowedDecls depth true (decls_of ys) → AllowedDecls depth true (decls_of (xs ++ ys))
   unfolding AllowedDecls

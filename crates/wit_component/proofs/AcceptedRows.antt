@@ -23,7 +23,8 @@ use Rattle.package_form.specs.Ids.{is_use}
 use Rattle.package_form.specs.Entries.{entries_under, entries_of}
 use Rattle.package_form.specs.References.{references, references_if, field_references, case_references, parameter_references, kind_references, row_references}
 use Rattle.wit_component.specs.Rows.{Place, valtype_of, field_of, parameter_of, case_of, signature_of, defined_of, definition_of, definition_index, type_export, row_declarations, defined_types, exported_types, place_after}
-use Rattle.wit_component.specs.Component.{used_by, name_at, instance_export, row_alias}
+use Rattle.wit_component.specs.Component.{instance_export, row_alias}
+use Rattle.package_form.specs.Reached.{used_by, name_at}
 
 pub all-split : {X : Type 0} (P : X → Type 0) (xs ys : List X) → All P (xs ++ ys) → All P xs × All P ys
 all-split P [] ys h = (tt, h)

@@ -16,7 +16,7 @@ use Rattle.tables.specs.declared.tables.Definition.TheVariants as row
 use Rattle.package_form.specs.Postfix.{is_unnamed, is_unnamed_row, one_if, is_inner}
 use Rattle.package_form.specs.References.{row_references}
 use Rattle.wit_component.specs.Rows.{Place, defined_types, exported_types, row_types, export_offset, row_offset, place_after}
-use Rattle.wit_component.specs.Component.{name_of}
+use Rattle.package_form.specs.Reached.{name_of}
 use Rattle.package_form.specs.Form.{is_own_name, is_own_type, is_own, uses_earlier, is_owned}
 use Rattle.package_form.specs.Unused.{unnamed_at, inner_rows, closes, unused_after}
 use Rattle.package_form.proofs.Fronts.{stands_before}

@@ -16,7 +16,8 @@ use Rattle.package_form.specs.Postfix.{is_unnamed, one_if, is_inner}
 use Rattle.package_form.specs.Ids.{is_use, places_where}
 use Rattle.package_form.specs.References.{row_references}
 use Rattle.wit_component.specs.Rows.{Place, place_after, declarations_of, places_after}
-use Rattle.wit_component.specs.Component.{name_of, used_by, name_at, instance_export, row_alias, aliases_of}
+use Rattle.wit_component.specs.Component.{instance_export, row_alias, aliases_of}
+use Rattle.package_form.specs.Reached.{name_of, used_by, name_at}
 use Rattle.package_form.specs.Form.{is_own_name, is_own, is_earlier_name, is_earlier_type, uses_earlier, is_owned, is_local, is_named, is_use_type}
 use Rattle.package_form.specs.Unused.{inner_rows, can_use, closes, is_next, unused_after, are_used}
 use Rattle.package_form.proofs.Fronts.{row-before}

@@ -27,7 +27,7 @@ use Rattle.package_form.proofs.Fronts.{row-before}
 use Rattle.package_form.proofs.Lists.{list-grows}
 use Rattle.package_form.proofs.Postfix.{ends}
 use Rattle.tables.proofs.Rows.{split}
-use Rattle.wit_component.specs.Component.{name_of}
+use Rattle.package_form.specs.Reached.{name_of}
 use Rattle.wit_component.specs.Rows.{Place, outer_alias, place_after, declarations_of, places_after}
 use Rattle.wit_component.specs.Worlds.{directed, rows_between, function_declared, Surroundings, items_declared, items_place, StandFrom}
 use Rattle.wit_component.proofs.AcceptedRows.{is_use_def, CanStand, IsKnown, signature-range, row-range}
@@ -38,7 +38,7 @@ use Rattle.wit_component.proofs.WorldItems.{nameless-own}
 use Rattle.wit_component.proofs.RowsBetween.{end-length, rest-is, first-row, cut-own, more-rows}
 
 -- an import and an export have the same range
-directed-range : (around : List ℕ) (types instances : ℕ) (way : Direction) (name : List ℕ) (d : RawDescription) (rest : List Decl) → DescriptionInRange types d
+pub directed-range : (around : List ℕ) (types instances : ℕ) (way : Direction) (name : List ℕ) (d : RawDescription) (rest : List Decl) → DescriptionInRange types d
     → DeclsInRange around (types_with types d) (instances_with instances d) (decls_of rest) → DeclsInRange around types instances (decls_of (directed way name d ∷ rest))
 unfolding DeclsInRange
 directed-range around types instances direction.Import name d rest own h = (own, h)

@@ -13,7 +13,8 @@ use Rattle.tables.specs.declared.tables.Definition.{Definition}
 use Rattle.tables.specs.declared.tables.Definition.TheVariants as row
 use Rattle.component_reader.specs.Instance.{if_found}
 use Rattle.component_reader.specs.Component.{ComponentRead, with_type, exported_type, declarations_read}
-use Rattle.wit_component.specs.Component.{used_by, name_at, instance_export, row_alias, aliases_of}
+use Rattle.wit_component.specs.Component.{instance_export, row_alias, aliases_of}
+use Rattle.package_form.specs.Reached.{used_by, name_at}
 use Rattle.tables.proofs.Rows.{split}
 use Rattle.wit_component.proofs.UsesFound.{UsesFound, found_none, found_one, all_some}
 use Rattle.wit_component.proofs.AcceptedRows.{is_use_def}
@@ -24,6 +25,7 @@ no_interfaces us = map (λ u. None) us
 
 abbrev with_indices : ComponentRead → List (Option TypeId) → List (Option InterfaceId) → ComponentRead
 with_indices s indices instances = record {
+  packages = s.packages;
   rows = s.rows;
   interfaces = s.interfaces;
   exports = s.exports;

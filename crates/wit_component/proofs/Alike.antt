@@ -5,7 +5,7 @@ use Rattle.tables.specs.declared.tables.TypeDefKind.TheVariants as kind
 use Rattle.tables.specs.declared.tables.TypeName.{TypeName}
 use Rattle.tables.specs.declared.tables.Definition.{Definition}
 use Rattle.tables.specs.declared.tables.Definition.TheVariants as row
-use Rattle.wit_component.specs.Component.{name_at}
+use Rattle.package_form.specs.Reached.{name_at}
 
 pub data IsAlike (rows : List Definition) (n : ℕ) : Definition → Definition → Type 0 where
   same : (d : Definition) → IsAlike rows n d d

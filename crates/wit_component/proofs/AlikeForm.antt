@@ -36,9 +36,12 @@ use Rattle.package_form.specs.Entries.{entries_of, world_entries, type_entries, 
 use Rattle.package_form.specs.References.{row_references}
 use Rattle.package_form.specs.Unused.{unnamed_at, inner_rows, is_next, unused_after, are_used}
 use Rattle.wit_component.specs.Rows.{Place, row_declarations, place_after, declarations_of, places_after}
-use Rattle.wit_component.specs.Component.{used_in, name_of, name_at, instance_export, row_alias, aliases_of, Front, first_place, interface_declarations, front_after, interfaces_declared, no_front, interfaces_front, surroundings, world_declarations, world_front, worlds_declared, package_declarations, package_export, component_of}
-use Rattle.wit_component.specs.Worlds.{rows_between, function_declared, Surroundings, item_declarations, item_place, items_declared, items_place}
+use Rattle.wit_component.specs.Component.{instance_export, row_alias, aliases_of, Front, first_place, interface_direction, interface_declarations, front_after, interfaces_declared, no_front, interfaces_front, surroundings, world_declarations, world_front, worlds_declared, package_declarations, package_export, component_of}
+use Rattle.package_form.specs.Reached.{used_in, name_of, name_at}
+use Rattle.wit_component.specs.Worlds.{directed, rows_between, function_declared, Surroundings, item_declarations, item_place, items_declared, items_place}
 use Rattle.package_form.specs.Ends.{end_of, rows_of, interfaces_end, behind_item, world_end, world_rows, is_parted}
+use Rattle.package_form.specs.Reached.{interface_of, reached_by_row, reached_by_world, reached, are_reached}
+use Rattle.package_form.specs.Closed.{own_package, is_world_of, has_own, are_of_a_set, has_each_package, is_closed_table, is_closed}
 use Rattle.package_form.specs.Form.{is_named, is_own_name, is_own_type, is_own, is_earlier_name, is_earlier_type, is_earlier, uses_earlier, is_owned, is_local, is_use_type, is_use_at, has_ids, are_interfaces, is_package_name, has_full_names, ids_of, is_nameless_type, is_nameless, is_of_world, is_world_row, functions_of, has_items, have_items, IsInPackageForm}
 use Rattle.wit_component.specs.ToComponent.{is_labelled, are_labelled}
 use Rattle.tables.proofs.Rows.{split, both}
@@ -384,12 +387,25 @@ module _ (rows new : List Definition) (h : Alikes rows rows new) where
       by (Some t) = ap instance_export (name-same t)
   aliases-same n _ _ (uses x t u y at to below) = ap instance_export (name-same u ∙ to ∙ sym at)
 
-  interface-same : (at : Front) (start : ℕ) (i : Interface) (name : List ℕ) → interface_declarations new at (rows_of new start i) name ≡ interface_declarations rows at (rows_of rows start i) name
-  interface-same at start i name =
+  -- the same interfaces are reached
+  reached-row-same : (n : ℕ) (d e : Definition) → IsAlike rows n d e → reached_by_row new e ≡ reached_by_row rows d
+  reached-row-same n _ _ (same d) = by (used_in d)
+    where
+      by : (o : Option TypeId) → interface_of (name_at new o) ≡ interface_of (name_at rows o)
+      by None = refl
+      by (Some t) = ap interface_of (name-same t)
+  reached-row-same n _ _ (uses x t u y at to below) = ap interface_of (name-same u ∙ to ∙ sym at)
+
+  reached-same : (ws : List World) → reached new ws ≡ reached rows ws
+  reached-same ws = ap (λ (ns : List ℕ). ns ++ flat_map reached_by_world ws) (alikes-flat rows (reached_by_row rows) (reached_by_row new) reached-row-same rows new h)
+
+  interface-same : (at : Front) (start : ℕ) (i : Interface) (way : Direction) (name : List ℕ)
+      → interface_declarations new at (rows_of new start i) way name ≡ interface_declarations rows at (rows_of rows start i) way name
+  interface-same at start i way name =
       let a = alikes-flat rows (row_alias rows) (row_alias new) aliases-same (rows_of rows start i) (rows_of new start i) (rows-alike start i) in
       let d = declared rows (first_place at) (rows_of rows start i) (rows_of new start i) (rows-alike start i) in
-      ap (λ xs. xs ++ Entry (Instance (decls_of (declarations_of (first_place at) (rows_of new start i)))) ∷ Export name (described.Instance (at.types + length xs)) ∷ []) a
-      ∙ ap (λ ds. aliases_of rows (rows_of rows start i) ++ Entry (Instance (decls_of ds)) ∷ Export name (described.Instance (at.types + length (aliases_of rows (rows_of rows start i)))) ∷ []) d
+      ap (λ xs. xs ++ Entry (Instance (decls_of (declarations_of (first_place at) (rows_of new start i)))) ∷ directed way name (described.Instance (at.types + length xs)) ∷ []) a
+      ∙ ap (λ ds. aliases_of rows (rows_of rows start i) ++ Entry (Instance (decls_of ds)) ∷ directed way name (described.Instance (at.types + length (aliases_of rows (rows_of rows start i)))) ∷ []) d
 
   front-same : (at : Front) (start : ℕ) (i : Interface) → front_after new at (rows_of new start i) ≡ front_after rows at (rows_of rows start i)
   front-same at start i =
@@ -473,14 +489,19 @@ module _ (r p : Resolve) (a : IsAlikePackage r p) where
   full-name : (i : Interface) → full_name p i ≡ full_name r i
   full-name i = ap (λ (ps : List PackageParts). full_name_in (slice_get ps i.«package».0) i.name) a.packages
 
+  abbrev way : Interface → Direction
+  way i = interface_direction (own_package r.packages) i
+
   written : (at : Front) (start : ℕ) (is : List Interface) → interfaces_declared p at start is ≡ interfaces_declared r at start is
   written at start [] = refl
   written at start (i ∷ is) =
       ap (λ ds. ds ++ interfaces_declared p (front_after p.definitions at (rows_of p.definitions start i)) (end_of start i) is)
-      (interface-same r.definitions p.definitions like at start i (full_name p i) ∙ ap (interface_declarations r.definitions at (rows_of r.definitions start i)) (full-name i))
-      ∙ ap (λ f. interface_declarations r.definitions at (rows_of r.definitions start i) (full_name r i) ++ interfaces_declared p f (end_of start i) is)
+      (interface-same r.definitions p.definitions like at start i (interface_direction (own_package p.packages) i) (full_name p i)
+      ∙ ap (λ (ps : List PackageParts). interface_declarations r.definitions at (rows_of r.definitions start i) (interface_direction (own_package ps) i) (full_name p i)) a.packages
+      ∙ ap (interface_declarations r.definitions at (rows_of r.definitions start i) (way i)) (full-name i))
+      ∙ ap (λ f. interface_declarations r.definitions at (rows_of r.definitions start i) (way i) (full_name r i) ++ interfaces_declared p f (end_of start i) is)
       (front-same r.definitions p.definitions like at start i)
-      ∙ ap (λ ds. interface_declarations r.definitions at (rows_of r.definitions start i) (full_name r i) ++ ds) (written (front_after r.definitions at (rows_of r.definitions start i)) (end_of start i) is)
+      ∙ ap (λ ds. interface_declarations r.definitions at (rows_of r.definitions start i) (way i) (full_name r i) ++ ds) (written (front_after r.definitions at (rows_of r.definitions start i)) (end_of start i) is)
 
   names-are : interface_names p ≡ interface_names r
   names-are = λ j. map (λ i. full_name_in (slice_get (a.packages j) i.«package».0) i.name) (a.interfaces j)
@@ -530,14 +551,18 @@ module _ (r p : Resolve) (a : IsAlikePackage r p) where
   names-same : has_full_names p ≡ has_full_names r
   names-same = ap (list_all is_package_name) a.packages
 
-  count-same : length p.interfaces + length p.worlds ≡ length r.interfaces + length r.worlds
-  count-same = λ j. length (a.interfaces j) + length (a.worlds j)
+  closed-same : is_closed p ≡ is_closed r
+  closed-same = (λ j. is_closed_table (a.packages j) (a.interfaces j) (a.worlds j) p.definitions) ∙ ap (within r.packages r.interfaces r.worlds) (reached-same r.definitions p.definitions like r.worlds)
+    where
+      -- a table is closed by what it reaches
+      within : List PackageParts → List Interface → List World → List ℕ → Bool
+      within ps is ws places =
+          has_own (own_package ps) is ws && (are_of_a_set ps && (has_each_package (own_package ps) 0 is && (list_all (is_world_of (own_package ps)) ws && are_reached (own_package ps) places 0 is)))
 
   -- they are in package form together
   pub form-same : IsInPackageForm r → IsInPackageForm p
   form-same f = record {
-    some = subst (λ (n : ℕ). 0 < n) (sym count-same) f.some;
-    alone = ap length a.packages ∙ f.alone;
+    closed = closed-same ∙ f.closed;
     names = names-same ∙ f.names;
     parted =
         ap (λ (n : ℕ). is_parted n 0 p.interfaces p.worlds) (alikes-length r.definitions r.definitions p.definitions like)

@@ -20,15 +20,17 @@ use Rattle.package_form.specs.Distinct.{RefusesScopes}
 use Rattle.package_form.proofs.Lists.{all-contained}
 use Rattle.component_reader.specs.declared.unread.Unread.TheVariants as unread
 use Rattle.package_form.specs.Ends.{end_of, rows_of, interfaces_end}
-use Rattle.wit_component.specs.Component.{aliases_of, Front, interface_declarations, front_after, interfaces_declared, no_front, interfaces_front, worlds_declared, package_declarations, component_of}
+use Rattle.wit_component.specs.Component.{aliases_of, Front, interface_declarations, interface_direction, front_after, interfaces_declared, no_front, interfaces_front, worlds_declared, package_declarations, component_of}
 use Rattle.wit_component.specs.FromComponent.{is_none, is_empty_package}
 use Rattle.package_form.specs.Naming.{package_scopes, table_scopes}
+use Rattle.package_form.specs.Closed.{own_package}
 use Rattle.package_form.specs.Form.{IsInPackageForm}
+use Rattle.package_form.proofs.OwnPackage.{some-part}
 use Rattle.wit_component.specs.ToComponent.{ComponentStands}
 use Rattle.component_reader.specs.Instance.{if_found}
-use Rattle.component_reader.specs.Component.{package_named, no_component, declarations_read, candidate_named, candidate_of, Candidate, IsMadeOf, Makes}
+use Rattle.component_reader.specs.Component.{candidate_read, candidate_of, Candidate, IsMadeOf, Makes}
 use Rattle.wit_component.proofs.Alike.{AreAlike}
-use Rattle.wit_component.proofs.Reread.{reread, name-reread}
+use Rattle.wit_component.proofs.Reread.{reread}
 use Rattle.wit_component.proofs.AlikeForm.{IsAlikePackage, package-same, component-same, form-same}
 use Rattle.wit_component.proofs.OneTarget.{same-definitions, same-package}
 
@@ -37,24 +39,22 @@ module _ (raw : RawComponent) (r : Resolve) (s : ComponentStands raw r) where
       × (All AreDistinct (package_scopes r) → IsMadeOf c r)
   candidate-is =
       let x = reread r s.form s.labels s.world_labels in
-      let n = name-reread r s.form s.labels s.world_labels in
       let made = x.0 in
-      let ok : is_package 1 made.rows made.interfaces made.worlds ≡ true =
-      (λ j. is_package (sym s.form.alone j) made.rows (x.2 j) (x.3 j)) ∙ package-same r made.rows x.4 in
-      let c : Candidate = record { packages = package_named n.0 ∷ []; interfaces = made.interfaces; worlds = made.worlds; definitions = made.rows } in (
+      let ok : is_package (length made.packages) made.rows made.interfaces made.worlds ≡ true =
+      (λ j. is_package (length (x.5 j)) made.rows (x.2 j) (x.3 j)) ∙ package-same r made.rows x.4 in
+      let c : Candidate = record { packages = made.packages; interfaces = made.interfaces; worlds = made.worlds; definitions = made.rows } in (
         c,
         ap candidate_of s.component
-            ∙ ap (λ o. if_found o (λ text. if_found (declarations_read (decls_of (package_declarations r)) no_component) (candidate_named text))) n.1
-            ∙ ap (λ o. if_found o (candidate_named n.0)) x.1
+            ∙ ap (λ o. if_found o candidate_read) x.1
             ∙ ap (λ b. cond b (Some c) None) ok,
         λ p m. record {
-          packages = m.packages ∙ n.2;
+          packages = m.packages ∙ x.5;
           interfaces = m.interfaces ∙ x.2;
           worlds = m.worlds ∙ x.3;
           definitions = subst (λ (ds : List Definition). AreAlike r.definitions 0 r.definitions ds) (sym m.definitions) x.4;
         },
         λ d. record {
-          packages = sym n.2;
+          packages = sym x.5;
           interfaces = sym x.2;
           worlds = sym x.3;
           definitions = sym (same-definitions r made.rows x.4 s.form d);
@@ -101,13 +101,13 @@ some-declared r [] at start (w ∷ ws) some = refl
 some-declared r (i ∷ is) at start ws some =
     let ds = rows_of r.definitions 0 i in
     let rest = interfaces_declared r (front_after r.definitions no_front ds) (end_of 0 i) is in
-    ap (λ (xs : List Decl). is_none (decls_of xs)) (append_assoc (interface_declarations r.definitions no_front ds (full_name r i)) rest (worlds_declared r at start ws))
+    ap (λ (xs : List Decl). is_none (decls_of xs)) (append_assoc (interface_declarations r.definitions no_front ds (interface_direction (own_package r.packages) i) (full_name r i)) rest (worlds_declared r at start ws))
     ∙ ap (λ (xs : List Decl). is_none (decls_of xs)) (append_assoc (aliases_of r.definitions ds) _ (rest ++ worlds_declared r at start ws)) ∙ some-decls (aliases_of r.definitions ds) _ _
 
 pub not-empty : (raw : RawComponent) (r : Resolve) → ComponentStands raw r → is_empty_package (file_view raw).types ≡ false
 not-empty raw r s =
     ap (λ (f : File). is_empty_package f.types) s.component
-    ∙ some-declared r r.interfaces (interfaces_front r.definitions no_front 0 r.interfaces) (interfaces_end 0 r.interfaces) r.worlds s.form.some
+    ∙ some-declared r r.interfaces (interfaces_front r.definitions no_front 0 r.interfaces) (interfaces_end 0 r.interfaces) r.worlds (some-part r s.form.closed)
 
 -- the worlds of these tables, as their names tell them
 abbrev names_in : List PackageParts → List Interface → List (List ℕ)
@@ -120,7 +120,7 @@ meanings ps is ws ds =
 -- the same tables have the same scopes
 pub same-scopes : (p r : Resolve) → IsSamePackage p r → package_scopes p ≡ package_scopes r
 same-scopes p r e =
-    λ j. table_scopes (e.definitions j) (e.interfaces j) (e.worlds j)
+    λ j. table_scopes (e.packages j) (e.definitions j) (e.interfaces j) (e.worlds j)
     (meanings (e.packages j) (e.interfaces j) (e.worlds j) (e.definitions j))
 
 -- names that differ are not told as standing twice

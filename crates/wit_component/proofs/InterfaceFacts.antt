@@ -17,7 +17,6 @@ use Rattle.package_form.specs.Unused.{are_used}
 use Rattle.wit_component.proofs.Ids.{passes, of-use, of-type, of-function, both-all, HasOwnIds, own-ids}
 use Rattle.wit_component.proofs.InterfaceEnds.{behind, end-behind, used-rest}
 use Rattle.wit_component.proofs.Located.{StandAt, rows-end, rows-split, rows-stand}
-use Rattle.package_form.proofs.OnePackage.{is_first}
 use Rattle.package_form.proofs.Lists.{list-grows}
 use Rattle.tables.proofs.Rows.{split, both}
 use Rattle.wit_component.proofs.RowFacts.{HasFacts}
@@ -28,7 +27,6 @@ use Rattle.wit_component.proofs.AcceptedRows.{is_use_def}
 pub record IsInterfaceAt (table : List Definition) (start k : ℕ) (i : Interface) : Type 0 where
   pub low : start ≤ end_of start i
   pub high : end_of start i ≤ length table
-  pub first : is_first i ≡ true
   pub ids : IsTrue (has_ids table start i)
   pub local : list_all (is_local table k) (rows_of table start i) ≡ true
   pub label : is_label i.name ≡ true

@@ -4,11 +4,14 @@ use Rattle.std.specs.Option.{option_map}
 use Rattle.std.proofs.lemmas.Bool.Decides.{nat_tests}
 use Rattle.std.proofs.lemmas.List.{length-map, get_or_append_left, get_or_push}
 use Rattle.atoms.specs.Label.{is_label}
-use Rattle.ctype_format.specs.Raw.{Decl, Instance, Entry, Export}
+use Rattle.ctype_format.specs.Raw.{Decl, Instance, Entry}
 use Rattle.ctype_format.specs.View.{decls_of}
 use Rattle.ctype_format.specs.declared.raw.RawDescription.TheVariants as described
 use Rattle.package_form.proofs.Lists.{get-front}
-use Rattle.package_form.specs.Ids.{places_where, package_id, type_id, function_id}
+use Rattle.package_form.specs.Ids.{places_where, type_id, function_id}
+use Rattle.tables.specs.declared.tables.PackageId.{PackageId}
+use Rattle.tables.specs.declared.tables.Direction.{Direction}
+use Rattle.tables.specs.declared.tables.Direction.TheVariants as direction
 use Rattle.tables.specs.declared.tables.TypeId.{TypeId}
 use Rattle.tables.specs.declared.tables.FunctionId.{FunctionId}
 use Rattle.tables.specs.declared.tables.InterfaceId.{InterfaceId}
@@ -18,11 +21,13 @@ use Rattle.tables.specs.declared.tables.Interface.{Interface}
 use Rattle.component_reader.specs.Instance.{if_found, InstanceRead, nothing_read, instance_read, type_named}
 use Rattle.component_reader.specs.Types.{found_in}
 use Rattle.component_reader.specs.World.{interface_at}
-use Rattle.component_reader.specs.Component.{ComponentRead, with_instance, interface_in, interface_named, with_interface, instance_exported, declarations_read}
-use Rattle.wit_component.specs.Component.{name_at, aliases_of, Front, first_place, interface_declarations, front_after}
+use Rattle.component_reader.specs.Component.{ComponentRead, with_instance, interface_in, package_named, with_package, last_package, interface_named, with_interface, instance_named, declaration_read, declarations_read}
+use Rattle.wit_component.specs.Component.{aliases_of, Front, first_place, interface_declarations, front_after}
+use Rattle.package_form.specs.Reached.{name_at}
 use Rattle.package_form.specs.Ends.{end_of, rows_of}
 use Rattle.package_form.proofs.Postfixed.{is_function}
 use Rattle.wit_component.specs.Rows.{declarations_of, places_after}
+use Rattle.wit_component.specs.Worlds.{directed}
 use Rattle.wit_component.proofs.AfterRows.{is_use_row, is_type_row, rows-rows, rows-uses, rows-types, rows-functions, alike-places, alike-length}
 use Rattle.wit_component.proofs.Alike.{AreAlike, none, one_more}
 use Rattle.wit_component.proofs.AliasesRead.{no_interfaces, with_types, aliases-length, aliases-read}
@@ -75,18 +80,17 @@ below-or-from i n = by (nat_lt i n) refl
     by true e = inl (grind (arith, nat_tests))
     by false e = inr (grind (arith, nat_tests))
 
-same-interface : (i : Interface) (n : List ℕ) (us ts : List TypeId) (fs : List FunctionId) → i.«package».0 ≡ 0 → n ≡ i.name → us ≡ i.uses → ts ≡ i.types → fs ≡ i.functions
-    → record { «package» = package_id 0; name = n; uses = us; types = ts; functions = fs } ≡ i
-same-interface i n us ts fs first a b c d = λ j. record { «package» = package_id (sym first j); name = a j; uses = b j; types = c j; functions = d j }
+same-interface : (i : Interface) (p : PackageId) (n : List ℕ) (us ts : List TypeId) (fs : List FunctionId) → p ≡ i.«package» → n ≡ i.name → us ≡ i.uses → ts ≡ i.types → fs ≡ i.functions
+    → record { «package» = p; name = n; uses = us; types = ts; functions = fs } ≡ i
+same-interface i p n us ts fs own a b c d = λ j. record { «package» = own j; name = a j; uses = b j; types = c j; functions = d j }
 
 module _ (table : List Definition) (at : Front) (k start : ℕ) (i : Interface) (is : IsInterfaceAt table start k i) where
   -- rows like the interface's give it again
-  interface-again : (es rows : List Definition) (text : List ℕ) → length rows ≡ start → AreRowsOf k es → AreAlike table start (rows_of table start i) es → interface_in text ≡ i.name
-      → interface_named text (rows_after k es (nothing_read rows)) ≡ i
-  interface-again es rows text len own alike name =
+  interface-again : (es rows : List Definition) (p : PackageId) (text : List ℕ) → p ≡ i.«package» → length rows ≡ start → AreRowsOf k es → AreAlike table start (rows_of table start i) es → interface_in text ≡ i.name
+      → interface_named p text (rows_after k es (nothing_read rows)) ≡ i
+  interface-again es rows p text of-package len own alike name =
       let ids = ids-own table start k i is in
-      let first = eqb-true i.«package».0 0 is.first in
-      same-interface i (interface_in text) (rows_after k es (nothing_read rows)).uses (rows_after k es (nothing_read rows)).types (rows_after k es (nothing_read rows)).functions first name
+      same-interface i p (interface_in text) (rows_after k es (nothing_read rows)).uses (rows_after k es (nothing_read rows)).types (rows_after k es (nothing_read rows)).functions of-package name
       (rows-uses k es own (nothing_read rows)
       ∙ ap (λ n. map type_id (places_where is_use_row n es)) len ∙ ap (map type_id) (sym (alike-places table is_use_row (λ x t u. refl) start (rows_of table start i) es alike)) ∙ ids.uses)
       (rows-types k es own (nothing_read rows)
@@ -158,9 +162,13 @@ module _ (table : List Definition) (at : Front) (k start : ℕ) (i : Interface) 
         by (inl l) = let early = has.lows t y l e in omega (arith, early)
         by (inr low) = let same = own t y low up e in omega (arith, same)
 
-    has-after : (text : List ℕ) → interface_in text ≡ i.name
+    -- its package
+    abbrev of_package : List ℕ → PackageId
+    of_package text = last_package (with_package s.packages (package_named text))
+
+    has-after : (text : List ℕ) → of_package text ≡ i.«package» → interface_in text ≡ i.name
         → HasReadTo table (front_after table at (rows_of table start i)) (k + 1) (end_of start i) (done ++ i ∷ []) (after text)
-    has-after text name = record {
+    has-after text own_package name = record {
       rows = subst (λ ds. AreAlike table 0 ds inside.rows) (rows-front table start i is.low is.high)
           (subst (λ es. AreAlike table 0 (take start table ++ rows_of table start i) es) (sym rows-told)
           (alike-append table 0 (take start table) s.rows (rows_of table start i) reread.0 has.rows
@@ -169,8 +177,8 @@ module _ (table : List Definition) (at : Front) (k start : ℕ) (i : Interface) 
       row_count = ends;
       types = length-append (s.indices ++ all_some found.0) (None ∷ [])
           ∙ omega (arith, length-append s.indices (all_some found.0), length-map found.0 (λ (u : TypeId). Some u), has.types, aliases-length table start k s.exports found.0 (rows_of table start i) found.1);
-      interfaces = ap (λ xs. s.interfaces ++ xs ∷ []) (interface-again reread.0 s.rows text has.row_count reread.2 reread.1 name) ∙ ap (λ xs. xs ++ i ∷ []) has.interfaces;
-      index = length-append s.interfaces (interface_named text inside ∷ []) ∙ ap (λ n. n + 1) has.index;
+      interfaces = ap (λ xs. s.interfaces ++ xs ∷ []) (interface-again reread.0 s.rows (of_package text) text own_package has.row_count reread.2 reread.1 name) ∙ ap (λ xs. xs ++ i ∷ []) has.interfaces;
+      index = length-append s.interfaces (interface_named (of_package text) text inside ∷ []) ∙ ap (λ n. n + 1) has.index;
       exports = length-append s.exports (inside.names ∷ []) ∙ ap (λ n. n + 1) has.exports;
       names = names-after;
       lows = lows-after;
@@ -202,19 +210,25 @@ module _ (table : List Definition) (at : Front) (k start : ℕ) (i : Interface) 
         front : start ≡ 0 + length (take start table)
         front = omega (arith, alike-length table 0 (take start table) s.rows has.rows, has.row_count)
 
-    interface-read : (text : List ℕ) → is_label text ≡ false → (more : List Decl)
-        → declarations_read (decls_of (interface_declarations table at (rows_of table start i) text ++ more)) s ≡ declarations_read (decls_of more) (after text)
-    interface-read text full more =
+    -- what is imported is read as what is exported
+    directed-read : (way : Direction) (text : List ℕ) (n : ℕ) (t : ComponentRead) → is_label text ≡ false → declaration_read (directed way text (described.Instance n)) t ≡ instance_named text t
+    directed-read direction.Import text n t full = ap (λ b. cond b None (instance_named text t)) full
+    directed-read direction.Export text n t full = ap (λ b. cond b None (instance_named text t)) full
+
+    interface-read : (way : Direction) (text : List ℕ) → is_label text ≡ false → (more : List Decl)
+        → declarations_read (decls_of (interface_declarations table at (rows_of table start i) way text ++ more)) s ≡ declarations_read (decls_of more) (after text)
+    interface-read way text full more =
         let ds = rows_of table start i in
         let body = decls_of (declarations_of (first_place at) ds) in
-        let export = Export text (described.Instance (at.types + length (aliases_of table ds))) in
+        let export = directed way text (described.Instance (at.types + length (aliases_of table ds))) in
         ap (λ es. declarations_read (decls_of es) s) (append_assoc (aliases_of table ds) (Entry (Instance body) ∷ export ∷ []) more)
         ∙ aliases-read table start k s.exports found.0 ds found.1 s refl (Entry (Instance body) ∷ export ∷ more)
         ∙ ap (λ n. if_found (option_map (with_instance (with_types s found.0)) (instance_read (s.indices ++ all_some found.0) n body s.rows)) (declarations_read (decls_of (export ∷ more)))) has.index
         ∙ ap (λ o. if_found (option_map (with_instance (with_types s found.0)) o) (declarations_read (decls_of (export ∷ more)))) reread.3
-        ∙ ap (λ b. if_found (cond b None (instance_exported text (with_instance (with_types s found.0) inside))) (declarations_read (decls_of more))) full
+        ∙ ap (λ o. if_found o (declarations_read (decls_of more))) (directed-read way text (at.types + length (aliases_of table ds)) (with_instance (with_types s found.0) inside) full)
 
-    pub interface-reread : (text : List ℕ) → is_label text ≡ false → interface_in text ≡ i.name
+    pub interface-reread : (way : Direction) (text : List ℕ) → is_label text ≡ false → of_package text ≡ i.«package» → interface_in text ≡ i.name
         → (s2 : ComponentRead) × HasReadTo table (front_after table at (rows_of table start i)) (k + 1) (end_of start i) (done ++ i ∷ []) s2
-        × ((more : List Decl) → declarations_read (decls_of (interface_declarations table at (rows_of table start i) text ++ more)) s ≡ declarations_read (decls_of more) s2)
-    interface-reread text full name = (after text, has-after text name, interface-read text full)
+        × ((more : List Decl) → declarations_read (decls_of (interface_declarations table at (rows_of table start i) way text ++ more)) s ≡ declarations_read (decls_of more) s2)
+        × (s2.packages ≡ with_package s.packages (package_named text))
+    interface-reread way text full own_package name = (after text, has-after text own_package name, interface-read way text full, refl)

@@ -16,7 +16,7 @@ use Rattle.tables.specs.declared.tables.Function.{Function}
 use Rattle.tables.specs.declared.tables.Definition.{Definition}
 use Rattle.tables.specs.declared.tables.Definition.TheVariants as row
 use Rattle.component_reader.specs.Instance.{Nothing, InstanceRead, named, type_named, with_unnamed, named_row, with_named, with_index, alias_to}
-use Rattle.wit_component.specs.Component.{name_of, name_at}
+use Rattle.package_form.specs.Reached.{name_of, name_at}
 use Rattle.component_reader.specs.Types.{row_at}
 use Rattle.wit_component.specs.Rows.{Place, defined_types, row_types, row_offset, place_after}
 use Rattle.wit_component.proofs.NamesKept.{named-found, named-other}

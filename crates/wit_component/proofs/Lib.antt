@@ -19,6 +19,7 @@ pub mod UsesFirst
 pub mod InterfaceEnds
 pub mod UsesFound
 pub mod FullNamesRead
+pub mod PackagesRead
 pub mod AliasesRead
 pub mod InterfaceFacts
 pub mod AlikeForm

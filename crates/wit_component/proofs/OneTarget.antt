@@ -13,7 +13,7 @@ use Rattle.package_form.specs.Scope.{AreDistinct}
 use Rattle.package_form.specs.Ids.{type_id}
 use Rattle.package_form.specs.Ends.{interfaces_end}
 use Rattle.package_form.proofs.Scopes.{interfaces-distinct}
-use Rattle.wit_component.specs.Component.{name_of, name_at}
+use Rattle.package_form.specs.Reached.{name_of, name_at}
 use Rattle.package_form.specs.Form.{IsInPackageForm}
 use Rattle.package_form.specs.Naming.{package_scopes}
 use Rattle.package_form.proofs.OneRow.{named, IsNamedAt, none-named, worlds-parted, unique}

@@ -15,7 +15,7 @@ use Rattle.tables.specs.declared.tables.Parameter.{Parameter}
 use Rattle.tables.specs.declared.tables.Definition.{Definition}
 use Rattle.tables.specs.declared.tables.Definition.TheVariants as row
 use Rattle.component_reader.specs.Instance.{Nothing, AType, InstanceRead, type_named, awaiting, with_unnamed, named_row, with_named, with_index, alias_to, function_row}
-use Rattle.wit_component.specs.Component.{name_at}
+use Rattle.package_form.specs.Reached.{name_at}
 use Rattle.component_reader.specs.Types.{row_at}
 use Rattle.package_form.specs.References.{kind_references, row_references}
 use Rattle.wit_component.specs.Rows.{Place}

@@ -6,34 +6,38 @@ use Rattle.std.proofs.lemmas.Bool.{leb-true, ltb-true, cases_lt}
 use Rattle.std.proofs.lemmas.List.{get_or-map}
 use Rattle.std.proofs.lemmas.Slice.Eq.{bytes_eq-Decides}
 use Rattle.atoms.specs.Label.{is_label}
-use Rattle.ctype_format.specs.Raw.{Decl, Instance, Entry, Export}
+use Rattle.ctype_format.specs.Raw.{Decl, Export}
 use Rattle.ctype_format.specs.View.{decls_of}
 use Rattle.ctype_format.specs.declared.raw.RawDescription.TheVariants as described
 use Rattle.tables.specs.PackageNames.{PackageParts, name_parts}
-use Rattle.tables.specs.Names.{full_name, world_name}
+use Rattle.tables.specs.Names.{full_name_in, full_name, world_name}
 use Rattle.tables.specs.Package.{interface_names}
-use Rattle.tables.specs.Tables.{are_earlier, is_placed, are_grouped, are_worlds_grouped}
+use Rattle.tables.specs.Tables.{are_earlier, is_placed, are_grouped}
+use Rattle.tables.specs.declared.tables.PackageId.{PackageId}
 use Rattle.tables.specs.declared.tables.TypeId.{TypeId}
 use Rattle.tables.specs.declared.tables.TypeName.{TypeName}
 use Rattle.tables.specs.declared.tables.Definition.{Definition}
 use Rattle.tables.specs.declared.tables.Interface.{Interface}
+use Rattle.tables.specs.declared.tables.Direction.{Direction}
 use Rattle.tables.specs.declared.tables.WorldItem.{WorldItem}
 use Rattle.tables.specs.declared.tables.World.{World}
 use Rattle.tables.specs.declared.tables.Resolve.{Resolve}
+use Rattle.tables.proofs.Earlier.{grouped-at}
 use Rattle.tables.proofs.Rows.{split}
+use Rattle.package_form.specs.Closed.{own_package, is_world_of, has_own, are_apart, has_each_package}
 use Rattle.package_form.specs.Ends.{end_of, rows_of, interfaces_end, world_end, world_rows, is_parted}
 use Rattle.package_form.specs.Form.{is_named, has_full_names, is_local, has_ids, are_interfaces, functions_of, IsInPackageForm}
 use Rattle.package_form.specs.Ids.{package_id, places_where}
+use Rattle.package_form.specs.Reached.{name_at}
 use Rattle.package_form.specs.Unused.{are_used}
-use Rattle.package_form.proofs.OnePackage.{single, is_first, all-first, first-place, own-full-name}
 use Rattle.package_form.proofs.OneRow.{none-named, worlds-parted}
+use Rattle.package_form.proofs.OwnPackage.{package-there, packages-apart, each-package, own-worlds, own-part, some-package}
 use Rattle.package_form.proofs.Postfix.{postfix-used}
 use Rattle.component_reader.specs.Instance.{if_found, nothing_read}
 use Rattle.component_reader.specs.World.{no_world, world_read}
-use Rattle.component_reader.specs.Component.{ComponentRead, no_component, with_component, interface_in, world_named, with_world, component_exported, declarations_read, package_named, first_of, first_full_name}
+use Rattle.component_reader.specs.Component.{ComponentRead, no_component, with_component, interface_in, package_named, with_package, last_package, world_named, with_world, component_exported, declarations_read}
 use Rattle.component_reader.proofs.ExportNames.{no-label}
-use Rattle.wit_component.specs.Component.{name_at, instance_export, used_in, aliases_of, Front, no_front, first_place, interface_declarations, front_after, interfaces_declared, interfaces_front, surroundings, world_declarations, world_front, worlds_declared, package_declarations}
-use Rattle.wit_component.specs.Rows.{declarations_of}
+use Rattle.wit_component.specs.Component.{Front, no_front, first_place, interface_direction, interface_declarations, front_after, interfaces_declared, interfaces_front, surroundings, world_declarations, world_front, worlds_declared, package_declarations}
 use Rattle.wit_component.specs.ToComponent.{is_labelled, are_labelled, are_worlds_labelled}
 use Rattle.wit_component.specs.Worlds.{items_declared}
 use Rattle.wit_component.proofs.AfterRows.{alike-length}
@@ -42,14 +46,17 @@ use Rattle.wit_component.proofs.FullNamesRead.{full-name-cut, full-no-label}
 use Rattle.wit_component.proofs.InterfaceFacts.{IsInterfaceAt, next-earlier, next-used}
 use Rattle.wit_component.proofs.InterfaceReading.{alike-append, KnowsInterfaces, interface-more, HasReadTo, interface-reread}
 use Rattle.wit_component.proofs.OneTarget.{named-row}
+use Rattle.wit_component.proofs.PackagesRead.{HasPackages, package-next, packages_after, all-come, own-comes}
 use Rattle.wit_component.proofs.Readable.{is_inside, HasRead}
 use Rattle.wit_component.proofs.RowsBetween.{rest-is}
 use Rattle.wit_component.proofs.WorldItems.{AreWorlds, IsWorldAt, world-first, worlds-later, world-length}
 use Rattle.wit_component.proofs.WorldReading.{WorldRows, ItemsRead, items-reread}
 
 -- what is known of these interfaces, the first of which is interface k and whose rows begin at start
-record AreInterfaces (table : List Definition) (ws : List World) (k start : ℕ) (is : List Interface) : Type 0 where
-  first : list_all is_first is ≡ true
+record AreInterfaces (count last first next : ℕ) (table : List Definition) (ws : List World) (k start : ℕ) (is : List Interface) : Type 0 where
+  grouped : are_grouped count first is ≡ true
+  each : has_each_package last next is ≡ true
+  near : next ≤ first + 1
   form : are_interfaces table k start is ≡ true
   parted : is_parted (length table) start is ws ≡ true
   labels : are_labelled table start is ≡ true
@@ -57,7 +64,19 @@ record AreInterfaces (table : List Definition) (ws : List World) (k start : ℕ)
   earlier : are_earlier start (drop start table) ≡ true
   used : are_used table start [] (drop start table) ≡ true
 
-module _ (table : List Definition) (ws : List World) (k start : ℕ) (i : Interface) (is : List Interface) (are : AreInterfaces table ws k start (i ∷ is)) where
+module _ (count last first next : ℕ) (table : List Definition) (ws : List World) (k start : ℕ) (i : Interface) (is : List Interface) (are : AreInterfaces count last first next table ws k start (i ∷ is)) where
+  place : ((nat_le first i.«package».0 && nat_lt i.«package».0 count) ≡ true) × (are_grouped count i.«package».0 is ≡ true)
+  place = split (nat_le first i.«package».0 && nat_lt i.«package».0 count) (are_grouped count i.«package».0 is) are.grouped
+
+  behind-first : first ≤ i.«package».0
+  behind-first = leb-true first i.«package».0 (split (nat_le first i.«package».0) (nat_lt i.«package».0 count) place.0).0
+
+  of-package : i.«package».0 < count
+  of-package = ltb-true i.«package».0 count (split (nat_le first i.«package».0) (nat_lt i.«package».0 count) place.0).1
+
+  to-next : i.«package».0 ≤ next
+  to-next = leb-true i.«package».0 next (split (nat_le i.«package».0 next) (has_each_package last (i.«package».0 + 1) is) are.each).0
+
   head : IsInterfaceAt table start k i
   head =
       let form = split (has_ids table start i) _ (split (has_ids table start i && list_all (is_local table k) (rows_of table start i)) _ are.form).0 in
@@ -67,7 +86,6 @@ module _ (table : List Definition) (ws : List World) (k start : ℕ) (i : Interf
       record {
         low = leb-true start (end_of start i) parted.0;
         high = leb-true (end_of start i) (length table) high.0;
-        first = (split (is_first i) _ are.first).0;
         ids = form.0;
         local = form.1;
         label = labels.0;
@@ -77,9 +95,11 @@ module _ (table : List Definition) (ws : List World) (k start : ℕ) (i : Interf
         used = are.used;
       }
 
-  tail : AreInterfaces table ws (k + 1) (end_of start i) is
+  tail : AreInterfaces count last i.«package».0 (i.«package».0 + 1) table ws (k + 1) (end_of start i) is
   tail = record {
-    first = (split (is_first i) _ are.first).1;
+    grouped = place.1;
+    each = (split (nat_le i.«package».0 next) (has_each_package last (i.«package».0 + 1) is) are.each).1;
+    near = omega arith;
     form = (split (has_ids table start i && list_all (is_local table k) (rows_of table start i)) _ are.form).1;
     parted = (split (nat_le (end_of start i) (length table)) _ (split (nat_le start (end_of start i)) _ are.parted).1).1;
     labels = (split (is_label i.name && list_all is_labelled (rows_of table start i)) _ are.labels).1;
@@ -92,47 +112,61 @@ module _ (table : List Definition) (ws : List World) (k start : ℕ) (i : Interf
 abbrev as_interface : World → Interface
 as_interface w = record { «package» = w.«package»; name = w.name; uses = []; types = []; functions = [] }
 
-same-world : (w : World) (n : List ℕ) (is : List WorldItem) → w.«package».0 ≡ 0 → n ≡ w.name → is ≡ w.items → record { «package» = package_id 0; name = n; items = is } ≡ w
-same-world w n is first a b = λ j. record { «package» = package_id (sym first j); name = a j; items = b j }
+same-world : (w : World) (p : PackageId) (n : List ℕ) (is : List WorldItem) → p ≡ w.«package» → n ≡ w.name → is ≡ w.items → record { «package» = p; name = n; items = is } ≡ w
+same-world w p n is own a b = λ j. record { «package» = own j; name = a j; items = b j }
 
-module _ (r : Resolve) (p : PackageParts) (one : r.packages ≡ p ∷ []) (names : IsTrue (has_full_names r)) where
+module _ (r : Resolve) (names : IsTrue (has_full_names r)) (apart : are_apart r.packages ≡ true) where
   abbrev table : List Definition
   table = r.definitions
 
   -- these interfaces were read, whatever follows them
-  record InterfacesRead (at : Front) (k start : ℕ) (is done : List Interface) (s : ComponentRead) : Type 0 where
+  record InterfacesRead (at : Front) (next k start : ℕ) (is done : List Interface) (s : ComponentRead) : Type 0 where
     state : ComponentRead
+    packages : HasPackages r.packages (packages_after next is) state.packages
     has : HasReadTo table (interfaces_front table at start is) (k + length is) (interfaces_end start is) (done ++ is) state
     read : (more : List Decl) → declarations_read (decls_of (interfaces_declared r at start is ++ more)) s ≡ declarations_read (decls_of more) state
     earlier : are_earlier (interfaces_end start is) (drop (interfaces_end start is) table) ≡ true
     used : are_used table (interfaces_end start is) [] (drop (interfaces_end start is) table) ≡ true
 
-  interfaces-reread : (is : List Interface) (at : Front) (k start : ℕ) (done : List Interface) (s : ComponentRead) → AreInterfaces table r.worlds k start is → HasReadTo table at k start done s
-      → InterfacesRead at k start is done s
-  interfaces-reread [] at k start done s are has =
+  abbrev way : Interface → Direction
+  way i = interface_direction (own_package r.packages) i
+
+  interfaces-reread : (last first next : ℕ) (is : List Interface) (at : Front) (k start : ℕ) (done : List Interface) (s : ComponentRead)
+      → AreInterfaces (length r.packages) last first next table r.worlds k start is → HasPackages r.packages next s.packages → HasReadTo table at k start done s
+      → InterfacesRead at next k start is done s
+  interfaces-reread last first next [] at k start done s are packages has =
       let same : k ≡ k + 0 = omega arith in
       record {
         state = s;
+        packages = packages;
         has = subst (λ (n : ℕ). HasReadTo table at n start (done ++ []) s) same (subst (λ (is : List Interface). HasReadTo table at k start is s) (sym (append-nil done)) has);
         read = λ more. refl;
         earlier = are.earlier;
         used = are.used;
       }
-  interfaces-reread (i ∷ is) at k start done s are has =
-      let here = head table r.worlds k start i is are in
-      let first = eqb-true i.«package».0 0 here.first in
-      let own = interface-reread table at k start i here done s has (full_name r i)
-      (full-no-label r p one i first names here.label) (full-name-cut r p one i first names here.label).1 in
+  interfaces-reread last first next (i ∷ is) at k start done s are packages has =
+      let count = length r.packages in
+      let here = head count last first next table r.worlds k start i is are in
+      let p = package-there r.packages i.«package».0 (of-package count last first next table r.worlds k start i is are) in
+      let cut = full-name-cut r p.0 i p.1 names here.label in
+      let low = behind-first count last first next table r.worlds k start i is are in
+      let near = are.near in
+      let step = package-next r.packages apart i.«package».0 p.0 p.1 next s.packages packages (to-next count last first next table r.worlds k start i is are) (omega (arith, low, near)) in
+      let told : with_package s.packages p.0 ≡ with_package s.packages (package_named (full_name r i)) = ap (with_package s.packages) (sym cut.0) in
+      let own = interface-reread table at k start i here done s has (way i) (full_name r i) (full-no-label r p.0 i p.1 names here.label) (ap last_package (sym told) ∙ step.1) cut.1 in
       let ds = rows_of table start i in
       let rest = interfaces_declared r (front_after table at ds) (end_of start i) is in
-      let all = interfaces-reread is (front_after table at ds) (k + 1) (end_of start i) (done ++ i ∷ []) own.0 (tail table r.worlds k start i is are) own.1 in
-      let count : k + 1 + length is ≡ k + length (i ∷ is) = omega arith in
+      let after : HasPackages r.packages (i.«package».0 + 1) own.0.packages = subst (HasPackages r.packages (i.«package».0 + 1)) (told ∙ sym own.3) step.0 in
+      let all = interfaces-reread last i.«package».0 (i.«package».0 + 1) is (front_after table at ds) (k + 1) (end_of start i) (done ++ i ∷ []) own.0
+      (tail count last first next table r.worlds k start i is are) after own.1 in
+      let counted : k + 1 + length is ≡ k + length (i ∷ is) = omega arith in
       record {
         state = all.state;
-        has = subst (λ (n : ℕ). HasReadTo table (interfaces_front table at start (i ∷ is)) n (interfaces_end start (i ∷ is)) (done ++ i ∷ is) all.state) count
+        packages = all.packages;
+        has = subst (λ (n : ℕ). HasReadTo table (interfaces_front table at start (i ∷ is)) n (interfaces_end start (i ∷ is)) (done ++ i ∷ is) all.state) counted
             (subst (λ (xs : List Interface). HasReadTo table (interfaces_front table at start (i ∷ is)) (k + 1 + length is) (interfaces_end start (i ∷ is)) xs all.state) (append_assoc done (i ∷ []) is) all.has);
         read = λ more.
-            ap (λ ds. declarations_read (decls_of ds) s) (append_assoc (interface_declarations table at ds (full_name r i)) rest more) ∙ own.2 (rest ++ more) ∙ all.read more;
+            ap (λ ds. declarations_read (decls_of ds) s) (append_assoc (interface_declarations table at ds (way i) (full_name r i)) rest more) ∙ own.2 (rest ++ more) ∙ all.read more;
         earlier = all.earlier;
         used = all.used;
       }
@@ -143,10 +177,16 @@ module _ (r : Resolve) (p : PackageParts) (one : r.packages ≡ p ∷ []) (names
   abbrev count : ℕ
   count = length r.interfaces
 
-  module _ (lows : (t : TypeId) (y : TypeName) → name_at table (Some t) ≡ Some y → y.interface.0 < count)
+  -- the own package
+  abbrev own_place : ℕ
+  own_place = own_package r.packages
+
+  module _ (p : PackageParts) (there : slice_get r.packages own_place ≡ Some p) (lows : (t : TypeId) (y : TypeName) → name_at table (Some t) ≡ Some y → y.interface.0 < count)
       (full : (i : ℕ) → i < count → is_label (slice_index_or (interface_names r) i []) ≡ false) where
     -- what was read of the worlds before world w, whose rows end before start
-    record HasWorldsTo (at : Front) (w start : ℕ) (done : List World) (s : ComponentRead) : Type 0 where
+    record HasWorldsTo (at : Front) (next w start : ℕ) (done : List World) (s : ComponentRead) : Type 0 where
+      packages : HasPackages r.packages next s.packages
+      near : own_place ≤ next
       rows : AreAlike table 0 (take start table) s.rows
       count_before : length at.indices ≡ start
       row_count : length s.rows ≡ start
@@ -157,8 +197,8 @@ module _ (r : Resolve) (p : PackageParts) (one : r.packages ≡ p ∷ []) (names
       earlier : are_earlier start (drop start table) ≡ true
       used : are_used table start [] (drop start table) ≡ true
 
-    module _ (x : World) (w start : ℕ) (at : Front) (done : List World) (s : ComponentRead) (is : IsWorldAt table count w start x) (first : x.«package».0 ≡ 0)
-        (labels : (is_label x.name ≡ true) × (list_all is_labelled (world_rows table start x) ≡ true)) (has : HasWorldsTo at w start done s) where
+    module _ (x : World) (next w start : ℕ) (at : Front) (done : List World) (s : ComponentRead) (is : IsWorldAt table count w start x) (mine : x.«package».0 ≡ own_place)
+        (labels : (is_label x.name ≡ true) × (list_all is_labelled (world_rows table start x) ≡ true)) (has : HasWorldsTo at next w start done s) where
       abbrev own : List Definition
       own = world_rows table start x
 
@@ -202,8 +242,20 @@ module _ (r : Resolve) (p : PackageParts) (one : r.packages ≡ p ∷ []) (names
       abbrev after : ComponentRead
       after = with_world (world_name r x) (with_component s items.state) items.state
 
+      at_place : slice_get r.packages x.«package».0 ≡ Some p
+      at_place = ap (slice_get r.packages) mine ∙ there
+
       cut : (package_named (world_name r x) ≡ p) × (interface_in (world_name r x) ≡ x.name)
-      cut = full-name-cut r p one (as_interface x) first names labels.0
+      cut = full-name-cut r p (as_interface x) at_place names labels.0
+
+      step : HasPackages r.packages (own_place + 1) (with_package s.packages p) × (last_package (with_package s.packages p) ≡ package_id own_place)
+      step = package-next r.packages apart own_place p there next s.packages has.packages has.near (let within = has.packages.within in omega (arith, within))
+
+      told : with_package s.packages p ≡ with_package s.packages (package_named (world_name r x))
+      told = ap (with_package s.packages) (sym cut.0)
+
+      its-package : last_package (with_package s.packages (package_named (world_name r x))) ≡ x.«package»
+      its-package = ap last_package (sym told) ∙ step.1 ∙ ap package_id (sym mine)
 
       ends : length items.state.inside.rows ≡ world_end start x
       ends = ap length items.told ∙ length-append s.rows items.rows
@@ -216,19 +268,22 @@ module _ (r : Resolve) (p : PackageParts) (one : r.packages ≡ p ∷ []) (names
           ap (λ n. if_found (option_map (with_component s) (world_read s.instances n body s.rows)) (declarations_read (decls_of (export ∷ more)))) has.index
           ∙ ap (λ o. if_found (option_map (with_component s) o) (declarations_read (decls_of (export ∷ more)))) items.read
           ∙ ap (λ b. if_found (cond b None (component_exported (world_name r x) (with_component s items.state))) (declarations_read (decls_of more)))
-          (full-no-label r p one (as_interface x) first names labels.0)
+          (full-no-label r p (as_interface x) at_place names labels.0)
 
-      has-after : HasWorldsTo (world_front table at start x) (w + 1) (world_end start x) (done ++ x ∷ []) after
+      has-after : HasWorldsTo (world_front table at start x) (own_place + 1) (w + 1) (world_end start x) (done ++ x ∷ []) after
       has-after = record {
+        packages = subst (HasPackages r.packages (own_place + 1)) told step.0;
+        near = omega arith;
         rows = subst (λ (ds : List Definition). AreAlike table 0 ds items.state.inside.rows) front-is
             (subst (λ (es : List Definition). AreAlike table 0 (take start table ++ own) es) (sym items.told)
             (alike-append table 0 (take start table) s.rows own items.rows has.rows (subst (λ (n : ℕ). AreAlike table n own items.rows) from items.alike)));
         count_before = sym items.kept.rows ∙ ends;
         row_count = ends;
         interfaces = has.interfaces;
-        worlds = ap (λ (xs : List World). xs ++ world_named (world_name r x) items.state ∷ []) has.worlds
-            ∙ ap (λ (v : World). done ++ v ∷ []) (same-world x (interface_in (world_name r x)) items.state.items first cut.1 items.items);
-        index = length-append s.worlds (world_named (world_name r x) items.state ∷ []) ∙ ap (λ (n : ℕ). n + 1) has.index;
+        worlds = ap (λ (xs : List World). xs ++ world_named (last_package (with_package s.packages (package_named (world_name r x)))) (world_name r x) items.state ∷ []) has.worlds
+            ∙ ap (λ (v : World). done ++ v ∷ [])
+            (same-world x (last_package (with_package s.packages (package_named (world_name r x)))) (interface_in (world_name r x)) items.state.items its-package cut.1 items.items);
+        index = length-append s.worlds (world_named (last_package (with_package s.packages (package_named (world_name r x)))) (world_name r x) items.state ∷ []) ∙ ap (λ (n : ℕ). n + 1) has.index;
         known = λ j low. interface-more s.instances (None ∷ []) _ _ (has.known j low);
         earlier = subst (λ (n : ℕ). are_earlier n later ≡ true) (world-length table start x is.low is.high) items.earlier;
         used = subst (λ (n : ℕ). are_used table n [] later ≡ true) (world-length table start x is.low is.high) items.used;
@@ -240,36 +295,59 @@ module _ (r : Resolve) (p : PackageParts) (one : r.packages ≡ p ∷ []) (names
           front-is : take start table ++ own ≡ take (world_end start x) table
           front-is = sym (take-add start (world_end start x - start) table) ∙ ap (λ n. take n table) (let low = is.low in omega (arith, low))
 
-    worlds-reread : (ws : List World) (w start : ℕ) (at : Front) (done : List World) (s : ComponentRead) → AreWorlds table count w start ws → are_worlds_grouped 1 0 ws ≡ true
-        → are_worlds_labelled table start ws ≡ true → HasWorldsTo at w start done s
+    -- how many packages have come with these worlds
+    packages_behind : ℕ → List World → ℕ
+    packages_behind next [] = next
+    packages_behind next (x ∷ ws) = packages_behind (own_place + 1) ws
+
+    worlds-reread : (ws : List World) (next w start : ℕ) (at : Front) (done : List World) (s : ComponentRead) → AreWorlds table count w start ws → list_all (is_world_of own_place) ws ≡ true
+        → are_worlds_labelled table start ws ≡ true → HasWorldsTo at next w start done s
         → (s2 : ComponentRead) × (declarations_read (decls_of (worlds_declared r at start ws)) s ≡ Some s2) × (s2.interfaces ≡ r.interfaces) × (s2.worlds ≡ done ++ ws) × AreAlike table 0 table s2.rows
-    worlds-reread [] w start at done s are grouped labels has =
+        × HasPackages r.packages (packages_behind next ws) s2.packages
+    unfolding packages_behind
+    worlds-reread [] next w start at done s are mine labels has =
         let whole : take start table ≡ table = take-whole start table (eqb-true start (length table) are.parted) in
-        (s, refl, has.interfaces, has.worlds ∙ sym (append-nil done), subst (λ (ds : List Definition). AreAlike table 0 ds s.rows) whole has.rows)
+        (s, refl, has.interfaces, has.worlds ∙ sym (append-nil done), subst (λ (ds : List Definition). AreAlike table 0 ds s.rows) whole has.rows, has.packages)
       where
         take-whole : (n : ℕ) (ds : List Definition) → n ≡ length ds → take n ds ≡ ds
         take-whole n ds e = take_all n ds (omega (arith, e))
-    worlds-reread (x ∷ ws) w start at done s are grouped labels has =
+    worlds-reread (x ∷ ws) next w start at done s are mine labels has =
         let own = world-first table count w start x ws are in
-        let g = split (nat_le 0 x.«package».0 && nat_lt x.«package».0 1) (are_worlds_grouped 1 x.«package».0 ws) grouped in
-        let below = ltb-true x.«package».0 1 (split (nat_le 0 x.«package».0) _ g.0).1 in
-        let first : x.«package».0 ≡ 0 = omega (arith, below) in
+        let g = split (is_world_of own_place x) (list_all (is_world_of own_place) ws) mine in
+        let first = eqb-true x.«package».0 own_place g.0 in
         let l = split (is_label x.name && list_all is_labelled (world_rows table start x)) (are_worlds_labelled table (world_end start x) ws) labels in
         let named = split (is_label x.name) (list_all is_labelled (world_rows table start x)) l.0 in
-        let all = worlds-reread ws (w + 1) (world_end start x) (world_front table at start x) (done ++ x ∷ []) (after x w start at done s own first named has)
-        (worlds-later table count w start x ws are) (subst (λ (n : ℕ). are_worlds_grouped 1 n ws ≡ true) first g.1) l.1 (has-after x w start at done s own first named has) in (
+        let all = worlds-reread ws (own_place + 1) (w + 1) (world_end start x) (world_front table at start x) (done ++ x ∷ []) (after x next w start at done s own first named has)
+        (worlds-later table count w start x ws are) g.1 l.1 (has-after x next w start at done s own first named has) in (
           all.0,
-          world-read x w start at done s own first named has (worlds_declared r (world_front table at start x) (world_end start x) ws) ∙ all.1,
+          world-read x next w start at done s own first named has (worlds_declared r (world_front table at start x) (world_end start x) ws) ∙ all.1,
           all.2,
           all.3 ∙ append_assoc done (x ∷ []) ws,
           all.4,
+          all.5,
         )
+
+    -- all of them, where there is an own interface or a world
+    all-behind : (next : ℕ) (ws : List World) → 0 < length ws → packages_behind next ws ≡ own_place + 1
+    unfolding packages_behind
+    all-behind next [] some = absurd (omega (arith, some))
+    all-behind next (x ∷ []) some = refl
+    all-behind next (x ∷ y ∷ ws) some = all-behind (own_place + 1) (y ∷ ws) (omega arith)
+
+    none-behind : (next : ℕ) → packages_behind next [] ≡ next
+    unfolding packages_behind
+    none-behind next = refl
 
 module _ (r : Resolve) (form : IsInPackageForm r) (labels : IsTrue (are_labelled r.definitions 0 r.interfaces))
     (world_labels : IsTrue (are_worlds_labelled r.definitions (interfaces_end 0 r.interfaces) r.worlds)) where
-  all-interfaces : AreInterfaces r.definitions r.worlds 0 0 r.interfaces
+  apart : are_apart r.packages ≡ true
+  apart = packages-apart r form.closed
+
+  all-interfaces : AreInterfaces (length r.packages) (own_package r.packages) 0 0 r.definitions r.worlds 0 0 r.interfaces
   all-interfaces = record {
-    first = all-first 0 r.interfaces (subst (λ (n : ℕ). IsTrue (are_grouped n 0 r.interfaces)) form.alone r.grouped);
+    grouped = r.grouped;
+    each = each-package r form.closed;
+    near = omega arith;
     form = form.interfaces;
     parted = form.parted;
     labels = labels;
@@ -295,14 +373,12 @@ module _ (r : Resolve) (form : IsInPackageForm r) (labels : IsTrue (are_labelled
     known = λ j low. absurd (omega (arith, low));
   }
 
-  abbrev one : (p : PackageParts) × (r.packages ≡ p ∷ [])
-  one = single r.packages form.alone
-
   abbrev end : ℕ
   end = interfaces_end 0 r.interfaces
 
-  interfaces : InterfacesRead r one.0 one.1 form.names no_front 0 0 r.interfaces [] no_component
-  interfaces = interfaces-reread r one.0 one.1 form.names r.interfaces no_front 0 0 [] no_component all-interfaces begun
+  interfaces : InterfacesRead r form.names apart no_front 0 0 0 r.interfaces [] no_component
+  interfaces =
+      interfaces-reread r form.names apart (own_package r.packages) 0 0 r.interfaces no_front 0 0 [] no_component all-interfaces (record { read_are = refl; within = omega arith }) begun
 
   all-worlds : AreWorlds r.definitions (length r.interfaces) 0 end r.worlds
   all-worlds = record { parted = worlds-parted r.definitions 0 r.interfaces r.worlds form.parted; items = form.worlds; placed = r.worlds_placed }
@@ -326,16 +402,31 @@ module _ (r : Resolve) (form : IsInPackageForm r) (labels : IsTrue (are_labelled
           past (x ∷ is) (suc n) e = omega (arith, past is n e)
       by (Some x) e =
           let at = get-interface r.interfaces i x e in
-          let first = first-place r one.0 one.1 x (i, low, at x) in
-          ap is_label (get_or-map (full_name r) r.interfaces i x [] low ∙ ap (full_name r) (at x) ∙ own-full-name r one.0 one.1 x first) ∙ no-label (name_parts one.0 x.name)
+          let p = package-there r.packages x.«package».0 (grouped-at (length r.packages) 0 r.interfaces i x r.grouped low (at x)) in
+          ap is_label (get_or-map (full_name r) r.interfaces i x [] low ∙ ap (full_name r) (at x) ∙ ap (λ (o : Option PackageParts). full_name_in o x.name) p.1) ∙ no-label (name_parts p.0 x.name)
         where
           get-interface : (is : List Interface) (n : ℕ) (x : Interface) → slice_get is n ≡ Some x → (y : Interface) → get_or is n y ≡ x
           get-interface [] n x e y = absurd (cc)
           get-interface (z ∷ is) zero x e y = cc
           get-interface (z ∷ is) (suc n) x e y = get-interface is n x e y
 
-  begun-worlds : HasWorldsTo r one.0 one.1 form.names lows full (interfaces_front r.definitions no_front 0 r.interfaces) 0 end [] interfaces.state
+  abbrev own_index : ℕ
+  own_index = own_package r.packages
+
+  some : 0 < length r.packages
+  some = some-package r form.closed
+
+  mine : (p : PackageParts) × (slice_get r.packages own_index ≡ Some p)
+  mine = package-there r.packages own_index (omega (arith, some))
+
+  -- the packages that came with the interfaces
+  abbrev come : ℕ
+  come = packages_after 0 r.interfaces
+
+  begun-worlds : HasWorldsTo r form.names apart mine.0 mine.1 lows full (interfaces_front r.definitions no_front 0 r.interfaces) come 0 end [] interfaces.state
   begun-worlds = record {
+    packages = interfaces.packages;
+    near = all-come own_index 0 r.interfaces (each-package r form.closed);
     rows = interfaces.has.rows;
     count_before = interfaces.has.count;
     row_count = interfaces.has.row_count;
@@ -347,69 +438,25 @@ module _ (r : Resolve) (form : IsInPackageForm r) (labels : IsTrue (are_labelled
     used = interfaces.used;
   }
 
-  pub reread : (s : ComponentRead) × (declarations_read (decls_of (package_declarations r)) no_component ≡ Some s)
-      × (s.interfaces ≡ r.interfaces) × (s.worlds ≡ r.worlds) × AreAlike r.definitions 0 r.definitions s.rows
-  reread =
-      let worlds = worlds-reread r one.0 one.1 form.names lows full r.worlds 0 end (interfaces_front r.definitions no_front 0 r.interfaces) [] interfaces.state all-worlds
-      (subst (λ (n : ℕ). IsTrue (are_worlds_grouped n 0 r.worlds)) form.alone r.worlds_grouped) world_labels begun-worlds in
-      (worlds.0, interfaces.read (worlds_declared r (interfaces_front r.definitions no_front 0 r.interfaces) end r.worlds) ∙ worlds.1, worlds.2, worlds.3, worlds.4)
-
--- ---- the package's name
-
--- aliases export nothing
-aliases-no-name : (rows : List Definition) (ds : List Definition) (more : List Decl) → first_full_name (decls_of (aliases_of rows ds ++ more)) ≡ first_full_name (decls_of more)
-aliases-no-name rows [] more = refl
-aliases-no-name rows (d ∷ ds) more = by (name_at rows (used_in d)) ∙ aliases-no-name rows ds more
-  where
-    by : (o : Option TypeName) → first_full_name (decls_of ((instance_export o ++ aliases_of rows ds) ++ more)) ≡ first_full_name (decls_of (aliases_of rows ds ++ more))
-    by None = refl
-    by (Some y) = refl
-
-module _ (r : Resolve) (form : IsInPackageForm r) (labels : IsTrue (are_labelled r.definitions 0 r.interfaces))
-    (world_labels : IsTrue (are_worlds_labelled r.definitions (interfaces_end 0 r.interfaces) r.worlds)) where
-  abbrev only : (p : PackageParts) × (r.packages ≡ p ∷ [])
-  only = single r.packages form.alone
-
-  abbrev FirstName : List Decl → Type 0
-  FirstName ds = (text : List ℕ) × (first_full_name (decls_of ds) ≡ Some text) × (package_named text ∷ [] ≡ r.packages)
-
-  -- a package without interfaces has the name of its first world
-  world-name-reread : (at : Front) (start : ℕ) (ws : List World) → 0 < length ws → are_worlds_grouped 1 0 ws ≡ true → IsTrue (are_worlds_labelled r.definitions start ws) → FirstName (worlds_declared r at start ws)
-  world-name-reread at start [] some grouped labels = absurd (omega (arith, some))
-  world-name-reread at start (x ∷ ws) some grouped labels =
-      let label = (split (is_label x.name) _ (split (is_label x.name && list_all is_labelled (world_rows r.definitions start x)) _ labels).0).0 in
-      let below = ltb-true x.«package».0 1 (split (nat_le 0 x.«package».0) _ (split (nat_le 0 x.«package».0 && nat_lt x.«package».0 1) (are_worlds_grouped 1 x.«package».0 ws) grouped).0).1 in
-      let first : x.«package».0 ≡ 0 = omega (arith, below) in
-      let rest = worlds_declared r (world_front r.definitions at start x) (world_end start x) ws in (
-        world_name r x,
-        ap (λ b. first_of (cond b None (Some (world_name r x))) (first_full_name (decls_of rest))) (full-no-label r only.0 only.1 (as_interface x) first form.names label),
-        ap (λ (p : PackageParts). p ∷ []) (full-name-cut r only.0 only.1 (as_interface x) first form.names label).0 ∙ sym only.1,
-      )
-
-  -- the first full name that is exported has the name of the package
-  pub name-reread : FirstName (package_declarations r)
-  name-reread = by r.interfaces refl (all-interfaces r form labels world_labels).first labels
+  -- the own package came with an interface or a world
+  all-packages : (s : ComponentRead) → HasPackages r.packages (packages_behind r form.names apart mine.0 mine.1 lows full come r.worlds) s.packages → s.packages ≡ r.packages
+  all-packages s has = has.read_are ∙ take_all (packages_behind r form.names apart mine.0 mine.1 lows full come r.worlds) r.packages (omega (arith, some, by r.worlds (own-part r form.closed)))
     where
-      worlds : List Decl
-      worlds = worlds_declared r (interfaces_front r.definitions no_front 0 r.interfaces) (interfaces_end 0 r.interfaces) r.worlds
+      by : (ws : List World) → has_own own_index r.interfaces ws ≡ true → own_index + 1 ≤ packages_behind r form.names apart mine.0 mine.1 lows full come ws
+      by [] h =
+          let none = none-behind r form.names apart mine.0 mine.1 lows full come in
+          omega (arith, none, own-comes (length r.packages) own_index 0 0 r.interfaces r.grouped h)
+      by (w ∷ ws) h = omega (arith, all-behind r form.names apart mine.0 mine.1 lows full come (w ∷ ws) (omega arith))
 
-      by : (is : List Interface) → r.interfaces ≡ is → list_all is_first is ≡ true → IsTrue (are_labelled r.definitions 0 is) → FirstName (interfaces_declared r no_front 0 is ++ worlds)
-      by [] empty first labels =
-          world-name-reread (interfaces_front r.definitions no_front 0 r.interfaces) (interfaces_end 0 r.interfaces) r.worlds
-          (omega (arith, form.some, ap (λ (is : List Interface). length is) empty))
-          (subst (λ (n : ℕ). IsTrue (are_worlds_grouped n 0 r.worlds)) form.alone r.worlds_grouped) world_labels
-      by (i ∷ is) some first labels =
-          let label = (split (is_label i.name) _ (split (is_label i.name && list_all is_labelled (rows_of r.definitions 0 i)) _ labels).0).0 in
-          let here = eqb-true i.«package».0 0 (split (is_first i) _ first).0 in
-          let cut = full-name-cut r only.0 only.1 i here form.names label in
-          let ds = rows_of r.definitions 0 i in
-          let body = decls_of (declarations_of (first_place no_front) ds) in
-          let export = Export (full_name r i) (described.Instance (0 + length (aliases_of r.definitions ds))) in
-          let rest = interfaces_declared r (front_after r.definitions no_front ds) (end_of 0 i) is in (
-            full_name r i,
-            ap (λ es. first_full_name (decls_of es)) (append_assoc (interface_declarations r.definitions no_front ds (full_name r i)) rest worlds)
-                ∙ ap (λ es. first_full_name (decls_of es)) (append_assoc (aliases_of r.definitions ds) (Entry (Instance body) ∷ export ∷ []) (rest ++ worlds))
-                ∙ aliases-no-name r.definitions ds (Entry (Instance body) ∷ export ∷ (rest ++ worlds))
-                ∙ ap (λ b. first_of (cond b None (Some (full_name r i))) (first_full_name (decls_of (rest ++ worlds)))) (full-no-label r only.0 only.1 i here form.names label),
-            ap (λ (p : PackageParts). p ∷ []) cut.0 ∙ sym only.1,
-          )
+  pub reread : (s : ComponentRead) × (declarations_read (decls_of (package_declarations r)) no_component ≡ Some s)
+      × (s.interfaces ≡ r.interfaces) × (s.worlds ≡ r.worlds) × AreAlike r.definitions 0 r.definitions s.rows × (s.packages ≡ r.packages)
+  reread =
+      let worlds = worlds-reread r form.names apart mine.0 mine.1 lows full r.worlds come 0 end (interfaces_front r.definitions no_front 0 r.interfaces) [] interfaces.state all-worlds
+      (own-worlds r form.closed) world_labels begun-worlds in (
+        worlds.0,
+        interfaces.read (worlds_declared r (interfaces_front r.definitions no_front 0 r.interfaces) end r.worlds) ∙ worlds.1,
+        worlds.2,
+        worlds.3,
+        worlds.4,
+        all-packages worlds.0 worlds.5,
+      )

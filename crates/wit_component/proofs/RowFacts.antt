@@ -22,7 +22,7 @@ use Rattle.tables.specs.declared.tables.Owner.TheVariants as owner
 use Rattle.tables.specs.declared.tables.Definition.{Definition}
 use Rattle.tables.specs.declared.tables.Definition.TheVariants as row
 use Rattle.component_reader.specs.Instance.{named_row, function_row}
-use Rattle.wit_component.specs.Component.{name_of, name_at}
+use Rattle.package_form.specs.Reached.{name_of, name_at}
 use Rattle.package_form.specs.Form.{is_own_name, is_own_type, is_own, is_owned, is_local}
 use Rattle.package_form.specs.References.{kind_references, row_references}
 use Rattle.wit_component.specs.ToComponent.{is_label_if, is_labelled}

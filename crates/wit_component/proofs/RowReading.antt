@@ -23,7 +23,7 @@ use Rattle.tables.specs.declared.tables.Definition.TheVariants as definition
 use Rattle.component_reader.specs.Instance.{if_found, AType, AFunction, InstanceRead, awaiting, with_unnamed, settled, settled_as, named_row, with_named, with_index, alias_to, renamed, type_exported, exported, function_row, defined, decl_read, decls_read}
 use Rattle.component_reader.specs.Types.{both_found, row_at, optional_type, kind_of}
 use Rattle.package_form.specs.References.{parameter_references, references_if, kind_references, row_references}
-use Rattle.wit_component.specs.Component.{name_at}
+use Rattle.package_form.specs.Reached.{name_at}
 use Rattle.wit_component.specs.Rows.{Place, valtype_of, signature_of, definition_of, definition_index, definition_if, defined_of, outer_alias, row_declarations, defined_types, place_after}
 use Rattle.wit_component.proofs.Alike.{IsAlike, same, uses}
 use Rattle.wit_component.proofs.Keeping.{unnamed-kept, defined-kept, renamed-kept, function-kept}

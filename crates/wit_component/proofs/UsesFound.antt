@@ -13,7 +13,7 @@ use Rattle.tables.specs.declared.tables.Definition.{Definition}
 use Rattle.tables.specs.declared.tables.Definition.TheVariants as row
 use Rattle.component_reader.specs.Instance.{named_row}
 use Rattle.component_reader.specs.Component.{exported_type}
-use Rattle.wit_component.specs.Component.{name_of, name_at}
+use Rattle.package_form.specs.Reached.{name_of, name_at}
 use Rattle.package_form.specs.Form.{is_own_name, is_earlier_type, is_earlier, is_owned, is_local}
 use Rattle.component_reader.specs.Types.{row_at}
 use Rattle.wit_component.specs.ToComponent.{is_labelled}

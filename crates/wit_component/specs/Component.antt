@@ -1,7 +1,7 @@
--- Binary.md, "Component Definitions" and "Type Definitions": a package as one component type. Each interface is an instance type and an
--- export of an instance under its full name; before them stands an alias of each type that the interface uses of another. Behind them each
--- world is a component type and an export of a component under its full name.
-use Rattle.std.specs.Prelude.{ℕ, ◌+◌, List, [], ◌∷◌, ◌++◌, flat_map, length, slice_get, Option, None, Some}
+-- Binary.md, "Component Definitions" and "Type Definitions": a closed table as one component type. Each interface is an instance type and an
+-- export of an instance under its full name, or an import where it is of another package; before them stands an alias of each type that the
+-- interface uses of another. Behind them each world is a component type and an export of a component under its full name.
+use Rattle.std.specs.Prelude.{ℕ, ◌+◌, List, [], ◌∷◌, ◌++◌, flat_map, length, if◌then◌else◌, Option, None, Some}
 use Rattle.ctype_format.specs.Raw.{Component, Instance, Decl, Entry, Alias, Export, File}
 use Rattle.ctype_format.specs.View.{decls_of}
 use Rattle.ctype_format.specs.declared.raw.RawAlias.TheVariants as alias
@@ -17,30 +17,17 @@ use Rattle.tables.specs.declared.tables.TypeName.{TypeName}
 use Rattle.tables.specs.declared.tables.Definition.{Definition}
 use Rattle.tables.specs.declared.tables.Definition.TheVariants as row
 use Rattle.tables.specs.declared.tables.Interface.{Interface}
+use Rattle.tables.specs.declared.tables.Direction.{Direction}
+use Rattle.tables.specs.declared.tables.Direction.TheVariants as direction
 use Rattle.tables.specs.declared.tables.World.{World}
 use Rattle.tables.specs.declared.tables.Resolve.{Resolve}
 use Rattle.package_form.specs.Ends.{end_of, rows_of, interfaces_end, world_end}
 use Rattle.wit_component.specs.Rows.{Place, declarations_of, places_after}
-use Rattle.wit_component.specs.Worlds.{Surroundings, items_declared, items_place}
+use Rattle.package_form.specs.Reached.{used_in, name_at, is_interface_of}
+use Rattle.package_form.specs.Closed.{own_package}
+use Rattle.wit_component.specs.Worlds.{Surroundings, directed, items_declared, items_place}
 
 -- ---- aliases of used types
-
--- the row that a used name stands for
-abbrev pub used_by : TypeDefKind → Option TypeId
-used_by (kind.Use t) = Some t
-used_by _ = None
-
-abbrev pub used_in : Definition → Option TypeId
-used_in (row.Type d) = used_by d.kind
-used_in (row.Function f) = None
-
-abbrev pub name_of : Option TypeDef → Option TypeName
-name_of None = None
-name_of (Some d) = d.name
-
-abbrev pub name_at : List Definition → Option TypeId → Option TypeName
-name_at rows None = None
-name_at rows (Some t) = name_of (type_of (slice_get rows t.0))
 
 -- the type of this name that the instance of its interface exports
 abbrev pub instance_export : Option TypeName → List Decl
@@ -66,12 +53,16 @@ pub record Front : Type 0 where
 abbrev pub first_place : Front → Place
 first_place at = record { indices = at.indices; types = 0; used = at.types }
 
+-- an interface of the own package is exported, one of another package imported
+abbrev pub interface_direction : ℕ → Interface → Direction
+interface_direction own i = if is_interface_of own i then direction.Export else direction.Import
+
 -- an interface of these rows under this full name
-abbrev pub interface_declarations : List Definition → Front → List Definition → List ℕ → List Decl
-interface_declarations rows at ds name =
+abbrev pub interface_declarations : List Definition → Front → List Definition → Direction → List ℕ → List Decl
+interface_declarations rows at ds way name =
     aliases_of rows ds
     ++ Entry (Instance (decls_of (declarations_of (first_place at) ds)))
-    ∷ Export name (described.Instance (at.types + length (aliases_of rows ds)))
+    ∷ directed way name (described.Instance (at.types + length (aliases_of rows ds)))
     ∷ []
 
 abbrev pub front_after : List Definition → Front → List Definition → Front
@@ -85,7 +76,7 @@ front_after rows at ds = record {
 abbrev pub interfaces_declared : Resolve → Front → ℕ → List Interface → List Decl
 interfaces_declared r at start [] = []
 interfaces_declared r at start (i ∷ is) =
-    interface_declarations r.definitions at (rows_of r.definitions start i) (full_name r i)
+    interface_declarations r.definitions at (rows_of r.definitions start i) (interface_direction (own_package r.packages) i) (full_name r i)
     ++ interfaces_declared r (front_after r.definitions at (rows_of r.definitions start i)) (end_of start i) is
 
 -- nothing stands before the first interface

@@ -6,21 +6,22 @@ ghost use Rattle.ctype_format.specs.View.{decl_view, decls_of};
 ghost use Rattle.ctype_format.specs.Raw.{Component, Entry, Export};
 ghost use Rattle.ctype_format.specs.declared.raw.RawDescription.TheVariants as described;
 ghost use Rattle.tables.specs.Names.{full_name, world_name};
-ghost use Rattle.wit_component.specs.Component.{Front, first_place, interface_declarations, front_after, interfaces_declared, no_front, interfaces_front, world_declarations, world_front, package_declarations};
-ghost use Rattle.wit_component.specs.Worlds.{StandFrom};
+ghost use Rattle.wit_component.specs.Component.{Front, first_place, interface_direction, interface_declarations, front_after, interfaces_declared, no_front, interfaces_front, world_declarations, world_front, package_declarations};
+ghost use Rattle.wit_component.specs.Worlds.{directed, StandFrom};
+ghost use Rattle.package_form.specs.Closed.{own_package};
 ghost use Rattle.package_form.specs.Ends.{interfaces_end, world_rows, is_parted};
 ghost use Rattle.package_form.specs.Form.{has_full_names, IsInPackageForm};
 ghost use Rattle.wit_component.specs.ToComponent.{is_labelled, are_labelled, are_worlds_labelled};
 
 use crate::interfaces::{aliases_of, instance_decl};
 use crate::names::full_name;
-use crate::rows::{RowPlace, declarations_of};
+use crate::rows::{RowPlace, declarations_of, directed};
 use crate::worlds::items_declared;
 use ctype_bin::{RawDecl, RawDescription, RawType};
-use package_form::{end_of, interfaces_end, world_end};
+use package_form::{end_of, interfaces_end, own_package, world_end};
 use std::alloc::{AllocError, Global};
 use std::marker::Model;
-use tables::{Definition, Interface, Resolve, World};
+use tables::{Definition, Direction, Interface, Resolve, World};
 
 /// Where an interface or a world stands.
 #[derive(Drop)]
@@ -41,9 +42,18 @@ impl Model for PartPlace {
     ghost view = { λ p. record { indices = p.indices.items; types = p.types; instances = p.instances.items } };
 }
 
-/// The declaration of an interface's instance.
-#[tactic(auto, unfolding(ctype_format::specs::View::decl_view))]
-fn instance_export(
+fn interface_direction(own: usize, interface: &Interface) -> Direction
+    ensures { result ≡ interface_direction own interface.now }
+{
+    if interface.package.0 as usize == own {
+        Direction::Export
+    } else {
+        Direction::Import
+    }
+}
+
+/// The declaration of an interface's instance: an export where it is of the own package, else an import.
+fn interface_declared(
     alloc: Global,
     resolve: &Resolve,
     interface: &Interface,
@@ -51,11 +61,12 @@ fn instance_export(
 ) -> Result<RawDecl, AllocError>
     requires named { IsTrue (has_full_names resolve.now) }
     requires placed { interface.now.«package».0 < length resolve.now.packages }
-    ensures declaration { IfOk result (λ d. decl_view d ≡ Export (full_name resolve.now interface.now) (described.Instance index)) }
+    ensures declaration { IfOk result (λ d. decl_view d ≡ directed (interface_direction (own_package resolve.now.packages) interface.now) (full_name resolve.now interface.now) (described.Instance index)) }
     ensures label { OnOk result (IsLabel interface.now.name) }
 {
     let name = full_name(alloc, resolve, interface.package, &interface.name)?;
-    Ok(RawDecl::Export(name, RawDescription::Instance(index)))
+    let way = interface_direction(own_package(resolve.packages.as_slice()), interface);
+    Ok(directed(way, name, RawDescription::Instance(index)))
 }
 
 /// The declarations of an interface that has these rows, and the place behind it.
@@ -70,7 +81,7 @@ fn interface_declarations(
     requires placed { interface.now.«package».0 < length resolve.now.packages }
     requires types { place.types ≤ 131070 }
     requires rows { length rows.now ≤ 65535 }
-    ensures declarations { IfOk result (λ x. map decl_view x.0.items ≡ interface_declarations resolve.now.definitions place rows.now (full_name resolve.now interface.now)) }
+    ensures declarations { IfOk result (λ x. map decl_view x.0.items ≡ interface_declarations resolve.now.definitions place rows.now (interface_direction (own_package resolve.now.packages) interface.now) (full_name resolve.now interface.now)) }
     ensures place { IfOk result (λ x. x.1 ≡ front_after resolve.now.definitions place rows.now) }
     ensures few { IfOk result (λ x. x.1.types ≤ place.types + length rows.now + 1) }
     ensures label { OnOk result (IsLabel interface.now.name) }
@@ -81,7 +92,7 @@ fn interface_declarations(
     let first = RowPlace::first(place.indices, place.types);
     let (own, last) = declarations_of(alloc, first, rows)?;
     decls.push(instance_decl(own))?;
-    decls.push(instance_export(alloc, resolve, interface, index)?)?;
+    decls.push(interface_declared(alloc, resolve, interface, index)?)?;
     let mut instances = place.instances;
     instances.push(index)?;
     let next = PartPlace {

@@ -6,37 +6,14 @@ ghost use Rattle.ctype_format.specs.View.{decl_view, decls_of};
 ghost use Rattle.ctype_format.specs.Raw.{Instance, Entry, Alias, Export};
 ghost use Rattle.tables.specs.Names.{full_name};
 ghost use Rattle.wit_component.specs.Rows.{Place, declarations_of, places_after};
-ghost use Rattle.wit_component.specs.Component.{used_in, name_at, instance_export, row_alias, aliases_of};
+ghost use Rattle.package_form.specs.Reached.{used_in, name_at};
+ghost use Rattle.wit_component.specs.Component.{instance_export, row_alias, aliases_of};
 
 use crate::rows::{RowPlace, declarations_of};
 use ctype_bin::{RawAlias, RawDecl, RawDescription, RawType};
+use package_form::used_name;
 use std::alloc::{AllocError, Global};
-use tables::{Definition, TypeDefKind, TypeId, TypeName};
-
-/// The type that a row uses of another interface, if it is a used name.
-fn used_in(row: &Definition) -> Option<TypeId>
-    ensures { result ≡ used_in row.now }
-{
-    match row {
-        Definition::Type(definition) => match definition.kind {
-            TypeDefKind::Use(target) => Some(target),
-            _ => None,
-        },
-        Definition::Function(_) => None,
-    }
-}
-
-/// The name of the type that a row uses.
-fn used_name<'a>(rows: &'a [Definition], row: &Definition) -> Option<&'a TypeName>
-    ensures { MatchOption result (name_at rows.now (used_in row.now) ≡ None)
-        (λ n. name_at rows.now (used_in row.now) ≡ Some n.now) }
-{
-    let target = used_in(row)?;
-    match rows.get(target.0 as usize) {
-        Some(Definition::Type(definition)) => definition.name.as_ref(),
-        _ => None,
-    }
-}
+use tables::{Definition, TypeName};
 
 #[tactic(auto, unfolding(ctype_format::specs::View::decl_view))]
 fn instance_export(alloc: Global, name: &TypeName) -> Result<RawDecl, AllocError>

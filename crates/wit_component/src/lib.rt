@@ -1,8 +1,9 @@
 //! A package as a component type binary: its tables to a raw component, and back.
 //!
-//! Each interface of a package is an instance type in one component type, as `wit-component` writes them, and each
-//! world is a component type in it. `to_raw` writes a package, `to_written` with its bytes, and `from_raw` and
-//! `from_spelled` answer the one that a component stands for. It stands on `package_form`, `component_reader`, `tables`, `ctype_bin` and `atoms`.
+//! Each interface of a closed table is an instance type in one component type, as `wit-component` writes them, imported
+//! where it is of another package, and each world is a component type in it. `to_raw` writes a closed table, `to_written`
+//! with its bytes, `closed_from_raw` and `closed_from_spelled` answer the one that a component stands for, and `from_raw`
+//! and `from_spelled` the package of one that stands alone. It stands on `package_form`, `component_reader`, `tables`, `ctype_bin` and `atoms`.
 #![tactic(auto)]
 
 mod component;
@@ -16,5 +17,5 @@ mod to_component;
 mod valtypes;
 mod worlds;
 
-pub use from_component::{from_raw, from_spelled};
+pub use from_component::{closed_from_raw, closed_from_spelled, from_raw, from_spelled};
 pub use to_component::{to_raw, to_written};

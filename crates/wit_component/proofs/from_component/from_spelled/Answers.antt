@@ -1,24 +1,18 @@
-use Rattle.std.proofs.lemmas.Result.{err_from_is_err_and}
-use Rattle.wit_component.proofs.Refusing.{refuses-package}
-use Rattle.wit_component.proofs.Candidates.{not-empty, no-duplicate}
+use Rattle.std.proofs.Common.{subst, sym, arith}
+use Rattle.std.proofs.Math.Logic.{∥∥₁_map}
+use Rattle.tables.specs.PackageNames.{PackageParts}
+use Rattle.package_form.proofs.OwnPackage.{some-package}
+use Rattle.wit_component.specs.FromComponent.{HasFirstImport}
 use Rattle.wit_component.proofs.from_component.from_spelled.Goals as goal
 
-pub returns-then-is_empty_package-clause-only : goal.returns-then-is_empty_package-clause-only
-returns-then-is_empty_package-clause-only c = λ r s d.
-    let some = not-empty c.args.raw.now r s in
-    let none = c.is_empty_package.ensures in
-    let test = c.if-is_empty_package.true in
-    absurd (cc)
+pub returns-in-Some-clause-err : goal.returns-in-Some-clause-err
+returns-in-Some-clause-err c =
+    let r = c.in_ok-package.package in
+    let first = subst (λ (p : PackageParts). HasFirstImport r p) (sym c.in_ok-copy_package.ensures) c.in-Some.ensures in
+    ∥∥₁_map c.in_ok-package.ensures.ok (λ stands. (r, stands, c.in_ok-package.ensures.distinct, first))
 
-pub distinct_names-requires : goal.distinct_names-requires
-distinct_names-requires c = c.in_ok-package.ensures.form.parted
-
-pub returns-in_err-distinct_names-clause-only : goal.returns-in_err-distinct_names-clause-only
-returns-in_err-distinct_names-clause-only c = λ r s d.
-    let p = err_from_is_err_and c.from_residual-in_err-distinct_names.result c.from_residual-in_err-distinct_names.ensures.1 in
-    rw (p.1, p.2) (no-duplicate c.in_ok-package.package r _ (c.in_ok-package.ensures.same r s d) d c.in_err-distinct_names.ensures.err)
-
-pub returns-in_err-distinct_names-clause-err : goal.returns-in_err-distinct_names-clause-err
-returns-in_err-distinct_names-clause-err c =
-    let p = err_from_is_err_and c.from_residual-in_err-distinct_names.result c.from_residual-in_err-distinct_names.ensures.1 in
-    rw (p.1, p.2) (refuses-package c.args.raw.now c.in_ok-package.package _ c.in_ok-package.ensures.ok c.in_err-distinct_names.ensures.err)
+pub returns-clause-alone : goal.returns-clause-alone
+returns-clause-alone c =
+    let some = some-package c.in_ok-package.package c.in_ok-package.ensures.form.closed in
+    let few = c.in_default.ensures in
+    omega (arith, some, few)

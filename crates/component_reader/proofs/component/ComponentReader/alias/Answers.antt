@@ -36,6 +36,7 @@ returns c =
     let with_indices : List (Option TypeId) → List (Option InterfaceId) → Option ComponentRead =
     λ indices instances.
     Some (record {
+      packages = s.packages;
       rows = s.rows;
       interfaces = s.interfaces;
       exports = s.exports;

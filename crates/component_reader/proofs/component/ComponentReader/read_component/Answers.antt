@@ -15,8 +15,9 @@ returns c =
     let id : c.in_ok-place.place.0 ≡ length own.worlds.items = c.in_ok-place.ensures ∙ ap length c.deref.ensures.value in
     let again : world_read own.instances.items (length own.worlds.items) ds own.rows.items ≡ Some w =
     (λ j. world_read (sym c.deref-2.ensures.value j) (sym id j) ds own.rows.items) ∙ c.in_ok-reader.ensures in
-    let made : with_component s w ≡ component_view (record { rows = c.read.new.rows; interfaces = own.interfaces; exports = own.exports; worlds = own.worlds; indices = c.push.new.self; instances = c.push-2.new.self; awaited = None; awaited_world = Some c.in_ok-reader.reader; keyed = own.keyed }) =
+    let made : with_component s w ≡ component_view (record { packages = own.packages; rows = c.read.new.rows; interfaces = own.interfaces; exports = own.exports; worlds = own.worlds; indices = c.push.new.self; instances = c.push-2.new.self; awaited = None; awaited_world = Some c.in_ok-reader.reader; keyed = own.keyed }) =
     λ j. record {
+      packages = s.packages;
       rows = w.inside.rows;
       interfaces = s.interfaces;
       exports = s.exports;

@@ -16,8 +16,9 @@ returns c =
     let again : instance_read own.indices.items (length own.interfaces.items) ds own.rows.items ≡ Some i =
     (λ j. instance_read (sym c.deref-2.ensures.value j) (sym id j) ds own.rows.items) ∙ c.in_ok-reader.ensures in
     let instances = ap (λ (n : ℕ). s.instances ++ Some (record { 0 = n }) ∷ []) (sym id) ∙ sym c.in_ok-push-2.ensures.items in
-    let made : with_instance s i ≡ component_view (record { rows = c.read.new.rows; interfaces = own.interfaces; exports = own.exports; worlds = own.worlds; indices = c.push.new.self; instances = c.push-2.new.self; awaited = Some c.in_ok-reader.reader; awaited_world = None; keyed = own.keyed }) =
+    let made : with_instance s i ≡ component_view (record { packages = own.packages; rows = c.read.new.rows; interfaces = own.interfaces; exports = own.exports; worlds = own.worlds; indices = c.push.new.self; instances = c.push-2.new.self; awaited = Some c.in_ok-reader.reader; awaited_world = None; keyed = own.keyed }) =
     λ j. record {
+      packages = s.packages;
       rows = i.rows;
       interfaces = s.interfaces;
       exports = s.exports;
