@@ -1,0 +1,16 @@
+pub mod Blocks
+pub mod Closing
+pub mod Forming
+pub mod Keeping
+pub mod Kept
+pub mod Lasting
+pub mod Marking
+pub mod Named
+pub mod Needing
+pub mod Owned
+pub mod Placing
+pub mod Postfixing
+pub mod Reading
+pub mod Restricting
+pub mod Standing
+pub mod Telling

@@ -1,0 +1,84 @@
+//! The table of one package of a set.
+ghost use Rattle.std.specs.Prelude.{◌≡◌, IfOk, IfErr, map};
+ghost use Rattle.tables.specs.declared.error.ResolveError.TheVariants.{NoMemory};
+ghost use Rattle.package_sets.specs.Reaches.{is_marked};
+ghost use Rattle.package_sets.specs.Restricted.{AreNeeded, IsNeeded, IsRestricted};
+
+use crate::moved::{Moved, moved_kept};
+use crate::owners::owners;
+use crate::places::Places;
+use crate::reached::{Reached, mark, own_worlds};
+use std::alloc::{AllocError, Global};
+use tables::{Owner, PackageId, Resolve, ResolveError};
+
+/// The packages that are needed: a package's own, and each that has an interface which is reached.
+fn needed(
+    alloc: Global,
+    set: &Resolve,
+    reached: &Reached,
+    id: PackageId,
+) -> Result<Vec<bool>, AllocError>
+    ensures { IfOk result (λ marks. AreNeeded set.now id.0 reached.now marks.items) }
+{
+    let mut marks = Vec::new(alloc);
+    for _package in set.packages.as_slice() {
+        marks.push(false)?;
+    }
+    mark(&mut marks, id.0);
+    for (place, interface) in set.interfaces.as_slice().iter().enumerate() {
+        if reached.has_interface(place) {
+            mark(&mut marks, interface.package.0);
+        }
+    }
+    Ok(marks)
+}
+
+/// Whether each row is of what is reached.
+fn reached_rows(
+    alloc: Global,
+    owners: &[Option<Owner>],
+    reached: &Reached,
+) -> Result<Vec<bool>, AllocError>
+    ensures { IfOk result (λ marks. marks.items ≡ map (is_marked reached.now) owners.now) }
+{
+    let mut marks = Vec::new(alloc);
+    for owner in owners {
+        marks.push(reached.has(*owner))?;
+    }
+    Ok(marks)
+}
+
+impl Moved {
+    /// What a package reaches, and where it stands then.
+    fn of(alloc: Global, set: &Resolve, id: PackageId) -> Result<Moved, AllocError>
+        ensures { IfOk result (IsNeeded set.now id.0) }
+    {
+        let owners = owners(alloc, set.definitions.as_slice())?;
+        let reached = Reached::of(alloc, set, owners.as_slice(), id)?;
+        let rows = reached_rows(alloc, owners.as_slice(), &reached)?;
+        let packages = needed(alloc, set, &reached, id)?;
+        let worlds = own_worlds(alloc, set.worlds.as_slice(), id)?;
+        Ok(Moved {
+            packages: Places::of(alloc, packages)?,
+            interfaces: Places::of(alloc, reached.into_interfaces())?,
+            worlds: Places::of(alloc, worlds)?,
+            rows: Places::of(alloc, rows)?,
+        })
+    }
+}
+
+/// The table of one package of a set: what the package reaches, in the set's order. Its packages are the own one and
+/// those that have an interface which is reached; its worlds are the package's. In a set each package stands behind
+/// those that it names, so that the own one is the last.
+pub fn restricted(alloc: Global, set: &Resolve, id: PackageId) -> Result<Resolve, ResolveError>
+    ensures ok { IfOk result (IsRestricted set.now id.0) }
+    ensures err { IfErr result (λ e. e ≡ NoMemory) }
+{
+    let to = Moved::of(alloc, set, id)?;
+    Ok(Resolve {
+        packages: moved_kept(alloc, &set.packages, &to.packages, &to)?,
+        interfaces: moved_kept(alloc, &set.interfaces, &to.interfaces, &to)?,
+        worlds: moved_kept(alloc, &set.worlds, &to.worlds, &to)?,
+        definitions: moved_kept(alloc, &set.definitions, &to.rows, &to)?,
+    })
+}

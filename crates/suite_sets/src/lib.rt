@@ -1,0 +1,5 @@
+//! Tests of sets of packages, as tables that are made of their parts. It has no code of its own.
+#![tactic(auto)]
+
+#[cfg(test)]
+mod sets;
