@@ -1,5 +1,5 @@
 -- Core values as C has them: a kind and bits.
-use Rattle.std.specs.Prelude.{◌≡◌, ◌==◌, ◌%◌, ℕ, List, map, take, length, if◌then◌else◌}
+use Rattle.std.specs.Prelude.{◌≡◌, ◌==◌, ◌%◌, List, map, take, length, if◌then◌else◌}
 use Rattle.canonical_abi.specs.declared.flat.Flat.{Flat}
 use Rattle.canonical_abi.specs.declared.flat.Flat.TheVariants.{I32, I64}
 use Rattle.lending.specs.declared.value.Value.{Value}

@@ -1,5 +1,5 @@
 //! Core values as C has them.
-ghost use Rattle.std.specs.Prelude.{◌≡◌, ◌↔◌, ◌<◌, ◌≤◌, length, map, IfSome, IsNone};
+ghost use Rattle.std.specs.Prelude.{◌≡◌, ◌↔◌, ◌<◌, ◌≤◌, drop, length, map, IfSome, IsNone};
 ghost use Rattle.arrayvec.specs.ArrayVec.{array_vec_len};
 ghost use Rattle.lending.specs.Values.{flat_of, HoldsFlats};
 
@@ -58,10 +58,11 @@ pub fn flats_of(values: &[Value]) -> Option<Flats>
     Some(flats)
 }
 
-/// Tells these flat values at the front of an array that has room for them.
+/// Tells these flat values at the front of an array that has room for them; what stands behind them is left.
 pub fn tell(flats: &Flats, out: &mut [Value])
     requires { array_vec_len flats.now ≤ length out.old }
-    ensures { HoldsFlats out.new flats.now.items }
+    ensures told { HoldsFlats out.new flats.now.items }
+    ensures rest { drop (length flats.now.items) out.new ≡ drop (length flats.now.items) out.old }
 {
     for (place, flat) in flats.as_slice().iter().enumerate() {
         out[place] = Value::of(*flat);
