@@ -28,6 +28,8 @@ use Rattle.package_form.specs.Postfix.{is_unnamed_row, one_if, unnamed}
 use Rattle.package_form.specs.Form.{is_own_name, is_earlier_name, functions_of, IsInPackageForm}
 use Rattle.package_form.specs.Naming.{package_scopes}
 use Rattle.package_form.proofs.Postfix.{postfix-used}
+use Rattle.package_form.specs.Closed.{IsAlone}
+use Rattle.package_form.proofs.OwnPackage.{alone-interfaces}
 use Rattle.package_form.proofs.OnePackage.{single, one-full-name, is_first, all-first, own-full-name}
 use Rattle.package_form.proofs.OneRow.{same-place}
 use Rattle.package_form.proofs.Scopes.{names-distinct}
@@ -65,15 +67,15 @@ map-same g one (x ∷ xs) (y ∷ ys) e =
 
 -- ---- one table in form
 
-module _ (r : Resolve) (form : IsInPackageForm r) (distinct : All AreDistinct (package_scopes r)) where
+module _ (r : Resolve) (form : IsInPackageForm r) (alone : IsAlone r) (distinct : All AreDistinct (package_scopes r)) where
   abbrev pub p : PackageParts
-  p = (single r.packages form.alone).0
+  p = (single r.packages alone).0
 
   abbrev one : r.packages ≡ p ∷ []
-  one = (single r.packages form.alone).1
+  one = (single r.packages alone).1
 
   firsts : list_all is_first r.interfaces ≡ true
-  firsts = all-first 0 r.interfaces (subst (λ n. are_grouped n 0 r.interfaces ≡ true) form.alone r.grouped)
+  firsts = all-first 0 r.interfaces (subst (λ n. are_grouped n 0 r.interfaces ≡ true) alone r.grouped)
 
   full-labels : (is : List Interface) → list_all is_first is ≡ true → map (full_name r) is ≡ map (own_name p) (labels_of is)
   full-labels [] h = refl
@@ -94,10 +96,7 @@ module _ (r : Resolve) (form : IsInPackageForm r) (distinct : All AreDistinct (p
       ∙ get_or-map (own_name p) (labels_of r.interfaces) i [] [] (omega (arith, l, counted, length-map r.interfaces (λ (i : Interface). i.name)))
 
   pub names-apart : (i j : ℕ) → i < length (interface_names r) → j < length (interface_names r) → get_or (interface_names r) i [] ≡ get_or (interface_names r) j [] → i ≡ j
-  names-apart i j l m e =
-      let long = length-map r.interfaces (λ (i : Interface). i.name) in
-      same-place (labels_of r.interfaces) i j (names-distinct r distinct) (omega (arith, l, counted, long)) (omega (arith, m, counted, long))
-      (one-full-name p _ _ (sym (named-at i l) ∙ (e ∙ named-at j m)))
+  names-apart i j l m e = (alone-interfaces r distinct alone).each i j (omega (arith, l, counted)) (omega (arith, m, counted)) e
 
   pub names-filled : (i : ℕ) → i < length (interface_names r) → get_or (interface_names r) i [] ≡ [] → ⊥
   names-filled i l e = filled p.namespace _ 58 (sym (named-at i l) ∙ e)
@@ -126,7 +125,7 @@ module _ (r : Resolve) (form : IsInPackageForm r) (distinct : All AreDistinct (p
   sound = record {
     typed = earlier-typed r.definitions r.earlier r.typed;
     inners = used-inner r.definitions 0 [] r.definitions (postfix-used r.definitions r.earlier form.postfix);
-    keys = types-apart r form distinct;
+    keys = types-apart r (alone-interfaces r distinct alone) form distinct;
     uses = λ front d t rest e k.
         let local = owned.local front (row.Type d) rest e in
         let s = and_parts (is_own_name (home 0 0 r.interfaces (length front)) d.name) (is_local_kind (interface_names r) front (home 0 0 r.interfaces (length front)) d.kind) local in
@@ -162,7 +161,7 @@ module _ (r : Resolve) (form : IsInPackageForm r) (distinct : All AreDistinct (p
 
   -- its worlds are of the first package, so that the full name of each tells its own
   pub first-worlds : list_all is_first_world r.worlds ≡ true
-  first-worlds = worlds-first 0 r.worlds (subst (λ n. are_worlds_grouped n 0 r.worlds ≡ true) form.alone r.worlds_grouped)
+  first-worlds = worlds-first 0 r.worlds (subst (λ n. are_worlds_grouped n 0 r.worlds ≡ true) alone r.worlds_grouped)
 
   pub world-full : (w : World) → is_first_world w ≡ true → world_name r w ≡ own_name p w.name
   world-full w h =
@@ -172,6 +171,12 @@ module _ (r : Resolve) (form : IsInPackageForm r) (distinct : All AreDistinct (p
 
 module _ (f : File) (r s : Resolve) (a : IsPackageOf f r) (b : IsPackageOf f s) (form : IsInPackageForm r) (other : IsInPackageForm s)
     (distinct : All AreDistinct (package_scopes r)) (differ : All AreDistinct (package_scopes s)) where
+  alone : IsAlone r
+  alone = ap length a.packages
+
+  lone : IsAlone s
+  lone = ap length b.packages
+
   same : package_of r ≡ package_of s
   same = one-package (full_interfaces f) (full_worlds f) (package_of r) (package_of s) a.resolves b.resolves
 
@@ -181,9 +186,9 @@ module _ (f : File) (r s : Resolve) (a : IsPackageOf f r) (b : IsPackageOf f s) 
   packages-same : r.packages ≡ s.packages
   packages-same = a.packages ∙ sym b.packages
 
-  parts-same : p r form distinct ≡ p s other differ
+  parts-same : p r form alone distinct ≡ p s other lone differ
   parts-same =
-      let x : p r form distinct ∷ [] ≡ p s other differ ∷ [] = sym (single r.packages form.alone).1 ∙ (packages-same ∙ (single s.packages other.alone).1) in cc
+      let x : p r form alone distinct ∷ [] ≡ p s other lone differ ∷ [] = sym (single r.packages alone).1 ∙ (packages-same ∙ (single s.packages lone).1) in cc
 
   told : (t : Resolve) → IsPackageOf f t → all_from (interface_names t) [] t.definitions ≡ definitions t ++ worlds_definitions (worlds t)
   told t h = all-told (interface_names t) t.definitions (earlier-typed t.definitions t.earlier t.typed) t.earlier t.typed (world_name t) t.worlds h.behind h.items
@@ -197,14 +202,14 @@ module _ (f : File) (r s : Resolve) (a : IsPackageOf f r) (b : IsPackageOf f s) 
 
   rows-same : r.definitions ≡ s.definitions
   rows-same =
-      one-list (interface_names r) (names-apart r form distinct) (names-filled r form distinct) r.definitions s.definitions (sound r form distinct)
-      (subst (λ (ns : List (List ℕ)). IsSound ns s.definitions) (sym names) (sound s other differ)) a.postfix b.postfix told-same
+      one-list (interface_names r) (names-apart r form alone distinct) (names-filled r form alone distinct) r.definitions s.definitions (sound r form alone distinct)
+      (subst (λ (ns : List (List ℕ)). IsSound ns s.definitions) (sym names) (sound s other lone differ)) a.postfix b.postfix told-same
       (owned-by r a ∙ (ap (λ (q : Package). owners_by 0 q.worlds) same ∙ sym (owned-by s b)))
 
   labels-same : labels_of r.interfaces ≡ labels_of s.interfaces
   labels-same =
-      map-same (own_name (p r form distinct)) (λ x y e. one-full-name (p r form distinct) x y e) (labels_of r.interfaces) (labels_of s.interfaces)
-      (sym (names-full r form distinct) ∙ (names ∙ (names-full s other differ ∙ ap (λ (q : PackageParts). map (own_name q) (labels_of s.interfaces)) (sym parts-same))))
+      map-same (own_name (p r form alone distinct)) (λ x y e. one-full-name (p r form alone distinct) x y e) (labels_of r.interfaces) (labels_of s.interfaces)
+      (sym (names-full r form alone distinct) ∙ (names ∙ (names-full s other lone differ ∙ ap (λ (q : PackageParts). map (own_name q) (labels_of s.interfaces)) (sym parts-same))))
 
   interfaces-same : r.interfaces ≡ s.interfaces
   interfaces-same =
@@ -213,9 +218,9 @@ module _ (f : File) (r s : Resolve) (a : IsPackageOf f r) (b : IsPackageOf f s) 
 
   worlds-one : r.worlds ≡ s.worlds
   worlds-one =
-      worlds-same (interface_names r) (names-apart r form distinct) (trees r) r.definitions (length r.interfaces) (counted r form distinct) (p r form distinct) (world_name r) (world_name s)
-      (world-full r form distinct) (λ w h. world-full s other differ w h ∙ ap (λ (q : PackageParts). own_name q w.name) (sym parts-same)) 0 0 r.worlds s.worlds
-      (first-worlds r form distinct) (first-worlds s other differ) r.worlds_placed placed meant [] []
+      worlds-same (interface_names r) (names-apart r form alone distinct) (trees r) r.definitions (length r.interfaces) (counted r form alone distinct) (p r form alone distinct) (world_name r) (world_name s)
+      (world-full r form alone distinct) (λ w h. world-full s other lone differ w h ∙ ap (λ (q : PackageParts). own_name q w.name) (sym parts-same)) 0 0 r.worlds s.worlds
+      (first-worlds r form alone distinct) (first-worlds s other lone differ) r.worlds_placed placed meant [] []
       (append-nil (flat_map functions_of r.worlds) ∙ (sym a.items ∙ (ap (places_where is_world_function 0) rows-same ∙ (b.items ∙ sym (append-nil (flat_map functions_of s.worlds))))))
     where
       placed : are_placed_worlds r.definitions (length r.interfaces) 0 s.worlds ≡ true

@@ -24,6 +24,9 @@ use Rattle.tables.specs.PackageNames.{PackageParts}
 use Rattle.wit_syntax.specs.Syntax.{Alias, FileEntry}
 use Rattle.package_form.specs.Ends.{end_of, rows_of}
 use Rattle.package_form.specs.Scope.{AreDistinct}
+use Rattle.package_form.specs.Closed.{IsAlone}
+use Rattle.package_form.proofs.Scopes.{interfaces-distinct, worlds-distinct}
+use Rattle.package_form.proofs.OwnPackage.{alone-scopes}
 use Rattle.package_form.specs.Naming.{field_name, case_name, parameter_name, interface_name, kind_members, row_members, row_names, rows_scopes, interfaces_scopes, world_scopes, label_of, package_scopes}
 use Rattle.package_form.specs.Ids.{is_world_function}
 use Rattle.package_form.proofs.Lists.{list-grows, all-none, all-cons, all-head, all-tail, all-append, all-left, all-right, flat_map-append}
@@ -192,11 +195,11 @@ tree-interfaces-distinct r f h =
     let regions = form-regions r f in
     let owned = rows-owned (own_names r) r.definitions (home 0 0 r.interfaces) r.interfaces r.earlier f.postfix regions in
     scopes-from (own_names r) r.definitions (home 0 0 r.interfaces) r.earlier owned f.postfix (package_named (file_of r)) 0 [] r.interfaces r.definitions regions refl
-    (all-left AreDistinct (interfaces_scopes r.definitions 0 r.interfaces) (flat_map world_scopes (worlds r)) (all-tail AreDistinct (map interface_name r.interfaces ++ map label_of r.worlds) _ h))
+    (interfaces-distinct r h)
 
 -- in the scopes of the tree names differ where they do in those of the table, whose worlds are those of the tree
-pub tree-distinct : (r : Resolve) → IsInPackageForm r → worlds r ≡ map tree.world_meaning (full_worlds (file_of r)) → All AreDistinct (package_scopes r) → HasDistinctNames (file_of r)
-tree-distinct r f same h =
+pub tree-distinct : (r : Resolve) → IsInPackageForm r → IsAlone r → worlds r ≡ map tree.world_meaning (full_worlds (file_of r)) → All AreDistinct (package_scopes r) → HasDistinctNames (file_of r)
+tree-distinct r f alone same h =
     let p = package_named (file_of r) in
     let A : List FileEntry = map (interface_entry r) r.interfaces in
     let B : List FileEntry = map (world_entry r) r.worlds in
@@ -206,8 +209,8 @@ tree-distinct r f same h =
     ap (flat_map world_scopes) (same ∙ ap (λ (ts : List WorldTree). map tree.world_meaning (map (full_world p) ts)) (tree-worlds r)) ∙ sym (worlds-scopes r.worlds) in
     let outer : All AreDistinct (flat_map (interface_scopes (package_named (file_of r))) (map (world_entry r) r.worlds)) =
     subst (All AreDistinct) told
-    (all-right AreDistinct (interfaces_scopes r.definitions 0 r.interfaces) (flat_map world_scopes (worlds r)) (all-tail AreDistinct (map interface_name r.interfaces ++ map label_of r.worlds) _ h)) in
-    all-cons AreDistinct (map file_name (A ++ B)) (flat_map (interface_scopes p) (A ++ B)) (subst AreDistinct names (all-head AreDistinct (map interface_name r.interfaces ++ map label_of r.worlds) _ h))
+    (worlds-distinct r h) in
+    all-cons AreDistinct (map file_name (A ++ B)) (flat_map (interface_scopes p) (A ++ B)) (subst AreDistinct names (all-head AreDistinct (map interface_name r.interfaces ++ map label_of r.worlds) _ (subst (λ (ss : List (List (List ℕ))). All AreDistinct ss) (alone-scopes r alone) h)))
     (subst (All AreDistinct) (sym (flat_map-append (interface_scopes p) A B))
     (all-append AreDistinct (flat_map (interface_scopes p) A) (flat_map (interface_scopes p) B) (tree-interfaces-distinct r f h) outer))
   where

@@ -177,7 +177,7 @@ tree-printable r w nested few =
     (within-limit (length r.definitions) (rows-few r w.form)) named fit.0 (omega (arith, room, split)) in
     let worlds = worlds-print r named (function-printed (own_names r) r.definitions (home 0 0 r.interfaces) r.earlier owned w.form.postfix written homes)
     0 r.worlds r.worlds_placed (all-left IsLabel (map label_of r.worlds) (flat_map row_labels r.definitions) others) fit.1 (omega (arith, room, split)) in
-    let one = single r.packages w.form.alone in
+    let one = single r.packages w.alone in
     let first : first_name r.packages ≡ one.0 = ap first_name one.1 in
     let s = and_parts (is_package_name one.0) true (subst (λ (ps : List PackageParts). list_all is_package_name ps ≡ true) one.1 w.form.names) in
     let t = and_parts (is_package_label one.0.namespace) (is_package_label one.0.name && is_version_or_none one.0.version) s.0 in

@@ -12,6 +12,7 @@ use Rattle.resolve.specs.Declarations.{interfaces, interface_names, worlds, pack
 use Rattle.resolve.proofs.ItemNames.{HasDistinctParts, interfaces-distinct}
 use Rattle.resolve.specs.Resolves.{IsKnownWorld, HasEntries}
 use Rattle.package_text.specs.Tree.{interface_entry, world_entry, file_of}
+use Rattle.package_form.proofs.OwnPackage.{some-part}
 use Rattle.package_text.specs.Writable.{IsWritable}
 use Rattle.package_text.specs.Laws.{IsTreeOfPackage, IsTextOfPackage}
 use Rattle.package_form.specs.Entries.{labels_of}
@@ -31,7 +32,7 @@ tree-labels r w = subst (All IsLabel) (sym (tree-names r)) (all-left IsLabel (la
 
 -- the tree has entries
 tree-some : (r : Resolve) → IsInPackageForm r → HasEntries (file_of r)
-tree-some r f = by r.interfaces r.worlds f.some
+tree-some r f = by r.interfaces r.worlds (some-part r f.closed)
   where
     by : (is : List Interface) (ws : List World) → 0 < length is + length ws → map (interface_entry r) is ++ map (world_entry r) ws ≡ [] → ⊥
     by [] [] l e = absurd (omega (arith, l))
@@ -46,8 +47,8 @@ tree-of-package r w =
     let apart = subst (All HasDistinctParts) (sym (tree-interfaces r)) (interfaces-distinct (package_named f) (map (interface_entry r) r.interfaces) (tree-interfaces-distinct r w.form w.distinct)) in
     let placed = tree-worlds-known r w.form in
     let here : All (IsKnownWorld (interface_names (interfaces f))) (worlds f) = subst (λ (ns : List (List ℕ)). All (IsKnownWorld ns) (worlds f)) (sym (tree-names r)) placed in
-    let whole = tree-package r w.form (names-earlier (interfaces f) trees apart) (tree-labels r w) know placed (tree-worlds-read r w.form) in (
-      record { some = tree-some r w.form; distinct = tree-distinct r w.form whole.resolves.worlds w.distinct; packages = own-paths r; known = record { in_interfaces = know; in_worlds = here } },
+    let whole = tree-package r w.form w.alone (names-earlier (interfaces f) trees apart) (tree-labels r w) know placed (tree-worlds-read r w.form) in (
+      record { some = tree-some r w.form; distinct = tree-distinct r w.form w.alone whole.resolves.worlds w.distinct; packages = own-paths r; known = record { in_interfaces = know; in_worlds = here } },
       whole,
     )
 

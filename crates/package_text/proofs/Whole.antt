@@ -14,6 +14,7 @@ use Rattle.tables.specs.declared.tables.Interface.{Interface}
 use Rattle.tables.specs.declared.tables.World.{World}
 use Rattle.tables.specs.declared.tables.Resolve.{Resolve}
 use Rattle.package_form.specs.Entries.{labels_of, table_of}
+use Rattle.package_form.specs.Closed.{IsAlone}
 use Rattle.package_form.specs.Form.{IsInPackageForm}
 use Rattle.package_form.proofs.OnePackage.{single, is_first, all-first, own-full-name}
 use Rattle.resolve.specs.Order.{IsPlacement}
@@ -87,7 +88,7 @@ known-trees r f =
     (trees-from (own_names r) r.definitions (home 0 0 r.interfaces) r.earlier (rows-owned (own_names r) r.definitions (home 0 0 r.interfaces) r.interfaces r.earlier f.postfix regions) f.postfix
     0 [] r.interfaces r.definitions regions refl r.placed (λ j. ap (λ n. get_or (own_names r) n []) (omega arith)) (λ n l. absurd (omega (arith, l))) [] (no-room (own_names r)))
 
-module _ (r : Resolve) (f : IsInPackageForm r) (earlier : NamesEarlier (interfaces (file_of r))) (labels : All IsLabel (interface_names (interfaces (file_of r))))
+module _ (r : Resolve) (f : IsInPackageForm r) (alone : IsAlone r) (earlier : NamesEarlier (interfaces (file_of r))) (labels : All IsLabel (interface_names (interfaces (file_of r))))
     (known : All (HasKnownNames (interfaces (file_of r))) (interfaces (file_of r))) (placed : All (IsKnownWorld (own_names r)) (worlds (file_of r)))
     (read : map (world_reads (table_of r)) r.worlds ≡ map tree.world_meaning (worlds (file_of r))) where
   abbrev is : List InterfaceTree
@@ -130,10 +131,10 @@ module _ (r : Resolve) (f : IsInPackageForm r) (earlier : NamesEarlier (interfac
 
   -- the name of the one package
   one : r.packages ≡ first_name r.packages ∷ []
-  one = let s = single r.packages f.alone in s.1 ∙ ap (λ (ps : List PackageParts). first_name ps ∷ []) (sym s.1)
+  one = let s = single r.packages alone in s.1 ∙ ap (λ (ps : List PackageParts). first_name ps ∷ []) (sym s.1)
 
   firsts : list_all is_first r.interfaces ≡ true
-  firsts = all-first 0 r.interfaces (subst (λ n. are_grouped n 0 r.interfaces ≡ true) f.alone r.grouped)
+  firsts = all-first 0 r.interfaces (subst (λ n. are_grouped n 0 r.interfaces ≡ true) alone r.grouped)
 
   names-full : (js : List Interface) → list_all is_first js ≡ true → map (full_name r) js ≡ map (own_name (first_name r.packages)) (labels_of js)
   names-full [] h = refl
@@ -168,7 +169,7 @@ module _ (r : Resolve) (f : IsInPackageForm r) (earlier : NamesEarlier (interfac
   package-same =
       ap package_under (sym (names-full r.interfaces firsts))
       ∙ ap (λ (ws : List WorldMeaning). record { interfaces = names_in r; worlds = ws; definitions = definitions_from (names_in r) [] r.definitions })
-      (sym (worlds-full (names_in r) 0 r.worlds (subst (λ n. are_worlds_grouped n 0 r.worlds ≡ true) f.alone r.worlds_grouped)))
+      (sym (worlds-full (names_in r) 0 r.worlds (subst (λ n. are_worlds_grouped n 0 r.worlds ≡ true) alone r.worlds_grouped)))
 
   cut : IsCut r.interfaces [] r.definitions
   cut = regions-cut r.definitions (home 0 0 r.interfaces) 0 [] r.interfaces r.definitions (form-regions r f)

@@ -2,6 +2,7 @@
 ghost use Rattle.std.specs.Prelude.{◌≡◌, ◌++◌, map, IfOk, OnOk, OnErr};
 ghost use Rattle.std.specs.String.{string_bytes};
 ghost use Rattle.wit_syntax.specs.View.{item_view, version_view, file_view};
+ghost use Rattle.package_form.specs.Closed.{IsAlone};
 ghost use Rattle.package_form.specs.Form.{IsInPackageForm};
 ghost use Rattle.package_text.specs.Tree.{interface_entry, world_entry, file_of};
 ghost use Rattle.package_text.specs.Text.{text_of};
@@ -51,7 +52,8 @@ fn push_worlds(alloc: Global, resolve: &Resolve, items: &mut Vec<Item>) -> Resul
 
 /// The syntax tree of a package, each row without a name in the place where it is named.
 fn tree(alloc: Global, resolve: &Resolve) -> Result<Ast, AllocError>
-    requires { IsInPackageForm resolve.now }
+    requires form { IsInPackageForm resolve.now }
+    requires alone { IsAlone resolve.now }
     ensures { IfOk result (λ a. file_view a ≡ file_of resolve.now) }
 {
     let package = package_id(alloc, &resolve.packages.as_slice()[0])?;
@@ -61,10 +63,11 @@ fn tree(alloc: Global, resolve: &Resolve) -> Result<Ast, AllocError>
     Ok(Ast { package, items })
 }
 
-/// Appends the canonical text of a package. Where memory is wanting, the text is as it was. Takes time linear in the
+/// Appends the canonical text of a package that imports no other. Where memory is wanting, the text is as it was. Takes time linear in the
 /// table and in the text, and room on the stack for each type within a type.
 pub fn print(alloc: Global, resolve: &Resolve, out: &mut String) -> Result<(), AllocError>
-    requires { ∥ IsInPackageForm resolve.now ∥₁ }
+    requires form { ∥ IsInPackageForm resolve.now ∥₁ }
+    requires alone { IsAlone resolve.now }
     ensures ok { OnOk result (string_bytes out.new ≡ string_bytes out.old ++ text_of resolve.now) }
     ensures err { OnErr result (string_bytes out.new ≡ string_bytes out.old) }
 {

@@ -32,6 +32,7 @@ use Rattle.resolve.specs.Resolved.{world_meaning}
 use Rattle.resolve.proofs.Owning.{is_inner_row}
 use Rattle.resolve.proofs.Placed.{same-map}
 use Rattle.resolve.proofs.FullNames.{locals-full, interface-full, uses-full}
+use Rattle.package_form.proofs.OwnPackage.{alone-scopes}
 use Rattle.package_form.specs.Naming.{row_members, rows_scopes, interfaces_scopes, label_of, world_scopes, package_scopes}
 use Rattle.resolve.proofs.Segments.{heads, tails, rows-mean}
 use Rattle.resolve.proofs.Referring.{Every, every-append, every-front, every-back}
@@ -245,7 +246,8 @@ module _ (f : File) (r : Resolve) (h : HasNoFaults f) (full : IsTrue (has_full_n
       let rows = r.definitions in
       let all = scoped (names_in r) rows (table f r h full p) 0 bs [] first (back f r h full p) p.behind.parts (λ k l. tt) (defined f r h full p) (used-parts f r h full p) (elsewhere f r h full p) (are-all f r h full p)
       rows-members keys-distinct in
-      all-cons AreDistinct (labels_of r.interfaces ++ map label_of r.worlds) (interfaces_scopes rows 0 r.interfaces ++ flat_map world_scopes (worlds_in r)) names-apart-there
+      subst (λ (ss : List (List (List ℕ))). All AreDistinct ss) (sym (alone-scopes r (ap length p.packages)))
+      (all-cons AreDistinct (labels_of r.interfaces ++ map label_of r.worlds) (interfaces_scopes rows 0 r.interfaces ++ flat_map world_scopes (worlds_in r)) names-apart-there
       (all-append AreDistinct (interfaces_scopes rows 0 r.interfaces) (flat_map world_scopes (worlds_in r))
       (subst (λ (js : List Interface). All AreDistinct (interfaces_scopes rows 0 js)) (sym p.ids)
-      (subst (λ (ss : List (List (List ℕ))). All AreDistinct ss) (sym (scopes-so rows 0 0 (labels_of r.interfaces) (block_names bs) (count f r h full p))) all)) worlds-distinct)
+      (subst (λ (ss : List (List (List ℕ))). All AreDistinct ss) (sym (scopes-so rows 0 0 (labels_of r.interfaces) (block_names bs) (count f r h full p))) all)) worlds-distinct))

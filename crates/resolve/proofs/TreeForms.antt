@@ -29,6 +29,7 @@ use Rattle.package_form.specs.Ids.{is_of_worlds, is_world_function, interface_in
 use Rattle.package_form.proofs.Lists.{all-at, all-contained, contains-map, contains-unmap, compared}
 use Rattle.resolve.proofs.Placing.{all-from, place-found, all-places, among-at}
 use Rattle.package_form.proofs.OneRow.{same-place}
+use Rattle.package_form.proofs.OwnPackage.{alone-closed}
 use Rattle.resolve.proofs.Packaging.{interface-name, name-in-order}
 use Rattle.resolve.proofs.Trees.{distinct-interfaces}
 use Rattle.resolve.proofs.FullNames.{interface-full, distinct-full, known-full}
@@ -402,8 +403,7 @@ module _ (f : File) (r : Resolve) (h : HasNoFaults f) (full : IsTrue (has_full_n
 
   pub has-form : IsInPackageForm r
   has-form = record {
-    some = some-there;
-    alone = ap length p.packages;
+    closed = alone-closed r (ap length p.packages) some-there;
     names = have-names;
     parted = ap (λ (is : List Interface). is_parted (length r.definitions) 0 is r.worlds) p.ids
         ∙ parted-so (length r.definitions) r.definitions r.worlds 0 0 (labels_of r.interfaces) (block_names blocks) count ∙ in-place.parted r.worlds worlds-in-place.0;

@@ -9,6 +9,8 @@ mod asked;
 #[cfg(test)]
 mod crossings;
 #[cfg(test)]
+mod halves;
+#[cfg(test)]
 mod links;
 #[cfg(test)]
 mod requests;

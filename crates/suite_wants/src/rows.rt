@@ -56,7 +56,7 @@ fn formed(alloc: Global) -> Result<String, Ended> {
 
 /// The text of a package, behind a letter that is there.
 fn printed(alloc: Global, resolve: &Resolve) -> Result<String, Ended> {
-    if !is_in_form(alloc, resolve)? {
+    if resolve.packages.len() != 1 || !is_in_form(alloc, resolve)? {
         return Err(Ended::Refused);
     }
     let mut out = String::from_str(alloc, "x")?;

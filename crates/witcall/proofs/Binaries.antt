@@ -11,6 +11,7 @@ use Rattle.ctype_bin.specs.declared.component.RawComponent.{RawComponent}
 use Rattle.layout.specs.Layout.{AreWithin, RefusesFirst}
 use Rattle.layout.specs.declared.error.LayoutError.{LayoutError}
 use Rattle.tables.specs.declared.tables.Resolve.{Resolve}
+use Rattle.package_form.specs.Closed.{IsAlone}
 use Rattle.package_form.specs.Scope.{AreDistinct}
 use Rattle.package_form.specs.Naming.{package_scopes}
 use Rattle.wit_component.specs.ToComponent.{ComponentStands}
@@ -45,7 +46,7 @@ is_binary_of old new raw r own none same short stands spelt =
     }
 
 -- a binary of a package whose names differ and that is within the limits
-pub written_as : (bytes : List ℕ) (r : Resolve) → is_binary bytes ≡ true → ∥ IsBinaryOf bytes r ∥₁ → ∥ All AreDistinct (package_scopes r) ∥₁ → ∥ AreWithin r ∥₁ → ∥ IsWrittenAs bytes r ∥₁
-written_as bytes r front binary distinct within =
+pub written_as : (bytes : List ℕ) (r : Resolve) → is_binary bytes ≡ true → ∥ IsBinaryOf bytes r ∥₁ → IsAlone r → ∥ All AreDistinct (package_scopes r) ∥₁ → ∥ AreWithin r ∥₁ → ∥ IsWrittenAs bytes r ∥₁
+written_as bytes r front binary alone distinct within =
     let both : ∥ (IsBinaryOf bytes r × All AreDistinct (package_scopes r)) ∥₁ = ∥∥₁_map₂ binary distinct (λ b d. (b, d)) in
-    ∥∥₁_map₂ both within (λ x w. record { begins = front; binary = x.0; distinct = x.1; within = w })
+    ∥∥₁_map₂ both within (λ x w. record { begins = front; binary = x.0; alone = alone; distinct = x.1; within = w })

@@ -1,5 +1,5 @@
 -- The same package as one that is within the limits is laid out too, and in the form of packages where that one is.
-use Rattle.std.proofs.Common.{◌≡◌, ◌≤◌, ◌<◌, ◌+◌, ℕ, length, sym, ap, subst, ◌∙◌}
+use Rattle.std.proofs.Common.{◌≡◌, ◌≤◌, ◌<◌, ℕ, length, sym, ap, subst, ◌∙◌}
 use Rattle.std.specs.Prelude.{slice_index_or}
 use Rattle.canonical_abi.specs.Types.{string_type}
 use Rattle.tables.specs.Closed.{closed_types}
@@ -9,6 +9,7 @@ use Rattle.tables.specs.declared.tables.Resolve.{Resolve}
 use Rattle.package_form.specs.Postfix.{IsPostfix}
 use Rattle.package_form.specs.Entries.{type_entries, table_of}
 use Rattle.package_form.specs.Ends.{interfaces_end, is_parted}
+use Rattle.package_form.specs.Closed.{is_closed_table, is_closed}
 use Rattle.package_form.specs.Form.{IsInPackageForm, has_full_names, are_interfaces, have_items}
 use Rattle.layout.specs.Layout.{IsWithin, AreWithin}
 
@@ -28,8 +29,8 @@ same_full_names a b same = cc
 same_entries : (a b : Resolve) → IsSamePackage a b → type_entries (table_of a) ≡ type_entries (table_of b)
 same_entries a b same = cc
 
-same_count : (a b : Resolve) → IsSamePackage a b → length a.interfaces + length a.worlds ≡ length b.interfaces + length b.worlds
-same_count a b same = cc
+same_closed : (a b : Resolve) → IsSamePackage a b → is_closed a ≡ is_closed b
+same_closed a b same = λ j. is_closed_table (same.packages j) (same.interfaces j) (same.worlds j) (same.definitions j)
 
 same_parts : (a b : Resolve) → IsSamePackage a b → is_parted (length a.definitions) 0 a.interfaces a.worlds ≡ is_parted (length b.definitions) 0 b.interfaces b.worlds
 same_parts a b same = cc
@@ -40,8 +41,7 @@ same_items a b same = cc
 
 pub same_form : (a b : Resolve) → IsSamePackage a b → IsInPackageForm b → IsInPackageForm a
 same_form a b same form = record {
-  some = subst (λ n. 0 < n) (sym (same_count a b same)) form.some;
-  alone = ap length same.packages ∙ form.alone;
+  closed = same_closed a b same ∙ form.closed;
   names = same_full_names a b same ∙ form.names;
   parted = same_parts a b same ∙ form.parted;
   interfaces = ap (λ ds. are_interfaces ds 0 0 a.interfaces) same.definitions ∙ (ap (are_interfaces b.definitions 0 0) same.interfaces ∙ form.interfaces);

@@ -16,6 +16,7 @@ use Rattle.tables.specs.declared.tables.Resolve.{Resolve}
 use Rattle.tables.proofs.Rows.{get-at}
 use Rattle.package_form.specs.Scope.{AreDistinct}
 use Rattle.package_form.specs.Naming.{package_scopes}
+use Rattle.package_form.specs.Closed.{IsAlone}
 use Rattle.package_form.specs.Form.{IsInPackageForm}
 use Rattle.resolve.specs.Resolves.{HasPackage, IsPackageOf}
 use Rattle.layout.specs.Layout.{AreWithin}
@@ -65,9 +66,9 @@ text-begins : (r : Resolve) → is_binary (text_of r) ≡ false
 text-begins r = refl
 
 -- what is written of a package
-pub printed_as : (bytes : List ℕ) (r : Resolve) → bytes ≡ text_of r → IsUtf8 bytes → length bytes ≤ limit → All IsLabel (package_labels r) → ∥ IsInPackageForm r ∥₁ → ∥ All AreDistinct (package_scopes r) ∥₁ → ∥ AreWithin r ∥₁
+pub printed_as : (bytes : List ℕ) (r : Resolve) → bytes ≡ text_of r → IsUtf8 bytes → length bytes ≤ limit → All IsLabel (package_labels r) → IsAlone r → ∥ IsInPackageForm r ∥₁ → ∥ All AreDistinct (package_scopes r) ∥₁ → ∥ AreWithin r ∥₁
     → ∥ IsPrintedAs bytes r ∥₁
-printed_as bytes r is utf8 short labels form distinct within =
+printed_as bytes r is utf8 short labels alone form distinct within =
     let both : ∥ (IsInPackageForm r × All AreDistinct (package_scopes r)) ∥₁ = ∥∥₁_map₂ form distinct (λ f d. (f, d)) in
     ∥∥₁_map₂ both within
     (λ x w. record {
@@ -75,6 +76,6 @@ printed_as bytes r is utf8 short labels form distinct within =
       text = is;
       utf8 = utf8;
       short = short;
-      writable = record { form = x.0; distinct = x.1; labels = labels };
+      writable = record { form = x.0; alone = alone; distinct = x.1; labels = labels };
       within = w;
     })

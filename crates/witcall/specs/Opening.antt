@@ -17,6 +17,7 @@ use Rattle.ctype_format.specs.declared.error.BinError.{BinError}
 use Rattle.ctype_format.specs.declared.error.BinError.TheVariants as binary_error
 use Rattle.ctype_format.specs.declared.error.BinError.TheVariants.{At}
 use Rattle.ctype_format.specs.declared.error.Fault.TheVariants.{Limit}
+use Rattle.package_form.specs.Closed.{IsAlone}
 use Rattle.package_form.specs.Scope.{AreDistinct}
 use Rattle.resolve.specs.Resolves as tree
 use Rattle.resolve.specs.Resolves.{HasNoFaults, IsPackageOf}
@@ -53,9 +54,10 @@ pub record IsBinaryOf (bytes : List ℕ) (r : Resolve) : Type 0 where
   pub spelt : decoded bytes ≡ Ok (file_view raw)
   pub stands : ComponentStands raw r
 
--- the bytes are a binary of this package, whose names differ in each scope
+-- the bytes are a binary of this package, which imports none, and whose names differ in each scope
 pub record IsOfBinary (bytes : List ℕ) (r : Resolve) : Type 0 where
   pub binary : ∥ IsBinaryOf bytes r ∥₁
+  pub alone : IsAlone r
   pub distinct : All AreDistinct (package_scopes r)
 
 -- the package of the bytes, which are a binary where they begin as one, and else a text
@@ -67,10 +69,12 @@ pub record IsOpened (bytes : List ℕ) (r : Resolve) : Type 0 where
   pub source : IsOfBytes bytes r
   pub within : AreWithin r
 
--- The bytes are a binary of the package, whose names differ in each scope and which is within the limits of layout: what `to_binary` gives.
+-- The bytes are a binary of the package, which imports none, whose names differ in each scope and which is within the limits of layout: what
+-- `to_binary` gives.
 pub record IsWrittenAs (bytes : List ℕ) (r : Resolve) : Type 0 where
   pub begins : is_binary bytes ≡ true
   pub binary : IsBinaryOf bytes r
+  pub alone : IsAlone r
   pub distinct : All AreDistinct (package_scopes r)
   pub within : AreWithin r
 
@@ -114,7 +118,7 @@ TextRefuses bytes (error.Binary e) = ⊥
 TextRefuses bytes (error.Read place) = ⊥
 TextRefuses bytes error.NoMemory = ⊥
 
--- A binary's own refusals come first, then 43, 44, 40, then those of its layouts.
+-- A binary's own refusals come first, then 43, 44, 40 and 47, then those of its layouts.
 abbrev pub BinaryRefuses : List ℕ → OpenError → Type 0
 BinaryRefuses bytes (error.Binary e) = binary.Decodes file_view (Err e) bytes
 BinaryRefuses bytes (error.Resolve e) = (raw : RawComponent) × (decoded bytes ≡ Ok (file_view raw)) × component.FromComponentRefuses raw e

@@ -6,6 +6,7 @@ ghost use Rattle.tables.specs.Same.{IsSamePackage};
 ghost use Rattle.package_form.specs.Naming.{package_scopes};
 ghost use Rattle.ctype_format.specs.Writing.{file_bytes};
 ghost use Rattle.wit_component.specs.Component.{component_of};
+ghost use Rattle.package_form.specs.Closed.{IsAlone};
 ghost use Rattle.package_form.specs.Form.{IsInPackageForm};
 ghost use Rattle.witcall.specs.Opening.{is_binary, IsOfBinary, IsBinaryOf, IsWrittenAs, IsTooLong, IsWantOfMemory, BinaryRefuses};
 
@@ -30,7 +31,7 @@ pub fn binary_tables(alloc: Global, bytes: &[u8]) -> Result<Resolve, OpenError>
     ensures ok { IfOk result (IsOfBinary bytes.now) }
     ensures form { IfOk result (λ r. ∥ IsInPackageForm r ∥₁) }
     ensures distinct { IfOk result (λ r. All AreDistinct (package_scopes r)) }
-    ensures written { (p : Resolve) → IsBinaryOf bytes.now p → All AreDistinct (package_scopes p)
+    ensures written { (p : Resolve) → IsBinaryOf bytes.now p → All AreDistinct (package_scopes p) → IsAlone p
         → MatchResult result (λ q. IsSamePackage q p) IsWantOfMemory }
     ensures err { IfErr result (BinaryRefuses bytes.now) }
 {

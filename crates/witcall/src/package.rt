@@ -5,6 +5,7 @@ ghost use Rattle.package_form.specs.Scope.{AreDistinct};
 ghost use Rattle.package_form.specs.Naming.{package_scopes};
 ghost use Rattle.layout.specs.Layout.{layouts_of, AreWithin};
 ghost use Rattle.tables.specs.Same.{IsSamePackage};
+ghost use Rattle.package_form.specs.Closed.{IsAlone};
 ghost use Rattle.package_form.specs.Form.{IsInPackageForm};
 ghost use Rattle.witcall.specs.Opening.{IsOfBytes, IsOpened, IsWrittenAs, IsPrintedAs, IsWantOfMemory, OpenRefuses};
 
@@ -98,13 +99,14 @@ impl From<LayoutError> for OpenError {
     }
 }
 
-/// A package: its tables, and the layouts of its types. Its tables are in the form of packages and their names differ, so
-/// what is written of it is opened as the same package.
+/// A package: its tables, and the layouts of its types. Its tables are in the form of packages, it imports no other, and
+/// names differ, so what is written of it is opened as the same package.
 #[derive(Debug, Drop)]
 pub struct Package {
     resolve: Resolve,
     layouts: Layouts,
     ghost form: { ∥ IsInPackageForm resolve ∥₁ },
+    ghost alone: { IsAlone resolve },
     ghost distinct: { ∥ All AreDistinct (package_scopes resolve) ∥₁ },
     ghost laid_out: { layouts ≡ layouts_of resolve },
     ghost within: { ∥ AreWithin resolve ∥₁ },
@@ -150,7 +152,7 @@ impl Package {
 }
 
 /// Opens a package. Bytes that begin `00 61 73 6d` are a binary: its own refusals come first (10 to 19, 22, 23), then 43,
-/// 44 and 40. Others are a text: its length comes first (36), then whether it is UTF-8 (60), then the text's own refusals,
+/// 44, 40, and 47 where it imports another package. Others are a text: its length comes first (36), then whether it is UTF-8 (60), then the text's own refusals,
 /// and those of its names. Those of layouts come last.
 pub fn open(alloc: Global, bytes: &[u8]) -> Result<Package, OpenError>
     ensures ok { IfOk result (λ p. IsOpened bytes.now p.resolve) }
@@ -169,6 +171,7 @@ pub fn open(alloc: Global, bytes: &[u8]) -> Result<Package, OpenError>
 fn tables_of(alloc: Global, bytes: &[u8]) -> Result<Resolve, OpenError>
     ensures ok { IfOk result (IsOfBytes bytes.now) }
     ensures form { IfOk result (λ r. ∥ IsInPackageForm r ∥₁) }
+    ensures alone { IfOk result (λ r. IsAlone r) }
     ensures distinct { IfOk result (λ r. All AreDistinct (package_scopes r)) }
     ensures written { (p : Resolve) → IsWrittenAs bytes.now p
         → MatchResult result (λ q. IsSamePackage q p) IsWantOfMemory }

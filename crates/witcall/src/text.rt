@@ -2,6 +2,7 @@
 
 ghost use Rattle.std.specs.Prelude.{◌≡◌, ◌<◌, ◌⊎◌, length, All, IfOk, IfErr, OnErr, MatchResult};
 ghost use Rattle.package_form.specs.Scope.{AreDistinct};
+ghost use Rattle.package_form.specs.Closed.{IsAlone};
 ghost use Rattle.package_form.specs.Form.{IsInPackageForm};
 ghost use Rattle.package_form.specs.Naming.{package_scopes};
 ghost use Rattle.std.specs.Str.{IsUtf8};
@@ -19,6 +20,7 @@ use wit_text::{TextError, parse, texts_have_full_names};
 pub fn text_tables(alloc: Global, bytes: &[u8]) -> Result<Resolve, OpenError>
     ensures ok { IfOk result (IsOfText bytes.now) }
     ensures form { IfOk result IsInPackageForm }
+    ensures alone { IfOk result (λ r. IsAlone r) }
     ensures distinct { IfOk result (λ r. All AreDistinct (package_scopes r)) }
     ensures printed { (p : Resolve) → IsPrintedAs bytes.now p
         → MatchResult result (λ q. IsSamePackage q p) IsWantOfMemory }

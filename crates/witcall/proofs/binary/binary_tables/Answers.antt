@@ -13,6 +13,7 @@ returns-in_err-resolve-clause-err c =
 pub returns-clause-ok : goal.returns-clause-ok
 returns-clause-ok c = record {
   binary = ∥∥₁_map c.in_ok-resolve.ensures.ok (λ s. record { raw = c.in_ok-raw.raw; spelt = c.in_ok-raw.ensures.exact; stands = s });
+  alone = c.in_ok-resolve.ensures.alone;
   distinct = c.in_ok-resolve.ensures.distinct;
 }
 

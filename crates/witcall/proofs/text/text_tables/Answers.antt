@@ -1,4 +1,4 @@
-use Rattle.std.proofs.Common.{sym, subst}
+use Rattle.std.proofs.Common.{length, ap, sym, subst}
 use Rattle.std.proofs.lemmas.Result.{err_from_is_err_and}
 use Rattle.wit_text.specs.Reading.{IsRead}
 use Rattle.wit_syntax.specs.View.{file_view}
@@ -26,6 +26,9 @@ returns-clause-form c =
     let f = file_view c.in_ok-ast.ast in
     let names = c.texts_have_full_names.ensures _ f c.in_ok-ast.ensures.found in
     c.in_ok-resolve.ensures.form names
+
+pub returns-clause-alone : goal.returns-clause-alone
+returns-clause-alone c = ap length c.in_ok-resolve.ensures.ok.packages
 
 pub returns-clause-distinct : goal.returns-clause-distinct
 returns-clause-distinct c =

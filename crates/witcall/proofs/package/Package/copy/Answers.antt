@@ -1,4 +1,4 @@
-use Rattle.std.proofs.Common.{All, sym, subst}
+use Rattle.std.proofs.Common.{All, length, ap, sym, subst, ◌∙◌}
 use Rattle.std.proofs.Math.Logic.{∥∥₁_map}
 use Rattle.package_form.specs.Scope.{AreDistinct}
 use Rattle.wit_component.proofs.Candidates.{same-scopes}
@@ -11,3 +11,6 @@ invariant_of-result-clause-form c = ∥∥₁_map c.args.self.now.form (same_for
 pub invariant_of-result-clause-distinct : goal.invariant_of-result-clause-distinct
 invariant_of-result-clause-distinct c =
     ∥∥₁_map c.args.self.now.distinct (λ d. subst (All AreDistinct) (sym (same-scopes c.in_ok-resolve.resolve c.args.self.now.resolve c.in_ok-resolve.ensures)) d)
+
+pub invariant_of-result-clause-alone : goal.invariant_of-result-clause-alone
+invariant_of-result-clause-alone c = ap length c.in_ok-resolve.ensures.packages ∙ c.args.self.now.alone

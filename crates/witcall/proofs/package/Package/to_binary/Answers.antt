@@ -12,4 +12,4 @@ pub returns-clause-begins : goal.returns-clause-begins
 returns-clause-begins c = begins [] _ _ refl c.in-Ok.ensures.exact
 
 pub returns-clause-written : goal.returns-clause-written
-returns-clause-written c = written_as _ c.args.self.now.resolve (returns-clause-begins c) (returns-clause-ok c) c.args.self.now.distinct c.args.self.now.within
+returns-clause-written c = written_as _ c.args.self.now.resolve (returns-clause-begins c) (returns-clause-ok c) c.args.self.now.alone c.args.self.now.distinct c.args.self.now.within

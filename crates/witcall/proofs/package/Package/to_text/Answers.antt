@@ -18,4 +18,4 @@ returns-clause-short c = first_of (search rules, grind (arith, common_steps))
 pub returns-clause-printed : goal.returns-clause-printed
 returns-clause-printed c =
     let labels = subst (λ (r : Resolve). All IsLabel (package_labels r)) c.resolve.ensures c.names_are_labels.ensures in
-    printed_as _ c.args.self.now.resolve (returns-clause-ok c) (IsUtf8-string_bytes c.print.new.out) (returns-clause-short c) labels c.args.self.now.form c.args.self.now.distinct c.args.self.now.within
+    printed_as _ c.args.self.now.resolve (returns-clause-ok c) (IsUtf8-string_bytes c.print.new.out) (returns-clause-short c) labels c.args.self.now.alone c.args.self.now.form c.args.self.now.distinct c.args.self.now.within
