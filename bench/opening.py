@@ -6,7 +6,7 @@ usage: bench/opening.py FOLDER [BEFORE]
 FOLDER, outside the repository, keeps the texts, and the program of the commit before for the next run: where it isn't there yet,
 that commit is checked out in FOLDER, and all of it proved and built. BEFORE is a program of that commit that was built elsewhere. The
 program after is crates/program/out/program, as `rt run` in crates/program leaves it. Processor time, the least of many runs, the two
-programs in turn; memory is the most that a run had.
+programs in turn. Memory is the most that a run had, as `/usr/bin/time` (Debian's `time`) tells it.
 """
 import datetime
 import os
@@ -122,12 +122,18 @@ def text_of(length):
 
 
 def measure(words):
-    """The processor time and the most memory, in bytes, of one run."""
+    """The processor time of one run."""
     with open(os.devnull, "wb") as nothing:
         child = subprocess.Popen([str(word) for word in words], stdout=nothing, stderr=nothing)
         _, _, usage = os.wait4(child.pid, 0)
         child.returncode = 0
-    return usage.ru_utime + usage.ru_stime, usage.ru_maxrss * 1024
+    return usage.ru_utime + usage.ru_stime
+
+
+def peak(words):
+    """The most memory, in bytes, that one run had. A child of Python is told to have had at least what Python has, so another starts it."""
+    told = subprocess.run(["/usr/bin/time", "-f", "%M", *words], stdout=subprocess.DEVNULL, stderr=subprocess.PIPE, text=True, check=False)
+    return int(told.stderr.splitlines()[-1]) * 1024
 
 
 def least(commands, runs=RUNS):
@@ -135,7 +141,7 @@ def least(commands, runs=RUNS):
     best = [float("inf")] * len(commands)
     for _ in range(runs):
         for place, words in enumerate(commands):
-            best[place] = min(best[place], measure(words)[0])
+            best[place] = min(best[place], measure(words))
     return best
 
 
@@ -181,7 +187,7 @@ def table(before, after, folder):
     row("`bin` of the long text", bin_before - start_before, bin_after - start_after, "0.5")
     row("its binary, opened", binary_before, binary_after, "")
     print(f"| its binary against its text | {binary_before / text_before:.2f} | {binary_after / text_after:.2f} | | 0.6 |")
-    memory = [measure([program, "call", long] + CALL)[1] / size for program in (before, after)]
+    memory = [peak([program, "call", long] + CALL) / size for program in (before, after)]
     print(f"| memory against the text | {memory[0]:.1f} | {memory[1]:.1f} | | 16 |")
 
 

@@ -5,9 +5,9 @@
 
 Of each crate named, or of all, the edits of crates/NAME/must-fail/ (which the gate tries too) and of edits/NAME/ are tried
 on a copy of the repository, over what the crate's checks have kept, or those edits alone. Each line has the edit, and the goal that
-the prover was left with: a clause of a contract (`returns-clause-..`), the condition of a callee, an invariant. Where an edit is
-let through, can't be applied or read, or is refused only in the text of a proof, the line begins with `!` and the exit status
-is 1. `rt all check` beforehand saves most of the time.
+the prover was left with: a clause of a contract (`returns-clause-..`), the condition of a callee, an invariant; or the goal that its
+proof by hand doesn't meet. Where an edit is let through, can't be applied or read, or is refused only since a proof names what
+is no more there, the line begins with `!` and the exit status is 1. `rt all check` beforehand saves most of the time.
 """
 import pathlib
 import re
@@ -18,6 +18,8 @@ import tempfile
 
 ROOT = pathlib.Path(__file__).resolve().parent.parent
 GOAL = re.compile(r"note: (\S+?):\d+:\d+: (.*)")
+# a goal that a proof by hand doesn't meet, by the function that the proof is of
+BY_HAND = re.compile(r"(?:\./)?proofs/(\S+?)/\w+\.antt:\d+:\d+: error: `([^`]*)`: (.*)")
 # what is told of a proof that names what the edit took away
 NAMES = re.compile(r"(\./)?proofs/.*(has no field|is not in scope|has no `|was not admitted)")
 
@@ -82,6 +84,10 @@ def told(output, status):
         return False, (unread or lines[-1:] or ["nothing said"])[0]
     notes = [it for it in lines if GOAL.search(it)]
     goals = [it for it in notes if not NAMES.match(it)]
+    by_hand = [it for it in lines if BY_HAND.match(it) and not NAMES.match(it)]
+    if not goals and by_hand:
+        function, label, _ = BY_HAND.match(by_hand[0]).groups()
+        return True, f"{function}: {label}, in its hand-written answer"
     if not goals:
         return False, (notes or lines)[0]
     goal = GOAL.search(goals[0])
