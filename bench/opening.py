@@ -6,7 +6,7 @@ usage: bench/opening.py FOLDER [BEFORE]
 FOLDER, outside the repository, keeps the texts, and the program of the commit before for the next run: where it isn't there yet,
 that commit is checked out in FOLDER, and all of it proved and built. BEFORE is a program of that commit that was built elsewhere. The
 program after is crates/program/out/program, as `rt run` in crates/program leaves it. Processor time, the least of many runs, the two
-programs in turn. Memory is the most that a run had, as `/usr/bin/time` (Debian's `time`) tells it.
+programs in turn. Memory is the most that a run had, as the program `time` (Debian's package) tells it.
 """
 import datetime
 import os
@@ -132,7 +132,7 @@ def measure(words):
 
 def peak(words):
     """The most memory, in bytes, that one run had. A child of Python is told to have had at least what Python has, so another starts it."""
-    told = subprocess.run(["/usr/bin/time", "-f", "%M", *words], stdout=subprocess.DEVNULL, stderr=subprocess.PIPE, text=True, check=False)
+    told = subprocess.run(["time", "-f", "%M", *words], stdout=subprocess.DEVNULL, stderr=subprocess.PIPE, text=True, check=False)
     return int(told.stderr.splitlines()[-1]) * 1024
 
 

@@ -505,7 +505,7 @@ def memory(program):
             lines.seek(0)
             started = time.perf_counter()
             # A child of Python is told to have had at least the memory that Python has, so another starts it.
-            ran = subprocess.run(["/usr/bin/time", "-f", "%M", program], stdin=lines, stdout=subprocess.DEVNULL, stderr=subprocess.PIPE, text=True, check=False)
+            ran = subprocess.run(["time", "-f", "%M", program], stdin=lines, stdout=subprocess.DEVNULL, stderr=subprocess.PIPE, text=True, check=False)
             seconds = time.perf_counter() - started
         if ran.returncode:
             sys.exit(f"{number} calls: status {ran.returncode}")
