@@ -13,4 +13,4 @@ pub use canonical_abi::{Fault, Flat};
 pub use halves::{NOWHERE, enter_lent, leave_lent};
 pub use lift_lower::Flats;
 pub use memory::{Block, can_lend};
-pub use value::{MAX_VALUES, Value, flats_of, tell};
+pub use value::{MAX_VALUES, Value, put_flats, tell};

@@ -1,5 +1,5 @@
 //! Core values as C has them.
-ghost use Rattle.std.specs.Prelude.{◌≡◌, ◌↔◌, ◌<◌, ◌≤◌, drop, length, map, IfSome, IsNone};
+ghost use Rattle.std.specs.Prelude.{◌≡◌, ◌↔◌, ◌≤◌, [], drop, length, map, IsTrue};
 ghost use Rattle.arrayvec.specs.ArrayVec.{array_vec_len};
 ghost use Rattle.lending.specs.Values.{flat_of, HoldsFlats};
 
@@ -43,19 +43,19 @@ impl Value {
     }
 }
 
-/// The core values as flat values; none where they are more than any core function takes.
-pub fn flats_of(values: &[Value]) -> Option<Flats>
-    ensures flats { IfSome result (λ flats. flats.items ≡ map flat_of values.now) }
-    ensures few { IsNone result ↔ (17 < length values.now) }
+/// Puts the core values as flat values where there were none; whether they are at most as many as a core function takes.
+pub fn put_flats(values: &[Value], flats: &mut Flats) -> bool
+    requires empty { flats.old.items ≡ [] }
+    ensures flats { IsTrue result → flats.new.items ≡ map flat_of values.now }
+    ensures few { IsTrue result ↔ (length values.now ≤ 17) }
 {
     if values.len() > MAX_VALUES {
-        return None;
+        return false;
     }
-    let mut flats = Flats::new();
     for value in values {
         flats.push(value.flat());
     }
-    Some(flats)
+    true
 }
 
 /// Tells these flat values at the front of an array that has room for them; what stands behind them is left.
