@@ -1,0 +1,4 @@
+pub mod Calling
+pub mod Parts
+pub mod Signatures
+pub mod Status

@@ -1,0 +1,74 @@
+//! The return area that a caller gives.
+ghost use Rattle.std.specs.Prelude.{◌≡◌, map, IfOk};
+ghost use Rattle.canonical_abi.specs.Headline.{area_size};
+ghost use Rattle.canonical_abi.specs.Reading.{low_bits, number_of};
+ghost use Rattle.layout.specs.Layout.{AreWithin};
+ghost use Rattle.tables.specs.Closed.{IsFunction, function_type};
+ghost use Rattle.memory.specs.Blocks.{can_lend};
+ghost use Rattle.host_calls.specs.Calling.{area_block};
+
+use canonical_abi::Flat;
+use lending::NOWHERE;
+use lift_lower::{Types, low_word};
+use memory::{Block, can_lend};
+use std::alloc::{AllocError, Global};
+use tables::FunctionId;
+
+/// The flat value behind those of the arguments as an address, 0 where there is none.
+#[tactic(auto, unfolding(canonical_abi::specs::Reading::low_bits))]
+fn address_behind(flats: &[Flat], count: usize) -> u32
+    ensures { result ≡ low_bits (map number_of flats.now) count 32 }
+{
+    if count < flats.len() {
+        low_word(flats, count)
+    } else {
+        0
+    }
+}
+
+/// How many bytes the return area of a function has: 0 where its result goes flat.
+fn area_len(types: &Types, func: FunctionId) -> u32
+    requires within { ∥ AreWithin types.now ∥₁ }
+    requires function { IsFunction types.now func }
+    ensures { result ≡ area_size (function_type types.now func) }
+{
+    let result = types.resolve().signature(func).result.as_slice();
+    match types.kinds_within(result, 1) {
+        Some(_) => 0,
+        None => types.record_extent(result).0 as u32,
+    }
+}
+
+/// The return area of a call, as a block that others may meet.
+fn return_area(types: &Types, func: FunctionId, flats: &[Flat]) -> Block
+    requires within { ∥ AreWithin types.now ∥₁ }
+    requires function { IsFunction types.now func }
+    ensures { result ≡ area_block (function_type types.now func) flats.now }
+{
+    let count = types.layouts().lifted(func).params.len();
+    Block {
+        align: 1,
+        size: area_len(types, func),
+        at: address_behind(flats, count),
+    }
+}
+
+/// Whether these blocks can be handed out of a caller of `len` bytes, beside the return area.
+pub fn can_return(
+    alloc: Global,
+    types: &Types,
+    func: FunctionId,
+    flats: &[Flat],
+    len: usize,
+    blocks: &[Block],
+) -> Result<bool, AllocError>
+    requires within { ∥ AreWithin types.now ∥₁ }
+    requires function { IsFunction types.now func }
+    ensures { IfOk result (λ can. can ≡ can_lend len (area_block (function_type types.now func) flats.now) blocks.now) }
+{
+    if blocks.is_empty() {
+        // There is none that could meet it.
+        return can_lend(alloc, len, &NOWHERE, blocks);
+    }
+    can_lend(alloc, len, &return_area(types, func, flats), blocks)
+}

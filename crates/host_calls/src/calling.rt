@@ -1,0 +1,203 @@
+//! The two halves of a call with core values in arrays.
+ghost use Rattle.std.specs.Prelude.{◌≡◌, ◌≤◌, ◌<◌, [], IfOk, IfErr, OnOk, length, map};
+ghost use Rattle.layout.specs.Layout.{AreWithin};
+ghost use Rattle.tables.specs.Closed.{IsFunction, function_type};
+ghost use Rattle.tables.specs.declared.tables.FunctionId.{FunctionId};
+ghost use Rattle.lending.specs.Values.{flat_of};
+ghost use Rattle.host_calls.specs.Calling.{AreTooMany, EnterDone, LeaveDone, EnterAsks, LeaveAsks};
+
+use crate::area::can_return;
+use crate::error::CallError;
+use adapter::{Link, Request};
+use canonical_abi::{Fault, Step, Trap, TrapKind};
+use lending::{MAX_VALUES, NOWHERE, Value, enter_lent, leave_lent, put_flats, tell};
+use lift_lower::{Flats, Types};
+use memory::{Block, Lent, can_lend};
+use std::alloc::Global;
+use tables::{Definition, FunctionId};
+
+/// The function of this number.
+pub fn function_of(types: &Types, number: u32) -> Result<FunctionId, CallError>
+    ensures number { IfOk result (λ f. f.0 ≡ number) }
+    ensures function { IfOk result (IsFunction types.now) }
+    ensures none { IfErr result (λ e. (e ≡ CallError.NoFunction) × ((f : FunctionId) → f.0 ≡ number → IsFunction types.now f → ⊥)) }
+{
+    match types.resolve().definitions.as_slice().get(number as usize) {
+        Some(Definition::Function(_)) => Ok(FunctionId(number)),
+        _ => Err(CallError::NoFunction),
+    }
+}
+
+/// Puts core values as flat values where there were none; a trap of their number where they are more than any core function takes.
+fn put_values(values: &[Value], flats: &mut Flats, step: Step) -> Result<(), CallError>
+    requires empty { flats.old.items ≡ [] }
+    ensures ok { OnOk result (flats.new.items ≡ map flat_of values.now) }
+    ensures many { IfErr result (AreTooMany values.now step) }
+{
+    if put_flats(values, flats) {
+        return Ok(());
+    }
+    Err(CallError::Fault(Fault::Trap(Trap {
+        kind: TrapKind::CoreSignature,
+        step,
+    })))
+}
+
+/// Tests that an array has room for all core values of a function.
+fn room_in(values: &[Value]) -> Result<(), CallError>
+    ensures ok { IfOk result (λ _. 17 ≤ length values.now) }
+    ensures room { IfErr result (λ e. (e ≡ CallError.NoRoom 17) × (length values.now < 17)) }
+{
+    if values.len() < MAX_VALUES {
+        return Err(CallError::NoRoom(MAX_VALUES));
+    }
+    Ok(())
+}
+
+/// The first half of a call: puts the arguments into the callee's blocks, and tells the core values for its core function at the front of
+/// `handed`, which has room for 17 whatever the function. Answers how many they are. `flats` are those of a whole call, the return area's address
+/// behind the arguments. The caller is only read. 71 where there is no room, 72 where the blocks can't be handed out or the caller
+/// has 2^32 bytes or more, 66 where no memory is left to test many blocks; else a trap.
+pub fn enter(
+    alloc: Global,
+    types: &Types,
+    func: FunctionId,
+    flats: &[Value],
+    caller: &mut [u8],
+    callee: &mut [u8],
+    blocks: &[Block],
+    handed: &mut [Value],
+) -> Result<usize, CallError>
+    requires within { ∥ AreWithin types.now ∥₁ }
+    requires function { IsFunction types.now func }
+    ensures done { EnterDone (function_type types.now func) flats.now caller.old callee.old blocks.now handed.old result callee.new handed.new }
+    ensures same_caller { caller.new ≡ caller.old }
+{
+    room_in(handed)?;
+    let mut values = Flats::new();
+    put_values(flats, &mut values, Step::LiftArgs)?;
+    if u32::try_from(caller.len()).is_err() {
+        return Err(CallError::BadBlock);
+    }
+    if !can_lend(alloc, callee.len(), &NOWHERE, blocks)? {
+        return Err(CallError::BadBlock);
+    }
+    let entered = enter_lent(
+        types.resolve(),
+        types.layouts(),
+        func,
+        values.as_slice(),
+        caller,
+        callee,
+        blocks,
+    );
+    match &entered {
+        Ok(given) => {
+            tell(given, handed);
+            Ok(given.len())
+        }
+        Err(fault) => Err(CallError::Fault(*fault)),
+    }
+}
+
+/// The second half: puts what the core function answered into the caller's blocks and its return area, and tells the core values for the caller at
+/// the front of `back`, which has room for 17. Answers how many they are. `flats` are those that the first half was given. The callee is
+/// only read. Refused as the first half is, and by 72, too, where a block meets the return area.
+pub fn leave(
+    alloc: Global,
+    types: &Types,
+    func: FunctionId,
+    flats: &[Value],
+    answer: &[Value],
+    callee: &mut [u8],
+    caller: &mut [u8],
+    blocks: &[Block],
+    back: &mut [Value],
+) -> Result<usize, CallError>
+    requires within { ∥ AreWithin types.now ∥₁ }
+    requires function { IsFunction types.now func }
+    ensures done { LeaveDone (function_type types.now func) flats.now callee.old answer.now caller.old blocks.now back.old result caller.new back.new }
+    ensures same_callee { callee.new ≡ callee.old }
+{
+    room_in(back)?;
+    let mut values = Flats::new();
+    put_values(flats, &mut values, Step::LowerResult)?;
+    let mut answers = Flats::new();
+    put_values(answer, &mut answers, Step::LiftResult)?;
+    if u32::try_from(callee.len()).is_err() {
+        return Err(CallError::BadBlock);
+    }
+    if !can_return(alloc, types, func, values.as_slice(), caller.len(), blocks)? {
+        return Err(CallError::BadBlock);
+    }
+    let returned = leave_lent(
+        types.resolve(),
+        types.layouts(),
+        func,
+        values.as_slice(),
+        answers.as_slice(),
+        callee,
+        caller,
+        blocks,
+    );
+    match &returned {
+        Ok(given) => {
+            tell(given, back);
+            Ok(given.len())
+        }
+        Err(fault) => Err(CallError::Fault(*fault)),
+    }
+}
+
+/// Tells what the first half will ask the callee for, in its order: as many requests as there is room for, and how many there are in all.
+/// 72 where the caller has 2^32 bytes or more; else the trap of the arguments.
+pub fn enter_requests(
+    types: &Types,
+    func: FunctionId,
+    flats: &[Value],
+    caller: &mut [u8],
+    requests: &mut [Request],
+) -> Result<usize, CallError>
+    requires within { ∥ AreWithin types.now ∥₁ }
+    requires function { IsFunction types.now func }
+    ensures done { EnterAsks (function_type types.now func) flats.now caller.old requests.old result requests.new }
+    ensures same_caller { caller.new ≡ caller.old }
+{
+    let mut values = Flats::new();
+    put_values(flats, &mut values, Step::LiftArgs)?;
+    if u32::try_from(caller.len()).is_err() {
+        return Err(CallError::BadBlock);
+    }
+    let source = Lent::new(caller, &[]);
+    let link = Link::new(types.resolve(), types.layouts());
+    match link.enter_requests(func, values.as_slice(), &source, requests) {
+        Ok(count) => Ok(count),
+        Err(fault) => Err(CallError::Fault(fault)),
+    }
+}
+
+/// Tells what the second half will ask the caller for, in the same way: of what the core function answered, which lies in the callee.
+pub fn leave_requests(
+    types: &Types,
+    func: FunctionId,
+    answer: &[Value],
+    callee: &mut [u8],
+    requests: &mut [Request],
+) -> Result<usize, CallError>
+    requires within { ∥ AreWithin types.now ∥₁ }
+    requires function { IsFunction types.now func }
+    ensures done { LeaveAsks (function_type types.now func) answer.now callee.old requests.old result requests.new }
+    ensures same_callee { callee.new ≡ callee.old }
+{
+    let mut answers = Flats::new();
+    put_values(answer, &mut answers, Step::LiftResult)?;
+    if u32::try_from(callee.len()).is_err() {
+        return Err(CallError::BadBlock);
+    }
+    let source = Lent::new(callee, &[]);
+    let link = Link::new(types.resolve(), types.layouts());
+    match link.leave_requests(func, answers.as_slice(), &source, requests) {
+        Ok(count) => Ok(count),
+        Err(fault) => Err(CallError::Fault(fault)),
+    }
+}

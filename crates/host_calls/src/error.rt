@@ -1,0 +1,34 @@
+//! Why nothing was done.
+use canonical_abi::Fault;
+use std::alloc::AllocError;
+use thiserror::Error;
+
+/// Why a call of this crate did nothing, or where a call of a function ended.
+#[derive(Clone, Copy, Debug, Drop, Error)]
+pub enum CallError {
+    #[error("error 63 no function")]
+    NoFunction,
+    #[error("error 66 no memory")]
+    NoMemory,
+    /// Of no package anything can be told.
+    #[error("error 70 not open")]
+    NotOpen,
+    /// How many things there has to be room for.
+    #[error("error 71 no room for {0}")]
+    NoRoom(usize),
+    #[error("error 72 bad block")]
+    BadBlock,
+    #[error("{0}")]
+    Fault(Fault),
+}
+
+impl From<AllocError> for CallError {
+    ghost use Rattle.std.specs.Prelude.{◌≡◌};
+    ghost use Rattle.host_calls.specs.declared.error.CallError.TheVariants.{NoMemory};
+
+    ghost from_gives = { λ _ e. e ≡ NoMemory };
+
+    fn from(_error: AllocError) -> CallError {
+        CallError::NoMemory
+    }
+}

@@ -1,0 +1,166 @@
+//! What an export answers.
+ghost use Rattle.std.specs.Prelude.{◌≡◌, IfSome};
+ghost use Rattle.host_calls.specs.Status.{kind_number, step_number, told, status_of, refused};
+
+use crate::error::CallError;
+use canonical_abi::{Fault, Step, Trap, TrapKind};
+use std::fmt;
+
+/// Whether it was done, and how many things were told; or why not. `code` is 0 where it was done, 1 where it was refused, with the number of
+/// the refusal, 2 for a trap, with the number of its kind and its step, and 3 where the library had no memory. It is displayed as the program's
+/// line, a refusal that has more to tell by its number alone; as nothing where it was done.
+#[repr(C)]
+#[derive(Clone, Copy, Debug)]
+pub struct Status {
+    pub code: u32,
+    pub number: u32,
+    pub step: u32,
+    pub count: u32,
+}
+
+/// The number of a kind of trap, as its words have it.
+fn kind_number(kind: TrapKind) -> u32
+    ensures { result ≡ kind_number kind }
+{
+    match kind {
+        TrapKind::Char => 1,
+        TrapKind::Case => 2,
+        TrapKind::Align => 3,
+        TrapKind::Bounds => 4,
+        TrapKind::Utf8 => 5,
+        TrapKind::Full => 6,
+        TrapKind::Body => 7,
+        TrapKind::CoreSignature => 8,
+    }
+}
+
+/// The number of a step, as the header counts them.
+fn step_number(step: Step) -> u32
+    ensures { result ≡ step_number step }
+{
+    match step {
+        Step::Place => 0,
+        Step::Take => 1,
+        Step::LiftArgs => 2,
+        Step::LowerArgs => 3,
+        Step::Body => 4,
+        Step::LiftResult => 5,
+        Step::LowerResult => 6,
+        Step::Post => 7,
+    }
+}
+
+/// A count as C is told it: the greatest number of 32 bits where it is more.
+fn told(count: usize) -> u32
+    ensures { result ≡ told count }
+{
+    u32::try_from(count).unwrap_or(u32::MAX)
+}
+
+/// A refusal of this number, and how many things there has to be room for.
+pub fn refused(number: u32, count: u32) -> Status
+    ensures { result ≡ refused number count }
+{
+    Status {
+        code: 1,
+        number,
+        step: 0,
+        count,
+    }
+}
+
+const NO_MEMORY: Status = Status {
+    code: 3,
+    number: 66,
+    step: 0,
+    count: 0,
+};
+
+impl Status {
+    /// Of what was done, with how many things were told, or of why it was not.
+    pub fn of(done: Result<usize, CallError>) -> Status
+        ensures { result ≡ status_of done }
+    {
+        match done {
+            Ok(count) => Status {
+                code: 0,
+                number: 0,
+                step: 0,
+                count: told(count),
+            },
+            Err(CallError::NoFunction) => refused(63, 0),
+            Err(CallError::NotOpen) => refused(70, 0),
+            Err(CallError::NoRoom(count)) => refused(71, told(count)),
+            Err(CallError::BadBlock) => refused(72, 0),
+            Err(CallError::NoMemory | CallError::Fault(Fault::NoMemory)) => NO_MEMORY,
+            Err(CallError::Fault(Fault::Trap(trap))) => Status {
+                code: 2,
+                number: kind_number(trap.kind),
+                step: step_number(trap.step),
+                count: 0,
+            },
+        }
+    }
+}
+
+/// The kind of trap with this number; none has another one than 1 to 8.
+fn numbered_kind(number: u32) -> Option<TrapKind>
+    ensures { IfSome result (λ k. kind_number k ≡ number) }
+{
+    match number {
+        1 => Some(TrapKind::Char),
+        2 => Some(TrapKind::Case),
+        3 => Some(TrapKind::Align),
+        4 => Some(TrapKind::Bounds),
+        5 => Some(TrapKind::Utf8),
+        6 => Some(TrapKind::Full),
+        7 => Some(TrapKind::Body),
+        8 => Some(TrapKind::CoreSignature),
+        _ => None,
+    }
+}
+
+/// The step with this number.
+fn numbered_step(number: u32) -> Option<Step>
+    ensures { IfSome result (λ s. step_number s ≡ number) }
+{
+    match number {
+        0 => Some(Step::Place),
+        1 => Some(Step::Take),
+        2 => Some(Step::LiftArgs),
+        3 => Some(Step::LowerArgs),
+        4 => Some(Step::Body),
+        5 => Some(Step::LiftResult),
+        6 => Some(Step::LowerResult),
+        7 => Some(Step::Post),
+        _ => None,
+    }
+}
+
+/// The error of this number; none where that tells too little.
+fn numbered_error(number: u32, count: u32) -> Option<CallError> {
+    match number {
+        63 => Some(CallError::NoFunction),
+        70 => Some(CallError::NotOpen),
+        71 => Some(CallError::NoRoom(count as usize)),
+        72 => Some(CallError::BadBlock),
+        _ => None,
+    }
+}
+
+impl fmt::Display for Status {
+    fn fmt<W: fmt::Write>(&self, f: &mut fmt::Formatter<W>) -> fmt::Result {
+        match self.code {
+            0 => Ok(()),
+            1 => match numbered_error(self.number, self.count) {
+                Some(error) => write!(f, "{error}"),
+                None => write!(f, "error {}", self.number),
+            },
+            2 => match (numbered_kind(self.number), numbered_step(self.step)) {
+                (Some(kind), Some(step)) => write!(f, "{}", Trap { kind, step }),
+                _ => Ok(()),
+            },
+            _ => write!(f, "{}", CallError::NoMemory),
+        }
+    }
+}

@@ -1,0 +1,13 @@
+//! The library for hosts in C: what `include/witcall.h` declares.
+//!
+//! An export takes numbers, slices of them, and a handle on a package that the library holds (`Kept`), and answers a `Status`. It is a
+//! thin call of what stands below: `witcall` opens packages, and `host_calls` carries the two halves of a call and tells how values lie in
+//! memory. Whatever the header does not ask of a caller is tested there.
+#![tactic(auto)]
+
+mod calls;
+mod exports;
+mod handle;
+mod held;
+mod line;
+mod refusal;

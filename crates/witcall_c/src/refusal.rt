@@ -1,0 +1,92 @@
+//! The number of a refusal of a package.
+ghost use Rattle.std.specs.Prelude.{◌≡◌};
+ghost use Rattle.witcall_c.specs.Refusals.{text_number, fault_number, binary_number, resolve_number, layout_number, open_number};
+
+use ctype_format::{BinError, Fault};
+use layout::LayoutError;
+use tables::ResolveError;
+use wit_tokens::TextError;
+use witcall::OpenError;
+
+fn text_number(error: &TextError) -> u32
+    ensures { result ≡ text_number error.now }
+{
+    match error {
+        TextError::BadChar(_) => 30,
+        TextError::OpenComment(_) => 31,
+        TextError::Expected(_, _) => 32,
+        TextError::Unsupported(_, _) => 33,
+        TextError::Depth(_) => 34,
+        TextError::NoMemory => 35,
+        TextError::Limit => 36,
+    }
+}
+
+fn fault_number(fault: &Fault) -> u32
+    ensures { result ≡ fault_number fault.now }
+{
+    match fault {
+        Fault::NotComponent => 10,
+        Fault::Truncated => 11,
+        Fault::BadSection(_) => 12,
+        Fault::UnknownOpcode(_) => 13,
+        Fault::Unsupported(_) => 14,
+        Fault::BadIndex => 15,
+        Fault::EmptyType => 16,
+        Fault::Limit => 17,
+        Fault::SizeMismatch => 18,
+        Fault::Trailing => 19,
+        Fault::BadName => 22,
+        Fault::Overlong => 23,
+    }
+}
+
+fn binary_number(error: &BinError) -> u32
+    ensures { result ≡ binary_number error.now }
+{
+    match error {
+        BinError::At(fault, _) => fault_number(fault),
+        BinError::Read(_) => 20,
+        BinError::NoMemory => 21,
+    }
+}
+
+fn resolve_number(error: &ResolveError) -> u32
+    ensures { result ≡ resolve_number error.now }
+{
+    match error {
+        ResolveError::Duplicate(_) => 40,
+        ResolveError::Unknown(_) => 41,
+        ResolveError::Cycle => 42,
+        ResolveError::EmptyPackage => 43,
+        ResolveError::NotThisShape => 44,
+        ResolveError::Limit => 45,
+        ResolveError::NoMemory => 46,
+        ResolveError::NoPackage(_) => 47,
+    }
+}
+
+fn layout_number(error: &LayoutError) -> u32
+    ensures { result ≡ layout_number error.now }
+{
+    match error {
+        LayoutError::TooLarge => 50,
+        LayoutError::TooDeep => 51,
+        LayoutError::NoMemory => 52,
+    }
+}
+
+/// The number of a refusal, as its line has it.
+pub fn open_number(error: &OpenError) -> u32
+    ensures { result ≡ open_number error.now }
+{
+    match error {
+        OpenError::Read(_) => 20,
+        OpenError::Text(error) => text_number(error),
+        OpenError::Binary(error) => binary_number(error),
+        OpenError::Resolve(error) => resolve_number(error),
+        OpenError::Layout(error) => layout_number(error),
+        OpenError::NotUtf8(_) => 60,
+        OpenError::NoMemory => 66,
+    }
+}
