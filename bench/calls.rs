@@ -591,7 +591,7 @@ fn row_over_memories(shape: &Shape) -> String {
     )
 }
 
-fn main() {
+fn print_tables() {
     println!("| type | elements | witcall | loop | witcall / loop |");
     println!("|---|---|---|---|---|");
     for shape in &SHAPES {
@@ -605,8 +605,15 @@ fn main() {
     for shape in SHAPES.iter().filter(|shape| GROWN.contains(&shape.kind)) {
         println!("{}", row_over_memories(shape));
     }
-    let (number, text) = times_of_short_calls();
     println!();
+}
+
+/// Prints all tables, or, by the word `short`, only the times of short calls.
+fn main() {
+    if std::env::args().nth(1).as_deref() != Some("short") {
+        print_tables();
+    }
+    let (number, text) = times_of_short_calls();
     println!(
         "A call with one `u32`: {number:.0} nanoseconds; with a string of five bytes: {text:.0}."
     );

@@ -4,8 +4,8 @@
 usage: tools/check_names.py
 
 A name is a word in backquotes, or words joined by `::`, that could be one of Rust or of a definition: with a capital letter within it, an
-underscore, or `::`. Each of its parts has to stand in a file of crates/, or be the name of a crate, of a file, of an edit or of a
-script. A clause that is named beside its function, as `open`: ok, written, has to be one of that function. The exit status is 1 where
+underscore, or `::`. Each of its parts has to stand in a file of crates/ or in a header of include/, or be the name of a crate, of a file,
+of an edit or of a script. A clause that is named beside its function, as `open`: ok, written, has to be one of that function. The exit status is 1 where
 one isn't there.
 """
 import pathlib
@@ -22,10 +22,11 @@ LABEL = re.compile(r"\bensures ([a-z_0-9]+) \{")
 
 
 def sources():
-    """The files of crates/ that hold code, definitions and lemmas."""
+    """The files of crates/ that hold code, definitions and lemmas, and the headers."""
     for path in sorted((ROOT / "crates").rglob("*")):
         if path.suffix in (".rt", ".antt") and "out" not in path.parts:
             yield path
+    yield from sorted((ROOT / "include").glob("*.h"))
 
 
 def known():
@@ -41,6 +42,9 @@ def known():
         for path in (ROOT / folder).rglob("*"):
             if "out" not in path.parts:
                 words.update(WORD.findall(path.name))
+            # what the programs of hosts name
+            if folder == "examples" and path.suffix in (".c", ".mjs", ".rs"):
+                words.update(WORD.findall(path.read_text()))
     return words, labels
 
 

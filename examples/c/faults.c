@@ -1,0 +1,355 @@
+/* What the library answers where something is wrong, and at edges where nothing is. Each case says what it wants, as witcall.h has it, and
+ * tests that nothing was written where nothing may be. It is built under the address and undefined behaviour sanitizers: all arrays are
+ * blocks of their own, so that an access past one is found.
+ *
+ * A line for each case goes to standard output, with the library's own line; the exit status is 1 where one is not as wanted.
+ */
+#include "witcall.h"
+#include <stdbool.h>
+#include <stdio.h>
+#include <stdlib.h>
+#include <string.h>
+
+#define LENGTH 64
+#define ROOM WITCALL_MAX_VALUES
+#define BYTES(text) (const uint8_t *)(text), strlen(text)
+
+static const char TEXT[] =
+    "package a:b;"
+    "interface c {"
+    "  f: func(s: string, t: list<u16>) -> string;"
+    "  number: func(x: u32) -> u32;"
+    "}";
+
+static witcall_package package;
+static uint32_t function, number;
+static bool failed = false;
+
+/* ---- cases ---- */
+
+typedef struct {
+    uint32_t code, number, step, count;
+} wanted;
+
+static const wanted DONE_WITH_NONE = {WITCALL_DONE, 0, 0, 0};
+
+static wanted done(uint32_t count) {
+    return (wanted){WITCALL_DONE, 0, 0, count};
+}
+
+static wanted refused(uint32_t number) {
+    return (wanted){WITCALL_REFUSED, number, 0, 0};
+}
+
+static wanted no_room(uint32_t count) {
+    return (wanted){WITCALL_REFUSED, WITCALL_NO_ROOM, 0, count};
+}
+
+static wanted trap(uint32_t kind, uint32_t step) {
+    return (wanted){WITCALL_TRAP, kind, step, 0};
+}
+
+static void holds(const char *name, bool fact) {
+    if (!fact) {
+        printf("FAILED %s\n", name);
+        failed = true;
+    }
+}
+
+static void expect(const char *name, witcall_status found, wanted w) {
+    uint8_t line[128];
+    witcall_status told = witcall_status_line(found, line, sizeof line);
+    printf("%s: %.*s\n", name, told.count ? (int)told.count : 4, told.count ? (const char *)line : "done");
+    if (found.code == w.code && found.number == w.number && found.step == w.step && found.count == w.count)
+        return;
+    printf(
+        "FAILED %s: wanted code %u number %u step %u count %u, found %u %u %u %u\n", name, w.code, w.number, w.step, w.count,
+        found.code, found.number, found.step, found.count);
+    failed = true;
+}
+
+/* ---- one call, between memories of 64 bytes ---- */
+
+/* The string "hi" at 0, the list 1, 2, 3 at 4, the return area at 16. */
+typedef struct {
+    uint8_t *caller, *callee;
+    witcall_value *flats, *handed;
+    witcall_block *blocks;
+} call;
+
+static void *array(size_t count, size_t size) {
+    void *made = calloc(count, size);
+    if (!made)
+        exit(2);
+    return made;
+}
+
+static call new_call(void) {
+    call c = {
+        array(LENGTH, 1), array(LENGTH, 1), array(5, sizeof(witcall_value)), array(ROOM, sizeof(witcall_value)),
+        array(2, sizeof(witcall_block))};
+    memcpy(c.caller, "hi\0\0\1\0\2\0\3\0", 10);
+    const uint32_t numbers[5] = {0, 2, 4, 3, 16};
+    for (int i = 0; i < 5; i++)
+        c.flats[i].bits = numbers[i];
+    c.blocks[0] = (witcall_block){.align = 1, .size = 2, .at = 50};
+    c.blocks[1] = (witcall_block){.align = 2, .size = 6, .at = 40};
+    return c;
+}
+
+static void free_call(call c) {
+    free(c.caller), free(c.callee), free(c.flats), free(c.handed), free(c.blocks);
+}
+
+static witcall_status requests(call c, witcall_request *out, size_t room) {
+    return witcall_enter_requests(&package, function, c.flats, 5, c.caller, LENGTH, out, room);
+}
+
+static witcall_status enter(call c, size_t blocks) {
+    return witcall_enter(
+        &package, function, c.flats, 5, c.caller, LENGTH, c.callee, LENGTH, c.blocks, blocks, c.handed, ROOM);
+}
+
+/* The answer "yo" at 8, told at 0. */
+static void answer(call c, witcall_value *out) {
+    memcpy(c.callee, "\10\0\0\0\2\0\0\0yo", 10);
+    *out = (witcall_value){.bits = 0};
+}
+
+static witcall_status leave(call c, const witcall_value *answer, size_t blocks) {
+    return witcall_leave(
+        &package, function, c.flats, 5, answer, 1, c.callee, LENGTH, c.caller, LENGTH, c.blocks, blocks, c.handed, ROOM);
+}
+
+static bool is_zero(const uint8_t *bytes) {
+    for (size_t i = 0; i < LENGTH; i++)
+        if (bytes[i])
+            return false;
+    return true;
+}
+
+/* ---- what goes well ---- */
+
+static void a_call(void) {
+    call c = new_call();
+    witcall_request *asked = array(2, sizeof *asked);
+    witcall_value *back = array(1, sizeof *back);
+    expect("requests", requests(c, asked, 2), done(2));
+    holds("what is asked for", asked[0].align == 1 && asked[0].size == 2 && asked[1].align == 2 && asked[1].size == 6);
+    expect("enter", enter(c, 2), done(4));
+    holds("the values", c.handed[0].bits == 50 && c.handed[1].bits == 2 && c.handed[2].bits == 40 && c.handed[3].bits == 3);
+    holds("the arguments", memcmp(c.callee + 50, "hi", 2) == 0 && memcmp(c.callee + 40, "\1\0\2\0\3\0", 6) == 0);
+    answer(c, back);
+    c.blocks[0].at = 30;
+    expect("leave", leave(c, back, 1), done(0));
+    holds("the result", memcmp(c.caller + 16, "\36\0\0\0\2\0\0\0", 8) == 0 && memcmp(c.caller + 30, "yo", 2) == 0);
+    free(asked), free(back), free_call(c);
+}
+
+/* The callee's memory grows and moves while its allocator runs: it is taken anew for each step. */
+static void a_memory_that_moved(void) {
+    call c = new_call();
+    expect("requests before it moves", requests(c, NULL, 0), done(2));
+    c.callee = realloc(c.callee, 100 * LENGTH);
+    if (!c.callee)
+        exit(2);
+    memset(c.callee + LENGTH, 0, 99 * LENGTH);
+    c.blocks[0].at = 5000;
+    expect("enter where it lies now", witcall_enter(
+        &package, function, c.flats, 5, c.caller, LENGTH, c.callee, 100 * LENGTH, c.blocks, 2, c.handed, ROOM), done(4));
+    holds("the text where it lies now", memcmp(c.callee + 5000, "hi", 2) == 0);
+    free_call(c);
+}
+
+/* A pointer of length 0 may be null. */
+static void null_pointers(void) {
+    witcall_value *flat = array(1, sizeof *flat), *values = array(ROOM, sizeof *values);
+    flat->bits = 7;
+    expect("no memories: requests", witcall_enter_requests(&package, number, flat, 1, NULL, 0, NULL, 0), done(0));
+    expect("no memories: enter", witcall_enter(
+        &package, number, flat, 1, NULL, 0, NULL, 0, NULL, 0, values, ROOM), done(1));
+    holds("the number", values[0].kind == 0 && values[0].bits == 7);
+    expect("no memories: requests back", witcall_leave_requests(&package, number, flat, 1, NULL, 0, NULL, 0), done(0));
+    expect("no memories: leave", witcall_leave(
+        &package, number, flat, 1, flat, 1, NULL, 0, NULL, 0, NULL, 0, values, ROOM), done(1));
+    expect("no values", witcall_enter_requests(&package, number, NULL, 0, NULL, 0, NULL, 0), trap(8, WITCALL_LIFT_ARGS));
+    expect("no names", witcall_find(&package, NULL, 0, NULL, 0), refused(WITCALL_NO_FUNCTION));
+    expect("no room for the values", witcall_enter(
+        &package, number, flat, 1, NULL, 0, NULL, 0, NULL, 0, NULL, 0), no_room(ROOM));
+    free(flat), free(values);
+}
+
+/* ---- blocks ---- */
+
+/* A block in the place of the first or the second, which is refused before a byte is written. */
+static void bad_block(const char *name, int place, witcall_block block) {
+    call c = new_call();
+    c.blocks[place] = block;
+    expect(name, enter(c, 2), refused(WITCALL_BAD_BLOCK));
+    holds(name, is_zero(c.callee));
+    free_call(c);
+}
+
+/* Good blocks that are not the ones asked for: the allocator's answer is as good as none. */
+static void other_blocks(const char *name, int place, witcall_block block, size_t count) {
+    call c = new_call();
+    c.blocks[place] = block;
+    expect(name, enter(c, count), trap(6, WITCALL_LOWER_ARGS));
+    free_call(c);
+}
+
+static void blocks(void) {
+    bad_block("a block misaligned", 1, (witcall_block){2, 6, 41});
+    bad_block("a block past the end", 0, (witcall_block){1, 2, 63});
+    bad_block("a block past 2^32", 0, (witcall_block){1, 2, 0xffffffff});
+    bad_block("a block within another", 0, (witcall_block){1, 2, 42});
+    bad_block("a block of alignment 0", 0, (witcall_block){0, 2, 50});
+    bad_block("a block of alignment 3", 0, (witcall_block){3, 2, 48});
+    other_blocks("a block of another size", 0, (witcall_block){1, 3, 50}, 2);
+    other_blocks("a block of another alignment", 0, (witcall_block){2, 2, 50}, 2);
+    other_blocks("one block for two", 0, (witcall_block){1, 2, 50}, 1);
+    other_blocks("no block for two", 0, (witcall_block){1, 2, 50}, 0);
+}
+
+/* ---- arrays ---- */
+
+static void short_arrays(void) {
+    call c = new_call();
+    witcall_request *one = array(1, sizeof *one);
+    expect("room for one request of two", requests(c, one, 1), done(2));
+    holds("the first of them", one[0].align == 1 && one[0].size == 2);
+    expect("room for 16 values", witcall_enter(
+        &package, function, c.flats, 5, c.caller, LENGTH, c.callee, LENGTH, c.blocks, 2, c.handed, ROOM - 1), no_room(ROOM));
+    holds("nothing is written for it", is_zero(c.callee));
+    witcall_part *part = array(1, sizeof *part);
+    expect("room for one part of two", witcall_parameters(&package, function, part, 1), no_room(2));
+    expect("room for no kinds", witcall_lowered_params(&package, function, NULL, 0), no_room(5));
+    uint8_t line[4];
+    expect("room for a part of the line", witcall_status_line((witcall_status){WITCALL_REFUSED, 63, 0, 0}, line, 4), no_room(20));
+    free(one), free(part), free_call(c);
+}
+
+static void core_values(void) {
+    call c = new_call();
+    witcall_value *many = array(ROOM + 1, sizeof *many);
+    expect("four values of five", witcall_enter(
+        &package, function, c.flats, 4, c.caller, LENGTH, c.callee, LENGTH, c.blocks, 2, c.handed, ROOM),
+        trap(8, WITCALL_LIFT_ARGS));
+    expect("eighteen values", witcall_enter_requests(&package, function, many, ROOM + 1, c.caller, LENGTH, NULL, 0),
+        trap(8, WITCALL_LIFT_ARGS));
+    c.flats[0].kind = 1;
+    expect("an i64 for an i32", requests(c, NULL, 0), trap(8, WITCALL_LIFT_ARGS));
+    c.flats[0].kind = 0;
+    expect("nothing answered", witcall_leave(
+        &package, function, c.flats, 5, NULL, 0, c.callee, LENGTH, c.caller, LENGTH, NULL, 0, c.handed, ROOM),
+        trap(8, WITCALL_LIFT_RESULT));
+    holds("the callee is as it was", is_zero(c.callee));
+    free(many), free_call(c);
+}
+
+/* ---- the components' own faults ---- */
+
+static void bad_texts(void) {
+    call c = new_call();
+    witcall_value *back = array(1, sizeof *back);
+    memcpy(c.caller, "\300\200", 2);
+    expect("an argument that is no UTF-8: requests", requests(c, NULL, 0), trap(5, WITCALL_LIFT_ARGS));
+    expect("an argument that is no UTF-8: enter", enter(c, 2), trap(5, WITCALL_LIFT_ARGS));
+    answer(c, back);
+    memcpy(c.callee + 8, "\300\200", 2);
+    c.blocks[0].at = 30;
+    expect("a result that is no UTF-8: requests", witcall_leave_requests(
+        &package, function, back, 1, c.callee, LENGTH, NULL, 0), trap(5, WITCALL_LIFT_RESULT));
+    expect("a result that is no UTF-8: leave", leave(c, back, 1), trap(5, WITCALL_LIFT_RESULT));
+    free(back), free_call(c);
+}
+
+/* A string that grew between the steps asks for another block than was granted. */
+static void a_source_that_changed(void) {
+    call c = new_call();
+    expect("requests before it changes", requests(c, NULL, 0), done(2));
+    c.flats[1].bits = 3;
+    expect("enter once it has", enter(c, 2), trap(6, WITCALL_LOWER_ARGS));
+    c.flats[1].bits = LENGTH + 1;
+    expect("a text past the end", enter(c, 2), trap(4, WITCALL_LIFT_ARGS));
+    free_call(c);
+}
+
+static void return_areas(void) {
+    call c = new_call();
+    witcall_value *back = array(1, sizeof *back);
+    answer(c, back);
+    c.blocks[0].at = 30;
+    c.flats[4].bits = 18;
+    expect("a return area misaligned", leave(c, back, 1), trap(3, WITCALL_LOWER_RESULT));
+    c.flats[4].bits = 60;
+    expect("a return area past the end", leave(c, back, 1), trap(4, WITCALL_LOWER_RESULT));
+    c.flats[4].bits = 16;
+    c.blocks[0].at = 23;
+    expect("a block that meets the return area", leave(c, back, 1), refused(WITCALL_BAD_BLOCK));
+    c.blocks[0].at = 24;
+    expect("a block behind the return area", leave(c, back, 1), done(0));
+    free(back), free_call(c);
+}
+
+/* ---- handles ---- */
+
+/* A handle on what was refused: each call says that it is not open. */
+static void a_package_refused(void) {
+    static const char WRONG[] = "package a:b; interface c { f: func(x: t); }";
+    witcall_package wrong;
+    witcall_value *values = array(ROOM, sizeof *values);
+    uint8_t line[64];
+    expect("open", witcall_open(BYTES(WRONG), &wrong), refused(41));
+    witcall_status told = witcall_line(&wrong, line, sizeof line);
+    printf("its line: %.*s\n", (int)told.count, line);
+    const wanted not_open = refused(WITCALL_NOT_OPEN);
+    expect("find in what is not open", witcall_find(&wrong, BYTES("a:b/c"), BYTES("f")), not_open);
+    expect("requests of what is not open", witcall_enter_requests(&wrong, 0, NULL, 0, NULL, 0, NULL, 0), not_open);
+    expect("enter what is not open", witcall_enter(&wrong, 0, NULL, 0, NULL, 0, NULL, 0, NULL, 0, values, ROOM), not_open);
+    expect("requests back from what is not open", witcall_leave_requests(&wrong, 0, NULL, 0, NULL, 0, NULL, 0), not_open);
+    expect("leave what is not open", witcall_leave(
+        &wrong, 0, NULL, 0, NULL, 0, NULL, 0, NULL, 0, NULL, 0, values, ROOM), not_open);
+    expect("parameters of what is not open", witcall_parameters(&wrong, 0, NULL, 0), not_open);
+    expect("kinds of what is not open", witcall_lifted_params(&wrong, 0, NULL, 0), not_open);
+    witcall_close(wrong);
+    witcall_package none;
+    expect("open no bytes", witcall_open(NULL, 0, &none), refused(32));
+    witcall_close(none);
+    free(values);
+}
+
+static void names_and_numbers(void) {
+    expect("an interface that is not there", witcall_find(&package, BYTES("a:b/d"), BYTES("f")), refused(63));
+    expect("a function that is not there", witcall_find(&package, BYTES("a:b/c"), BYTES("g")), refused(63));
+    expect("a name that is no UTF-8", witcall_find(&package, BYTES("a:b/\377"), BYTES("f")), refused(63));
+    expect("a number of no function", witcall_enter_requests(&package, 4711, NULL, 0, NULL, 0, NULL, 0), refused(63));
+    uint8_t line[8];
+    witcall_status told = witcall_line(&package, line, sizeof line);
+    holds("an open package has no line", told.code == WITCALL_DONE && told.count == 0);
+}
+
+static uint32_t found(const char *name) {
+    witcall_status status = witcall_find(&package, BYTES("a:b/c"), BYTES(name));
+    expect(name, status, done(status.count));
+    return status.count;
+}
+
+int main(void) {
+    expect("a package", witcall_open(BYTES(TEXT), &package), DONE_WITH_NONE);
+    function = found("f");
+    number = found("number");
+    a_call();
+    a_memory_that_moved();
+    null_pointers();
+    blocks();
+    short_arrays();
+    core_values();
+    bad_texts();
+    a_source_that_changed();
+    return_areas();
+    a_package_refused();
+    names_and_numbers();
+    witcall_close(package);
+    return failed;
+}

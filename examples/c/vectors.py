@@ -1,0 +1,230 @@
+#!/usr/bin/env python3
+"""Makes the stored calls of crates/vectors through the C library, and compares what they do with the stored answers.
+
+usage: examples/c/vectors.py PROGRAM      PROGRAM is examples/c/vectors.c, built
+
+Each call has to do the same: its answer or trap, the core values of its runs, the bytes of both memories, and the blocks that were asked
+for. A call in halves differs by its form in three ways, and any other difference is a failure:
+
+  fault first  the source's fault is told before any block is asked for. The stored call met it on its way, behind blocks that were
+               granted and written. The trap is the same; nobody was asked, and the target is as it was.
+  fault alone  the stored call met a refused or bad block first. What is told is the fault that stands in the source, as
+               tools/call_abi.py finds it where each block is granted; nobody was asked, and the target is as it was.
+  bad blocks   blocks of the stored call's allocator that can't be lent (misaligned, outside, meeting each other or the return area) are
+               refused by 72, and the target is as it was.
+
+The exit status is 1 where something else differs.
+"""
+import json
+import pathlib
+import subprocess
+import sys
+
+ROOT = pathlib.Path(__file__).resolve().parent.parent.parent
+sys.path.insert(0, str(ROOT / "tools"))
+sys.dont_write_bytecode = True
+import call_abi  # noqa: E402
+from call_vectors import TEXTS  # noqa: E402
+
+VECTORS = ROOT / "crates/vectors"
+WORDS = {
+    "K1": "char",
+    "K2": "case",
+    "K3": "align",
+    "K4": "bounds",
+    "K5": "utf8",
+    "K6": "full",
+    "K7": "body",
+    "K8": "coresignature",
+}
+# of each way of a call: the ends of its steps' names, its target, and that target's requests
+WAYS = [("args", "callee", "callee_log"), ("result", "caller", "caller_log")]
+NO_BLOCKS = 72
+
+
+# ---- the program's lines: words between spaces, "-" for nothing
+
+
+def listed(parts):
+    return ",".join(parts) or "-"
+
+
+def flats_line(flats):
+    return listed(f"{kind}:{number}" for kind, number in flats)
+
+
+def allocator_line(top, script):
+    """What an allocator does: grants from a top, or gives these answers and then refuses."""
+    if script is None:
+        return f"top:{top or 0}"
+    return "script:" + listed("none" if at is None else str(at) for at in script)
+
+
+def line_of(call):
+    tops = call.get("tops") or [None, None]
+    scripts = call.get("script") or [None, None]
+    package = call["binary"] if "binary" in call else call["text"].encode().hex()
+    words = [package or "-", call["iface"], call["func"], flats_line(call["flats"])]
+    for side, top, script in zip(("caller", "callee"), tops, scripts):
+        words += [call[side] or "-", allocator_line(top, script)]
+    words += [flats_line(call.get("answer") or []), call.get("stop") or "no"]
+    return " ".join(words) + "\n"
+
+
+def parts_of(word):
+    return [] if word == "-" else word.split(",")
+
+
+def flats_of(word):
+    if word == "none":
+        return None
+    return [[kind, int(number)] for kind, number in (part.split(":") for part in parts_of(word))]
+
+
+def requests_of(word):
+    found = [part.split(":") for part in parts_of(word)]
+    return [[int(align), int(size), None if at == "none" else int(at)] for align, size, at in found]
+
+
+def outcome_of(word):
+    kind, _, rest = word.partition(":")
+    if kind == "ok":
+        return {"ok": flats_of(rest)}
+    if kind == "trap":
+        number, step = rest.split(":")
+        return {"trap": f"trap {number} {WORDS[number]} in {step}"}
+    return {"refused": int(rest)}
+
+
+def told(line):
+    """What the program tells of a call, in the form of the stored answers."""
+    outcome, body_got, post_got, caller, caller_log, callee, callee_log = line.split(" ")
+    return {
+        "outcome": outcome_of(outcome),
+        "body_got": flats_of(body_got),
+        "post_got": flats_of(post_got),
+        "caller_after": "" if caller == "-" else caller,
+        "callee_after": "" if callee == "-" else callee,
+        "caller_log": requests_of(caller_log),
+        "callee_log": requests_of(callee_log),
+    }
+
+
+# ---- the rules
+
+
+def expected_of(stored):
+    """A stored answer as the library tells it: no nodes, and a refusal by its number."""
+    wanted = {key: value for key, value in stored.items() if key != "nodes"}
+    (kind, words), = stored["outcome"].items()
+    if kind == "refused":
+        wanted["outcome"] = {"refused": int(words.split()[1])}
+    return wanted
+
+
+def differs_only(wanted, found, keys):
+    return all(wanted[key] == found[key] for key in wanted if key not in keys)
+
+
+def is_untouched(call, found, way):
+    """Whether nobody was asked on this way, and its target is as it was."""
+    _, side, log = way
+    return found[f"{side}_after"] == call[side] and found[log] == []
+
+
+def trap_of(answer):
+    return answer["outcome"].get("trap", "")
+
+
+def is_fault_first(call, wanted, found, way):
+    ends, side, log = way
+    faulty = trap_of(wanted).endswith(f"lift-{ends}") and is_untouched(call, found, way)
+    return faulty and differs_only(wanted, found, {f"{side}_after", log})
+
+
+def with_room(call, side):
+    """The same call where this memory has room for every block, above all that it holds."""
+    place = ("caller", "callee").index(side)
+    tops, scripts = list(call.get("tops") or [None, None]), list(call.get("script") or [None, None])
+    tops[place], scripts[place] = len(call[side]) // 2, None
+    return {**call, side: call[side] + "00" * 100000, "tops": tops, "script": scripts}
+
+
+def is_fault_alone(call, wanted, found, way):
+    ends, side, log = way
+    if not trap_of(wanted).endswith(f"lower-{ends}") or not is_untouched(call, found, way):
+        return False
+    text = TEXTS[call["binary"]] if "binary" in call else call["text"]
+    stands = call_abi.told(with_room(call, side), text)["outcome"]
+    faulty = found["outcome"] == stands and trap_of(found).endswith(f"lift-{ends}")
+    return faulty and differs_only(wanted, found, {"outcome", f"{side}_after", log})
+
+
+def meet(first, other):
+    (_, size, at), (_, length, start) = first, other
+    return size > 0 and length > 0 and at < start + length and start < at + size
+
+
+def area_of(call):
+    """The caller's return area, as a block."""
+    text = TEXTS[call["binary"]] if "binary" in call else call["text"]
+    _, result = call_abi.Wit(text).functions[call["iface"], call["func"]]
+    if result is None or len(call_abi.flat(result)) < 2:
+        return 1, 0, 0
+    return call_abi.align_of(result), call_abi.size_of(result), call["flats"][-1][1]
+
+
+def can_be_lent(blocks, length, area):
+    placed = all(at % align == 0 and at + size <= length for align, size, at in blocks)
+    apart = not any(meet(block, other) for place, block in enumerate(blocks) for other in blocks[:place])
+    return placed and apart and not any(meet(area, block) for block in blocks)
+
+
+def is_bad_blocks(call, wanted, found, way):
+    ends, side, log = way
+    if found["outcome"] != {"refused": NO_BLOCKS}:
+        return False
+    granted = [request for request in found[log] if request[2] is not None]
+    area = area_of(call) if ends == "result" else (1, 0, 0)
+    if can_be_lent(granted, len(call[side]) // 2, area):
+        return False
+    asked_alike = found[log][: len(wanted[log])] == wanted[log]
+    ran = found["body_got"] == (None if ends == "args" else wanted["body_got"]) and found["post_got"] is None
+    other, other_log = ("caller", "caller_log") if side == "callee" else ("callee", "callee_log")
+    same_other = ends == "args" or differs_only(wanted, found, wanted.keys() - {f"{other}_after", other_log})
+    return asked_alike and ran and same_other and found[f"{side}_after"] == call[side]
+
+
+RULES = [("fault first", is_fault_first), ("fault alone", is_fault_alone), ("bad blocks", is_bad_blocks)]
+
+
+def rule_of(call, wanted, found):
+    """By which rule the call did what it should; none where it didn't."""
+    if wanted == found:
+        return "the same"
+    kept = [name for name, is_kept in RULES if any(is_kept(call, wanted, found, way) for way in WAYS)]
+    return kept[0] if kept else None
+
+
+def main():
+    if len(sys.argv) != 2:
+        sys.exit(__doc__)
+    calls = [json.loads(line) for line in (VECTORS / "stdin").read_text().splitlines()]
+    answers = [json.loads(line) for line in (VECTORS / "stdout").read_text().splitlines()]
+    ran = subprocess.run([sys.argv[1]], input="".join(map(line_of, calls)), capture_output=True, text=True)
+    lines = ran.stdout.splitlines()
+    if ran.returncode or len(lines) != len(calls) or ran.stderr:
+        sys.exit(f"{sys.argv[1]}: status {ran.returncode}, {len(lines)} answers\n{ran.stderr}")
+    counts = {"the same": 0, **{name: 0 for name, _ in RULES}, "differ": 0}
+    for call, stored, line in zip(calls, answers, lines):
+        wanted, found = expected_of(stored), told(line)
+        rule = rule_of(call, wanted, found) or "differ"
+        counts[rule] += 1
+        if rule == "differ":
+            print(f"{call['name']}\n  call   {json.dumps(call)}\n  wanted {json.dumps(wanted)}\n  found  {json.dumps(found)}")
+    print(f"{len(calls)} calls: " + ", ".join(f"{count} {name}" for name, count in counts.items()))
+    sys.exit(counts["differ"] > 0)
+
+
+if __name__ == "__main__":
+    main()

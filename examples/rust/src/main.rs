@@ -1,0 +1,92 @@
+//! One call between two vectors of bytes: `greet: func(name: string) -> string`.
+
+use std::error;
+use witcall_host::{Block, Package, Request, Value, i32_value};
+
+const TEXT: &str = "package demo:hello; interface door { greet: func(name: string) -> string; }";
+
+/// A linear memory with an allocator that goes up.
+struct Memory {
+    bytes: Vec<u8>,
+    top: u32,
+}
+
+impl Memory {
+    fn new() -> Memory {
+        Memory { bytes: vec![0; 256], top: 0 }
+    }
+
+    fn alloc(&mut self, align: u32, size: u32) -> u32 {
+        let at = (self.top + align - 1) / align * align;
+        self.top = at + size;
+        at
+    }
+
+    /// Grants the blocks that are asked for, in turn.
+    fn granted(&mut self, requests: &[Request]) -> Vec<Block> {
+        let grant = |&Request { align, size }: &Request| Block { align, size, at: self.alloc(align, size) };
+        requests.iter().map(grant).collect()
+    }
+
+    fn put(&mut self, at: u32, bytes: &[u8]) {
+        self.bytes[at as usize..at as usize + bytes.len()].copy_from_slice(bytes);
+    }
+
+    fn word(&self, at: u32) -> u32 {
+        let at = at as usize;
+        u32::from_le_bytes(self.bytes[at..at + 4].try_into().expect("four bytes"))
+    }
+
+    fn text(&self, at: u32, len: u32) -> String {
+        String::from_utf8_lossy(&self.bytes[at as usize..(at + len) as usize]).into_owned()
+    }
+
+    /// A block with this text.
+    fn put_text(&mut self, text: &str) -> u32 {
+        let at = self.alloc(1, text.len() as u32);
+        self.put(at, text.as_bytes());
+        at
+    }
+}
+
+/// The callee's core function: the address of the answer's own address and length.
+fn greeting(callee: &mut Memory, name: &[Value]) -> u32 {
+    let text = format!("Hello, {}!", callee.text(name[0].bits as u32, name[1].bits as u32));
+    let at = callee.put_text(&text);
+    let answer = callee.alloc(4, 8);
+    callee.put(answer, &at.to_le_bytes());
+    callee.put(answer + 4, &(text.len() as u32).to_le_bytes());
+    answer
+}
+
+fn main() -> Result<(), Box<dyn error::Error>> {
+    let mut package = Package::open(TEXT.as_bytes())?;
+    let greet = package.function("demo:hello/door", "greet")?;
+    let (mut caller, mut callee) = (Memory::new(), Memory::new());
+
+    // The core values that the caller hands in: its text, and where its result goes.
+    let name = "Wörld";
+    let at = caller.put_text(name);
+    let area = caller.alloc(4, 8);
+    let flats = [i32_value(at), i32_value(name.len() as u32), i32_value(area)];
+
+    let requests = package.enter_requests(greet, &flats, &mut caller.bytes)?;
+    let blocks = callee.granted(&requests);
+    let handed = package.enter(greet, &flats, &mut caller.bytes, &mut callee.bytes, &blocks)?;
+    let answer = [i32_value(greeting(&mut callee, &handed))];
+
+    let requests = package.leave_requests(greet, &answer, &mut callee.bytes)?;
+    let blocks = caller.granted(&requests);
+    package.leave(greet, &flats, &answer, &mut callee.bytes, &mut caller.bytes, &blocks)?;
+    println!("{}", caller.text(caller.word(area), caller.word(area + 4)));
+
+    // A text that is no UTF-8 is a trap of the caller's, and a text that is no package is refused.
+    caller.put(at, &[0xc0, 0x80]);
+    if let Err(error) = package.enter_requests(greet, &flats, &mut caller.bytes) {
+        println!("{error}");
+    }
+    if let Err(error) = Package::open(b"package demo:hello; interface door { greet: func(name: text); }") {
+        println!("{error}");
+    }
+    Ok(())
+}
