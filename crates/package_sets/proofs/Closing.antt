@@ -25,6 +25,7 @@ use Rattle.tables.specs.declared.tables.Resolve.{Resolve}
 use Rattle.tables.specs.declared.tables.Owner.{Owner}
 use Rattle.package_sets.specs.Places.{kept, place}
 use Rattle.package_sets.specs.Reaches.{is_marked}
+use Rattle.package_sets.specs.Renamed.{renaming}
 use Rattle.package_sets.specs.Moved.{put_val, put_field, put_case, put_parameter, put_kind, put_row, put_function, put_function_id, has_function, put_interface}
 use Rattle.package_sets.specs.Restricted.{IsNeeded}
 use Rattle.package_sets.specs.declared.moved.Moved.{Moved}
@@ -33,7 +34,7 @@ use Rattle.package_sets.proofs.Kept.{list-at}
 use Rattle.package_sets.proofs.Placing.{place-none}
 use Rattle.package_sets.proofs.Reading.{AgreesOr, agrees-kept, agrees-over, is_kept, AllRight, AreMarksFrom, marks-here, marks-next}
 use Rattle.package_sets.proofs.Restricting as table
-use Rattle.package_sets.proofs.Restricting.{map-get}
+use Rattle.package_sets.proofs.Lists.{map-get}
 
 abbrev ClosedAgrees : List Bool → List ClosedType → List ClosedType → Type 0
 ClosedAgrees bs old new = AgreesOr string_type bs old new
@@ -46,16 +47,16 @@ module _ (to : Moved) (old new : List ClosedType) (a : AgreesOr string_type to.r
   abbrev here : ValType → Bool
   here v = is_kept to.rows (length old) v
 
-  val-closed : (v : ValType) → here v ≡ true → closed_val new (put_val to v) ≡ closed_val old v
+  val-closed : (v : ValType) → here v ≡ true → closed_val new (put_val (renaming to) v) ≡ closed_val old v
   val-closed (val.Primitive p) h = refl
   val-closed val.String h = refl
   val-closed (val.Id t) h = let p = split (nat_lt t.0 (length old)) (get_or to.rows t.0 false) h in a.same t.0 (ltb-true t.0 (length old) p.0) p.1
 
-  pub option-closed : (v : Option ValType) → option_all here v ≡ true → option_map (closed_val new) (option_map (put_val to) v) ≡ option_map (closed_val old) v
+  pub option-closed : (v : Option ValType) → option_all here v ≡ true → option_map (closed_val new) (option_map (put_val (renaming to)) v) ≡ option_map (closed_val old) v
   option-closed None h = refl
   option-closed (Some v) h = ap Some (val-closed v h)
 
-  kind-closed : (k : TypeDefKind) → kind_all here k ≡ true → closed_kind new (put_kind to k) ≡ closed_kind old k
+  kind-closed : (k : TypeDefKind) → kind_all here k ≡ true → closed_kind new (put_kind (renaming to) k) ≡ closed_kind old k
   kind-closed (kind.Use t) h = val-closed (val.Id t) h
   kind-closed (kind.Alias v) h = val-closed v h
   kind-closed (kind.List v) h = ap list_type (val-closed v h)
@@ -64,30 +65,30 @@ module _ (to : Moved) (old new : List ClosedType) (a : AgreesOr string_type to.r
       let p = split (option_all here ok) (option_all here error) h in
       let x = option-closed ok p.0 in
       let y = option-closed error p.1 in
-      ap (λ t. variant_type (cases_of (t ∷ option_map (closed_val new) (option_map (put_val to) error) ∷ []))) x ∙ ap (λ t. variant_type (cases_of (option_map (closed_val old) ok ∷ t ∷ []))) y
-  kind-closed (kind.Tuple vs) h = ap (λ ts. record_type (fields_of ts)) (list-as (put_val to) here (closed_val new) (closed_val old) val-closed vs h)
+      ap (λ t. variant_type (cases_of (t ∷ option_map (closed_val new) (option_map (put_val (renaming to)) error) ∷ []))) x ∙ ap (λ t. variant_type (cases_of (option_map (closed_val old) ok ∷ t ∷ []))) y
+  kind-closed (kind.Tuple vs) h = ap (λ ts. record_type (fields_of ts)) (list-as (put_val (renaming to)) here (closed_val new) (closed_val old) val-closed vs h)
   kind-closed (kind.Record fs) h =
-      ap (λ ts. record_type (fields_of ts)) (list-as (put_field to) (λ f. here f.ty) (λ f. closed_val new f.ty) (λ f. closed_val old f.ty) (λ f. val-closed f.ty) fs h)
+      ap (λ ts. record_type (fields_of ts)) (list-as (put_field (renaming to)) (λ f. here f.ty) (λ f. closed_val new f.ty) (λ f. closed_val old f.ty) (λ f. val-closed f.ty) fs h)
   kind-closed (kind.Variant cs) h =
-      ap (λ ts. variant_type (cases_of ts)) (list-as (put_case to) (λ c. option_all here c.ty) (λ c. option_map (closed_val new) c.ty) (λ c. option_map (closed_val old) c.ty) (λ c. option-closed c.ty) cs h)
+      ap (λ ts. variant_type (cases_of ts)) (list-as (put_case (renaming to)) (λ c. option_all here c.ty) (λ c. option_map (closed_val new) c.ty) (λ c. option_map (closed_val old) c.ty) (λ c. option-closed c.ty) cs h)
   kind-closed (kind.Enum names) h = refl
   kind-closed (kind.Flags names) h = refl
 
-  pub params-closed : (f : Function) → list_all (λ q. here q.ty) f.params ≡ true → closed_params new (map (put_parameter to) f.params) ≡ closed_params old f.params
-  params-closed f h = list-as (put_parameter to) (λ q. here q.ty) (λ q. closed_val new q.ty) (λ q. closed_val old q.ty) (λ q. val-closed q.ty) f.params h
+  pub params-closed : (f : Function) → list_all (λ q. here q.ty) f.params ≡ true → closed_params new (map (put_parameter (renaming to)) f.params) ≡ closed_params old f.params
+  params-closed f h = list-as (put_parameter (renaming to)) (λ q. here q.ty) (λ q. closed_val new q.ty) (λ q. closed_val old q.ty) (λ q. val-closed q.ty) f.params h
 
-  definition-closed : (d : Definition) → definition_all here d ≡ true → closed_definition new (put_row to d) ≡ closed_definition old d
+  definition-closed : (d : Definition) → definition_all here d ≡ true → closed_definition new (put_row (renaming to) d) ≡ closed_definition old d
   definition-closed (row.Type d) h = kind-closed d.kind h
   definition-closed (row.Function f) h = ap (λ ts. record_type (fields_of ts)) (params-closed f (split (list_all (λ q. here q.ty) f.params) (option_all here f.result) h).0)
 
 closed-kept : (has : Option Owner → Bool) (to : Moved) (bs : List Bool) (old new : List ClosedType) (ds : List Definition) → length bs ≡ length ds → ClosedAgrees to.rows old new
-    → AreMarksFrom to.rows (length old) bs → AllRight has to.rows (length old) ds → ClosedAgrees to.rows (closed_rows old ds) (closed_rows new (map (put_row to) (kept bs ds)))
-closed-kept has to bs old new [] count a marks right = subst (λ (xs : List Definition). ClosedAgrees to.rows old (closed_rows new (map (put_row to) xs))) (sym (kept-none bs)) a
+    → AreMarksFrom to.rows (length old) bs → AllRight has to.rows (length old) ds → ClosedAgrees to.rows (closed_rows old ds) (closed_rows new (map (put_row (renaming to)) (kept bs ds)))
+closed-kept has to bs old new [] count a marks right = subst (λ (xs : List Definition). ClosedAgrees to.rows old (closed_rows new (map (put_row (renaming to)) xs))) (sym (kept-none bs)) a
 closed-kept has to [] old new (d ∷ ds) count a marks right = absurd (omega (arith, count))
 closed-kept has to (true ∷ bs) old new (d ∷ ds) count a marks right =
     let here-is = marks-here to.rows (length old) true bs marks in
     let x = closed_definition old d in
-    let y = closed_definition new (put_row to d) in
+    let y = closed_definition new (put_row (renaming to) d) in
     let one = length_push old x in
     let same = definition-closed to old new a d (right.0.named here-is) in
     closed-kept has to bs (old ++ x ∷ []) (new ++ y ∷ []) ds (omega (arith, count)) (agrees-kept string_type to.rows old new x y a here-is same)
@@ -129,19 +130,19 @@ functions-at ds i f h (k, l, e) =
     let q = split (list_all (is_type_id ds) i.types) (list_all (is_function_id ds) i.functions) p.1 in
     list-at (is_function_id ds) i.functions k f q.1 (slice_get-get_or i.functions k f l ∙ ap Some e)
 
-module _ (s : Resolve) (own : ℕ) (to : Moved) (n : IsNeeded s own to) (r : Resolve) (is : r.interfaces ≡ map (put_interface to) (kept to.interfaces s.interfaces)) (ds : r.definitions ≡ map (put_row to) (kept to.rows s.definitions)) (names : (k : ℕ) (i : Interface) → get_or to.interfaces k false ≡ true → slice_get s.interfaces k ≡ Some i → full_name r (put_interface to i) ≡ full_name s i) where
+module _ (s : Resolve) (own : ℕ) (to : Moved) (n : IsNeeded s own to) (r : Resolve) (is : r.interfaces ≡ map (put_interface (renaming to)) (kept to.interfaces s.interfaces)) (ds : r.definitions ≡ map (put_row (renaming to)) (kept to.rows s.definitions)) (names : (k : ℕ) (i : Interface) → get_or to.interfaces k false ≡ true → slice_get s.interfaces k ≡ Some i → full_name r (put_interface (renaming to) i) ≡ full_name s i) where
   closed-agrees : ClosedAgrees to.rows (closed_types s) (closed_types r)
   closed-agrees = subst (λ (xs : List Definition). ClosedAgrees to.rows (closed_types s) (closed_rows [] xs)) (sym ds)
       (closed-kept (is_marked n.marks) to to.rows [] [] s.definitions (table.count-rows s own to n) (record { count = sym (place-none to.rows); same = λ t h. absurd (omega arith) })
       (λ k. ap (λ j. get_or to.rows j false) (omega arith)) (table.rights s own to n))
 
   -- a function that is kept is there as it was
-  at-there : (f : FunctionId) (g : Function) → slice_get s.definitions f.0 ≡ Some (row.Function g) → get_or to.rows f.0 false ≡ true → function_at r (put_function_id to f) ≡ Some (put_function to g)
+  at-there : (f : FunctionId) (g : Function) → slice_get s.definitions f.0 ≡ Some (row.Function g) → get_or to.rows f.0 false ≡ true → function_at r (put_function_id (renaming to) f) ≡ Some (put_function (renaming to) g)
   at-there f g d k =
       ap (λ (xs : List Definition). function_of (slice_get xs (place to.rows f.0))) ds
-      ∙ ap function_of (map-get (put_row to) (kept to.rows s.definitions) (place to.rows f.0) (row.Function g) (kept-at to.rows s.definitions f.0 (row.Function g) k d))
+      ∙ ap function_of (map-get (put_row (renaming to)) (kept to.rows s.definitions) (place to.rows f.0) (row.Function g) (kept-at to.rows s.definitions f.0 (row.Function g) k d))
 
-  type-there : (f : FunctionId) (g : Function) → slice_get s.definitions f.0 ≡ Some (row.Function g) → get_or to.rows f.0 false ≡ true → function_type r (put_function_id to f) ≡ function_type s f
+  type-there : (f : FunctionId) (g : Function) → slice_get s.definitions f.0 ≡ Some (row.Function g) → get_or to.rows f.0 false ≡ true → function_type r (put_function_id (renaming to) f) ≡ function_type s f
   type-there f g d k =
       let count : length (closed_types s) ≡ length s.definitions = omega (arith, length-closed_rows [] s.definitions) in
       let all = table.kept-all s own to n f.0 (length (closed_types s)) (row.Function g) (omega (arith, count, slice_get_within s.definitions f.0 (row.Function g) d)) d k in
@@ -152,33 +153,33 @@ module _ (s : Resolve) (own : ℕ) (to : Moved) (n : IsNeeded s own to) (r : Res
       let w : function_at s f ≡ Some g = ap function_of d in
       ap (type_of_function (closed_types r)) z ∙ (record-same x y ∙ sym (ap (type_of_function (closed_types s)) w))
     where
-      record-same : closed_params (closed_types r) (put_function to g).params ≡ closed_params (closed_types s) g.params
-          → option_map (closed_val (closed_types r)) (put_function to g).result ≡ option_map (closed_val (closed_types s)) g.result
-          → type_of_function (closed_types r) (Some (put_function to g)) ≡ type_of_function (closed_types s) (Some g)
+      record-same : closed_params (closed_types r) (put_function (renaming to) g).params ≡ closed_params (closed_types s) g.params
+          → option_map (closed_val (closed_types r)) (put_function (renaming to) g).result ≡ option_map (closed_val (closed_types s)) g.result
+          → type_of_function (closed_types r) (Some (put_function (renaming to) g)) ≡ type_of_function (closed_types s) (Some g)
       record-same x y = cc
 
   -- what a name stands for in the answer it stands for in the set, with the same type
   pub functions-same : (iface name : List ℕ) (f : FunctionId) → IsNamed r iface name f → (g : FunctionId) × IsNamed s iface name g × (function_type r f ≡ function_type s g)
   functions-same iface name f (i, c, e, (d, h)) =
-      let u = contains-unmap (put_interface to) (kept to.interfaces s.interfaces) i (subst (λ (xs : List Interface). Contains xs i) is c) in
+      let u = contains-unmap (put_interface (renaming to)) (kept to.interfaces s.interfaces) i (subst (λ (xs : List Interface). Contains xs i) is c) in
       let k = kept-from to.interfaces s.interfaces u.0 u.1 in
-      let v = contains-unmap (put_function_id to) (filter (has_function to) u.0.functions) f (subst (λ (x : Interface). Contains x.functions f) (sym u.2) d) in
-      let w = contains-kept (has_function to) u.0.functions v.0 v.1 in
+      let v = contains-unmap (put_function_id (renaming to)) (filter (has_function (renaming to)) u.0.functions) f (subst (λ (x : Interface). Contains x.functions f) (sym u.2) d) in
+      let w = contains-kept (has_function (renaming to)) u.0.functions v.0 v.1 in
       let function = functions-at s.definitions u.0 v.0 (list-at (is_placed s.definitions) s.interfaces k.0 u.0 s.placed k.2) w.0 in
       let named : iface ≡ full_name s u.0 = e ∙ (ap (full_name r) (sym u.2) ∙ names k.0 u.0 k.1 k.2) in
       (v.0, (u.0, (k.0, slice_get_within s.interfaces k.0 u.0 k.2, get_or_from_slice_get s.interfaces k.0 u.0 u.0 k.2), named, (w.0, same-name v.0 f v.2 w.1 function h)), same-type v.0 f v.2 w.1 function)
     where
-      same-name : (g f : FunctionId) → put_function_id to g ≡ f → get_or to.rows g.0 false ≡ true → is_function_id s.definitions g ≡ true → function_name r f ≡ Some name → function_name s g ≡ Some name
+      same-name : (g f : FunctionId) → put_function_id (renaming to) g ≡ f → get_or to.rows g.0 false ≡ true → is_function_id s.definitions g ≡ true → function_name r f ≡ Some name → function_name s g ≡ Some name
       same-name g f e k p q = by (slice_get s.definitions g.0) refl p
         where
           by : (o : Option Definition) → slice_get s.definitions g.0 ≡ o → is_some (function_of o) ≡ true → function_name s g ≡ Some name
           by None d z = absurd (true≢false (sym z))
           by (Some (row.Type t)) d z = absurd (true≢false (sym z))
           by (Some (row.Function x)) d z =
-              let a : function_at r f ≡ Some (put_function to x) = ap (function_at r) (sym e) ∙ at-there g x d k in
+              let a : function_at r f ≡ Some (put_function (renaming to) x) = ap (function_at r) (sym e) ∙ at-there g x d k in
               ap (option_map (λ (y : Function). y.name)) (ap function_of d) ∙ (sym (ap (option_map (λ (y : Function). y.name)) a) ∙ q)
 
-      same-type : (g f : FunctionId) → put_function_id to g ≡ f → get_or to.rows g.0 false ≡ true → is_function_id s.definitions g ≡ true → function_type r f ≡ function_type s g
+      same-type : (g f : FunctionId) → put_function_id (renaming to) g ≡ f → get_or to.rows g.0 false ≡ true → is_function_id s.definitions g ≡ true → function_type r f ≡ function_type s g
       same-type g f e k p = by (slice_get s.definitions g.0) refl p
         where
           by : (o : Option Definition) → slice_get s.definitions g.0 ≡ o → is_some (function_of o) ≡ true → function_type r f ≡ function_type s g

@@ -12,6 +12,7 @@ use Rattle.tables.specs.declared.tables.Interface.{Interface}
 use Rattle.tables.specs.declared.tables.World.{World}
 use Rattle.tables.specs.declared.tables.Resolve.{Resolve}
 use Rattle.package_sets.specs.Places.{kept, place}
+use Rattle.package_sets.specs.Renamed.{renaming}
 use Rattle.package_sets.specs.Moved.{put_row, put_interface, put_world}
 use Rattle.package_sets.specs.Restricted.{IsNeeded, NamesEarlierPackages}
 use Rattle.package_sets.specs.Set.{ArePackageByPackage, behind_all, an_interface, a_world, IsSet, HasRowsInForm}
@@ -54,11 +55,11 @@ in-form rows _ _ _ _ _ (a_world start k (i ∷ is) j w ws a later rest) before =
     absurd (omega arith)
 
 module _ (s : Resolve) (own : ℕ) (to : Moved) (n : IsNeeded s own to) where
-  before-there : NamesEarlierPackages s → AreBefore (map (put_interface to) (kept to.interfaces s.interfaces)) (map (put_world to) (kept to.worlds s.worlds))
+  before-there : NamesEarlierPackages s → AreBefore (map (put_interface (renaming to)) (kept to.interfaces s.interfaces)) (map (put_world (renaming to)) (kept to.worlds s.worlds))
   before-there h a b i w e f =
-      let u = contains-unmap (put_interface to) (kept to.interfaces s.interfaces) i (a, slice_get_within _ a i e, get_or_from_slice_get _ a i i e) in
+      let u = contains-unmap (put_interface (renaming to)) (kept to.interfaces s.interfaces) i (a, slice_get_within _ a i e, get_or_from_slice_get _ a i i e) in
       let x = kept-from to.interfaces s.interfaces u.0 u.1 in
-      let v = contains-unmap (put_world to) (kept to.worlds s.worlds) w (b, slice_get_within _ b w f, get_or_from_slice_get _ b w w f) in
+      let v = contains-unmap (put_world (renaming to)) (kept to.worlds s.worlds) w (b, slice_get_within _ b w f, get_or_from_slice_get _ b w w f) in
       let y = kept-from to.worlds s.worlds v.0 v.1 in
       let needed = table.interface-needed s own to n x.0 u.0 x.1 x.2 in
       let low : u.0.«package».0 ≤ own = last-own s own to n h u.0.«package».0 (n.packages_are.only u.0.«package».0 needed) in
@@ -68,8 +69,8 @@ module _ (s : Resolve) (own : ℕ) (to : Moved) (n : IsNeeded s own to) where
       let q : place to.packages v.0.«package».0 ≡ w.«package».0 = ap (λ (z : World). z.«package».0) v.2 in
       omega (arith, order, p, q)
 
-  pub rows-in-form : (r : Resolve) → r.interfaces ≡ map (put_interface to) (kept to.interfaces s.interfaces) → r.worlds ≡ map (put_world to) (kept to.worlds s.worlds)
-      → r.definitions ≡ map (put_row to) (kept to.rows s.definitions) → IsSet s → NamesEarlierPackages s → HasRowsInForm r
+  pub rows-in-form : (r : Resolve) → r.interfaces ≡ map (put_interface (renaming to)) (kept to.interfaces s.interfaces) → r.worlds ≡ map (put_world (renaming to)) (kept to.worlds s.worlds)
+      → r.definitions ≡ map (put_row (renaming to)) (kept to.rows s.definitions) → IsSet s → NamesEarlierPackages s → HasRowsInForm r
   rows-in-form r is ws ds h e =
-      let f = in-form (map (put_row to) (kept to.rows s.definitions)) 0 0 (map (put_interface to) (kept to.interfaces s.interfaces)) 0 (map (put_world to) (kept to.worlds s.worlds)) (all-stand s own to n h) (before-there e) in
+      let f = in-form (map (put_row (renaming to)) (kept to.rows s.definitions)) 0 0 (map (put_interface (renaming to)) (kept to.interfaces s.interfaces)) 0 (map (put_world (renaming to)) (kept to.worlds s.worlds)) (all-stand s own to n h) (before-there e) in
       record { parted = rw (is, ws, ds) f.parted; interfaces = rw (is, ds) f.interfaces; items = rw (is, ws, ds) f.items }

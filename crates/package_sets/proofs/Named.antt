@@ -1,20 +1,23 @@
 -- What a row names, and what is true of all of that.
-use Rattle.std.proofs.Common.{◌≡◌, inl, inr, zero, suc, Bool, true, List, [], ◌∷◌, ◌++◌, map, Option, None, Some, refl, ap, sym, subst, ◌∙◌, arith}
-use Rattle.std.specs.Prelude.{flat_map, Contains}
+use Rattle.std.proofs.Common.{◌≡◌, inl, inr, zero, suc, Bool, true, not, List, [], ◌∷◌, ◌++◌, map, Option, None, Some, refl, ap, sym, subst, ◌∙◌, arith}
+use Rattle.std.specs.Prelude.{flat_map, Contains, is_some}
 use Rattle.std.specs.Option.{option_map}
 use Rattle.std.specs.List.{list_all}
 use Rattle.std.proofs.lemmas.List.Elements.{Contains-append_cases, Contains-append_left, Contains-append_right}
-use Rattle.package_form.specs.References.{references, references_if, field_references, case_references, parameter_references}
+use Rattle.package_form.specs.References.{references, references_if, field_references, case_references, parameter_references, kind_references, row_references}
+use Rattle.package_form.specs.Form.{is_named}
+use Rattle.package_form.specs.Postfix.{is_unnamed}
 use Rattle.package_sets.specs.Owners.{names}
-use Rattle.package_sets.specs.Moved.{put_val, put_field, put_case, put_parameter, put_kind, put_row}
-use Rattle.package_sets.specs.declared.moved.Moved.{Moved}
-use Rattle.tables.specs.Tables.{option_all, kind_all, definition_all}
+use Rattle.package_sets.specs.Moved.{Renaming, put_id, put_val, put_field, put_case, put_parameter, put_kind, put_name, put_row}
+use Rattle.std.proofs.lemmas.List.{length-map, map-append}
+use Rattle.tables.specs.Tables.{option_all, kind_all, definition_all, is_standard_kind, is_standard}
 use Rattle.tables.proofs.Rows.{split, both}
 use Rattle.tables.specs.declared.tables.TypeId.{TypeId}
 use Rattle.tables.specs.declared.tables.ValType.{ValType}
 use Rattle.tables.specs.declared.tables.ValType.TheVariants as val
 use Rattle.tables.specs.declared.tables.TypeDefKind.{TypeDefKind}
 use Rattle.tables.specs.declared.tables.TypeDefKind.TheVariants as kind
+use Rattle.tables.specs.declared.tables.TypeName.{TypeName}
 use Rattle.tables.specs.declared.tables.TypeDef.{TypeDef}
 use Rattle.tables.specs.declared.tables.Definition.{Definition}
 use Rattle.tables.specs.declared.tables.Definition.TheVariants as row
@@ -78,7 +81,7 @@ module _ (has : ValType → Bool) (primitive : (v : ValType) → references v �
 
 -- ---- what is true of all that a row names is true in the other table, where it is of each
 
-module _ (to : Moved) (has there : ValType → Bool) (each : (v : ValType) → has v ≡ true → there (put_val to v) ≡ true) where
+module _ (to : Renaming) (has there : ValType → Bool) (each : (v : ValType) → has v ≡ true → there (put_val to v) ≡ true) where
   option-put : (v : Option ValType) → option_all has v ≡ true → option_all there (option_map (put_val to) v) ≡ true
   option-put None h = refl
   option-put (Some v) h = each v h
@@ -162,3 +165,76 @@ module _ (has : ValType → Bool) where
         | inl q ↦ list-named parameter_references (λ p. has p.ty) (λ p. val-named p.ty) f.params p.0 t q
         | inr q ↦ if-named f.result p.1 t q
       ]
+
+-- ---- a row keeps its limits
+
+standard-kind : (to : Renaming) (k : TypeDefKind) → is_standard_kind k ≡ true → is_standard_kind (put_kind to k) ≡ true
+standard-kind to (kind.Use t) h = refl
+standard-kind to (kind.Alias v) h = refl
+standard-kind to (kind.List v) h = refl
+standard-kind to (kind.Option v) h = refl
+standard-kind to (kind.Result ok error) h = refl
+standard-kind to (kind.Tuple vs) h = rw (length-map vs (put_val to)) h
+standard-kind to (kind.Record fs) h = rw (length-map fs (put_field to)) h
+standard-kind to (kind.Variant cs) h = rw (length-map cs (put_case to)) h
+standard-kind to (kind.Enum names) h = h
+standard-kind to (kind.Flags names) h = h
+
+pub standard-put : (to : Renaming) (d : Definition) → is_standard d ≡ true → is_standard (put_row to d) ≡ true
+standard-put to (row.Type d) h = standard-kind to d.kind h
+standard-put to (row.Function f) h = refl
+
+pub unnamed-same : (to : Renaming) (d : Definition) → is_unnamed (put_row to d) ≡ is_unnamed d
+unnamed-same to (row.Function f) = refl
+unnamed-same to (row.Type d) = by d.name
+  where
+    by : (n : Option TypeName) → not (is_some (option_map (put_name to) n)) ≡ not (is_some n)
+    by None = refl
+    by (Some n) = refl
+
+pub named-same : (to : Renaming) (d : Definition) → is_named (put_row to d) ≡ is_named d
+named-same to d = ap not (unnamed-same to d)
+
+-- ---- what a row refers to, put elsewhere
+
+module _ (to : Renaming) where
+  val-references : (v : ValType) → references (put_val to v) ≡ map (put_id to) (references v)
+  val-references (val.Primitive p) = refl
+  val-references val.String = refl
+  val-references (val.Id t) = refl
+
+  if-references : (v : Option ValType) → references_if (option_map (put_val to) v) ≡ map (put_id to) (references_if v)
+  if-references None = refl
+  if-references (Some v) = val-references v
+
+  list-references : {A : Type 0} (put : A → A) (of : A → List TypeId) → ((x : A) → of (put x) ≡ map (put_id to) (of x)) → (xs : List A) → flat_map of (map put xs) ≡ map (put_id to) (flat_map of xs)
+  list-references put of one [] = refl
+  list-references put of one (x ∷ xs) =
+      let e = one x in
+      let r = list-references put of one xs in
+      let m = map-append (put_id to) (of x) (flat_map of xs) in
+      cc
+
+  kind-references-put : (k : TypeDefKind) → kind_references (put_kind to k) ≡ map (put_id to) (kind_references k)
+  kind-references-put (kind.Use t) = refl
+  kind-references-put (kind.Alias v) = val-references v
+  kind-references-put (kind.List v) = val-references v
+  kind-references-put (kind.Option v) = val-references v
+  kind-references-put (kind.Result ok error) =
+      let x = if-references ok in
+      let y = if-references error in
+      let m = map-append (put_id to) (references_if ok) (references_if error) in
+      cc
+  kind-references-put (kind.Tuple vs) = list-references (put_val to) references val-references vs
+  kind-references-put (kind.Record fs) = list-references (put_field to) field_references (λ f. val-references f.ty) fs
+  kind-references-put (kind.Variant cs) = list-references (put_case to) case_references (λ c. if-references c.ty) cs
+  kind-references-put (kind.Enum ns) = refl
+  kind-references-put (kind.Flags ns) = refl
+
+  pub row-references-put : (d : Definition) → row_references (put_row to d) ≡ map (put_id to) (row_references d)
+  row-references-put (row.Type d) = kind-references-put d.kind
+  row-references-put (row.Function f) =
+      let x = list-references (put_parameter to) parameter_references (λ p. val-references p.ty) f.params in
+      let y = if-references f.result in
+      let m = map-append (put_id to) (flat_map parameter_references f.params) (references_if f.result) in
+      cc

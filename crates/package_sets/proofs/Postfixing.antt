@@ -14,11 +14,14 @@ use Rattle.package_sets.specs.Owners.{owner_of, owners, first_owner}
 use Rattle.package_sets.specs.Reaches.{is_marked}
 use Rattle.package_sets.specs.Restricted.{IsNeeded}
 use Rattle.package_sets.specs.Places.{kept, place}
-use Rattle.package_sets.specs.Moved.{put_val, put_field, put_case, put_parameter, put_kind, put_name, put_row}
+use Rattle.package_sets.specs.Renamed.{renaming}
+use Rattle.package_sets.specs.Moved.{put_val, put_field, put_case, put_parameter, put_kind, put_row}
 use Rattle.package_sets.specs.declared.moved.Moved.{Moved}
 use Rattle.package_sets.proofs.Keeping.{kept-none, kept-at}
 use Rattle.package_sets.proofs.Reading.{is_kept}
-use Rattle.package_sets.proofs.Restricting.{map-get, count-rows, kept-all}
+use Rattle.package_sets.proofs.Lists.{map-get}
+use Rattle.package_sets.proofs.Named.{unnamed-same}
+use Rattle.package_sets.proofs.Restricting.{count-rows, kept-all}
 use Rattle.tables.specs.declared.tables.Owner.{Owner}
 use Rattle.tables.specs.declared.tables.Owner.TheVariants as owner
 use Rattle.tables.specs.declared.tables.Resolve.{Resolve}
@@ -29,14 +32,6 @@ use Rattle.tables.specs.declared.tables.TypeDefKind.{TypeDefKind}
 use Rattle.tables.specs.declared.tables.TypeDefKind.TheVariants as kind
 use Rattle.tables.specs.declared.tables.Definition.{Definition}
 use Rattle.tables.specs.declared.tables.Definition.TheVariants as row
-
-pub unnamed-same : (to : Moved) (d : Definition) → is_unnamed (put_row to d) ≡ is_unnamed d
-unnamed-same to (row.Function f) = refl
-unnamed-same to (row.Type d) = by d.name
-  where
-    by : (n : Option TypeName) → not (is_some (option_map (put_name to) n)) ≡ not (is_some n)
-    by None = refl
-    by (Some n) = refl
 
 -- the kept rows of these, with one more that is kept or not
 kept-push : {A : Type 0} (bs : List Bool) (xs : List A) (x : A) → get_or bs (length xs) false ≡ true → kept bs (xs ++ x ∷ []) ≡ kept bs xs ++ x ∷ []
@@ -67,7 +62,7 @@ kept-length (false ∷ bs) (x ∷ xs) h = kept-length bs xs (omega (arith, h))
 
 module _ (to : Moved) (rows : List Definition) where
   abbrev there : List Definition
-  there = map (put_row to) (kept to.rows rows)
+  there = map (put_row (renaming to)) (kept to.rows rows)
 
   abbrev placed : List ℕ → List ℕ
   placed ts = map (place to.rows) ts
@@ -81,11 +76,11 @@ module _ (to : Moved) (rows : List Definition) where
           none : slice_get rows t ≡ None → ⊥
           none z = let d = slice_get-get_or rows t (row.Type (record { name = None; kind = kind.Enum [] })) l in absurd (cc)
       by (Some d) e =
-          ap is_unnamed_row (map-get (put_row to) (kept to.rows rows) (place to.rows t) d (kept-at to.rows rows t d h e))
-          ∙ (unnamed-same to d ∙ sym (ap is_unnamed_row e))
+          ap is_unnamed_row (map-get (put_row (renaming to)) (kept to.rows rows) (place to.rows t) d (kept-at to.rows rows t d h e))
+          ∙ (unnamed-same (renaming to) d ∙ sym (ap is_unnamed_row e))
 
   module _ (within : (v : ValType) → Bool) (each : (t : ℕ) → within (val.Id (record { 0 = t })) ≡ true → (get_or to.rows t false ≡ true) × (t < length rows)) where
-    val-parts : (v : ValType) → within v ≡ true → unnamed there (put_val to v) ≡ placed (unnamed rows v)
+    val-parts : (v : ValType) → within v ≡ true → unnamed there (put_val (renaming to) v) ≡ placed (unnamed rows v)
     val-parts (val.Primitive p) h = refl
     val-parts val.String h = refl
     val-parts (val.Id t) h =
@@ -96,7 +91,7 @@ module _ (to : Moved) (rows : List Definition) where
         moved true = refl
         moved false = refl
 
-    if-parts : (v : Option ValType) → option_all within v ≡ true → unnamed_if there (option_map (put_val to) v) ≡ placed (unnamed_if rows v)
+    if-parts : (v : Option ValType) → option_all within v ≡ true → unnamed_if there (option_map (put_val (renaming to)) v) ≡ placed (unnamed_if rows v)
     if-parts None h = refl
     if-parts (Some v) h = val-parts v h
 
@@ -110,7 +105,7 @@ module _ (to : Moved) (rows : List Definition) where
         let m = map-append (place to.rows) (of x) (flat_map of xs) in
         cc
 
-    kind-parts : (k : TypeDefKind) → kind_all within k ≡ true → parts there (put_kind to k) ≡ placed (parts rows k)
+    kind-parts : (k : TypeDefKind) → kind_all within k ≡ true → parts there (put_kind (renaming to) k) ≡ placed (parts rows k)
     kind-parts (kind.Use t) h = refl
     kind-parts (kind.Alias v) h = refl
     kind-parts (kind.List v) h = val-parts v h
@@ -121,22 +116,22 @@ module _ (to : Moved) (rows : List Definition) where
         let y = if-parts error p.1 in
         let m = map-append (place to.rows) (unnamed_if rows ok) (unnamed_if rows error) in
         cc
-    kind-parts (kind.Tuple vs) h = list-parts (put_val to) within (unnamed rows) (unnamed there) val-parts vs h
-    kind-parts (kind.Record fs) h = list-parts (put_field to) (λ f. within f.ty) (unnamed_field rows) (unnamed_field there) (λ f. val-parts f.ty) fs h
-    kind-parts (kind.Variant cs) h = list-parts (put_case to) (λ c. option_all within c.ty) (unnamed_case rows) (unnamed_case there) (λ c. if-parts c.ty) cs h
+    kind-parts (kind.Tuple vs) h = list-parts (put_val (renaming to)) within (unnamed rows) (unnamed there) val-parts vs h
+    kind-parts (kind.Record fs) h = list-parts (put_field (renaming to)) (λ f. within f.ty) (unnamed_field rows) (unnamed_field there) (λ f. val-parts f.ty) fs h
+    kind-parts (kind.Variant cs) h = list-parts (put_case (renaming to)) (λ c. option_all within c.ty) (unnamed_case rows) (unnamed_case there) (λ c. if-parts c.ty) cs h
     kind-parts (kind.Enum ns) h = refl
     kind-parts (kind.Flags ns) h = refl
 
-    pub row-parts : (d : Definition) → definition_all within d ≡ true → parts_of there (put_row to d) ≡ placed (parts_of rows d)
+    pub row-parts : (d : Definition) → definition_all within d ≡ true → parts_of there (put_row (renaming to) d) ≡ placed (parts_of rows d)
     row-parts (row.Type d) h = kind-parts d.kind h
     row-parts (row.Function f) h =
         let p = split (list_all (λ q. within q.ty) f.params) (option_all within f.result) h in
-        let x = list-parts (put_parameter to) (λ q. within q.ty) (unnamed_parameter rows) (unnamed_parameter there) (λ q. val-parts q.ty) f.params p.0 in
+        let x = list-parts (put_parameter (renaming to)) (λ q. within q.ty) (unnamed_parameter rows) (unnamed_parameter there) (λ q. val-parts q.ty) f.params p.0 in
         let y = if-parts f.result p.1 in
         let m = map-append (place to.rows) (flat_map (unnamed_parameter rows) f.params) (unnamed_if rows f.result) in
         cc
 
-    kind-aliased : (k : TypeDefKind) → kind_all within k ≡ true → aliased there (put_kind to k) ≡ placed (aliased rows k)
+    kind-aliased : (k : TypeDefKind) → kind_all within k ≡ true → aliased there (put_kind (renaming to) k) ≡ placed (aliased rows k)
     kind-aliased (kind.Use t) h = refl
     kind-aliased (kind.Alias v) h = val-parts v h
     kind-aliased (kind.List v) h = refl
@@ -148,11 +143,11 @@ module _ (to : Moved) (rows : List Definition) where
     kind-aliased (kind.Enum ns) h = refl
     kind-aliased (kind.Flags ns) h = refl
 
-    pub row-aliased : (d : Definition) → definition_all within d ≡ true → aliased_by there (put_row to d) ≡ placed (aliased_by rows d)
+    pub row-aliased : (d : Definition) → definition_all within d ≡ true → aliased_by there (put_row (renaming to) d) ≡ placed (aliased_by rows d)
     row-aliased (row.Type d) h = kind-aliased d.kind h
     row-aliased (row.Function f) h = refl
 
-inner-same : (to : Moved) (k : TypeDefKind) → is_inner (put_kind to k) ≡ is_inner k
+inner-same : (to : Moved) (k : TypeDefKind) → is_inner (put_kind (renaming to) k) ≡ is_inner k
 inner-same to (kind.Use t) = refl
 inner-same to (kind.Alias v) = refl
 inner-same to (kind.List v) = refl
@@ -206,8 +201,8 @@ abbrev left-there : Moved → List Definition → List ℕ → List ℕ
 left-there to rows unused = if get_or to.rows (length rows) true then map (place to.rows) unused else []
 
 inner-step : (to : Moved) (rows : List Definition) (unused : List ℕ) (k : TypeDefKind) → is_inner k ≡ true → AreBlocks to (rows ++ inner_row k ∷ [])
-    → Leaves (map (put_row to) (kept to.rows rows)) (left-there to rows (unused ++ parts rows k))
-    → Leaves (map (put_row to) (kept to.rows (rows ++ inner_row k ∷ []))) (left-there to (rows ++ inner_row k ∷ []) (unused ++ length rows ∷ []))
+    → Leaves (map (put_row (renaming to)) (kept to.rows rows)) (left-there to rows (unused ++ parts rows k))
+    → Leaves (map (put_row (renaming to)) (kept to.rows (rows ++ inner_row k ∷ []))) (left-there to (rows ++ inner_row k ∷ []) (unused ++ length rows ∷ []))
 inner-step to rows unused k i h l = by (get_or to.rows (length rows) true) refl
   where
     within : length rows < length to.rows
@@ -219,59 +214,59 @@ inner-step to rows unused k i h l = by (get_or to.rows (length rows) true) refl
         suc-push : length (rows ++ inner_row k ∷ []) ≡ length rows + 1 → suc (length rows) ≡ length (rows ++ inner_row k ∷ [])
         suc-push e = omega arith
 
-    by : (b : Bool) → get_or to.rows (length rows) true ≡ b → Leaves (map (put_row to) (kept to.rows (rows ++ inner_row k ∷ []))) (left-there to (rows ++ inner_row k ∷ []) (unused ++ length rows ∷ []))
+    by : (b : Bool) → get_or to.rows (length rows) true ≡ b → Leaves (map (put_row (renaming to)) (kept to.rows (rows ++ inner_row k ∷ []))) (left-there to (rows ++ inner_row k ∷ []) (unused ++ length rows ∷ []))
     by true e =
         let here = default-true to.rows (length rows) true within e in
         let all = h.named (length rows) (inner_row k) (slice-end rows (inner_row k)) here in
         let same = row-parts to rows (is_kept to.rows (length rows)) (step-each to rows) (inner_row k) all in
-        let K = map (put_row to) (kept to.rows rows) in
-        let held : Leaves K (map (place to.rows) unused ++ parts K (put_kind to k)) =
+        let K = map (put_row (renaming to)) (kept to.rows rows) in
+        let held : Leaves K (map (place to.rows) unused ++ parts K (put_kind (renaming to) k)) =
         subst (Leaves K) (taken-all _ _ e ∙ (map-append (place to.rows) unused (parts rows k) ∙ ap (λ ts. map (place to.rows) unused ++ ts) (sym same))) l in
-        let made : Leaves (K ++ inner_row (put_kind to k) ∷ []) (map (place to.rows) unused ++ length K ∷ []) = inner K (map (place to.rows) unused) (put_kind to k) (inner-same to k ∙ i) held in
-        let size : length K ≡ place to.rows (length rows) = length-map (kept to.rows rows) (put_row to) ∙ kept-length to.rows rows (omega (arith, within)) in
-        let rows-are : K ++ inner_row (put_kind to k) ∷ [] ≡ map (put_row to) (kept to.rows (rows ++ inner_row k ∷ [])) =
-        sym (map-append (put_row to) (kept to.rows rows) (inner_row k ∷ [])) ∙ sym (ap (map (put_row to)) (kept-push to.rows rows (inner_row k) here)) in
+        let made : Leaves (K ++ inner_row (put_kind (renaming to) k) ∷ []) (map (place to.rows) unused ++ length K ∷ []) = inner K (map (place to.rows) unused) (put_kind (renaming to) k) (inner-same to k ∙ i) held in
+        let size : length K ≡ place to.rows (length rows) = length-map (kept to.rows rows) (put_row (renaming to)) ∙ kept-length to.rows rows (omega (arith, within)) in
+        let rows-are : K ++ inner_row (put_kind (renaming to) k) ∷ [] ≡ map (put_row (renaming to)) (kept to.rows (rows ++ inner_row k ∷ [])) =
+        sym (map-append (put_row (renaming to)) (kept to.rows rows) (inner_row k ∷ [])) ∙ sym (ap (map (put_row (renaming to))) (kept-push to.rows rows (inner_row k) here)) in
         let unused-are : map (place to.rows) unused ++ length K ∷ [] ≡ left-there to (rows ++ inner_row k ∷ []) (unused ++ length rows ∷ []) =
         ap (λ n. map (place to.rows) unused ++ n ∷ []) size ∙ (sym (map-append (place to.rows) unused (length rows ∷ [])) ∙ sym (taken-all _ _ (sym next ∙ e))) in
-        subst (λ (ts : List ℕ). Leaves (map (put_row to) (kept to.rows (rows ++ inner_row k ∷ []))) ts) unused-are (subst (λ (ds : List Definition). Leaves ds (map (place to.rows) unused ++ length K ∷ [])) rows-are made)
+        subst (λ (ts : List ℕ). Leaves (map (put_row (renaming to)) (kept to.rows (rows ++ inner_row k ∷ []))) ts) unused-are (subst (λ (ds : List Definition). Leaves ds (map (place to.rows) unused ++ length K ∷ [])) rows-are made)
     by false e =
         let here = default-true to.rows (length rows) false within e in
-        let held : Leaves (map (put_row to) (kept to.rows rows)) [] = subst (Leaves (map (put_row to) (kept to.rows rows))) (taken-none _ _ e) l in
-        subst (λ (ts : List ℕ). Leaves (map (put_row to) (kept to.rows (rows ++ inner_row k ∷ []))) ts) (sym (taken-none _ _ (sym next ∙ e)))
-        (subst (λ (ds : List Definition). Leaves (map (put_row to) ds) []) (sym (kept-drop to.rows rows (inner_row k) here)) held)
+        let held : Leaves (map (put_row (renaming to)) (kept to.rows rows)) [] = subst (Leaves (map (put_row (renaming to)) (kept to.rows rows))) (taken-none _ _ e) l in
+        subst (λ (ts : List ℕ). Leaves (map (put_row (renaming to)) (kept to.rows (rows ++ inner_row k ∷ []))) ts) (sym (taken-none _ _ (sym next ∙ e)))
+        (subst (λ (ds : List Definition). Leaves (map (put_row (renaming to)) ds) []) (sym (kept-drop to.rows rows (inner_row k) here)) held)
 
 whole-step : (to : Moved) (rows : List Definition) (d : Definition) → is_unnamed d ≡ false → aliased_by rows d ≡ [] → AreBlocks to (rows ++ d ∷ [])
-    → Leaves (map (put_row to) (kept to.rows rows)) (left-there to rows (parts_of rows d))
-    → Leaves (map (put_row to) (kept to.rows (rows ++ d ∷ []))) (left-there to (rows ++ d ∷ []) [])
-whole-step to rows d u a h l = subst (λ (ts : List ℕ). Leaves (map (put_row to) (kept to.rows (rows ++ d ∷ []))) ts) (sym (none-left (get_or to.rows (length (rows ++ d ∷ [])) true) to)) (by (get_or to.rows (length rows) true) refl)
+    → Leaves (map (put_row (renaming to)) (kept to.rows rows)) (left-there to rows (parts_of rows d))
+    → Leaves (map (put_row (renaming to)) (kept to.rows (rows ++ d ∷ []))) (left-there to (rows ++ d ∷ []) [])
+whole-step to rows d u a h l = subst (λ (ts : List ℕ). Leaves (map (put_row (renaming to)) (kept to.rows (rows ++ d ∷ []))) ts) (sym (none-left (get_or to.rows (length (rows ++ d ∷ [])) true) to)) (by (get_or to.rows (length rows) true) refl)
   where
     within : length rows < length to.rows
     within = omega (arith, h.count, length_push rows d)
 
-    by : (b : Bool) → get_or to.rows (length rows) true ≡ b → Leaves (map (put_row to) (kept to.rows (rows ++ d ∷ []))) []
+    by : (b : Bool) → get_or to.rows (length rows) true ≡ b → Leaves (map (put_row (renaming to)) (kept to.rows (rows ++ d ∷ []))) []
     by true e =
         let here = default-true to.rows (length rows) true within e in
         let all = h.named (length rows) d (slice-end rows d) here in
         let same = row-parts to rows (is_kept to.rows (length rows)) (step-each to rows) d all in
         let none = row-aliased to rows (is_kept to.rows (length rows)) (step-each to rows) d all in
-        let K = map (put_row to) (kept to.rows rows) in
-        let held : Leaves K (parts_of K (put_row to d)) = subst (Leaves K) (taken-all _ _ e ∙ sym same) l in
-        let made : Leaves (K ++ put_row to d ∷ []) [] = whole K (put_row to d) (unnamed-same to d ∙ u) (none ∙ ap (map (place to.rows)) a) held in
-        subst (λ (ds : List Definition). Leaves ds []) (sym (map-append (put_row to) (kept to.rows rows) (d ∷ [])) ∙ sym (ap (map (put_row to)) (kept-push to.rows rows d here))) made
+        let K = map (put_row (renaming to)) (kept to.rows rows) in
+        let held : Leaves K (parts_of K (put_row (renaming to) d)) = subst (Leaves K) (taken-all _ _ e ∙ sym same) l in
+        let made : Leaves (K ++ put_row (renaming to) d ∷ []) [] = whole K (put_row (renaming to) d) (unnamed-same (renaming to) d ∙ u) (none ∙ ap (map (place to.rows)) a) held in
+        subst (λ (ds : List Definition). Leaves ds []) (sym (map-append (put_row (renaming to)) (kept to.rows rows) (d ∷ [])) ∙ sym (ap (map (put_row (renaming to))) (kept-push to.rows rows d here))) made
     by false e =
         let here = default-true to.rows (length rows) false within e in
-        let held : Leaves (map (put_row to) (kept to.rows rows)) [] = subst (Leaves (map (put_row to) (kept to.rows rows))) (taken-none _ _ e) l in
-        subst (λ (ds : List Definition). Leaves (map (put_row to) ds) []) (sym (kept-drop to.rows rows d here)) held
+        let held : Leaves (map (put_row (renaming to)) (kept to.rows rows)) [] = subst (Leaves (map (put_row (renaming to)) (kept to.rows rows))) (taken-none _ _ e) l in
+        subst (λ (ds : List Definition). Leaves (map (put_row (renaming to)) ds) []) (sym (kept-drop to.rows rows d here)) held
 
-leaves-kept : (to : Moved) (rows : List Definition) (unused : List ℕ) → Leaves rows unused → AreBlocks to rows → Leaves (map (put_row to) (kept to.rows rows)) (left-there to rows unused)
+leaves-kept : (to : Moved) (rows : List Definition) (unused : List ℕ) → Leaves rows unused → AreBlocks to rows → Leaves (map (put_row (renaming to)) (kept to.rows rows)) (left-there to rows unused)
 leaves-kept to _ _ begin h =
-    subst (λ (ts : List ℕ). Leaves (map (put_row to) (kept to.rows [])) ts) (sym (none-left (get_or to.rows 0 true) to))
-    (subst (λ (ds : List Definition). Leaves (map (put_row to) ds) []) (sym (kept-none to.rows)) begin)
+    subst (λ (ts : List ℕ). Leaves (map (put_row (renaming to)) (kept to.rows [])) ts) (sym (none-left (get_or to.rows 0 true) to))
+    (subst (λ (ds : List Definition). Leaves (map (put_row (renaming to)) ds) []) (sym (kept-none to.rows)) begin)
 leaves-kept to _ _ (inner rows unused k i l) h = inner-step to rows unused k i h (leaves-kept to rows (unused ++ parts rows k) l (front to rows (inner_row k) h))
 leaves-kept to _ _ (whole rows d u a l) h = whole-step to rows d u a h (leaves-kept to rows (parts_of rows d) l (front to rows d h))
 
-pub postfix-kept : (to : Moved) (rows : List Definition) → AreBlocks to rows → IsPostfix rows → IsPostfix (map (put_row to) (kept to.rows rows))
-postfix-kept to rows h l = subst (Leaves (map (put_row to) (kept to.rows rows))) (none-left (get_or to.rows (length rows) true) to) (leaves-kept to rows [] l h)
+pub postfix-kept : (to : Moved) (rows : List Definition) → AreBlocks to rows → IsPostfix rows → IsPostfix (map (put_row (renaming to)) (kept to.rows rows))
+postfix-kept to rows h l = subst (Leaves (map (put_row (renaming to)) (kept to.rows rows))) (none-left (get_or to.rows (length rows) true) to) (leaves-kept to rows [] l h)
 
 -- ---- the blocks of a table
 

@@ -10,6 +10,7 @@ use Rattle.tables.specs.Package.{Tree, TextTree, VariantTree, RecordTree, Plain,
 use Rattle.tables.proofs.Rows.{split}
 use Rattle.package_sets.specs.Places.{kept, place}
 use Rattle.package_sets.specs.Owners.{owner_of}
+use Rattle.package_sets.specs.Renamed.{renaming}
 use Rattle.package_sets.specs.Moved.{put_val, put_field, put_case, put_parameter, put_kind, put_name, put_owner, put_row}
 use Rattle.package_sets.specs.Restricted.{definitions_where}
 use Rattle.package_sets.specs.declared.moved.Moved.{Moved}
@@ -47,35 +48,35 @@ abbrev pub Agrees : List Bool → List Tree → List Tree → Type 0
 Agrees bs old new = AgreesOr TextTree bs old new
 
 module _ (to : Moved) (old new : List Tree) (a : Agrees to.rows old new) where
-  val-same : (v : ValType) → is_kept to.rows (length old) v ≡ true → read_val new (put_val to v) ≡ read_val old v
+  val-same : (v : ValType) → is_kept to.rows (length old) v ≡ true → read_val new (put_val (renaming to) v) ≡ read_val old v
   val-same (val.Primitive p) h = refl
   val-same val.String h = refl
   val-same (val.Id t) h = let p = split (nat_lt t.0 (length old)) (get_or to.rows t.0 false) h in a.same t.0 (ltb-true t.0 (length old) p.0) p.1
 
   choice-same : (label : List ℕ) (v : Option ValType) (cs ds : Choices) → option_all (is_kept to.rows (length old)) v ≡ true → cs ≡ ds
-      → read_choice new label (option_map (put_val to) v) cs ≡ read_choice old label v ds
+      → read_choice new label (option_map (put_val (renaming to)) v) cs ≡ read_choice old label v ds
   choice-same label None cs ds h e = let x = e in cc
   choice-same label (Some v) cs ds h e = let x = val-same v h in let y = e in cc
 
-  tuple-same : (vs : List ValType) → list_all (is_kept to.rows (length old)) vs ≡ true → read_tuple new (map (put_val to) vs) ≡ read_tuple old vs
+  tuple-same : (vs : List ValType) → list_all (is_kept to.rows (length old)) vs ≡ true → read_tuple new (map (put_val (renaming to)) vs) ≡ read_tuple old vs
   tuple-same [] h = refl
   tuple-same (v ∷ vs) h = let t = split (is_kept to.rows (length old) v) (list_all (is_kept to.rows (length old)) vs) h in let x = val-same v t.0 in let y = tuple-same vs t.1 in cc
 
-  fields-same : (fs : List Field) → list_all (λ f. is_kept to.rows (length old) f.ty) fs ≡ true → read_fields new (map (put_field to) fs) ≡ read_fields old fs
+  fields-same : (fs : List Field) → list_all (λ f. is_kept to.rows (length old) f.ty) fs ≡ true → read_fields new (map (put_field (renaming to)) fs) ≡ read_fields old fs
   fields-same [] h = refl
   fields-same (f ∷ fs) h = let t = split (is_kept to.rows (length old) f.ty) (list_all (λ f. is_kept to.rows (length old) f.ty) fs) h in let x = val-same f.ty t.0 in let y = fields-same fs t.1 in cc
 
-  pub params-same : (fs : List Parameter) → list_all (λ f. is_kept to.rows (length old) f.ty) fs ≡ true → read_params new (map (put_parameter to) fs) ≡ read_params old fs
+  pub params-same : (fs : List Parameter) → list_all (λ f. is_kept to.rows (length old) f.ty) fs ≡ true → read_params new (map (put_parameter (renaming to)) fs) ≡ read_params old fs
   params-same [] h = refl
   params-same (f ∷ fs) h = let t = split (is_kept to.rows (length old) f.ty) (list_all (λ f. is_kept to.rows (length old) f.ty) fs) h in let x = val-same f.ty t.0 in let y = params-same fs t.1 in cc
 
-  cases-same : (cs : List Case) → list_all (λ c. option_all (is_kept to.rows (length old)) c.ty) cs ≡ true → read_cases new (map (put_case to) cs) ≡ read_cases old cs
+  cases-same : (cs : List Case) → list_all (λ c. option_all (is_kept to.rows (length old)) c.ty) cs ≡ true → read_cases new (map (put_case (renaming to)) cs) ≡ read_cases old cs
   cases-same [] h = refl
   cases-same (c ∷ cs) h =
       let t = split (option_all (is_kept to.rows (length old)) c.ty) (list_all (λ c. option_all (is_kept to.rows (length old)) c.ty) cs) h in
       choice-same c.name c.ty _ _ t.0 (cases-same cs t.1)
 
-  kind-same : (k : TypeDefKind) → kind_all (is_kept to.rows (length old)) k ≡ true → read_kind new (put_kind to k) ≡ read_kind old k
+  kind-same : (k : TypeDefKind) → kind_all (is_kept to.rows (length old)) k ≡ true → read_kind new (put_kind (renaming to) k) ≡ read_kind old k
   kind-same (kind.Use t) h = val-same (val.Id t) h
   kind-same (kind.Alias v) h = val-same v h
   kind-same (kind.List v) h = let x = val-same v h in cc
@@ -89,7 +90,7 @@ module _ (to : Moved) (old new : List Tree) (a : Agrees to.rows old new) where
   kind-same (kind.Enum names) h = refl
   kind-same (kind.Flags names) h = refl
 
-  meaning-same : (k : TypeDefKind) → kind_all (is_kept to.rows (length old)) k ≡ true → meaning_of new (put_kind to k) ≡ meaning_of old k
+  meaning-same : (k : TypeDefKind) → kind_all (is_kept to.rows (length old)) k ≡ true → meaning_of new (put_kind (renaming to) k) ≡ meaning_of old k
   meaning-same (kind.Use t) h = ap IsUse (val-same (val.Id t) h)
   meaning-same (kind.Alias v) h = ap IsType (kind-same (kind.Alias v) h)
   meaning-same (kind.List v) h = ap IsType (kind-same (kind.List v) h)
@@ -101,7 +102,7 @@ module _ (to : Moved) (old new : List Tree) (a : Agrees to.rows old new) where
   meaning-same (kind.Enum names) h = refl
   meaning-same (kind.Flags names) h = refl
 
-  pub result-same : (v : Option ValType) → option_all (is_kept to.rows (length old)) v ≡ true → option_map (read_val new) (option_map (put_val to) v) ≡ option_map (read_val old) v
+  pub result-same : (v : Option ValType) → option_all (is_kept to.rows (length old)) v ≡ true → option_map (read_val new) (option_map (put_val (renaming to)) v) ≡ option_map (read_val old) v
   result-same None h = refl
   result-same (Some v) h = ap Some (val-same v h)
 
@@ -110,28 +111,28 @@ abbrev pub NamesAgree : (Option Owner → Bool) → Moved → List (List ℕ) �
 NamesAgree has to ns ms = (i : ℕ) → has (Some (owner.Interface (record { 0 = i }))) ≡ true → get_or ms (place to.interfaces i) [] ≡ get_or ns i []
 
 module _ (has : Option Owner → Bool) (to : Moved) (ns ms : List (List ℕ)) (old new : List Tree) (e : NamesAgree has to ns ms) (a : Agrees to.rows old new) where
-  key-same : (n : TypeName) → has (Some (owner.Interface n.interface)) ≡ true → key_of ms (put_name to n) ≡ key_of ns n
+  key-same : (n : TypeName) → has (Some (owner.Interface n.interface)) ≡ true → key_of ms (put_name (renaming to) n) ≡ key_of ns n
   key-same n h = ap (λ (i : List ℕ). record { interface = i; name = n.name }) (e n.interface.0 h)
 
-  reference-by-same : (n : Option TypeName) (s t : Tree) → has (option_map (λ x. owner.Interface x.interface) n) ≡ true → s ≡ t → reference_by ms (option_map (put_name to) n) s ≡ reference_by ns n t
+  reference-by-same : (n : Option TypeName) (s t : Tree) → has (option_map (λ x. owner.Interface x.interface) n) ≡ true → s ≡ t → reference_by ms (option_map (put_name (renaming to)) n) s ≡ reference_by ns n t
   reference-by-same None s t h q = q
   reference-by-same (Some n) s t h q = ap Reference (key-same n h)
 
-  pub reference-same : (d : Definition) → has (owner_of d) ≡ true → definition_all (is_kept to.rows (length old)) d ≡ true → reference ms new (put_row to d) ≡ reference ns old d
+  pub reference-same : (d : Definition) → has (owner_of d) ≡ true → definition_all (is_kept to.rows (length old)) d ≡ true → reference ms new (put_row (renaming to) d) ≡ reference ns old d
   reference-same (row.Type d) o h = reference-by-same d.name _ _ o (kind-same to old new a d.kind h)
   reference-same (row.Function f) o h =
       ap (RecordTree Plain) (params-same to old new a f.params (split (list_all (λ q. is_kept to.rows (length old) q.ty) f.params) (option_all (is_kept to.rows (length old)) f.result) h).0)
 
-  named-same : (n : Option TypeName) (k : TypeDefKind) → has (option_map (λ x. owner.Interface x.interface) n) ≡ true → meaning_of new (put_kind to k) ≡ meaning_of old k
-      → named_by ms new (option_map (put_name to) n) (put_kind to k) ≡ named_by ns old n k
+  named-same : (n : Option TypeName) (k : TypeDefKind) → has (option_map (λ x. owner.Interface x.interface) n) ≡ true → meaning_of new (put_kind (renaming to) k) ≡ meaning_of old k
+      → named_by ms new (option_map (put_name (renaming to)) n) (put_kind (renaming to) k) ≡ named_by ns old n k
   named-same None k h m = refl
   named-same (Some n) k h m = let x = key-same n h in let y = m in cc
 
-  function-same : (o : Owner) (name : List ℕ) (x y : Meaning) → has (Some o) ≡ true → x ≡ y → named_function ms (put_owner to o) name x ≡ named_function ns o name y
+  function-same : (o : Owner) (name : List ℕ) (x y : Meaning) → has (Some o) ≡ true → x ≡ y → named_function ms (put_owner (renaming to) o) name x ≡ named_function ns o name y
   function-same (owner.World w) name x y h q = refl
   function-same (owner.Interface i) name x y h q = let p = e i.0 h in let z = q in cc
 
-  pub definition-same : (d : Definition) → has (owner_of d) ≡ true → definition_all (is_kept to.rows (length old)) d ≡ true → definition_of ms new (put_row to d) ≡ definition_of ns old d
+  pub definition-same : (d : Definition) → has (owner_of d) ≡ true → definition_all (is_kept to.rows (length old)) d ≡ true → definition_of ms new (put_row (renaming to) d) ≡ definition_of ns old d
   definition-same (row.Type d) o h = named-same d.name d.kind o (meaning-same to old new a d.kind h)
   definition-same (row.Function f) o h =
       let t = split (list_all (λ q. is_kept to.rows (length old) q.ty) f.params) (option_all (is_kept to.rows (length old)) f.result) h in
@@ -178,7 +179,7 @@ pub record AreRight (has : Option Owner → Bool) (bs : List Bool) (n : ℕ) (d 
   pub named : get_or bs n false ≡ true → definition_all (is_kept bs n) d ≡ true
   pub without : get_or bs n false ≡ false → (has (owner_of d) ≡ false) ⊎ (owner_of d ≡ None)
 
-nameless : (ns : List (List ℕ)) (ts : List Tree) (d : Definition) → owner_of d ≡ None → definition_of ns ts d ≡ []
+pub nameless : (ns : List (List ℕ)) (ts : List Tree) (d : Definition) → owner_of d ≡ None → definition_of ns ts d ≡ []
 nameless ns ts (row.Function f) e = absurd (cc)
 nameless ns ts (row.Type d) e = by d.name refl
   where
@@ -221,19 +222,19 @@ marks-next rows n m b bs e h = λ k. ap (λ j. get_or rows j false) (at k) ∙ h
 -- what rows mean that are kept is what they meant
 pub definitions-kept : (has : Option Owner → Bool) (to : Moved) (ns ms : List (List ℕ)) → NamesAgree has to ns ms → (bs : List Bool) (old new : List Tree) (ds : List Definition) → length bs ≡ length ds
     → Agrees to.rows old new → AreMarksFrom to.rows (length old) bs → AllRight has to.rows (length old) ds
-    → definitions_from ms new (map (put_row to) (kept bs ds)) ≡ definitions_where has ns old ds
-definitions-kept has to ns ms e bs old new [] count a marks right = ap (λ (xs : List Definition). definitions_from ms new (map (put_row to) xs)) (kept-none bs)
+    → definitions_from ms new (map (put_row (renaming to)) (kept bs ds)) ≡ definitions_where has ns old ds
+definitions-kept has to ns ms e bs old new [] count a marks right = ap (λ (xs : List Definition). definitions_from ms new (map (put_row (renaming to)) xs)) (kept-none bs)
 definitions-kept has to ns ms e [] old new (d ∷ ds) count a marks right = absurd (omega (arith, count))
 definitions-kept has to ns ms e (true ∷ bs) old new (d ∷ ds) count a marks right =
     let here = marks-here to.rows (length old) true bs marks in
     let x = reference ns old d in
-    let y = reference ms new (put_row to d) in
+    let y = reference ms new (put_row (renaming to) d) in
     let one = length_push old x in
     let same = reference-same has to ns ms old new e a d (right.0.owned here) (right.0.named here) in
     let rest = definitions-kept has to ns ms e bs (old ++ x ∷ []) (new ++ y ∷ []) ds (omega (arith, count)) (agrees-kept TextTree to.rows old new x y a here same)
     (marks-next to.rows (length old) (length (old ++ x ∷ [])) true bs one marks) (subst (λ n. AllRight has to.rows n ds) (sym one) right.1) in
     let first = definition-same has to ns ms old new e a d (right.0.owned here) (right.0.named here) in
-    ap (λ ys. ys ++ definitions_from ms (new ++ y ∷ []) (map (put_row to) (kept bs ds))) (first ∙ sym (taken has ns old d (right.0.owned here)))
+    ap (λ ys. ys ++ definitions_from ms (new ++ y ∷ []) (map (put_row (renaming to)) (kept bs ds))) (first ∙ sym (taken has ns old d (right.0.owned here)))
     ∙ ap (λ ys. (if has (owner_of d) then definition_of ns old d else []) ++ ys) rest
 definitions-kept has to ns ms e (false ∷ bs) old new (d ∷ ds) count a marks right =
     let here = marks-here to.rows (length old) false bs marks in
@@ -246,13 +247,13 @@ definitions-kept has to ns ms e (false ∷ bs) old new (d ∷ ds) count a marks 
 -- .. and so are their trees
 pub trees-kept : (has : Option Owner → Bool) (to : Moved) (ns ms : List (List ℕ)) → NamesAgree has to ns ms → (bs : List Bool) (old new : List Tree) (ds : List Definition) → length bs ≡ length ds
     → Agrees to.rows old new → AreMarksFrom to.rows (length old) bs → AllRight has to.rows (length old) ds
-    → Agrees to.rows (references ns old ds) (references ms new (map (put_row to) (kept bs ds)))
-trees-kept has to ns ms e bs old new [] count a marks right = subst (λ (xs : List Definition). Agrees to.rows old (references ms new (map (put_row to) xs))) (sym (kept-none bs)) a
+    → Agrees to.rows (references ns old ds) (references ms new (map (put_row (renaming to)) (kept bs ds)))
+trees-kept has to ns ms e bs old new [] count a marks right = subst (λ (xs : List Definition). Agrees to.rows old (references ms new (map (put_row (renaming to)) xs))) (sym (kept-none bs)) a
 trees-kept has to ns ms e [] old new (d ∷ ds) count a marks right = absurd (omega (arith, count))
 trees-kept has to ns ms e (true ∷ bs) old new (d ∷ ds) count a marks right =
     let here = marks-here to.rows (length old) true bs marks in
     let x = reference ns old d in
-    let y = reference ms new (put_row to d) in
+    let y = reference ms new (put_row (renaming to) d) in
     let one = length_push old x in
     let same = reference-same has to ns ms old new e a d (right.0.owned here) (right.0.named here) in
     trees-kept has to ns ms e bs (old ++ x ∷ []) (new ++ y ∷ []) ds (omega (arith, count)) (agrees-kept TextTree to.rows old new x y a here same)

@@ -9,7 +9,7 @@ use Rattle.std.proofs.lemmas.Option.{slice_get_within, get_or_from_slice_get}
 use Rattle.std.proofs.lemmas.List.Elements.{Contains-append_right}
 use Rattle.package_form.specs.References.{references as references-in}
 use Rattle.package_form.proofs.Lists.{contains-map, contains-flat}
-use Rattle.tables.specs.Tables.{is_below, definition_all, are_earlier, is_type, name_types, is_standard, is_standard_kind, are_standard, function_of, type_of, is_there as is_some, is_type_id, is_function_id, is_placed, are_placed, are_grouped, are_worlds_grouped, is_owner_world, is_function_of, is_placed_item, is_placed_world, are_placed_worlds}
+use Rattle.tables.specs.Tables.{is_below, definition_all, are_earlier, is_type, name_types, is_standard, are_standard, function_of, type_of, is_there as is_some, is_type_id, is_function_id, is_placed, are_placed, are_grouped, are_worlds_grouped, is_owner_world, is_function_of, is_placed_item, is_placed_world, are_placed_worlds}
 use Rattle.tables.proofs.Rows.{split, both, below-at}
 use Rattle.tables.proofs.Earlier.{definition-both, grouped-at}
 use Rattle.tables.specs.declared.tables.TypeId.{TypeId}
@@ -17,8 +17,6 @@ use Rattle.tables.specs.declared.tables.FunctionId.{FunctionId}
 use Rattle.tables.specs.declared.tables.InterfaceId.{InterfaceId}
 use Rattle.tables.specs.declared.tables.ValType.{ValType}
 use Rattle.tables.specs.declared.tables.ValType.TheVariants as val
-use Rattle.tables.specs.declared.tables.TypeDefKind.{TypeDefKind}
-use Rattle.tables.specs.declared.tables.TypeDefKind.TheVariants as kind
 use Rattle.tables.specs.declared.tables.Owner.{Owner}
 use Rattle.tables.specs.declared.tables.Owner.TheVariants as owner
 use Rattle.tables.specs.declared.tables.Function.{Function}
@@ -33,12 +31,14 @@ use Rattle.tables.specs.declared.tables.Resolve.{Resolve}
 use Rattle.package_sets.specs.Owners.{owner_of, owners, first_owner, names}
 use Rattle.package_sets.specs.Places.{kept, place}
 use Rattle.package_sets.specs.Reaches.{is_marked, is_own_world, item_owners, owners_in, world_owners, owner_at, of_package, of_items, of_row}
-use Rattle.package_sets.specs.Moved.{put_id, put_val, put_field, put_case, put_kind, put_owner, put_row, put_function_id, has_type, has_function, put_interface, put_item, put_item_kind, put_world}
+use Rattle.package_sets.specs.Renamed.{renaming}
+use Rattle.package_sets.specs.Moved.{put_id, put_val, put_owner, put_row, put_function_id, has_type, has_function, put_interface, put_item, put_item_kind, put_world}
 use Rattle.package_sets.specs.Restricted.{IsNeeded}
 use Rattle.package_sets.specs.declared.moved.Moved.{Moved}
 use Rattle.package_sets.proofs.Keeping.{kept-at, length-kept, place-before}
 use Rattle.package_sets.proofs.Kept.{list-at, list-kept, list-filter, grouped-kept, worlds-grouped-kept, worlds-grouped-at}
-use Rattle.package_sets.proofs.Named.{definition-all, definition-named, definition-put}
+use Rattle.package_sets.proofs.Named.{definition-all, definition-named, definition-put, standard-put}
+use Rattle.package_sets.proofs.Lists.{map-get}
 use Rattle.package_sets.proofs.Owned.{length-owners}
 use Rattle.package_sets.proofs.Placing.{place-none, place-yes, place-no}
 use Rattle.package_sets.proofs.Reading.{is_there, is_kept, AreRight, AllRight, AreMarksFrom, marks-here, marks-next}
@@ -62,11 +62,6 @@ all-right has bs n (d ∷ ds) h = (
 
 shift : (k j : ℕ) → k + 1 + j ≡ k + suc j
 shift k j = omega arith
-
-pub map-get : {A B : Type 0} (f : A → B) (xs : List A) (k : ℕ) (x : A) → slice_get xs k ≡ Some x → slice_get (map f xs) k ≡ Some (f x)
-map-get f [] k x e = absurd (cc)
-map-get f (y ∷ xs) zero x e = let same : y ≡ x = cc in ap (λ z. Some (f z)) same
-map-get f (y ∷ xs) (suc k) x e = map-get f xs k x e
 
 module _ (s : Resolve) (own : ℕ) (to : Moved) (n : IsNeeded s own to) where
   marked : Option Owner → Bool
@@ -127,67 +122,51 @@ module _ (s : Resolve) (own : ℕ) (to : Moved) (n : IsNeeded s own to) where
   -- ---- the table's own facts, of these parts
 
   abbrev rows-there : List Definition
-  rows-there = map (put_row to) (kept to.rows s.definitions)
+  rows-there = map (put_row (renaming to)) (kept to.rows s.definitions)
 
-  pub type-there : (t : TypeId) → is_type_id s.definitions t ≡ true → get_or to.rows t.0 false ≡ true → is_type_id rows-there (put_id to t) ≡ true
+  pub type-there : (t : TypeId) → is_type_id s.definitions t ≡ true → get_or to.rows t.0 false ≡ true → is_type_id rows-there (put_id (renaming to) t) ≡ true
   type-there t h k = by (slice_get s.definitions t.0) refl h
     where
-      by : (o : Option Definition) → slice_get s.definitions t.0 ≡ o → is_some (type_of o) ≡ true → is_type_id rows-there (put_id to t) ≡ true
+      by : (o : Option Definition) → slice_get s.definitions t.0 ≡ o → is_some (type_of o) ≡ true → is_type_id rows-there (put_id (renaming to) t) ≡ true
       by None e q = absurd (true≢false (sym q))
       by (Some (row.Function f)) e q = absurd (true≢false (sym q))
-      by (Some (row.Type d)) e q = rw (map-get (put_row to) (kept to.rows s.definitions) (place to.rows t.0) (row.Type d) (kept-at to.rows s.definitions t.0 (row.Type d) k e)) refl
+      by (Some (row.Type d)) e q = rw (map-get (put_row (renaming to)) (kept to.rows s.definitions) (place to.rows t.0) (row.Type d) (kept-at to.rows s.definitions t.0 (row.Type d) k e)) refl
 
-  pub function-there : (f : FunctionId) → is_function_id s.definitions f ≡ true → get_or to.rows f.0 false ≡ true → is_function_id rows-there (put_function_id to f) ≡ true
+  pub function-there : (f : FunctionId) → is_function_id s.definitions f ≡ true → get_or to.rows f.0 false ≡ true → is_function_id rows-there (put_function_id (renaming to) f) ≡ true
   function-there f h k = by (slice_get s.definitions f.0) refl h
     where
-      by : (o : Option Definition) → slice_get s.definitions f.0 ≡ o → is_some (function_of o) ≡ true → is_function_id rows-there (put_function_id to f) ≡ true
+      by : (o : Option Definition) → slice_get s.definitions f.0 ≡ o → is_some (function_of o) ≡ true → is_function_id rows-there (put_function_id (renaming to) f) ≡ true
       by None e q = absurd (true≢false (sym q))
       by (Some (row.Type d)) e q = absurd (true≢false (sym q))
-      by (Some (row.Function g)) e q = rw (map-get (put_row to) (kept to.rows s.definitions) (place to.rows f.0) (row.Function g) (kept-at to.rows s.definitions f.0 (row.Function g) k e)) refl
+      by (Some (row.Function g)) e q = rw (map-get (put_row (renaming to)) (kept to.rows s.definitions) (place to.rows f.0) (row.Function g) (kept-at to.rows s.definitions f.0 (row.Function g) k e)) refl
 
   pub typed : name_types rows-there ≡ true
-  typed = list-kept (put_row to) (definition_all (is_type rows-there)) to.rows s.definitions each
+  typed = list-kept (put_row (renaming to)) (definition_all (is_type rows-there)) to.rows s.definitions each
     where
-      val-there : (v : ValType) → (is_type s.definitions v && is_there to.rows v) ≡ true → is_type rows-there (put_val to v) ≡ true
+      val-there : (v : ValType) → (is_type s.definitions v && is_there to.rows v) ≡ true → is_type rows-there (put_val (renaming to) v) ≡ true
       val-there (val.Primitive p) h = refl
       val-there val.String h = refl
       val-there (val.Id t) h = let p = split (is_type_id s.definitions t) (get_or to.rows t.0 false) h in type-there t p.0 p.1
 
-      each : (k : ℕ) (d : Definition) → get_or to.rows k false ≡ true → slice_get s.definitions k ≡ Some d → definition_all (is_type rows-there) (put_row to d) ≡ true
+      each : (k : ℕ) (d : Definition) → get_or to.rows k false ≡ true → slice_get s.definitions k ≡ Some d → definition_all (is_type rows-there) (put_row (renaming to) d) ≡ true
       each k d h e =
-          definition-put to (λ v. is_type s.definitions v && is_there to.rows v) (is_type rows-there) val-there d
+          definition-put (renaming to) (λ v. is_type s.definitions v && is_there to.rows v) (is_type rows-there) val-there d
           (definition-both (is_type s.definitions) (is_there to.rows) d ∙ both _ _ (list-at (definition_all (is_type s.definitions)) s.definitions k d s.typed e) (there-all k d e h))
 
   pub standard : are_standard rows-there ≡ true
-  standard = list-kept (put_row to) is_standard to.rows s.definitions (λ k d h e. same d (list-at is_standard s.definitions k d s.standard e))
-    where
-      kind-same : (k : TypeDefKind) → is_standard_kind k ≡ true → is_standard_kind (put_kind to k) ≡ true
-      kind-same (kind.Use t) h = refl
-      kind-same (kind.Alias v) h = refl
-      kind-same (kind.List v) h = refl
-      kind-same (kind.Option v) h = refl
-      kind-same (kind.Result ok error) h = refl
-      kind-same (kind.Tuple vs) h = rw (length-map vs (put_val to)) h
-      kind-same (kind.Record fs) h = rw (length-map fs (put_field to)) h
-      kind-same (kind.Variant cs) h = rw (length-map cs (put_case to)) h
-      kind-same (kind.Enum names) h = h
-      kind-same (kind.Flags names) h = h
+  standard = list-kept (put_row (renaming to)) is_standard to.rows s.definitions (λ k d h e. standard-put (renaming to) d (list-at is_standard s.definitions k d s.standard e))
 
-      same : (d : Definition) → is_standard d ≡ true → is_standard (put_row to d) ≡ true
-      same (row.Type d) h = kind-same d.kind h
-      same (row.Function f) h = refl
-
-  pub placed : are_placed rows-there (map (put_interface to) (kept to.interfaces s.interfaces)) ≡ true
-  placed = list-kept (put_interface to) (is_placed rows-there) to.interfaces s.interfaces each
+  pub placed : are_placed rows-there (map (put_interface (renaming to)) (kept to.interfaces s.interfaces)) ≡ true
+  placed = list-kept (put_interface (renaming to)) (is_placed rows-there) to.interfaces s.interfaces each
     where
-      each : (k : ℕ) (i : Interface) → get_or to.interfaces k false ≡ true → slice_get s.interfaces k ≡ Some i → is_placed rows-there (put_interface to i) ≡ true
+      each : (k : ℕ) (i : Interface) → get_or to.interfaces k false ≡ true → slice_get s.interfaces k ≡ Some i → is_placed rows-there (put_interface (renaming to) i) ≡ true
       each k i h e =
           let p = list-at (is_placed s.definitions) s.interfaces k i s.placed e in
           let q = split (list_all (is_type_id s.definitions) i.uses) (list_all (is_type_id s.definitions) i.types && list_all (is_function_id s.definitions) i.functions) p in
           let r = split (list_all (is_type_id s.definitions) i.types) (list_all (is_function_id s.definitions) i.functions) q.1 in
-          both _ _ (list-filter (put_id to) (has_type to) (is_type_id s.definitions) (is_type_id rows-there) i.uses type-there q.0)
-          (both _ _ (list-filter (put_id to) (has_type to) (is_type_id s.definitions) (is_type_id rows-there) i.types type-there r.0)
-          (list-filter (put_function_id to) (has_function to) (is_function_id s.definitions) (is_function_id rows-there) i.functions function-there r.1))
+          both _ _ (list-filter (put_id (renaming to)) (has_type (renaming to)) (is_type_id s.definitions) (is_type_id rows-there) i.uses type-there q.0)
+          (both _ _ (list-filter (put_id (renaming to)) (has_type (renaming to)) (is_type_id s.definitions) (is_type_id rows-there) i.types type-there r.0)
+          (list-filter (put_function_id (renaming to)) (has_function (renaming to)) (is_function_id s.definitions) (is_function_id rows-there) i.functions function-there r.1))
 
   -- ---- packages
 
@@ -223,19 +202,19 @@ module _ (s : Resolve) (own : ℕ) (to : Moved) (n : IsNeeded s own to) where
   package-there : (p : ℕ) → p < length s.packages → get_or to.packages p false ≡ true → place to.packages p < length (kept to.packages s.packages)
   package-there p h e = omega (arith, count-packages, place-before to.packages p (length to.packages) (omega (arith, n.packages_are.count)) e)
 
-  pub grouped : IsTrue (are_grouped (length (kept to.packages s.packages)) 0 (map (put_interface to) (kept to.interfaces s.interfaces)))
-  grouped = subst (λ m. IsTrue (are_grouped (length (kept to.packages s.packages)) m (map (put_interface to) (kept to.interfaces s.interfaces)))) (place-none to.packages)
-      (grouped-kept (put_interface to) to.packages (length (kept to.packages s.packages)) to.interfaces s.interfaces (length s.packages) 0 (λ i. refl)
+  pub grouped : IsTrue (are_grouped (length (kept to.packages s.packages)) 0 (map (put_interface (renaming to)) (kept to.interfaces s.interfaces)))
+  grouped = subst (λ m. IsTrue (are_grouped (length (kept to.packages s.packages)) m (map (put_interface (renaming to)) (kept to.interfaces s.interfaces)))) (place-none to.packages)
+      (grouped-kept (put_interface (renaming to)) to.packages (length (kept to.packages s.packages)) to.interfaces s.interfaces (length s.packages) 0 (λ i. refl)
       (λ k i h e. package-there i.«package».0 (interface-within k i e) (interface-needed k i h e)) s.grouped)
 
-  pub worlds-grouped : IsTrue (are_worlds_grouped (length (kept to.packages s.packages)) 0 (map (put_world to) (kept to.worlds s.worlds)))
-  worlds-grouped = subst (λ m. IsTrue (are_worlds_grouped (length (kept to.packages s.packages)) m (map (put_world to) (kept to.worlds s.worlds)))) (place-none to.packages)
-      (worlds-grouped-kept (put_world to) to.packages (length (kept to.packages s.packages)) to.worlds s.worlds (length s.packages) 0 (λ w. refl)
+  pub worlds-grouped : IsTrue (are_worlds_grouped (length (kept to.packages s.packages)) 0 (map (put_world (renaming to)) (kept to.worlds s.worlds)))
+  worlds-grouped = subst (λ m. IsTrue (are_worlds_grouped (length (kept to.packages s.packages)) m (map (put_world (renaming to)) (kept to.worlds s.worlds)))) (place-none to.packages)
+      (worlds-grouped-kept (put_world (renaming to)) to.packages (length (kept to.packages s.packages)) to.worlds s.worlds (length s.packages) 0 (λ w. refl)
       (λ k w h e. package-there w.«package».0 (world-within k w e) (world-needed k w h e)) s.worlds_grouped)
 
   -- ---- rows name earlier rows
 
-  below-there : (k : ℕ) (v : ValType) → is_kept to.rows k v ≡ true → is_below (place to.rows k) (put_val to v) ≡ true
+  below-there : (k : ℕ) (v : ValType) → is_kept to.rows k v ≡ true → is_below (place to.rows k) (put_val (renaming to) v) ≡ true
   below-there k (val.Primitive p) h = refl
   below-there k val.String h = refl
   below-there k (val.Id t) h =
@@ -243,7 +222,7 @@ module _ (s : Resolve) (own : ℕ) (to : Moved) (n : IsNeeded s own to) where
       lt-ltb (place to.rows t.0) (place to.rows k) (place-before to.rows t.0 k (ltb-true t.0 k p.0) p.1)
 
   earlier-from : (bs : List Bool) (k : ℕ) (ds : List Definition) → AreMarksFrom to.rows k bs → ((j : ℕ) (d : Definition) → slice_get ds j ≡ Some d → slice_get s.definitions (k + j) ≡ Some d)
-      → are_earlier (place to.rows k) (map (put_row to) (kept bs ds)) ≡ true
+      → are_earlier (place to.rows k) (map (put_row (renaming to)) (kept bs ds)) ≡ true
   earlier-from [] k ds m at = refl
   earlier-from (b ∷ bs) k [] m at = refl
   earlier-from (true ∷ bs) k (d ∷ ds) m at =
@@ -251,13 +230,13 @@ module _ (s : Resolve) (own : ℕ) (to : Moved) (n : IsNeeded s own to) where
       let this : slice_get s.definitions k ≡ Some d = ap (slice_get s.definitions) (omega arith) ∙ at 0 d refl in
       let next : place to.rows k + 1 ≡ place to.rows (k + 1) = sym (place-yes to.rows k here) ∙ ap (place to.rows) (omega arith) in
       let rest = earlier-from bs (k + 1) ds (marks-next to.rows k (k + 1) true bs refl m) (λ j c e. ap (slice_get s.definitions) (shift k j) ∙ at (suc j) c e) in
-      both _ _ (definition-put to (is_kept to.rows k) (is_below (place to.rows k)) (below-there k) d (kept-all k k d (omega arith) this here))
-      (subst (λ x. are_earlier x (map (put_row to) (kept bs ds)) ≡ true) (sym next) rest)
+      both _ _ (definition-put (renaming to) (is_kept to.rows k) (is_below (place to.rows k)) (below-there k) d (kept-all k k d (omega arith) this here))
+      (subst (λ x. are_earlier x (map (put_row (renaming to)) (kept bs ds)) ≡ true) (sym next) rest)
   earlier-from (false ∷ bs) k (d ∷ ds) m at =
       let here = marks-here to.rows k false bs m in
       let next : place to.rows (k + 1) ≡ place to.rows k = ap (place to.rows) (omega arith) ∙ place-no to.rows k here in
       let rest = earlier-from bs (k + 1) ds (marks-next to.rows k (k + 1) false bs refl m) (λ j c e. ap (slice_get s.definitions) (shift k j) ∙ at (suc j) c e) in
-      subst (λ x. are_earlier x (map (put_row to) (kept bs ds)) ≡ true) next rest
+      subst (λ x. are_earlier x (map (put_row (renaming to)) (kept bs ds)) ≡ true) next rest
 
   pub earlier : are_earlier 0 rows-there ≡ true
   earlier = subst (λ x. are_earlier x rows-there ≡ true) (place-none to.rows)
@@ -304,16 +283,16 @@ module _ (s : Resolve) (own : ℕ) (to : Moved) (n : IsNeeded s own to) where
   pub interface-there : (j : ℕ) → j < length s.interfaces → is_marked n.marks (Some (owner.Interface (record { 0 = j }))) ≡ true → get_or to.interfaces j false ≡ true
   interface-there j h e = ap (λ (bs : List Bool). get_or bs j false) n.interfaces_are ∙ (get_or_default n.marks.interfaces j false true (omega (arith, n.are_reached.count)) ∙ e)
 
-  length-interfaces : length (map (put_interface to) (kept to.interfaces s.interfaces)) ≡ place to.interfaces (length to.interfaces)
-  length-interfaces = length-map (kept to.interfaces s.interfaces) (put_interface to) ∙ length-kept to.interfaces s.interfaces (sym count-interfaces)
+  length-interfaces : length (map (put_interface (renaming to)) (kept to.interfaces s.interfaces)) ≡ place to.interfaces (length to.interfaces)
+  length-interfaces = length-map (kept to.interfaces s.interfaces) (put_interface (renaming to)) ∙ length-kept to.interfaces s.interfaces (sym count-interfaces)
 
   item-placed : (k : ℕ) (w : World) (i : WorldItem) → get_or to.worlds k false ≡ true → slice_get s.worlds k ≡ Some w → Contains w.items i
       → is_placed_item s.definitions (length s.interfaces) k i.kind ≡ true
-      → is_placed_item rows-there (length (map (put_interface to) (kept to.interfaces s.interfaces))) (place to.worlds k) (put_item_kind to i.kind) ≡ true
+      → is_placed_item rows-there (length (map (put_interface (renaming to)) (kept to.interfaces s.interfaces))) (place to.worlds k) (put_item_kind (renaming to) i.kind) ≡ true
   item-placed k w i h e c p = by i.kind refl p
     where
       by : (x : WorldItemKind) → i.kind ≡ x → is_placed_item s.definitions (length s.interfaces) k x ≡ true
-          → is_placed_item rows-there (length (map (put_interface to) (kept to.interfaces s.interfaces))) (place to.worlds k) (put_item_kind to x) ≡ true
+          → is_placed_item rows-there (length (map (put_interface (renaming to)) (kept to.interfaces s.interfaces))) (place to.worlds k) (put_item_kind (renaming to) x) ≡ true
       by (item.Interface j) q r =
           let within : j.0 < length s.interfaces = ltb-true j.0 (length s.interfaces) r in
           lt-ltb _ _ (omega (arith, length-interfaces, count-interfaces, place-before to.interfaces j.0 (length to.interfaces) (omega (arith, count-interfaces)) (interface-there j.0 within (item-interface k w i j h e c q))))
@@ -324,18 +303,18 @@ module _ (s : Resolve) (own : ℕ) (to : Moved) (n : IsNeeded s own to) where
           function (Some (row.Type t)) d z = absurd (true≢false (sym z))
           function (Some (row.Function g)) d z =
               let there = kept-at to.rows s.definitions f.0 (row.Function g) (item-function k w f g h e d z) d in
-              rw (map-get (put_row to) (kept to.rows s.definitions) (place to.rows f.0) (row.Function g) there) (owned g.owner z)
+              rw (map-get (put_row (renaming to)) (kept to.rows s.definitions) (place to.rows f.0) (row.Function g) there) (owned g.owner z)
             where
-              owned : (o : Owner) → is_owner_world k o ≡ true → is_owner_world (place to.worlds k) (put_owner to o) ≡ true
+              owned : (o : Owner) → is_owner_world k o ≡ true → is_owner_world (place to.worlds k) (put_owner (renaming to) o) ≡ true
               owned (owner.Interface j) y = absurd (true≢false (sym y))
               owned (owner.World v) y = eq-eqb _ _ (ap (place to.worlds) (eqb-true v.0 k y))
 
   items-placed : (k : ℕ) (w : World) → get_or to.worlds k false ≡ true → slice_get s.worlds k ≡ Some w → is_placed_world s.definitions (length s.interfaces) k w ≡ true
-      → is_placed_world rows-there (length (map (put_interface to) (kept to.interfaces s.interfaces))) (place to.worlds k) (put_world to w) ≡ true
+      → is_placed_world rows-there (length (map (put_interface (renaming to)) (kept to.interfaces s.interfaces))) (place to.worlds k) (put_world (renaming to) w) ≡ true
   items-placed k w h e p = each w.items (λ i c. c) p
     where
       each : (is : List WorldItem) → ((i : WorldItem) → Contains is i → Contains w.items i) → list_all (λ i. is_placed_item s.definitions (length s.interfaces) k i.kind) is ≡ true
-          → list_all (λ i. is_placed_item rows-there (length (map (put_interface to) (kept to.interfaces s.interfaces))) (place to.worlds k) i.kind) (map (put_item to) is) ≡ true
+          → list_all (λ i. is_placed_item rows-there (length (map (put_interface (renaming to)) (kept to.interfaces s.interfaces))) (place to.worlds k) i.kind) (map (put_item (renaming to)) is) ≡ true
       each [] sub q = refl
       each (i ∷ is) sub q =
           let r = split (is_placed_item s.definitions (length s.interfaces) k i.kind) (list_all (λ x. is_placed_item s.definitions (length s.interfaces) k x.kind) is) q in
@@ -343,7 +322,7 @@ module _ (s : Resolve) (own : ℕ) (to : Moved) (n : IsNeeded s own to) where
 
   worlds-placed-from : (bs : List Bool) (k : ℕ) (ws : List World) → AreMarksFrom to.worlds k bs → ((j : ℕ) (w : World) → slice_get ws j ≡ Some w → slice_get s.worlds (k + j) ≡ Some w)
       → are_placed_worlds s.definitions (length s.interfaces) k ws ≡ true
-      → are_placed_worlds rows-there (length (map (put_interface to) (kept to.interfaces s.interfaces))) (place to.worlds k) (map (put_world to) (kept bs ws)) ≡ true
+      → are_placed_worlds rows-there (length (map (put_interface (renaming to)) (kept to.interfaces s.interfaces))) (place to.worlds k) (map (put_world (renaming to)) (kept bs ws)) ≡ true
   worlds-placed-from [] k ws m at p = refl
   worlds-placed-from (b ∷ bs) k [] m at p = refl
   worlds-placed-from (true ∷ bs) k (w ∷ ws) m at p =
@@ -353,14 +332,14 @@ module _ (s : Resolve) (own : ℕ) (to : Moved) (n : IsNeeded s own to) where
       let q = split (is_placed_world s.definitions (length s.interfaces) k w) (are_placed_worlds s.definitions (length s.interfaces) (k + 1) ws) p in
       let rest = worlds-placed-from bs (k + 1) ws (marks-next to.worlds k (k + 1) true bs refl m) (λ j c e. ap (slice_get s.worlds) (shift k j) ∙ at (suc j) c e) q.1 in
       both _ _ (items-placed k w here this q.0)
-      (subst (λ x. are_placed_worlds rows-there (length (map (put_interface to) (kept to.interfaces s.interfaces))) x (map (put_world to) (kept bs ws)) ≡ true) (sym next) rest)
+      (subst (λ x. are_placed_worlds rows-there (length (map (put_interface (renaming to)) (kept to.interfaces s.interfaces))) x (map (put_world (renaming to)) (kept bs ws)) ≡ true) (sym next) rest)
   worlds-placed-from (false ∷ bs) k (w ∷ ws) m at p =
       let here = marks-here to.worlds k false bs m in
       let next : place to.worlds (k + 1) ≡ place to.worlds k = ap (place to.worlds) (omega arith) ∙ place-no to.worlds k here in
       let q = split (is_placed_world s.definitions (length s.interfaces) k w) (are_placed_worlds s.definitions (length s.interfaces) (k + 1) ws) p in
       let rest = worlds-placed-from bs (k + 1) ws (marks-next to.worlds k (k + 1) false bs refl m) (λ j c e. ap (slice_get s.worlds) (shift k j) ∙ at (suc j) c e) q.1 in
-      subst (λ x. are_placed_worlds rows-there (length (map (put_interface to) (kept to.interfaces s.interfaces))) x (map (put_world to) (kept bs ws)) ≡ true) next rest
+      subst (λ x. are_placed_worlds rows-there (length (map (put_interface (renaming to)) (kept to.interfaces s.interfaces))) x (map (put_world (renaming to)) (kept bs ws)) ≡ true) next rest
 
-  pub worlds-placed : are_placed_worlds rows-there (length (map (put_interface to) (kept to.interfaces s.interfaces))) 0 (map (put_world to) (kept to.worlds s.worlds)) ≡ true
-  worlds-placed = subst (λ x. are_placed_worlds rows-there (length (map (put_interface to) (kept to.interfaces s.interfaces))) x (map (put_world to) (kept to.worlds s.worlds)) ≡ true) (place-none to.worlds)
+  pub worlds-placed : are_placed_worlds rows-there (length (map (put_interface (renaming to)) (kept to.interfaces s.interfaces))) 0 (map (put_world (renaming to)) (kept to.worlds s.worlds)) ≡ true
+  worlds-placed = subst (λ x. are_placed_worlds rows-there (length (map (put_interface (renaming to)) (kept to.interfaces s.interfaces))) x (map (put_world (renaming to)) (kept to.worlds s.worlds)) ≡ true) (place-none to.worlds)
       (worlds-placed-from to.worlds 0 s.worlds (λ k. ap (λ j. get_or to.worlds j false) (omega arith)) (λ j w e. ap (slice_get s.worlds) (omega arith) ∙ e) s.worlds_placed)

@@ -22,6 +22,7 @@ use Rattle.tables.specs.declared.tables.WorldItemKind.TheVariants as item
 use Rattle.tables.specs.declared.tables.Resolve.{Resolve}
 use Rattle.package_sets.specs.Places.{kept, place}
 use Rattle.package_sets.specs.Reaches.{is_marked, is_own_world}
+use Rattle.package_sets.specs.Renamed.{renaming}
 use Rattle.package_sets.specs.Moved.{put_row, put_function, put_interface, put_item, put_item_kind, put_world}
 use Rattle.package_sets.specs.Restricted.{IsNeeded, IsRestricted, definitions_where}
 use Rattle.package_sets.specs.declared.moved.Moved.{Moved}
@@ -35,7 +36,7 @@ use Rattle.package_sets.proofs.Lasting.{last-own}
 use Rattle.package_sets.proofs.Closing.{functions-same}
 use Rattle.package_sets.proofs.Postfixing.{postfix-kept, blocks}
 use Rattle.package_sets.proofs.Restricting as table
-use Rattle.package_sets.proofs.Restricting.{map-get}
+use Rattle.package_sets.proofs.Lists.{map-get}
 
 length-references : (ns : List (List ℕ)) (ts : List Tree) (ds : List Definition) → length (references ns ts ds) ≡ length ts + length ds
 length-references ns ts [] = omega arith
@@ -55,7 +56,7 @@ placed-world-at ds count w (y ∷ ws) (suc k) x h e =
     let p = split (is_placed_world ds count w y) (are_placed_worlds ds count (w + 1) ws) h in
     subst (λ n. is_placed_world ds count n x ≡ true) (omega arith) (placed-world-at ds count (w + 1) ws k x p.1 e)
 
-module _ (s : Resolve) (own : ℕ) (to : Moved) (n : IsNeeded s own to) (r : Resolve) (ps : r.packages ≡ kept to.packages s.packages) (is : r.interfaces ≡ map (put_interface to) (kept to.interfaces s.interfaces)) (ws : r.worlds ≡ map (put_world to) (kept to.worlds s.worlds)) (ds : r.definitions ≡ map (put_row to) (kept to.rows s.definitions)) where
+module _ (s : Resolve) (own : ℕ) (to : Moved) (n : IsNeeded s own to) (r : Resolve) (ps : r.packages ≡ kept to.packages s.packages) (is : r.interfaces ≡ map (put_interface (renaming to)) (kept to.interfaces s.interfaces)) (ws : r.worlds ≡ map (put_world (renaming to)) (kept to.worlds s.worlds)) (ds : r.definitions ≡ map (put_row (renaming to)) (kept to.rows s.definitions)) where
   package-same : (p : ℕ) (name : List ℕ) → p < length s.packages → get_or to.packages p false ≡ true → full_name_in (slice_get r.packages (place to.packages p)) name ≡ full_name_in (slice_get s.packages p) name
   package-same p name h e =
       ap (λ (o : Option PackageParts). full_name_in o name) (ap (λ (xs : List PackageParts). slice_get xs (place to.packages p)) ps ∙ found (slice_get s.packages p) refl)
@@ -70,7 +71,7 @@ module _ (s : Resolve) (own : ℕ) (to : Moved) (n : IsNeeded s own to) (r : Res
   interfaces-same : interface_names r ≡ kept n.marks.interfaces (interface_names s)
   interfaces-same =
       ap (map (full_name r)) is
-      ∙ (map-kept-as (put_interface to) (full_name s) (full_name r) to.interfaces s.interfaces (λ k i h e. package-same i.«package».0 i.name (table.interface-within s own to n k i e) (table.interface-needed s own to n k i h e))
+      ∙ (map-kept-as (put_interface (renaming to)) (full_name s) (full_name r) to.interfaces s.interfaces (λ k i h e. package-same i.«package».0 i.name (table.interface-within s own to n k i e) (table.interface-needed s own to n k i h e))
       ∙ ap (λ (bs : List Bool). kept bs (interface_names s)) n.interfaces_are)
 
   names-agree : NamesAgree (is_marked n.marks) to (interface_names s) (kept n.marks.interfaces (interface_names s))
@@ -92,12 +93,12 @@ module _ (s : Resolve) (own : ℕ) (to : Moved) (n : IsNeeded s own to) (r : Res
   definitions-same : definitions r ≡ definitions_where (is_marked n.marks) (interface_names s) [] s.definitions
   definitions-same =
       ap (λ (xs : List Definition). definitions_from (interface_names r) [] xs) ds
-      ∙ (ap (λ (ms : List (List ℕ)). definitions_from ms [] (map (put_row to) (kept to.rows s.definitions))) interfaces-same
+      ∙ (ap (λ (ms : List (List ℕ)). definitions_from ms [] (map (put_row (renaming to)) (kept to.rows s.definitions))) interfaces-same
       ∙ definitions-kept (is_marked n.marks) to (interface_names s) (kept n.marks.interfaces (interface_names s)) names-agree to.rows [] [] s.definitions (table.count-rows s own to n) start
       (λ k. ap (λ j. get_or to.rows j false) (omega arith)) (table.rights s own to n))
 
-  trees-there : trees r ≡ references (kept n.marks.interfaces (interface_names s)) [] (map (put_row to) (kept to.rows s.definitions))
-  trees-there = ap (λ (xs : List Definition). references (interface_names r) [] xs) ds ∙ ap (λ (ms : List (List ℕ)). references ms [] (map (put_row to) (kept to.rows s.definitions))) interfaces-same
+  trees-there : trees r ≡ references (kept n.marks.interfaces (interface_names s)) [] (map (put_row (renaming to)) (kept to.rows s.definitions))
+  trees-there = ap (λ (xs : List Definition). references (interface_names r) [] xs) ds ∙ ap (λ (ms : List (List ℕ)). references ms [] (map (put_row (renaming to)) (kept to.rows s.definitions))) interfaces-same
 
   trees-agree : Agrees to.rows (trees s) (trees r)
   trees-agree = subst (λ (ts : List Tree). Agrees to.rows (trees s) ts) (sym trees-there)
@@ -108,22 +109,22 @@ module _ (s : Resolve) (own : ℕ) (to : Moved) (n : IsNeeded s own to) (r : Res
   function-told : (f : FunctionId) (g : Function) (way : Direction) → slice_get s.definitions f.0 ≡ Some (row.Function g) → get_or to.rows f.0 false ≡ true
       → function_item (trees r) way (function_of (slice_get r.definitions (place to.rows f.0))) ≡ function_item (trees s) way (function_of (slice_get s.definitions f.0))
   function-told f g way d k =
-      let there : slice_get r.definitions (place to.rows f.0) ≡ Some (put_row to (row.Function g)) =
-      ap (λ (xs : List Definition). slice_get xs (place to.rows f.0)) ds ∙ map-get (put_row to) (kept to.rows s.definitions) (place to.rows f.0) (row.Function g) (kept-at to.rows s.definitions f.0 (row.Function g) k d) in
+      let there : slice_get r.definitions (place to.rows f.0) ≡ Some (put_row (renaming to) (row.Function g)) =
+      ap (λ (xs : List Definition). slice_get xs (place to.rows f.0)) ds ∙ map-get (put_row (renaming to)) (kept to.rows s.definitions) (place to.rows f.0) (row.Function g) (kept-at to.rows s.definitions f.0 (row.Function g) k d) in
       let all = table.kept-all s own to n f.0 (length (trees s)) (row.Function g) (omega (arith, length-trees s, slice_get_within s.definitions f.0 (row.Function g) d)) d k in
       let p = split (list_all (λ q. is_kept to.rows (length (trees s)) q.ty) g.params) (option_all (is_kept to.rows (length (trees s))) g.result) all in
       let x = params-same to (trees s) (trees r) trees-agree g.params p.0 in
       let y = result-same to (trees s) (trees r) trees-agree g.result p.1 in
-      let told : WithFunction way g.name (read_params (trees r) (put_function to g).params) (option_map (read_val (trees r)) (put_function to g).result)
+      let told : WithFunction way g.name (read_params (trees r) (put_function (renaming to) g).params) (option_map (read_val (trees r)) (put_function (renaming to) g).result)
       ≡ WithFunction way g.name (read_params (trees s) g.params) (option_map (read_val (trees s)) g.result) = cc in
       ap (λ (o : Option Definition). function_item (trees r) way (function_of o)) there ∙ (told ∙ sym (ap (λ (o : Option Definition). function_item (trees s) way (function_of o)) d))
 
   item-same : (k : ℕ) (w : World) (i : WorldItem) → get_or to.worlds k false ≡ true → slice_get s.worlds k ≡ Some w → Contains w.items i → is_placed_item s.definitions (length s.interfaces) k i.kind ≡ true
-      → item_meaning (interface_names r) (trees r) r.definitions i.direction (put_item_kind to i.kind) ≡ item_meaning (interface_names s) (trees s) s.definitions i.direction i.kind
+      → item_meaning (interface_names r) (trees r) r.definitions i.direction (put_item_kind (renaming to) i.kind) ≡ item_meaning (interface_names s) (trees s) s.definitions i.direction i.kind
   item-same k w i h e c p = by i.kind refl p
     where
       by : (x : WorldItemKind) → i.kind ≡ x → is_placed_item s.definitions (length s.interfaces) k x ≡ true
-          → item_meaning (interface_names r) (trees r) r.definitions i.direction (put_item_kind to x) ≡ item_meaning (interface_names s) (trees s) s.definitions i.direction x
+          → item_meaning (interface_names r) (trees r) r.definitions i.direction (put_item_kind (renaming to) x) ≡ item_meaning (interface_names s) (trees s) s.definitions i.direction x
       by (item.Interface j) q z =
           ap (WithInterface i.direction) (ap (λ (ns : List (List ℕ)). get_or ns (place to.interfaces j.0) []) interfaces-same ∙ names-agree j.0 (table.item-interface s own to n k w i j h e c q))
       by (item.Function f) q z = function (slice_get s.definitions f.0) refl z
@@ -135,11 +136,11 @@ module _ (s : Resolve) (own : ℕ) (to : Moved) (n : IsNeeded s own to) (r : Res
           function (Some (row.Function g)) d y = function-told f g i.direction d (table.item-function s own to n k w f g h e d y)
 
   world-same : (k : ℕ) (w : World) → get_or to.worlds k false ≡ true → slice_get s.worlds k ≡ Some w
-      → world_meaning (interface_names r) (trees r) r.definitions (world_name r (put_world to w)) (put_world to w) ≡ world_meaning (interface_names s) (trees s) s.definitions (world_name s w) w
+      → world_meaning (interface_names r) (trees r) r.definitions (world_name r (put_world (renaming to) w)) (put_world (renaming to) w) ≡ world_meaning (interface_names s) (trees s) s.definitions (world_name s w) w
   world-same k w h e =
-      let name : world_name r (put_world to w) ≡ world_name s w = package-same w.«package».0 w.name (table.world-within s own to n k w e) (table.world-needed s own to n k w h e) in
-      let items : map (λ i. item_meaning (interface_names r) (trees r) r.definitions i.direction i.kind) (map (put_item to) w.items) ≡ map (λ i. item_meaning (interface_names s) (trees s) s.definitions i.direction i.kind) w.items =
-      map-put-as (put_item to) _ _ w.items (λ j i q. item-same k w i h e (j, slice_get_within w.items j i q, get_or_from_slice_get w.items j i i q) (list-at _ w.items j i placed q)) in
+      let name : world_name r (put_world (renaming to) w) ≡ world_name s w = package-same w.«package».0 w.name (table.world-within s own to n k w e) (table.world-needed s own to n k w h e) in
+      let items : map (λ i. item_meaning (interface_names r) (trees r) r.definitions i.direction i.kind) (map (put_item (renaming to)) w.items) ≡ map (λ i. item_meaning (interface_names s) (trees s) s.definitions i.direction i.kind) w.items =
+      map-put-as (put_item (renaming to)) _ _ w.items (λ j i q. item-same k w i h e (j, slice_get_within w.items j i q, get_or_from_slice_get w.items j i i q) (list-at _ w.items j i placed q)) in
       cc
     where
       placed : is_placed_world s.definitions (length s.interfaces) k w ≡ true
@@ -148,7 +149,7 @@ module _ (s : Resolve) (own : ℕ) (to : Moved) (n : IsNeeded s own to) (r : Res
   worlds-same : worlds r ≡ kept (map (is_own_world own) s.worlds) (worlds s)
   worlds-same =
       ap (map (λ w. world_meaning (interface_names r) (trees r) r.definitions (world_name r w) w)) ws
-      ∙ (map-kept-as (put_world to) (λ w. world_meaning (interface_names s) (trees s) s.definitions (world_name s w) w) (λ w. world_meaning (interface_names r) (trees r) r.definitions (world_name r w) w) to.worlds s.worlds
+      ∙ (map-kept-as (put_world (renaming to)) (λ w. world_meaning (interface_names s) (trees s) s.definitions (world_name s w) w) (λ w. world_meaning (interface_names r) (trees r) r.definitions (world_name r w) w) to.worlds s.worlds
       world-same
       ∙ ap (λ (bs : List Bool). kept bs (worlds s)) n.worlds_are)
 

@@ -1,7 +1,11 @@
+pub mod Attached
+pub mod Joined
+pub mod Joining
 pub mod Marking
 pub mod Moved
 pub mod Owners
 pub mod Places
 pub mod Reaches
+pub mod Renamed
 pub mod Restricted
 pub mod Set

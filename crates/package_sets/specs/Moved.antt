@@ -1,8 +1,6 @@
--- What a table has, as it stands in another that keeps some of it.
-use Rattle.std.specs.Prelude.{Bool, false, List, map, filter, slice_index_or}
+-- What a table has, as it stands in another table.
+use Rattle.std.specs.Prelude.{ℕ, Bool, List, map, filter}
 use Rattle.std.specs.Option.{option_map}
-use Rattle.package_sets.specs.Places.{place}
-use Rattle.package_sets.specs.declared.moved.Moved.{Moved}
 use Rattle.tables.specs.declared.tables.TypeId.{TypeId}
 use Rattle.tables.specs.declared.tables.FunctionId.{FunctionId}
 use Rattle.tables.specs.declared.tables.InterfaceId.{InterfaceId}
@@ -27,33 +25,41 @@ use Rattle.tables.specs.declared.tables.WorldItem.{WorldItem}
 use Rattle.tables.specs.declared.tables.WorldItemKind.{WorldItemKind}
 use Rattle.tables.specs.declared.tables.WorldItemKind.TheVariants as item
 
-abbrev pub put_id : Moved → TypeId → TypeId
-put_id to t = record { 0 = place to.rows t.0 }
+-- where what a table has stands in the other, and which of its rows do
+pub record Renaming : Type 0 where
+  pub packages : ℕ → ℕ
+  pub interfaces : ℕ → ℕ
+  pub worlds : ℕ → ℕ
+  pub rows : ℕ → ℕ
+  pub keeps : ℕ → Bool
 
-abbrev pub put_function_id : Moved → FunctionId → FunctionId
-put_function_id to f = record { 0 = place to.rows f.0 }
+abbrev pub put_id : Renaming → TypeId → TypeId
+put_id to t = record { 0 = to.rows t.0 }
 
-abbrev pub put_interface_id : Moved → InterfaceId → InterfaceId
-put_interface_id to i = record { 0 = place to.interfaces i.0 }
+abbrev pub put_function_id : Renaming → FunctionId → FunctionId
+put_function_id to f = record { 0 = to.rows f.0 }
 
-abbrev pub put_package_id : Moved → PackageId → PackageId
-put_package_id to p = record { 0 = place to.packages p.0 }
+abbrev pub put_interface_id : Renaming → InterfaceId → InterfaceId
+put_interface_id to i = record { 0 = to.interfaces i.0 }
 
-abbrev pub put_val : Moved → ValType → ValType
+abbrev pub put_package_id : Renaming → PackageId → PackageId
+put_package_id to p = record { 0 = to.packages p.0 }
+
+abbrev pub put_val : Renaming → ValType → ValType
 put_val to (val.Primitive x) = val.Primitive x
 put_val to val.String = val.String
 put_val to (val.Id t) = val.Id (put_id to t)
 
-abbrev pub put_field : Moved → Field → Field
+abbrev pub put_field : Renaming → Field → Field
 put_field to f = record { name = f.name; ty = put_val to f.ty }
 
-abbrev pub put_case : Moved → Case → Case
+abbrev pub put_case : Renaming → Case → Case
 put_case to c = record { name = c.name; ty = option_map (put_val to) c.ty }
 
-abbrev pub put_parameter : Moved → Parameter → Parameter
+abbrev pub put_parameter : Renaming → Parameter → Parameter
 put_parameter to q = record { name = q.name; ty = put_val to q.ty }
 
-abbrev pub put_kind : Moved → TypeDefKind → TypeDefKind
+abbrev pub put_kind : Renaming → TypeDefKind → TypeDefKind
 put_kind to (kind.Use t) = kind.Use (put_id to t)
 put_kind to (kind.Alias v) = kind.Alias (put_val to v)
 put_kind to (kind.List v) = kind.List (put_val to v)
@@ -65,37 +71,37 @@ put_kind to (kind.Variant cs) = kind.Variant (map (put_case to) cs)
 put_kind to (kind.Enum names) = kind.Enum names
 put_kind to (kind.Flags names) = kind.Flags names
 
-abbrev pub put_name : Moved → TypeName → TypeName
+abbrev pub put_name : Renaming → TypeName → TypeName
 put_name to n = record { interface = put_interface_id to n.interface; name = n.name }
 
-abbrev pub put_type : Moved → TypeDef → TypeDef
+abbrev pub put_type : Renaming → TypeDef → TypeDef
 put_type to d = record { name = option_map (put_name to) d.name; kind = put_kind to d.kind }
 
-abbrev pub put_owner : Moved → Owner → Owner
+abbrev pub put_owner : Renaming → Owner → Owner
 put_owner to (owner.Interface i) = owner.Interface (put_interface_id to i)
-put_owner to (owner.World w) = owner.World (record { 0 = place to.worlds w.0 })
+put_owner to (owner.World w) = owner.World (record { 0 = to.worlds w.0 })
 
-abbrev pub put_function : Moved → Function → Function
+abbrev pub put_function : Renaming → Function → Function
 put_function to f = record { owner = put_owner to f.owner; name = f.name; params = map (put_parameter to) f.params; result = option_map (put_val to) f.result }
 
-abbrev pub put_row : Moved → Definition → Definition
+abbrev pub put_row : Renaming → Definition → Definition
 put_row to (row.Type d) = row.Type (put_type to d)
 put_row to (row.Function f) = row.Function (put_function to f)
 
 -- ids of rows that aren't kept don't stay
-abbrev pub has_type : Moved → TypeId → Bool
-has_type to t = slice_index_or to.rows t.0 false
+abbrev pub has_type : Renaming → TypeId → Bool
+has_type to t = to.keeps t.0
 
-abbrev pub has_function : Moved → FunctionId → Bool
-has_function to f = slice_index_or to.rows f.0 false
+abbrev pub has_function : Renaming → FunctionId → Bool
+has_function to f = to.keeps f.0
 
-abbrev pub put_types : Moved → List TypeId → List TypeId
+abbrev pub put_types : Renaming → List TypeId → List TypeId
 put_types to ts = map (put_id to) (filter (has_type to) ts)
 
-abbrev pub put_functions : Moved → List FunctionId → List FunctionId
+abbrev pub put_functions : Renaming → List FunctionId → List FunctionId
 put_functions to fs = map (put_function_id to) (filter (has_function to) fs)
 
-abbrev pub put_interface : Moved → Interface → Interface
+abbrev pub put_interface : Renaming → Interface → Interface
 put_interface to i = record {
   «package» = put_package_id to i.«package»;
   name = i.name;
@@ -104,12 +110,12 @@ put_interface to i = record {
   functions = put_functions to i.functions;
 }
 
-abbrev pub put_item_kind : Moved → WorldItemKind → WorldItemKind
+abbrev pub put_item_kind : Renaming → WorldItemKind → WorldItemKind
 put_item_kind to (item.Interface i) = item.Interface (put_interface_id to i)
 put_item_kind to (item.Function f) = item.Function (put_function_id to f)
 
-abbrev pub put_item : Moved → WorldItem → WorldItem
+abbrev pub put_item : Renaming → WorldItem → WorldItem
 put_item to i = record { direction = i.direction; kind = put_item_kind to i.kind }
 
-abbrev pub put_world : Moved → World → World
+abbrev pub put_world : Renaming → World → World
 put_world to w = record { «package» = put_package_id to w.«package»; name = w.name; items = map (put_item to) w.items }

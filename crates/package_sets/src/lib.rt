@@ -1,14 +1,22 @@
-//! Sets of packages, as tables: the table of one package of a set, which begins with what the package reaches of the others.
+//! Sets of packages, as tables: the table of one package of a set, which begins with what the package reaches of the others,
+//! and the set with such a package behind it.
 //!
 //! `Reaches` in `specs/Reaches.antt` says what a package of a set reaches, and `IsRestricted` in `specs/Restricted.antt`
-//! what the table of one package has of the set's. The crate knows neither text nor bytes, and stands on
+//! what the table of one package has of the set's. `HasImports` in `specs/Joining.antt` says when the imports of such a
+//! table are the set's, and `IsAttached` in `specs/Attached.antt` what the set is with it. The crate knows neither text nor bytes, and stands on
 //! `package_form`, `tables` and `atoms`.
 #![tactic(auto)]
 
+mod attachment;
+mod error;
+mod joining;
 mod moved;
 mod owners;
 mod places;
 mod reached;
 mod restriction;
+mod same;
 
+pub use attachment::attached;
+pub use error::AttachError;
 pub use restriction::restricted;

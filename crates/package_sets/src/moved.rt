@@ -1,8 +1,7 @@
-//! What a table has, as it stands in the table of one of its packages.
-ghost use Rattle.std.specs.Prelude.{◌≡◌, IfOk, map, option_map, filter};
-ghost use Rattle.package_sets.specs.Places.{kept, place};
+//! What a table has, as it stands in another table.
+ghost use Rattle.std.specs.Prelude.{◌≡◌, ◌++◌, IfOk, OnOk, map, option_map, filter};
+ghost use Rattle.package_sets.specs.Places.{kept};
 ghost use Rattle.package_sets.specs.Moved.{put_id, put_function_id, put_interface_id, put_package_id, put_val, put_owner, put_kind, put_name, put_type, put_field, put_case, put_parameter, put_function, put_row, put_interface, put_item, put_world, has_type, has_function};
-ghost use Rattle.package_sets.specs.declared.moved.Moved.{Moved};
 
 use crate::places::Places;
 use atoms::Label;
@@ -13,6 +12,30 @@ use tables::{
     WorldId, WorldItem, WorldItemKind, copy_version,
 };
 
+/// Where what a table has stands in another.
+pub trait Placed {
+    ghost use Rattle.std.specs.Prelude.{◌≡◌};
+    ghost use Rattle.package_sets.specs.Moved.{Renaming};
+
+    ghost renaming: { Self → Renaming };
+
+    fn package(&self, old: u32) -> u32
+        ensures { result ≡ (renaming self.now).packages old };
+
+    fn interface(&self, old: u32) -> u32
+        ensures { result ≡ (renaming self.now).interfaces old };
+
+    fn world(&self, old: u32) -> u32
+        ensures { result ≡ (renaming self.now).worlds old };
+
+    fn row(&self, old: u32) -> u32
+        ensures { result ≡ (renaming self.now).rows old };
+
+    /// Whether the row at this place stands there too.
+    fn has_row(&self, old: u32) -> bool
+        ensures { result ≡ (renaming self.now).keeps old };
+}
+
 /// What is kept of each part of a table, and where it stands then.
 #[derive(Drop)]
 pub struct Moved {
@@ -22,106 +45,135 @@ pub struct Moved {
     pub rows: Places,
 }
 
-impl Moved {
-    fn type_id(&self, id: TypeId) -> TypeId
-        ensures { result ≡ put_id self.now id }
-    {
-        TypeId(self.rows.at(id.0))
+impl Placed for Moved {
+    ghost use Rattle.package_sets.specs.Renamed.{renaming as renaming_of};
+
+    ghost renaming = { renaming_of };
+
+    fn package(&self, old: u32) -> u32 {
+        self.packages.at(old)
     }
 
-    fn function_id(&self, id: FunctionId) -> FunctionId
-        ensures { result ≡ put_function_id self.now id }
-    {
-        FunctionId(self.rows.at(id.0))
+    fn interface(&self, old: u32) -> u32 {
+        self.interfaces.at(old)
     }
 
-    fn interface_id(&self, id: InterfaceId) -> InterfaceId
-        ensures { result ≡ put_interface_id self.now id }
-    {
-        InterfaceId(self.interfaces.at(id.0))
+    fn world(&self, old: u32) -> u32 {
+        self.worlds.at(old)
     }
 
-    fn package_id(&self, id: PackageId) -> PackageId
-        ensures { result ≡ put_package_id self.now id }
-    {
-        PackageId(self.packages.at(id.0))
+    fn row(&self, old: u32) -> u32 {
+        self.rows.at(old)
     }
 
-    fn ty(&self, ty: ValType) -> ValType
-        ensures { result ≡ put_val self.now ty }
-    {
-        match ty {
-            ValType::Id(id) => ValType::Id(self.type_id(id)),
-            ValType::Primitive(_) | ValType::String => ty,
+    fn has_row(&self, old: u32) -> bool {
+        self.rows.has(old as usize)
+    }
+}
+
+fn type_id<P: Placed>(to: &P, id: TypeId) -> TypeId
+    ensures { result ≡ put_id (P.renaming to.now) id }
+{
+    TypeId(to.row(id.0))
+}
+
+fn function_id<P: Placed>(to: &P, id: FunctionId) -> FunctionId
+    ensures { result ≡ put_function_id (P.renaming to.now) id }
+{
+    FunctionId(to.row(id.0))
+}
+
+fn interface_id<P: Placed>(to: &P, id: InterfaceId) -> InterfaceId
+    ensures { result ≡ put_interface_id (P.renaming to.now) id }
+{
+    InterfaceId(to.interface(id.0))
+}
+
+fn package_id<P: Placed>(to: &P, id: PackageId) -> PackageId
+    ensures { result ≡ put_package_id (P.renaming to.now) id }
+{
+    PackageId(to.package(id.0))
+}
+
+fn moved_val<P: Placed>(to: &P, ty: ValType) -> ValType
+    ensures { result ≡ put_val (P.renaming to.now) ty }
+{
+    match ty {
+        ValType::Id(id) => ValType::Id(type_id(to, id)),
+        ValType::Primitive(_) | ValType::String => ty,
+    }
+}
+
+fn moved_optional<P: Placed>(to: &P, ty: Option<ValType>) -> Option<ValType>
+    ensures { result ≡ option_map (put_val (P.renaming to.now)) ty }
+{
+    match ty {
+        Some(ty) => Some(moved_val(to, ty)),
+        None => None,
+    }
+}
+
+fn moved_owner<P: Placed>(to: &P, owner: Owner) -> Owner
+    ensures { result ≡ put_owner (P.renaming to.now) owner }
+{
+    match owner {
+        Owner::Interface(id) => Owner::Interface(interface_id(to, id)),
+        Owner::World(id) => Owner::World(WorldId(to.world(id.0))),
+    }
+}
+
+/// The ids of an interface's types, of which those of rows that are kept stay.
+pub fn moved_types<P: Placed>(
+    alloc: Global,
+    ids: &Sequence<TypeId>,
+    to: &P,
+) -> Result<Sequence<TypeId>, AllocError>
+    ensures { IfOk result (λ ts. ts ≡ map (put_id (P.renaming to.now)) (filter (has_type (P.renaming to.now)) ids.now)) }
+{
+    let mut moved = Vec::new(alloc);
+    for id in ids.as_slice() {
+        if to.has_row(id.0) {
+            moved.push(type_id(to, *id))?;
         }
     }
+    Ok(Sequence::new(moved))
+}
 
-    fn optional(&self, ty: Option<ValType>) -> Option<ValType>
-        ensures { result ≡ option_map (put_val self.now) ty }
-    {
-        match ty {
-            Some(ty) => Some(self.ty(ty)),
-            None => None,
+/// .. of its functions.
+pub fn moved_functions<P: Placed>(
+    alloc: Global,
+    ids: &Sequence<FunctionId>,
+    to: &P,
+) -> Result<Sequence<FunctionId>, AllocError>
+    ensures { IfOk result (λ fs. fs ≡ map (put_function_id (P.renaming to.now)) (filter (has_function (P.renaming to.now)) ids.now)) }
+{
+    let mut moved = Vec::new(alloc);
+    for id in ids.as_slice() {
+        if to.has_row(id.0) {
+            moved.push(function_id(to, *id))?;
         }
     }
-
-    fn owner(&self, owner: Owner) -> Owner
-        ensures { result ≡ put_owner self.now owner }
-    {
-        match owner {
-            Owner::Interface(id) => Owner::Interface(self.interface_id(id)),
-            Owner::World(id) => Owner::World(WorldId(self.worlds.at(id.0))),
-        }
-    }
-
-    /// The ids of an interface's types, of which those of rows that are kept stay.
-    fn types(&self, alloc: Global, ids: &Sequence<TypeId>) -> Result<Sequence<TypeId>, AllocError>
-        ensures { IfOk result (λ ts. ts ≡ map (put_id self.now) (filter (has_type self.now) ids.now)) }
-    {
-        let mut moved = Vec::new(alloc);
-        for id in ids.as_slice() {
-            if self.rows.has(id.0 as usize) {
-                moved.push(self.type_id(*id))?;
-            }
-        }
-        Ok(Sequence::new(moved))
-    }
-
-    fn functions(
-        &self,
-        alloc: Global,
-        ids: &Sequence<FunctionId>,
-    ) -> Result<Sequence<FunctionId>, AllocError>
-        ensures { IfOk result (λ fs. fs ≡ map (put_function_id self.now) (filter (has_function self.now) ids.now)) }
-    {
-        let mut moved = Vec::new(alloc);
-        for id in ids.as_slice() {
-            if self.rows.has(id.0 as usize) {
-                moved.push(self.function_id(*id))?;
-            }
-        }
-        Ok(Sequence::new(moved))
-    }
+    Ok(Sequence::new(moved))
 }
 
 /// What can be put into another table.
 pub trait Movable: Sized {
-    ghost use Rattle.package_sets.specs.declared.moved.Moved.{Moved};
+    ghost use Rattle.package_sets.specs.Moved.{Renaming};
     ghost use Rattle.std.specs.Prelude.{◌≡◌, IfOk};
 
-    ghost put: { Moved → Self → Self };
+    ghost put: { Renaming → Self → Self };
 
     /// The same there.
-    fn moved(&self, alloc: Global, to: &Moved) -> Result<Self, AllocError>
-        ensures { IfOk result (λ x. x ≡ put to.now self.now) };
+    fn moved<P: Placed>(&self, alloc: Global, to: &P) -> Result<Self, AllocError>
+        ensures { IfOk result (λ x. x ≡ put (P.renaming to.now) self.now) };
 }
 
-fn moved_all<T: Movable + Drop>(
+fn moved_all<T: Movable + Drop, P: Placed>(
     alloc: Global,
     items: &Sequence<T>,
-    to: &Moved,
+    to: &P,
 ) -> Result<Sequence<T>, AllocError>
-    ensures { IfOk result (λ xs. xs ≡ map (T.put to.now) items.now) }
+    ensures { IfOk result (λ xs. xs ≡ map (T.put (P.renaming to.now)) items.now) }
 {
     let mut moved = Vec::new(alloc);
     for item in items.as_slice() {
@@ -130,14 +182,29 @@ fn moved_all<T: Movable + Drop>(
     Ok(Sequence::new(moved))
 }
 
+/// Puts these elements at the end of a list, as they stand in the other table.
+pub fn push_moved<T: Movable + Drop, P: Placed>(
+    alloc: Global,
+    onto: &mut Sequence<T>,
+    items: &[T],
+    to: &P,
+) -> Result<(), AllocError>
+    ensures { OnOk result (onto.new ≡ onto.old ++ map (T.put (P.renaming to.now)) items.now) }
+{
+    for item in items {
+        onto.push(item.moved(alloc, to)?)?;
+    }
+    Ok(())
+}
+
 /// The elements that are kept, as they stand in the other table.
-pub fn moved_kept<T: Movable + Drop>(
+pub fn moved_kept<T: Movable + Drop, P: Placed>(
     alloc: Global,
     items: &Sequence<T>,
     places: &Places,
-    to: &Moved,
+    to: &P,
 ) -> Result<Sequence<T>, AllocError>
-    ensures { IfOk result (λ xs. xs ≡ map (T.put to.now) (kept places.now items.now)) }
+    ensures { IfOk result (λ xs. xs ≡ map (T.put (P.renaming to.now)) (kept places.now items.now)) }
 {
     let mut moved = Vec::new(alloc);
     for (place, item) in items.as_slice().iter().enumerate() {
@@ -161,20 +228,20 @@ fn copied(alloc: Global, names: &Sequence<Label>) -> Result<Sequence<Label>, All
 impl Movable for ValType {
     ghost put = { put_val };
 
-    fn moved(&self, _alloc: Global, to: &Moved) -> Result<Self, AllocError> {
-        Ok(to.ty(*self))
+    fn moved<P: Placed>(&self, _alloc: Global, to: &P) -> Result<Self, AllocError> {
+        Ok(moved_val(to, *self))
     }
 }
 
 impl Movable for WorldItem {
     ghost put = { put_item };
 
-    fn moved(&self, _alloc: Global, to: &Moved) -> Result<Self, AllocError> {
+    fn moved<P: Placed>(&self, _alloc: Global, to: &P) -> Result<Self, AllocError> {
         Ok(WorldItem {
             direction: self.direction,
             kind: match self.kind {
-                WorldItemKind::Interface(id) => WorldItemKind::Interface(to.interface_id(id)),
-                WorldItemKind::Function(id) => WorldItemKind::Function(to.function_id(id)),
+                WorldItemKind::Interface(id) => WorldItemKind::Interface(interface_id(to, id)),
+                WorldItemKind::Function(id) => WorldItemKind::Function(function_id(to, id)),
             },
         })
     }
@@ -183,10 +250,10 @@ impl Movable for WorldItem {
 impl Movable for Parameter {
     ghost put = { put_parameter };
 
-    fn moved(&self, alloc: Global, to: &Moved) -> Result<Self, AllocError> {
+    fn moved<P: Placed>(&self, alloc: Global, to: &P) -> Result<Self, AllocError> {
         Ok(Parameter {
             name: self.name.copy(alloc)?,
-            ty: to.ty(self.ty),
+            ty: moved_val(to, self.ty),
         })
     }
 }
@@ -194,10 +261,10 @@ impl Movable for Parameter {
 impl Movable for Field {
     ghost put = { put_field };
 
-    fn moved(&self, alloc: Global, to: &Moved) -> Result<Self, AllocError> {
+    fn moved<P: Placed>(&self, alloc: Global, to: &P) -> Result<Self, AllocError> {
         Ok(Field {
             name: self.name.copy(alloc)?,
-            ty: to.ty(self.ty),
+            ty: moved_val(to, self.ty),
         })
     }
 }
@@ -205,10 +272,10 @@ impl Movable for Field {
 impl Movable for Case {
     ghost put = { put_case };
 
-    fn moved(&self, alloc: Global, to: &Moved) -> Result<Self, AllocError> {
+    fn moved<P: Placed>(&self, alloc: Global, to: &P) -> Result<Self, AllocError> {
         Ok(Case {
             name: self.name.copy(alloc)?,
-            ty: to.optional(self.ty),
+            ty: moved_optional(to, self.ty),
         })
     }
 }
@@ -216,14 +283,14 @@ impl Movable for Case {
 impl Movable for TypeDefKind {
     ghost put = { put_kind };
 
-    fn moved(&self, alloc: Global, to: &Moved) -> Result<Self, AllocError> {
+    fn moved<P: Placed>(&self, alloc: Global, to: &P) -> Result<Self, AllocError> {
         Ok(match self {
-            TypeDefKind::Use(target) => TypeDefKind::Use(to.type_id(*target)),
-            TypeDefKind::Alias(target) => TypeDefKind::Alias(to.ty(*target)),
-            TypeDefKind::List(element) => TypeDefKind::List(to.ty(*element)),
-            TypeDefKind::Option(payload) => TypeDefKind::Option(to.ty(*payload)),
+            TypeDefKind::Use(target) => TypeDefKind::Use(type_id(to, *target)),
+            TypeDefKind::Alias(target) => TypeDefKind::Alias(moved_val(to, *target)),
+            TypeDefKind::List(element) => TypeDefKind::List(moved_val(to, *element)),
+            TypeDefKind::Option(payload) => TypeDefKind::Option(moved_val(to, *payload)),
             TypeDefKind::Result(ok, error) => {
-                TypeDefKind::Result(to.optional(*ok), to.optional(*error))
+                TypeDefKind::Result(moved_optional(to, *ok), moved_optional(to, *error))
             }
             TypeDefKind::Tuple(members) => TypeDefKind::Tuple(moved_all(alloc, members, to)?),
             TypeDefKind::Record(fields) => TypeDefKind::Record(moved_all(alloc, fields, to)?),
@@ -237,9 +304,9 @@ impl Movable for TypeDefKind {
 impl Movable for TypeName {
     ghost put = { put_name };
 
-    fn moved(&self, alloc: Global, to: &Moved) -> Result<Self, AllocError> {
+    fn moved<P: Placed>(&self, alloc: Global, to: &P) -> Result<Self, AllocError> {
         Ok(TypeName {
-            interface: to.interface_id(self.interface),
+            interface: interface_id(to, self.interface),
             name: self.name.copy(alloc)?,
         })
     }
@@ -248,7 +315,7 @@ impl Movable for TypeName {
 impl Movable for TypeDef {
     ghost put = { put_type };
 
-    fn moved(&self, alloc: Global, to: &Moved) -> Result<Self, AllocError> {
+    fn moved<P: Placed>(&self, alloc: Global, to: &P) -> Result<Self, AllocError> {
         let name = match &self.name {
             Some(name) => Some(name.moved(alloc, to)?),
             None => None,
@@ -263,12 +330,12 @@ impl Movable for TypeDef {
 impl Movable for Function {
     ghost put = { put_function };
 
-    fn moved(&self, alloc: Global, to: &Moved) -> Result<Self, AllocError> {
+    fn moved<P: Placed>(&self, alloc: Global, to: &P) -> Result<Self, AllocError> {
         Ok(Function {
-            owner: to.owner(self.owner),
+            owner: moved_owner(to, self.owner),
             name: self.name.copy(alloc)?,
             params: moved_all(alloc, &self.params, to)?,
-            result: to.optional(self.result),
+            result: moved_optional(to, self.result),
         })
     }
 }
@@ -276,7 +343,7 @@ impl Movable for Function {
 impl Movable for Definition {
     ghost put = { put_row };
 
-    fn moved(&self, alloc: Global, to: &Moved) -> Result<Self, AllocError> {
+    fn moved<P: Placed>(&self, alloc: Global, to: &P) -> Result<Self, AllocError> {
         Ok(match self {
             Definition::Type(definition) => Definition::Type(definition.moved(alloc, to)?),
             Definition::Function(function) => Definition::Function(function.moved(alloc, to)?),
@@ -287,13 +354,13 @@ impl Movable for Definition {
 impl Movable for Interface {
     ghost put = { put_interface };
 
-    fn moved(&self, alloc: Global, to: &Moved) -> Result<Self, AllocError> {
+    fn moved<P: Placed>(&self, alloc: Global, to: &P) -> Result<Self, AllocError> {
         Ok(Interface {
-            package: to.package_id(self.package),
+            package: package_id(to, self.package),
             name: self.name.copy(alloc)?,
-            uses: to.types(alloc, &self.uses)?,
-            types: to.types(alloc, &self.types)?,
-            functions: to.functions(alloc, &self.functions)?,
+            uses: moved_types(alloc, &self.uses, to)?,
+            types: moved_types(alloc, &self.types, to)?,
+            functions: moved_functions(alloc, &self.functions, to)?,
         })
     }
 }
@@ -301,23 +368,30 @@ impl Movable for Interface {
 impl Movable for World {
     ghost put = { put_world };
 
-    fn moved(&self, alloc: Global, to: &Moved) -> Result<Self, AllocError> {
+    fn moved<P: Placed>(&self, alloc: Global, to: &P) -> Result<Self, AllocError> {
         Ok(World {
-            package: to.package_id(self.package),
+            package: package_id(to, self.package),
             name: self.name.copy(alloc)?,
             items: moved_all(alloc, &self.items, to)?,
         })
     }
 }
 
+/// The same name of a package.
+pub fn copied_name(alloc: Global, name: &PackageName) -> Result<PackageName, AllocError>
+    ensures { IfOk result (λ p. p ≡ name.now) }
+{
+    Ok(PackageName {
+        namespace: name.namespace.copy(alloc)?,
+        name: name.name.copy(alloc)?,
+        version: copy_version(&name.version)?,
+    })
+}
+
 impl Movable for PackageName {
     ghost put = { λ to p. p };
 
-    fn moved(&self, alloc: Global, _to: &Moved) -> Result<Self, AllocError> {
-        Ok(PackageName {
-            namespace: self.namespace.copy(alloc)?,
-            name: self.name.copy(alloc)?,
-            version: copy_version(&self.version)?,
-        })
+    fn moved<P: Placed>(&self, alloc: Global, _to: &P) -> Result<Self, AllocError> {
+        copied_name(alloc, self)
     }
 }

@@ -2,4 +2,6 @@
 #![tactic(auto)]
 
 #[cfg(test)]
+mod attaching;
+#[cfg(test)]
 mod sets;

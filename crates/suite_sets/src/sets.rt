@@ -11,9 +11,9 @@ use tables::{
     World, WorldId, WorldItem, WorldItemKind,
 };
 
-const U8: ValType = ValType::Primitive(Primitive::U8);
+pub const U8: ValType = ValType::Primitive(Primitive::U8);
 
-fn package(alloc: Global, name: &str) -> Result<PackageName, Fail> {
+pub fn package(alloc: Global, name: &str) -> Result<PackageName, Fail> {
     Ok(PackageName {
         namespace: Label::new(alloc, "x")?,
         name: Label::new(alloc, name)?,
@@ -21,7 +21,7 @@ fn package(alloc: Global, name: &str) -> Result<PackageName, Fail> {
     })
 }
 
-fn push_interface(
+pub fn push_interface(
     interfaces: &mut Vec<Interface>,
     alloc: Global,
     package: u32,
@@ -39,7 +39,7 @@ fn push_interface(
     Ok(())
 }
 
-fn push_type(
+pub fn push_type(
     rows: &mut Vec<Definition>,
     alloc: Global,
     place: u32,
@@ -154,7 +154,7 @@ fn packages(alloc: Global) -> Result<Vec<PackageName>, Fail> {
 
 /// Package x:a with `types` and `other`; x:b with `middle`, which uses a type of `types`, `rest`, and a world that
 /// imports `other` and a function; x:c with `own`, which uses a type of `middle`, and a world that imports `own`.
-fn set(alloc: Global) -> Result<Resolve, Fail> {
+pub fn set(alloc: Global) -> Result<Resolve, Fail> {
     Ok(Resolve::from_parts(
         Sequence::new(packages(alloc)?),
         Sequence::new(interfaces(alloc)?),
@@ -164,7 +164,7 @@ fn set(alloc: Global) -> Result<Resolve, Fail> {
 }
 
 /// The labels of the packages and of the interfaces.
-fn labels(alloc: Global, resolve: &Resolve) -> Result<String, Fail> {
+pub fn labels(alloc: Global, resolve: &Resolve) -> Result<String, Fail> {
     let mut text = String::new(alloc);
     for package in resolve.packages.as_slice() {
         text.push_str(package.name.as_str())?;
@@ -177,7 +177,7 @@ fn labels(alloc: Global, resolve: &Resolve) -> Result<String, Fail> {
     Ok(text)
 }
 
-fn used(resolve: &Resolve, place: usize) -> Option<TypeId> {
+pub fn used(resolve: &Resolve, place: usize) -> Option<TypeId> {
     match resolve.definitions.as_slice().get(place) {
         Some(Definition::Type(definition)) => match &definition.kind {
             TypeDefKind::Use(target) => Some(*target),

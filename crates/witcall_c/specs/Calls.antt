@@ -1,5 +1,5 @@
 -- What is told of what a handle stands for: a package, or why the bytes are none.
-use Rattle.std.specs.Prelude.{◌≡◌, ◌≢◌, ◌⊎◌, ℕ, List, Result, Ok, Err, Option, Some, None, MatchResult}
+use Rattle.std.specs.Prelude.{◌≡◌, ◌⊎◌, ℕ, List, Result, Ok, Err, Option, Some, None, MatchResult}
 use Rattle.std.specs.Str.{IsUtf8}
 use Rattle.canonical_abi.specs.Types.{FunctionType}
 use Rattle.layout.specs.Layout.{AreWithin}

@@ -15,8 +15,8 @@ returns-in-Ok-clause-done c =
     let can = subst (λ fl. can_lend (length c.args.caller.now) (area_block f fl) c.args.blocks.now ≡ true) (c.as_slice.ensures.value ∙ c.in_ok-put_values.ensures.ok) (sym c.in_ok-can_return.ensures ∙ c.if-not-branch.false) in
     let P : _ → _ → _ → Type 0 = λ r fl an. ReturnsLent (function_type r c.args.func) fl c.args.callee.now an c.args.caller.now c.args.blocks.now c.in-Ok.given.items c.leave_lent-returned.new.caller in
     let returned = subst (λ an. P c.args.types.now flats an) (c.as_slice-3.ensures.value ∙ c.in_ok-put_values-2.ensures.ok)
-        (subst (λ fl. P c.args.types.now fl c.as_slice-3.result.now) (c.as_slice-2.ensures.value ∙ c.in_ok-put_values.ensures.ok)
-        (subst (λ r. P r c.as_slice-2.result.now c.as_slice-3.result.now) c.resolve.ensures (rw c.in-Ok.is at c.leave_lent-returned.ensures.returned))) in
+    (subst (λ fl. P c.args.types.now fl c.as_slice-3.result.now) (c.as_slice-2.ensures.value ∙ c.in_ok-put_values.ensures.ok)
+    (subst (λ r. P r c.as_slice-2.result.now c.as_slice-3.result.now) c.resolve.ensures (rw c.in-Ok.is at c.leave_lent-returned.ensures.returned))) in
     (c.in-Ok.given.items, search rules, keeps-area f flats c.args.caller.now c.args.blocks.now can, returned)
 
 pub returns-in-Err-clause-done : goal.returns-in-Err-clause-done
@@ -26,6 +26,6 @@ returns-in-Err-clause-done c =
     let can = subst (λ fl. can_lend (length c.args.caller.now) (area_block f fl) c.args.blocks.now ≡ true) (c.as_slice.ensures.value ∙ c.in_ok-put_values.ensures.ok) (sym c.in_ok-can_return.ensures ∙ c.if-not-branch.false) in
     let P : _ → _ → _ → Type 0 = λ r fl an. ReturnOfLentFails (function_type r c.args.func) fl c.args.callee.now an c.args.caller.now c.args.blocks.now c.in-Err.fault c.leave_lent-returned.new.caller in
     let failed = subst (λ an. P c.args.types.now flats an) (c.as_slice-3.ensures.value ∙ c.in_ok-put_values-2.ensures.ok)
-        (subst (λ fl. P c.args.types.now fl c.as_slice-3.result.now) (c.as_slice-2.ensures.value ∙ c.in_ok-put_values.ensures.ok)
-        (subst (λ r. P r c.as_slice-2.result.now c.as_slice-3.result.now) c.resolve.ensures (rw c.in-Err.is at c.leave_lent-returned.ensures.fault))) in
+    (subst (λ fl. P c.args.types.now fl c.as_slice-3.result.now) (c.as_slice-2.ensures.value ∙ c.in_ok-put_values.ensures.ok)
+    (subst (λ r. P r c.as_slice-2.result.now c.as_slice-3.result.now) c.resolve.ensures (rw c.in-Err.is at c.leave_lent-returned.ensures.fault))) in
     (inr (keeps-area f flats c.args.caller.now c.args.blocks.now can, failed), refl)

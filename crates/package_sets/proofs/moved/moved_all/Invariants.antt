@@ -2,4 +2,4 @@ use Rattle.std.proofs.Common.{◌≡◌, take, map}
 use Rattle.package_sets.proofs.moved.moved_all.Given as goal
 
 abbrev pub invariant-loop-item : goal.invariant-loop-item
-invariant-loop-item g l = l.moved.items ≡ map (g.T.Movable.put l.to) (take l.item-index l.item-items)
+invariant-loop-item g l = l.moved.items ≡ map (g.T.Movable.put (g.P.Placed.renaming l.to)) (take l.item-index l.item-items)

@@ -4,11 +4,11 @@ use Rattle.package_sets.proofs.moved.moved_kept.Goals as goal
 use Rattle.package_sets.proofs.moved.moved_kept.Goals.{then-has+in_ok-moved+in_ok-push, else-has}
 
 pub loop-place-init : goal.loop-place-init
-loop-place-init g c = c.new-moved.ensures.items ∙ ap (map (g.T.Movable.put c.args.to.now)) (sym (kept-none c.args.places.now))
+loop-place-init g c = c.new-moved.ensures.items ∙ ap (map (g.T.Movable.put (g.P.Placed.renaming c.args.to.now))) (sym (kept-none c.args.places.now))
 
 pub loop-place-preserved : goal.loop-place-preserved
 loop-place-preserved g c =
-    kept-more (g.T.Movable.put c.args.to.now) c.args.places.now c.as_slice-item-items.result.now c.loop-place.place c.item-item.result c.loop-place.moved.items c.if-has.moved.items (omega arith) c.item-item.is
+    kept-more (g.T.Movable.put (g.P.Placed.renaming c.args.to.now)) c.args.places.now c.as_slice-item-items.result.now c.loop-place.place c.item-item.result c.loop-place.moved.items c.if-has.moved.items (omega arith) c.item-item.is
     c.loop-place.invariant
     (elim c.if-has.branch [
       | then-has+in_ok-moved+in_ok-push w ↦ inl (

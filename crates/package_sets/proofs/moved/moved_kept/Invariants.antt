@@ -3,4 +3,4 @@ use Rattle.package_sets.specs.Places.{kept}
 use Rattle.package_sets.proofs.moved.moved_kept.Given as goal
 
 abbrev pub invariant-loop-place : goal.invariant-loop-place
-invariant-loop-place g l = l.moved.items ≡ map (g.T.Movable.put l.to) (kept l.places (take l.place l.item-items))
+invariant-loop-place g l = l.moved.items ≡ map (g.T.Movable.put (g.P.Placed.renaming l.to)) (kept l.places (take l.place l.item-items))

@@ -8,4 +8,4 @@ pub returns-in-Err-function_of-clause-err : goal.returns-in-Err-function_of-clau
 returns-in-Err-function_of-clause-err c =
     let no = c.in-Err-function_of.ensures.none in
     subst (λ o. HasNoFunction o c.args.number c.in-Err-function_of.error) (sym c.in-Ok.is)
-        (no.0, λ h. no.1 (numbered c.args.number) refl (subst (λ r. IsFunction r (numbered c.args.number)) (sym c.types-types.ensures.types) h))
+    (no.0, λ h. no.1 (numbered c.args.number) refl (subst (λ r. IsFunction r (numbered c.args.number)) (sym c.types-types.ensures.types) h))

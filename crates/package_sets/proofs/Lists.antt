@@ -1,0 +1,122 @@
+-- Lists that grow: what is true of all their elements, and places one behind the other.
+use Rattle.std.proofs.Common.{◌≡◌, ◌≤◌, ◌<◌, ◌⊎◌, inl, inr, ℕ, zero, suc, ◌+◌, ◌-◌, List, [], ◌∷◌, ◌++◌, length, map, take, drop, get_or, slice_get, Bool, true, None, Some, refl, ap, sym, subst, ◌∙◌, arith}
+use Rattle.std.specs.List.{list_all}
+use Rattle.std.proofs.lemmas.Option.{slice_get_within, slice_get-get_or}
+use Rattle.std.proofs.lemmas.List.{get_or_append_left, get_or-append-add, length-take}
+use Rattle.canonical_abi.proofs.Images.{slice_get-take}
+use Rattle.tables.proofs.Rows.{split, both}
+use Rattle.package_sets.specs.Joining.{places_from, all_places}
+
+pub places-push : (first count : ℕ) → places_from first (count + 1) ≡ places_from first count ++ (first + count) ∷ []
+places-push first zero = one first
+  where
+    one : (n : ℕ) → n ∷ [] ≡ (n + 0) ∷ []
+    one n = ap (λ m. m ∷ []) (omega arith)
+places-push first (suc count) = ap (places_from first) (up count) ∙ ap (λ xs. first ∷ xs) (places-push (first + 1) count ∙ ap (λ n. places_from (first + 1) count ++ n ∷ []) (next first count))
+  where
+    up : (n : ℕ) → suc n + 1 ≡ suc (n + 1)
+    up n = omega arith
+
+    next : (n m : ℕ) → n + 1 + m ≡ n + suc m
+    next n m = omega arith
+
+pub places-more : (first place : ℕ) → first ≤ place → places_from first (place + 1 - first) ≡ places_from first (place - first) ++ place ∷ []
+places-more first place h =
+    let one : place + 1 - first ≡ place - first + 1 = omega arith in
+    let last : first + (place - first) ≡ place = omega arith in
+    ap (places_from first) one ∙ (places-push first (place - first) ∙ ap (λ n. places_from first (place - first) ++ n ∷ []) last)
+
+pub length-places : (first count : ℕ) → length (places_from first count) ≡ count
+length-places first zero = refl
+length-places first (suc count) = ap suc (length-places (first + 1) count)
+
+pub place-get : (first count k : ℕ) → k < count → get_or (places_from first count) k 0 ≡ first + k
+place-get first zero k h = absurd (omega arith)
+place-get first (suc count) zero h = omega arith
+place-get first (suc count) (suc k) h = place-get (first + 1) count k (omega (arith, h)) ∙ next first k
+  where
+    next : (n m : ℕ) → n + 1 + m ≡ n + suc m
+    next n m = omega arith
+
+-- ---- the elements of lists
+
+pub map-get : {A B : Type 0} (f : A → B) (xs : List A) (k : ℕ) (x : A) → slice_get xs k ≡ Some x → slice_get (map f xs) k ≡ Some (f x)
+map-get f [] k x e = absurd (cc)
+map-get f (y ∷ xs) zero x e = let same : y ≡ x = cc in ap (λ z. Some (f z)) same
+map-get f (y ∷ xs) (suc k) x e = map-get f xs k x e
+
+pub front-get : {A : Type 0} (xs ys : List A) (k : ℕ) (x : A) → slice_get xs k ≡ Some x → slice_get (xs ++ ys) k ≡ Some x
+front-get [] ys k x e = absurd (cc)
+front-get (z ∷ xs) ys zero x e = e
+front-get (z ∷ xs) ys (suc k) x e = front-get xs ys k x e
+
+pub behind-get : {A : Type 0} (xs ys : List A) (k : ℕ) → slice_get (xs ++ ys) (length xs + k) ≡ slice_get ys k
+behind-get [] ys k = ap (slice_get ys) (omega arith)
+behind-get (x ∷ xs) ys k = ap (slice_get (x ∷ (xs ++ ys))) (up (length xs) k) ∙ behind-get xs ys k
+  where
+    up : (n m : ℕ) → suc n + m ≡ suc (n + m)
+    up n m = omega arith
+
+pub item-get : {A : Type 0} (xs : List A) (k : ℕ) (x : A) → k < length xs → x ≡ get_or xs k x → slice_get xs k ≡ Some x
+item-get xs k x h e = slice_get-get_or xs k x h ∙ ap Some (sym e)
+
+-- one more element has the property
+pub each-more : {A : Type 0} (P : ℕ → A → Type 0) (xs : List A) (n : ℕ) (x : A) → slice_get xs n ≡ Some x → P n x → ((k : ℕ) (y : A) → slice_get (take n xs) k ≡ Some y → P k y)
+    → (k : ℕ) (y : A) → slice_get (take (n + 1) xs) k ≡ Some y → P k y
+each-more P xs n x e here before k y h = by (cases k (omega (arith, slice_get_within (take (n + 1) xs) k y h, length-take (n + 1) xs)))
+  where
+    cases : (k : ℕ) → k < n + 1 → (k < n) ⊎ (k ≡ n)
+    cases k l = grind arith
+
+    there : k < n + 1 → slice_get xs k ≡ Some y
+    there l = sym (slice_get-take (n + 1) xs k l) ∙ h
+
+    by : (k < n) ⊎ (k ≡ n) → P k y
+    by (inl l) = before k y (slice_get-take n xs k l ∙ there (omega arith))
+    by (inr q) =
+        let last : slice_get xs n ≡ Some y = ap (slice_get xs) (sym q) ∙ there (omega arith) in
+        let same : x ≡ y = cc in
+        subst (λ m. P m y) (sym q) (subst (P n) same here)
+
+pub each-all : {A : Type 0} (P : ℕ → A → Type 0) (xs : List A) (n : ℕ) → length xs ≤ n → ((k : ℕ) (y : A) → slice_get (take n xs) k ≡ Some y → P k y) → (k : ℕ) (y : A) → slice_get xs k ≡ Some y → P k y
+each-all P xs n h before k y e = before k y (slice_get-take n xs k (omega (arith, slice_get_within xs k y e)) ∙ e)
+
+-- ---- places of a whole list
+
+pub front-place : (front : List ℕ) (behind count k : ℕ) → k < length front → get_or (all_places front behind count) k 0 ≡ get_or front k 0
+front-place front behind count k h = get_or_append_left front (places_from behind (count - length front)) 0 k h
+
+pub behind-place : (front : List ℕ) (behind count k : ℕ) → length front + k < count → get_or (all_places front behind count) (length front + k) 0 ≡ behind + k
+behind-place front behind count k h = get_or-append-add front (places_from behind (count - length front)) k 0 ∙ place-get behind (count - length front) k (omega arith)
+
+-- ---- what is true of all
+
+pub all-append : {A : Type 0} (f : A → Bool) (xs ys : List A) → list_all f xs ≡ true → list_all f ys ≡ true → list_all f (xs ++ ys) ≡ true
+all-append f [] ys h k = k
+all-append f (x ∷ xs) ys h k = let p = split (f x) (list_all f xs) h in both (f x) (list_all f (xs ++ ys)) p.0 (all-append f xs ys p.1 k)
+
+pub all-put : {A B : Type 0} (put : A → B) (f : A → Bool) (g : B → Bool) (xs : List A) → ((k : ℕ) (x : A) → slice_get xs k ≡ Some x → f x ≡ true → g (put x) ≡ true) → list_all f xs ≡ true → list_all g (map put xs) ≡ true
+all-put put f g [] one h = refl
+all-put put f g (x ∷ xs) one h = let p = split (f x) (list_all f xs) h in both (g (put x)) (list_all g (map put xs)) (one 0 x refl p.0) (all-put put f g xs (λ k y e. one (suc k) y e) p.1)
+
+pub all-drop : {A : Type 0} (f : A → Bool) (n : ℕ) (xs : List A) → list_all f xs ≡ true → list_all f (drop n xs) ≡ true
+all-drop f zero xs h = h
+all-drop f (suc n) [] h = refl
+all-drop f (suc n) (x ∷ xs) h = all-drop f n xs (split (f x) (list_all f xs) h).1
+
+pub none-within : {A : Type 0} (xs : List A) (k : ℕ) → k < length xs → slice_get xs k ≡ None → ⊥
+none-within [] k h e = omega arith
+none-within (x ∷ xs) zero h e = cc
+none-within (x ∷ xs) (suc k) h e = none-within xs k (omega (arith, h)) e
+
+-- ---- parts of lists that are put elsewhere
+
+pub drop-map : {A B : Type 0} (f : A → B) (m : ℕ) (xs : List A) → drop m (map f xs) ≡ map f (drop m xs)
+drop-map f zero xs = refl
+drop-map f (suc m) [] = refl
+drop-map f (suc m) (x ∷ xs) = drop-map f m xs
+
+pub take-mapped : {A B : Type 0} (f : A → B) (m : ℕ) (xs : List A) → take m (map f xs) ≡ map f (take m xs)
+take-mapped f zero xs = refl
+take-mapped f (suc m) [] = refl
+take-mapped f (suc m) (x ∷ xs) = ap (λ ys. f x ∷ ys) (take-mapped f m xs)

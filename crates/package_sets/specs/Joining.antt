@@ -1,0 +1,108 @@
+-- Where what a closed table has stands in a set with its package: its imports where the set has them, its own behind all of the set.
+use Rattle.std.specs.Prelude.{◌≡◌, ◌<◌, ◌+◌, ◌-◌, ◌&&◌, ℕ, zero, suc, Bool, true, false, List, [], ◌∷◌, ◌++◌, take, drop, length, slice_get, slice_index_or, Option, None, Some, if◌then◌else◌}
+use Rattle.std.specs.Str.{bytes_eq}
+use Rattle.package_form.specs.Ends.{end_of}
+use Rattle.package_form.specs.Closed.{own_package, is_same_package}
+use Rattle.package_sets.specs.Moved.{Renaming, put_row, put_types, put_functions}
+use Rattle.package_sets.specs.Reaches.{is_own_interface}
+use Rattle.tables.specs.PackageNames.{PackageParts}
+use Rattle.tables.specs.declared.tables.Interface.{Interface}
+use Rattle.tables.specs.declared.tables.Definition.{Definition}
+use Rattle.tables.specs.declared.tables.Resolve.{Resolve}
+
+-- ---- imports
+
+-- how many interfaces stand before the first of this package
+abbrev pub before_own : ℕ → List Interface → ℕ
+before_own own [] = 0
+before_own own (i ∷ is) = if is_own_interface own i then 0 else 1 + before_own own is
+
+abbrev pub import_count : Resolve → ℕ
+import_count closed = before_own (own_package closed.packages) closed.interfaces
+
+abbrev pub imports : Resolve → List Interface
+imports closed = take (import_count closed) closed.interfaces
+
+abbrev pub own_interfaces : Resolve → List Interface
+own_interfaces closed = drop (import_count closed) closed.interfaces
+
+-- ---- an import in a set
+
+abbrev pub are_same_packages : Option PackageParts → Option PackageParts → Bool
+are_same_packages (Some p) (Some q) = is_same_package p q
+are_same_packages _ _ = false
+
+-- interface x of the set has the name of interface i of the closed table, in a package of the same name
+abbrev pub has_name_of : Resolve → Resolve → Interface → Interface → Bool
+has_name_of set closed i x = are_same_packages (slice_get closed.packages i.«package».0) (slice_get set.packages x.«package».0) && bytes_eq i.name x.name
+
+-- the first with the property stands at place k
+pub record IsFirst {A : Type 0} (has : A → Bool) (xs : List A) (k : ℕ) : Type 0 where
+  pub one : A
+  pub stands : slice_get xs k ≡ Some one
+  pub holds : has one ≡ true
+  pub before : (j : ℕ) (x : A) → j < k → slice_get xs j ≡ Some x → has x ≡ false
+
+-- each of these interfaces stands in the set at its place
+pub record AreFound (set closed : Resolve) (is : List Interface) (places : List ℕ) : Type 0 where
+  pub count : length places ≡ length is
+  pub each : (k : ℕ) (i : Interface) → slice_get is k ≡ Some i → IsFirst (has_name_of set closed i) set.interfaces (slice_index_or places k 0)
+
+-- so many places, one behind the other
+abbrev pub places_from : ℕ → ℕ → List ℕ
+places_from first zero = []
+places_from first (suc count) = first ∷ places_from (first + 1) count
+
+abbrev pub end_in : Option Interface → ℕ
+end_in None = 0
+end_in (Some x) = end_of 0 x
+
+-- The places of the rows of these interfaces, which begin at start in the closed table: as many rows as end where those of the set's interface end.
+abbrev pub row_places : Resolve → ℕ → List Interface → List ℕ → List ℕ
+row_places set start [] js = []
+row_places set start (i ∷ is) [] = []
+row_places set start (i ∷ is) (j ∷ js) =
+    places_from (end_in (slice_get set.interfaces j) - (end_of start i - start)) (end_of start i - start) ++ row_places set (end_of start i) is js
+
+abbrev pub import_rows : Resolve → Resolve → List ℕ → List ℕ
+import_rows set closed js = row_places set 0 (imports closed) js
+
+-- the places of a whole list, whose first elements have these places, and the others stand behind so many
+abbrev pub all_places : List ℕ → ℕ → ℕ → List ℕ
+all_places front behind count = front ++ places_from behind (count - length front)
+
+abbrev pub place_in : List ℕ → ℕ → ℕ
+place_in places k = slice_index_or places k 0
+
+-- where what the closed table has stands then, if its imports stand at these places
+abbrev pub joined : Resolve → Resolve → List ℕ → Renaming
+joined set closed js = record {
+  packages = λ k. length set.packages;
+  interfaces = place_in (all_places js (length set.interfaces) (length closed.interfaces));
+  worlds = place_in (all_places [] (length set.worlds) (length closed.worlds));
+  rows = place_in (all_places (import_rows set closed js) (length set.definitions) (length closed.definitions));
+  keeps = λ k. true;
+}
+
+-- these rows stand in the set, at their places there
+abbrev pub AreRowsThere : Resolve → Renaming → List Definition → Type 0
+AreRowsThere set to ds = (k : ℕ) (d : Definition) → slice_get ds k ≡ Some d → slice_get set.definitions (to.rows k) ≡ Some (put_row to d)
+
+pub record HasIds (to : Renaming) (i x : Interface) : Type 0 where
+  pub uses : x.uses ≡ put_types to i.uses
+  pub types : x.types ≡ put_types to i.types
+  pub functions : x.functions ≡ put_functions to i.functions
+
+-- the interface at this place of the set has the ids of this one
+abbrev pub HasIdsAt : Resolve → Renaming → Interface → ℕ → Type 0
+HasIdsAt set to i place = (x : Interface) × (slice_get set.interfaces place ≡ Some x) × HasIds to i x
+
+abbrev pub AreIdsThere : Resolve → Renaming → List Interface → Type 0
+AreIdsThere set to is = (k : ℕ) (i : Interface) → slice_get is k ≡ Some i → HasIdsAt set to i (to.interfaces k)
+
+-- The imports of the closed table are interfaces of the set, row for row.
+pub record HasImports (set closed : Resolve) : Type 0 where
+  pub places : List ℕ
+  pub found : AreFound set closed (imports closed) places
+  pub rows : AreRowsThere set (joined set closed places) (take (length (import_rows set closed places)) closed.definitions)
+  pub ids : AreIdsThere set (joined set closed places) (imports closed)

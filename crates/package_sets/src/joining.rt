@@ -1,0 +1,269 @@
+//! Where what a closed table has stands in a set with its package.
+ghost use Rattle.std.specs.Prelude.{◌≡◌, ◌++◌, ℕ, ◌≤◌, List, length, take, drop, IfOk, IfErr, OnOk, MatchOption, slice_get, ◌⊎◌};
+ghost use Rattle.std.specs.List.{list_any};
+ghost use Rattle.package_form.specs.Ends.{end_of};
+ghost use Rattle.package_form.specs.Closed.{is_same_package};
+ghost use Rattle.package_sets.specs.Joining.{before_own, import_count, imports, own_interfaces, has_name_of, place_in, IsFirst, AreFound, places_from, end_in, row_places, import_rows, all_places};
+ghost use Rattle.package_sets.specs.Attached.{has_package};
+ghost use Rattle.package_sets.specs.Joined.{AreJoined};
+ghost use Rattle.package_sets.specs.declared.error.AttachError.TheVariants.{NotThisShape, NoMemory};
+
+use crate::error::AttachError;
+use crate::moved::Placed;
+use package_form::{end_of, is_same_version, own_package};
+use std::alloc::Global;
+use tables::{Definition, Interface, PackageName, Resolve};
+
+/// Where what a closed table has stands in a set with its package: its imports where the set has them, its own
+/// behind all of the set.
+#[derive(Drop)]
+pub struct Joined {
+    /// The place of its own package.
+    pub package: u32,
+    pub interfaces: Vec<u32>,
+    pub worlds: Vec<u32>,
+    pub rows: Vec<u32>,
+    /// How many of the rows are of imports: the first.
+    pub imported: usize,
+}
+
+impl Joined {
+    /// The rows of a closed table that are of imports.
+    pub fn import_rows<'a>(&self, closed: &'a Resolve) -> &'a [Definition]
+        ensures { result.now ≡ take self.now.imported closed.now.definitions }
+    {
+        let rows = closed.definitions.as_slice();
+        &rows[..self.imported.min(rows.len())]
+    }
+
+    /// Its own rows, behind those.
+    pub fn own_rows<'a>(&self, closed: &'a Resolve) -> &'a [Definition]
+        ensures { result.now ≡ drop self.now.imported closed.now.definitions }
+    {
+        let rows = closed.definitions.as_slice();
+        &rows[self.imported.min(rows.len())..]
+    }
+}
+
+fn place_in(places: &[u32], old: u32) -> u32
+    ensures { result ≡ place_in places.now old }
+{
+    match places.get(old as usize) {
+        Some(place) => *place,
+        None => 0,
+    }
+}
+
+impl Placed for Joined {
+    ghost use Rattle.package_sets.specs.Joined.{renaming_of};
+
+    ghost renaming = { renaming_of };
+
+    fn package(&self, _old: u32) -> u32 {
+        self.package
+    }
+
+    fn interface(&self, old: u32) -> u32 {
+        place_in(&self.interfaces, old)
+    }
+
+    fn world(&self, old: u32) -> u32 {
+        place_in(&self.worlds, old)
+    }
+
+    fn row(&self, old: u32) -> u32 {
+        place_in(&self.rows, old)
+    }
+
+    fn has_row(&self, _old: u32) -> bool {
+        true
+    }
+}
+
+/// Whether the names of two packages are one.
+fn is_same_package(a: &PackageName, b: &PackageName) -> bool
+    ensures { result ≡ is_same_package a.now b.now }
+{
+    a.namespace.as_bytes() == b.namespace.as_bytes()
+        && a.name.as_bytes() == b.name.as_bytes()
+        && is_same_version(&a.version, &b.version)
+}
+
+/// Whether a set has a package of this name.
+pub fn has_package(set: &Resolve, name: &PackageName) -> bool
+    ensures { result ≡ has_package set.now name.now }
+{
+    for other in set.packages.as_slice() {
+        if is_same_package(name, other) {
+            return true;
+        }
+    }
+    false
+}
+
+/// How many interfaces of other packages stand before the own ones.
+fn import_count(closed: &Resolve) -> usize
+    ensures is { result ≡ import_count closed.now }
+    ensures within { result ≤ length closed.now.interfaces }
+{
+    let own = own_package(closed.packages.as_slice());
+    let interfaces = closed.interfaces.as_slice();
+    for (place, interface) in interfaces.iter().enumerate() {
+        if interface.package.0 as usize == own {
+            return place;
+        }
+    }
+    interfaces.len()
+}
+
+/// The interfaces of other packages.
+pub fn imports(closed: &Resolve) -> &[Interface]
+    ensures { result.now ≡ imports closed.now }
+{
+    &closed.interfaces.as_slice()[..import_count(closed)]
+}
+
+/// The own interfaces, behind those.
+pub fn own_interfaces(closed: &Resolve) -> &[Interface]
+    ensures { result.now ≡ own_interfaces closed.now }
+{
+    &closed.interfaces.as_slice()[import_count(closed)..]
+}
+
+/// Whether an interface of the set has the name of this one.
+fn has_name_of(set: &Resolve, closed: &Resolve, import: &Interface, other: &Interface) -> bool
+    ensures { result ≡ has_name_of set.now closed.now import.now other.now }
+{
+    let own = closed.packages.as_slice().get(import.package.0 as usize);
+    let others = set.packages.as_slice().get(other.package.0 as usize);
+    match (own, others) {
+        (Some(a), Some(b)) => {
+            is_same_package(a, b) && import.name.as_bytes() == other.name.as_bytes()
+        }
+        _ => false,
+    }
+}
+
+/// The place of the first interface of the set that has the name of this one.
+fn found_at(set: &Resolve, closed: &Resolve, import: &Interface) -> Option<usize>
+    ensures { MatchOption result ((k : ℕ) → ¬ IsFirst (has_name_of set.now closed.now import.now) set.now.interfaces k) (λ k. IsFirst (has_name_of set.now closed.now import.now) set.now.interfaces k) }
+{
+    for (place, interface) in set.interfaces.as_slice().iter().enumerate() {
+        if has_name_of(set, closed, import, interface) {
+            return Some(place);
+        }
+    }
+    None
+}
+
+/// A place as an id. 46 where there is no id for it.
+fn id_of(place: usize) -> Result<u32, AttachError>
+    ensures ok { IfOk result (λ id. id ≡ place) }
+    ensures err { IfErr result (λ e. e ≡ NoMemory) }
+{
+    match u32::try_from(place) {
+        Ok(id) => Ok(id),
+        Err(_) => Err(AttachError::NoMemory),
+    }
+}
+
+/// Where these interfaces stand in the set. 44 where one of them doesn't.
+fn found(
+    alloc: Global,
+    set: &Resolve,
+    closed: &Resolve,
+    imports: &[Interface],
+) -> Result<Vec<u32>, AttachError>
+    ensures ok { IfOk result (λ places. AreFound set.now closed.now imports.now places.items) }
+    ensures err { IfErr result (λ e. (e ≡ NoMemory) ⊎ ((e ≡ NotThisShape) × ((places : List ℕ) → ¬ AreFound set.now closed.now imports.now places))) }
+{
+    let mut places = Vec::new(alloc);
+    for import in imports {
+        match found_at(set, closed, import) {
+            Some(place) => places.push(id_of(place)?)?,
+            None => return Err(AttachError::NotThisShape),
+        }
+    }
+    Ok(places)
+}
+
+/// So many places more, one behind the other. 46 where there is no id for one.
+fn push_places(places: &mut Vec<u32>, first: usize, count: usize) -> Result<(), AttachError>
+    ensures ok { OnOk result (places.new.items ≡ places.old.items ++ places_from first count) }
+    ensures err { IfErr result (λ e. e ≡ NoMemory) }
+{
+    let Some(end) = first.checked_add(count) else {
+        return Err(AttachError::NoMemory);
+    };
+    for place in first..end {
+        places.push(id_of(place)?)?;
+    }
+    Ok(())
+}
+
+/// The place behind the rows of an interface of the set.
+fn end_in(set: &Resolve, id: u32) -> usize
+    ensures { result ≡ end_in (slice_get set.now.interfaces id) }
+{
+    match set.interfaces.as_slice().get(id as usize) {
+        Some(interface) => end_of(0, interface),
+        None => 0,
+    }
+}
+
+/// Where the rows of these interfaces stand in the set, if they have as many there. 46 where there is no id for one.
+fn row_places(
+    alloc: Global,
+    set: &Resolve,
+    imports: &[Interface],
+    places: &[u32],
+) -> Result<Vec<u32>, AttachError>
+    requires { length places.now ≡ length imports.now }
+    ensures ok { IfOk result (λ rows. rows.items ≡ row_places set.now 0 imports.now places.now) }
+    ensures err { IfErr result (λ e. e ≡ NoMemory) }
+{
+    let mut rows = Vec::new(alloc);
+    let mut start = 0;
+    for (place, import) in imports.iter().enumerate() {
+        let end = end_of(start, import);
+        let count = end.saturating_sub(start);
+        let first = end_in(set, places[place]).saturating_sub(count);
+        push_places(&mut rows, first, count)?;
+        start = end;
+    }
+    Ok(rows)
+}
+
+/// The places of a list's other elements, behind so many. 46 where there is no id for one.
+fn push_others(places: &mut Vec<u32>, behind: usize, count: usize) -> Result<(), AttachError>
+    ensures ok { OnOk result (places.new.items ≡ all_places places.old.items behind count) }
+    ensures err { IfErr result (λ e. e ≡ NoMemory) }
+{
+    let others = count.saturating_sub(places.len());
+    push_places(places, behind, others)
+}
+
+/// What a closed table has is placed in the set with its package.
+pub fn places_of(alloc: Global, set: &Resolve, closed: &Resolve) -> Result<Joined, AttachError>
+    ensures ok { IfOk result (AreJoined set.now closed.now) }
+    ensures err { IfErr result (λ e. (e ≡ NoMemory) ⊎ ((e ≡ NotThisShape) × ((places : List ℕ) → ¬ AreFound set.now closed.now (imports closed.now) places))) }
+{
+    let mut interfaces = found(alloc, set, closed, imports(closed))?;
+    let mut rows = row_places(alloc, set, imports(closed), &interfaces)?;
+    let imported = rows.len();
+    let mut worlds = Vec::new(alloc);
+    push_others(
+        &mut interfaces,
+        set.interfaces.len(),
+        closed.interfaces.len(),
+    )?;
+    push_others(&mut worlds, set.worlds.len(), closed.worlds.len())?;
+    push_others(&mut rows, set.definitions.len(), closed.definitions.len())?;
+    Ok(Joined {
+        package: id_of(set.packages.len())?,
+        interfaces,
+        worlds,
+        rows,
+        imported,
+    })
+}
