@@ -64,8 +64,7 @@ wasm_module() {
 }
 
 node_addon() {
-    node_headers=/usr/include/node
-    [ -f "$node_headers/node_api.h" ] || node_headers=/usr/include/nodejs/src
+    node_headers=$(dirname "$(dirname "$(command -v node)")")/include/node
     clang -std=gnu11 -O2 -Wall -Wextra -Werror -shared -fPIC -I"$root/include" -I"$node_headers" -o "$1" "$here/engine/addon.c" \
         "$library" "$kit/c/liblibc_c.a"
 }
