@@ -16,7 +16,6 @@ use Rattle.canonical_abi.specs.declared.trap.Fault.TheVariants as ended
 use Rattle.canonical_abi.specs.declared.trap.Step.TheVariants as step
 use Rattle.canonical_abi.specs.declared.trap.TrapKind.{TrapKind}
 use Rattle.canonical_abi.proofs.Stopped.{leaves-none}
-use Rattle.arrayvec.specs.ArrayVec.{ArrayVec}
 use Rattle.crossing.specs.Outcome.{Counts, IsDone, MetFault, WasRefused}
 use Rattle.crossing.specs.Ways.{ParamsWalk, ResultWalk, AreaIsBad, IsUnbegun, WayEnds}
 use Rattle.crossing.specs.declared.stopped.Stopped.{Stopped}
@@ -79,19 +78,19 @@ module _ (allocates : Allocation) (f : FunctionType) (flats : List Flat) (m : Li
             inr (refl, u.done, (kinds, u.done ++ grant u.next ∷ u.rest, inr (j, stops), (u.done, u.done, u.rest, u.next, u.asked, refl, leaves-none u.done, u.leads, u.fails), refl, refl, refl), counted u.done u.counted)
 
   -- what the end of the arguments' way says of the call
-  abbrev pub EndsArguments : Memory → ℕ → Result (ArrayVec Flat) Stopped → Type 0
-  EndsArguments callee' c (Ok handed) = HasEntered allocates f flats m callee handed.items callee' c
-  EndsArguments callee' c (Err s) =
+  abbrev pub EndsArguments : Memory → ℕ → List Flat → Result (Unit {0}) Stopped → Type 0
+  EndsArguments callee' c handed (Ok _) = HasEntered allocates f flats m callee handed callee' c
+  EndsArguments callee' c handed (Err s) =
       EntryFails allocates f flats m callee (fault_in step.LiftArgs step.LowerArgs s) callee' c
 
-  pub arguments-end : KindsFit f flats → (n : ℕ) (r : Result (ArrayVec Flat) Stopped) (callee' : Memory) (c : ℕ) → n ≡ 0 → c < 2 ^ 64
-      → WayEnds allocates (ParamsWalk max_flat_params f.params m (argument_flats f flats)) (AddressFaulty max_flat_params f.params m (argument_flats f flats)) (λ k. ⊥) callee n r callee' c
-      → EndsArguments callee' c r
-  arguments-end kinds n (Ok handed) callee' c fresh small d = has-entered n callee' c fresh small handed.items kinds d
-  arguments-end kinds n (Err (stopped.Source k)) callee' c fresh small (inl (address, none)) = bad-address n callee' c fresh small k kinds address none
-  arguments-end kinds n (Err (stopped.Source k)) callee' c fresh small (inr (final, u)) = bad-argument n callee' c fresh small k final kinds u
-  arguments-end kinds n (Err (stopped.Target k)) callee' c fresh small (inl (never, none)) = absurd never
-  arguments-end kinds n (Err (stopped.Target k)) callee' c fresh small (inr (final, u)) = no-room n callee' c fresh small k final kinds u
+  pub arguments-end : KindsFit f flats → (n : ℕ) (r : Result (Unit {0}) Stopped) (callee' : Memory) (c : ℕ) (handed : List Flat) → n ≡ 0 → c < 2 ^ 64
+      → WayEnds allocates (ParamsWalk max_flat_params f.params m (argument_flats f flats)) (AddressFaulty max_flat_params f.params m (argument_flats f flats)) (λ k. ⊥) callee n r callee' c handed
+      → EndsArguments callee' c handed r
+  arguments-end kinds n (Ok _) callee' c handed fresh small d = has-entered n callee' c fresh small handed kinds d
+  arguments-end kinds n (Err (stopped.Source k)) callee' c handed fresh small (inl (address, none)) = bad-address n callee' c fresh small k kinds address none
+  arguments-end kinds n (Err (stopped.Source k)) callee' c handed fresh small (inr (final, u)) = bad-argument n callee' c fresh small k final kinds u
+  arguments-end kinds n (Err (stopped.Target k)) callee' c handed fresh small (inl (never, none)) = absurd never
+  arguments-end kinds n (Err (stopped.Target k)) callee' c handed fresh small (inr (final, u)) = no-room n callee' c fresh small k final kinds u
 
 -- ---- the result
 
@@ -138,17 +137,17 @@ module _ (allocates : Allocation) (f : FunctionType) (flats : List Flat) (caller
 
   module _ (answer : List Flat) where
     -- what the end of the result's way says of the call
-    abbrev pub EndsResult : Memory → ℕ → Result (ArrayVec Flat) Stopped → Type 0
-    EndsResult caller' c (Ok back) = HasReturned allocates f flats m answer caller back.items caller' c
-    EndsResult caller' c (Err s) =
+    abbrev pub EndsResult : Memory → ℕ → List Flat → Result (Unit {0}) Stopped → Type 0
+    EndsResult caller' c back (Ok _) = HasReturned allocates f flats m answer caller back caller' c
+    EndsResult caller' c back (Err s) =
         ReturnFails allocates f flats m answer caller (fault_in step.LiftResult step.LowerResult s) caller' c
 
-    pub result-ends : (n : ℕ) (r : Result (ArrayVec Flat) Stopped) (caller' : Memory) (c : ℕ) → n ≡ 0 → c < 2 ^ 64
+    pub result-ends : (n : ℕ) (r : Result (Unit {0}) Stopped) (caller' : Memory) (c : ℕ) (back : List Flat) → n ≡ 0 → c < 2 ^ 64
         → WayEnds allocates (ResultWalk max_flat_results (result_fields f.result) m answer (area_of f flats) caller.bytes) (AddressFaulty max_flat_results (result_fields f.result) m answer)
-        (AreaIsBad max_flat_results (result_fields f.result) m answer (area_of f flats) caller.bytes) caller n r caller' c
-        → EndsResult caller' c r
-    result-ends n (Ok back) caller' c fresh small d = has-returned answer n caller' c fresh small back.items d
-    result-ends n (Err (stopped.Source k)) caller' c fresh small (inl (address, none)) = bad-answer answer n caller' c fresh small k address none
-    result-ends n (Err (stopped.Source k)) caller' c fresh small (inr (final, u)) = bad-result answer n caller' c fresh small k final u
-    result-ends n (Err (stopped.Target k)) caller' c fresh small (inl (bad, none)) = bad-area answer n caller' c fresh small k bad none
-    result-ends n (Err (stopped.Target k)) caller' c fresh small (inr (final, u)) = no-room-back answer n caller' c fresh small k final u
+        (AreaIsBad max_flat_results (result_fields f.result) m answer (area_of f flats) caller.bytes) caller n r caller' c back
+        → EndsResult caller' c back r
+    result-ends n (Ok _) caller' c back fresh small d = has-returned answer n caller' c fresh small back d
+    result-ends n (Err (stopped.Source k)) caller' c back fresh small (inl (address, none)) = bad-answer answer n caller' c fresh small k address none
+    result-ends n (Err (stopped.Source k)) caller' c back fresh small (inr (final, u)) = bad-result answer n caller' c fresh small k final u
+    result-ends n (Err (stopped.Target k)) caller' c back fresh small (inl (bad, none)) = bad-area answer n caller' c fresh small k bad none
+    result-ends n (Err (stopped.Target k)) caller' c back fresh small (inr (final, u)) = no-room-back answer n caller' c fresh small k final u

@@ -1,5 +1,5 @@
 //! The call itself.
-ghost use Rattle.std.specs.Prelude.{◌≡◌, ◌≢◌, ◌≤◌, Err, length, IfOk, IfErr};
+ghost use Rattle.std.specs.Prelude.{◌≡◌, ◌≢◌, ◌≤◌, Err, length, IfOk, OnOk, IfErr};
 ghost use Rattle.asking.specs.Asking.{IsToldAhead};
 ghost use Rattle.canonical_abi.specs.Call.{Calls, Ways, exact, AllowsSameRuns, AllowsSamePosts, KindsFit};
 ghost use Rattle.canonical_abi.specs.Few.{AreFewNodes};
@@ -78,8 +78,9 @@ impl<'a> Link<'a> {
     }
 
     /// The first half of a call, for a host that runs the core function itself: the arguments are lifted from the caller, which is
-    /// only read, and lowered into the callee. Answers the flat values for the core function. `flats` are those of a whole call,
-    /// the return area's address behind the arguments. A fault is in `lift-args` or `lower-args`, and nothing may be run after it.
+    /// only read, and lowered into the callee. Puts the flat values for the core function into `handed`, whatever that held. `flats`
+    /// are those of a whole call, the return area's address behind the arguments. A fault is in `lift-args` or `lower-args`; then
+    /// `handed` says nothing, and nothing may be run.
     /// With one run of the core function, `leave` and one run of post-return this is a call (`laws::halves_are_a_call` of
     /// `canonical_abi`), and keeps its promise. `nodes` then tells the nodes of this half, and none of the other.
     /// Takes no memory of the host.
@@ -89,10 +90,11 @@ impl<'a> Link<'a> {
         flats: &[Flat],
         caller: &C,
         callee: &mut E,
-    ) -> Result<Flats, Fault>
+        handed: &mut Flats,
+    ) -> Result<(), Fault>
         requires function { IsFunction self.old.resolve func }
-        ensures entered { IfOk result (λ handed. HasEntered E.allocates (function_type self.old.resolve func) flats.now (C.memory caller.now).bytes
-            (E.memory callee.old) handed.items (E.memory callee.new) self.new.there) }
+        ensures entered { OnOk result (HasEntered E.allocates (function_type self.old.resolve func) flats.now (C.memory caller.now).bytes
+            (E.memory callee.old) handed.new.items (E.memory callee.new) self.new.there) }
         ensures fault { IfErr result (λ fault. EntryFails E.allocates (function_type self.old.resolve func) flats.now (C.memory caller.now).bytes
             (E.memory callee.old) fault (E.memory callee.new) self.new.there) }
         ensures no_memory { result ≢ Err Fault.NoMemory }
@@ -102,8 +104,10 @@ impl<'a> Link<'a> {
     {
         self.there = 0;
         self.back = 0;
+        handed.clear();
         let table = &Types::new(self.resolve, self.layouts);
-        pass_arguments(table, func, flats, caller, callee, &mut self.there)
+        let nodes = &mut self.there;
+        pass_arguments(table, func, flats, caller, callee, handed, nodes)
     }
 
     /// What `enter` will ask the callee for, in its order, without it: the first requests are put over the slots, as many as
@@ -148,8 +152,9 @@ impl<'a> Link<'a> {
     }
 
     /// The second half: what the core function answered is lifted from the callee, which is only read, and lowered into the
-    /// caller. Answers the flat values for the caller. `flats` are those that `enter` was given. A fault is in `lift-result` or
-    /// `lower-result`, and post-return isn't run after it. `nodes` then tells the nodes of this half beside those that it told.
+    /// caller. Puts the flat values for the caller into `back`, whatever that held. `flats` are those that `enter` was given. A
+    /// fault is in `lift-result` or `lower-result`; then `back` says nothing, and post-return isn't run. `nodes` then tells the nodes
+    /// of this half beside those that it told.
     /// Takes no memory of the host.
     pub fn leave<C: Guest, E: Guest>(
         &mut self,
@@ -158,21 +163,24 @@ impl<'a> Link<'a> {
         answer: &[Flat],
         caller: &mut C,
         callee: &E,
-    ) -> Result<Flats, Fault>
+        back: &mut Flats,
+    ) -> Result<(), Fault>
         requires function { IsFunction self.old.resolve func }
-        ensures returned { IfOk result (λ back. HasReturned C.allocates (function_type self.old.resolve func) flats.now (E.memory callee.now).bytes answer.now
-            (C.memory caller.old) back.items (C.memory caller.new) self.new.back) }
+        ensures returned { OnOk result (HasReturned C.allocates (function_type self.old.resolve func) flats.now (E.memory callee.now).bytes answer.now
+            (C.memory caller.old) back.new.items (C.memory caller.new) self.new.back) }
         ensures fault { IfErr result (λ fault. ReturnFails C.allocates (function_type self.old.resolve func) flats.now (E.memory callee.now).bytes answer.now
             (C.memory caller.old) fault (C.memory caller.new) self.new.back) }
         ensures no_memory { result ≢ Err Fault.NoMemory }
-        ensures no_shorter { IfOk result (λ _. length (C.memory caller.old).bytes ≤ length (C.memory caller.new).bytes) }
+        ensures no_shorter { OnOk result (length (C.memory caller.old).bytes ≤ length (C.memory caller.new).bytes) }
         ensures there { self.new.there ≡ self.old.there }
         ensures same_package { self.new.resolve ≡ self.old.resolve }
         ensures same_layouts { self.new.layouts ≡ self.old.layouts }
     {
         self.back = 0;
+        back.clear();
         let table = &Types::new(self.resolve, self.layouts);
-        pass_answer(table, func, flats, answer, caller, callee, &mut self.back)
+        let nodes = &mut self.back;
+        pass_answer(table, func, flats, answer, caller, callee, back, nodes)
     }
 
     /// Calls a function of the package: the flat values are lifted from the caller and lowered into the
@@ -220,15 +228,16 @@ impl<'a> Link<'a> {
     {
         // A link's package is within the limits of layouts.
         let _resolve = self.resolve;
-        let handed = self.enter(func, flats, caller, callee)?;
-        let Ok(answer) = body.call(callee, handed.as_slice()) else {
+        let mut given = Flats::new();
+        self.enter(func, flats, caller, callee, &mut given)?;
+        let Ok(answer) = body.call(callee, given.as_slice()) else {
             return Err(trap(TrapKind::Body, Step::Body));
         };
         let answer = answer.as_slice();
-        let back = self.leave(func, flats, answer, caller, callee)?;
+        self.leave(func, flats, answer, caller, callee, &mut given)?;
         let Ok(()) = body.post_return(callee, answer) else {
             return Err(trap(TrapKind::Body, Step::Post));
         };
-        Ok(back)
+        Ok(given)
     }
 }

@@ -1,5 +1,5 @@
 //! The second way of a call: the result, from the callee into the caller.
-ghost use Rattle.std.specs.Prelude.{◌≡◌, ◌≤◌, length, map, IfOk, IfErr};
+ghost use Rattle.std.specs.Prelude.{◌≡◌, ◌≤◌, [], length, map, OnOk, IfErr};
 ghost use Rattle.canonical_abi.specs.Reading.{low_bits, number_of};
 ghost use Rattle.canonical_abi.specs.Halves.{HasReturned, ReturnFails};
 ghost use Rattle.layout.specs.Layout.{AreWithin};
@@ -11,9 +11,9 @@ use crossing::cross_result;
 use lift_lower::{Flats, Types, are_kinds, low_word};
 use tables::FunctionId;
 
-/// Puts the body's answer, as the callee holds it, into the caller: the flat values that carry it there, and in `nodes` how
-/// many nodes were visited, those up to the fault where there was one. The kinds of its flat values come first. Takes no memory of
-/// the host.
+/// Puts the body's answer, as the callee holds it, into the caller: the flat values that carry it there into `back`, where there
+/// were none, and in `nodes` how many nodes were visited, those up to the fault where there was one. The kinds of its flat values
+/// come first. Takes no memory of the host.
 pub(crate) fn pass_answer<C: Guest, E: Guest>(
     table: &Types,
     func: FunctionId,
@@ -21,16 +21,18 @@ pub(crate) fn pass_answer<C: Guest, E: Guest>(
     answer: &[Flat],
     caller: &mut C,
     callee: &E,
+    back: &mut Flats,
     nodes: &mut u64,
-) -> Result<Flats, Fault>
+) -> Result<(), Fault>
     requires within { ∥ AreWithin table.now ∥₁ }
     requires function { IsFunction table.now func }
+    requires empty { back.old.items ≡ [] }
     requires fresh { nodes.old ≡ 0 }
-    ensures returned { IfOk result (λ back. HasReturned C.allocates (function_type table.now func) flats.now (E.memory callee.now).bytes answer.now
-        (C.memory caller.old) back.items (C.memory caller.new) nodes.new) }
+    ensures returned { OnOk result (HasReturned C.allocates (function_type table.now func) flats.now (E.memory callee.now).bytes answer.now
+        (C.memory caller.old) back.new.items (C.memory caller.new) nodes.new) }
     ensures fault { IfErr result (λ fault. ReturnFails C.allocates (function_type table.now func) flats.now (E.memory callee.now).bytes answer.now
         (C.memory caller.old) fault (C.memory caller.new) nodes.new) }
-    ensures no_shorter { IfOk result (λ _. length (C.memory caller.old).bytes ≤ length (C.memory caller.new).bytes) }
+    ensures no_shorter { OnOk result (length (C.memory caller.old).bytes ≤ length (C.memory caller.new).bytes) }
 {
     let signature = table.layouts().lifted(func);
     if !are_kinds(signature.result.as_slice(), answer) {
@@ -40,11 +42,12 @@ pub(crate) fn pass_answer<C: Guest, E: Guest>(
     // A memory's length is a number of 32 bits.
     let _len = callee.len();
     let types = table.resolve().signature(func).result.as_slice();
-    let crossed = cross_result(table, types, callee.bytes(), answer, caller, area, nodes);
+    let bytes = callee.bytes();
+    let crossed = cross_result(table, types, bytes, answer, caller, area, back, nodes);
     // A count is a number of 64 bits.
     let _count = *nodes;
     match crossed {
-        Ok(back) => Ok(back),
+        Ok(()) => Ok(()),
         Err(stopped) => Err(fault_of(stopped, Step::LiftResult, Step::LowerResult)),
     }
 }

@@ -1,5 +1,5 @@
 -- The scripts of a whole way, by those of its values.
-use Rattle.std.proofs.Common.{◌≡◌, inl, inr, ℕ, ◌^◌, ◌<◌, ◌≤◌, true, false, List, [], ◌∷◌, length, map, Option, Some, None, Err, refl, sym, subst}
+use Rattle.std.proofs.Common.{◌≡◌, inl, inr, ℕ, ◌^◌, ◌<◌, ◌≤◌, true, false, List, [], ◌∷◌, length, map, Option, Some, None, Result, Ok, Err, refl, sym, subst}
 use Rattle.canonical_abi.specs.Guest.{Memory, Allocation}
 use Rattle.canonical_abi.specs.Types.{Fields, record_type}
 use Rattle.canonical_abi.specs.Layout.{align, size, fits_flat, passed_kinds}
@@ -14,7 +14,7 @@ use Rattle.canonical_abi.specs.declared.flat.Flat.{Flat}
 use Rattle.canonical_abi.specs.declared.flat.Flat.TheVariants.{I32}
 use Rattle.canonical_abi.specs.declared.trap.TrapKind.{TrapKind}
 use Rattle.lift_lower.specs.Loading.{AreBytes}
-use Rattle.crossing.specs.Outcome.{FlatScript, FieldsFlatWalk, FieldsWalk, IsDone, WasRefused, HasStopped}
+use Rattle.crossing.specs.Outcome.{FlatScript, FieldsFlatWalk, FieldsWalk, FlatEnds, Ends, IsDone, WasRefused, HasStopped}
 use Rattle.crossing.specs.Ways.{ParamsWalk, ResultWalk, WayEnds}
 use Rattle.crossing.specs.declared.stopped.Stopped.{Stopped}
 use Rattle.crossing.specs.declared.stopped.Stopped.TheVariants as stopped
@@ -55,10 +55,10 @@ module _ (limit : ℕ) (ts : Fields) (m : List ℕ) (flats : List Flat) (area : 
 module _ (allocates : Allocation) where
   -- ---- ends
 
-  pub way-stopped : (S : FlatScript) (F G : TrapKind → Type 0) (old : Memory) (n : ℕ) (s : Stopped) (new : Memory) (c : ℕ) → (final : List Flat) → HasStopped allocates (S final) old n s new c
-      → WayEnds allocates S F G old n (Err s) new c
-  way-stopped S F G old n (stopped.Source k) new c final u = inr (final, u)
-  way-stopped S F G old n (stopped.Target k) new c final u = inr (final, u)
+  pub way-stopped : (S : FlatScript) (F G : TrapKind → Type 0) (old : Memory) (n : ℕ) (s : Stopped) (new : Memory) (c : ℕ) (final other : List Flat) → HasStopped allocates (S other) old n s new c
+      → WayEnds allocates S F G old n (Err s) new c final
+  way-stopped S F G old n (stopped.Source k) new c final other u = inr (other, u)
+  way-stopped S F G old n (stopped.Target k) new c final other u = inr (other, u)
 
   pub stopped-as : (S T : Option TrapKind → List Event → Type 0) → ((o : Option TrapKind) (es : List Event) → T o es → S o es) → (old : Memory) (n : ℕ) (s : Stopped) (new : Memory) (c : ℕ)
       → HasStopped allocates T old n s new c → HasStopped allocates S old n s new c
@@ -71,14 +71,11 @@ module _ (allocates : Allocation) where
   module _ (limit : ℕ) (ts : Fields) (m : List ℕ) (flats : List Flat) (kinds : map kind_of flats ≡ passed_kinds limit ts) where
     -- ---- flat parameters
 
-    pub flat-done : fits_flat limit ts ≡ true → (final : List Flat) (old : Memory) (n : ℕ) (new : Memory) (c : ℕ) → IsDone allocates (FieldsFlatWalk ts m (map number_of flats) [] final) old n new c
-        → IsDone allocates (ParamsWalk limit ts m flats final) old n new c
-    flat-done fits final old n new c u = done-as (ParamsWalk limit ts m flats final) (FieldsFlatWalk ts m (map number_of flats) [] final) (flat-params limit ts m flats kinds fits final) old n new c u
-
-    pub flat-stopped : fits_flat limit ts ≡ true → (F G : TrapKind → Type 0) (old : Memory) (n : ℕ) (s : Stopped) (new : Memory) (c : ℕ)
-        → ((final : List Flat) × HasStopped allocates (FieldsFlatWalk ts m (map number_of flats) [] final) old n s new c) → WayEnds allocates (ParamsWalk limit ts m flats) F G old n (Err s) new c
-    flat-stopped fits F G old n s new c (final, u) =
-        way-stopped (ParamsWalk limit ts m flats) F G old n s new c final (stopped-as (ParamsWalk limit ts m flats final) (FieldsFlatWalk ts m (map number_of flats) [] final) (flat-params limit ts m flats kinds fits final) old n s new c u)
+    pub flat-ends : fits_flat limit ts ≡ true → (F G : TrapKind → Type 0) (old : Memory) (n : ℕ) (r : Result (Unit {0}) Stopped) (new : Memory) (c : ℕ) (final : List Flat)
+        → FlatEnds allocates (FieldsFlatWalk ts m (map number_of flats) []) old n r new c final → WayEnds allocates (ParamsWalk limit ts m flats) F G old n r new c final
+    flat-ends fits F G old n (Ok _) new c final u = done-as (ParamsWalk limit ts m flats final) (FieldsFlatWalk ts m (map number_of flats) [] final) (flat-params limit ts m flats kinds fits final) old n new c u
+    flat-ends fits F G old n (Err s) new c final (other, u) =
+        way-stopped (ParamsWalk limit ts m flats) F G old n s new c final other (stopped-as (ParamsWalk limit ts m flats other) (FieldsFlatWalk ts m (map number_of flats) [] other) (flat-params limit ts m flats kinds fits other) old n s new c u)
 
     -- ---- a record of parameters
 
@@ -110,7 +107,29 @@ module _ (allocates : Allocation) where
           (begun-last allocates (RecordScript g.at) (FieldsWalk ts m a g.at 0) old mid new n n c (record-begun g block old mid n granted longer) u)
 
       pub record-stopped : (g : Grant) → IsBlock (align (record_type ts)) (size (record_type ts)) g → (F G : TrapKind → Type 0) (old mid : Memory) (n : ℕ) (s : Stopped) (new : Memory) (c : ℕ) → EventLeads allocates old (grant g) mid
-          → length old.bytes ≤ length mid.bytes → HasStopped allocates (FieldsWalk ts m a g.at 0) mid n s new c → WayEnds allocates (ParamsWalk limit ts m flats) F G old n (Err s) new c
-      record-stopped g block F G old mid n s new c granted longer u =
-          way-stopped (ParamsWalk limit ts m flats) F G old n s new c (I32 g.at ∷ [])
+          → length old.bytes ≤ length mid.bytes → HasStopped allocates (FieldsWalk ts m a g.at 0) mid n s new c → (final : List Flat) → WayEnds allocates (ParamsWalk limit ts m flats) F G old n (Err s) new c final
+      record-stopped g block F G old mid n s new c granted longer u final =
+          way-stopped (ParamsWalk limit ts m flats) F G old n s new c final (I32 g.at ∷ [])
           (begun-stopped allocates (RecordScript g.at) (FieldsWalk ts m a g.at 0) old mid s new n n c (record-begun g block old mid n granted longer) u)
+
+  module _ (limit : ℕ) (ts : Fields) (m : List ℕ) (flats : List Flat) (area : ℕ) (kinds : map kind_of flats ≡ passed_kinds limit ts) (F G : TrapKind → Type 0) (old : Memory) (n : ℕ) where
+    -- ---- a result that goes flat
+
+    pub result-ends : fits_flat limit ts ≡ true → (r : Result (Unit {0}) Stopped) (new : Memory) (c : ℕ) (final : List Flat) → FlatEnds allocates (FieldsFlatWalk ts m (map number_of flats) []) old n r new c final
+        → WayEnds allocates (ResultWalk limit ts m flats area old.bytes) F G old n r new c final
+    result-ends fits (Ok _) new c final u = done-as (ResultWalk limit ts m flats area old.bytes final) (FieldsFlatWalk ts m (map number_of flats) [] final) (flat-result limit ts m flats area old.bytes kinds fits final) old n new c u
+    result-ends fits (Err s) new c final (other, u) =
+        way-stopped (ResultWalk limit ts m flats area old.bytes) F G old n s new c final other
+        (stopped-as (ResultWalk limit ts m flats area old.bytes other) (FieldsFlatWalk ts m (map number_of flats) [] other) (flat-result limit ts m flats area old.bytes kinds fits other) old n s new c u)
+
+    -- ---- one that is put into the return area
+
+    pub area-ends : fits_flat limit ts ≡ false → BlockHolds old.bytes area (align (record_type ts)) (size (record_type ts)) → (a : ℕ) → a ≡ low_bits (map number_of flats) 0 32
+        → BlockHolds m a (align (record_type ts)) (size (record_type ts)) → (r : Result (Unit {0}) Stopped) (new : Memory) (c : ℕ) → Ends allocates (FieldsWalk ts m a area 0) old n r new c
+        → (final : List Flat) → final ≡ [] → WayEnds allocates (ResultWalk limit ts m flats area old.bytes) F G old n r new c final
+    area-ends spilled room a is stands (Ok _) new c u final none =
+        subst (λ f. IsDone allocates (ResultWalk limit ts m flats area old.bytes f) old n new c) (sym none)
+        (done-as (ResultWalk limit ts m flats area old.bytes []) (FieldsWalk ts m a area 0) (spilled-result limit ts m flats area old.bytes kinds spilled room a is stands) old n new c u)
+    area-ends spilled room a is stands (Err s) new c u final none =
+        way-stopped (ResultWalk limit ts m flats area old.bytes) F G old n s new c final []
+        (stopped-as (ResultWalk limit ts m flats area old.bytes []) (FieldsWalk ts m a area 0) (spilled-result limit ts m flats area old.bytes kinds spilled room a is stands) old n s new c u)

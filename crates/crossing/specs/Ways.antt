@@ -1,6 +1,5 @@
 -- CanonicalABI.md, "Lifting and Lowering Values": a whole way of a call, of parameters or of a result, and how it ended.
 use Rattle.std.specs.Prelude.{◌≡◌, ◌⊎◌, ℕ, List, Some, None, Result, Ok, Err}
-use Rattle.arrayvec.specs.ArrayVec.{ArrayVec}
 use Rattle.canonical_abi.specs.Types.{Fields}
 use Rattle.canonical_abi.specs.Values.{Value}
 use Rattle.canonical_abi.specs.Call.{AreaStands, AreaFaulty}
@@ -34,8 +33,8 @@ pub record IsUnbegun (old : Memory) (n : ℕ) (new : Memory) (c : ℕ) : Type 0 
   pub same : new ≡ old
   pub uncounted : c ≡ n
 
--- how a way ended: the source's addresses may be at fault (F), or those of the target (G), before it is begun
-abbrev pub WayEnds : Allocation → FlatScript → (TrapKind → Type 0) → (TrapKind → Type 0) → Memory → ℕ → Result (ArrayVec Flat) Stopped → Memory → ℕ → Type 0
-WayEnds allocates S F G old n (Ok out) new c = IsDone allocates (S out.items) old n new c
-WayEnds allocates S F G old n (Err (stopped.Source k)) new c = (F k × IsUnbegun old n new c) ⊎ ((final : List Flat) × MetFault allocates (S final) old n k new c)
-WayEnds allocates S F G old n (Err (stopped.Target k)) new c = (G k × IsUnbegun old n new c) ⊎ ((final : List Flat) × WasRefused allocates (S final) old n k new c)
+-- how a way ended, with the core values that stand in the end: the source's addresses may be at fault (F), or those of the target (G), before it is begun
+abbrev pub WayEnds : Allocation → FlatScript → (TrapKind → Type 0) → (TrapKind → Type 0) → Memory → ℕ → Result (Unit {0}) Stopped → Memory → ℕ → List Flat → Type 0
+WayEnds allocates S F G old n (Ok _) new c final = IsDone allocates (S final) old n new c
+WayEnds allocates S F G old n (Err (stopped.Source k)) new c final = (F k × IsUnbegun old n new c) ⊎ ((other : List Flat) × MetFault allocates (S other) old n k new c)
+WayEnds allocates S F G old n (Err (stopped.Target k)) new c final = (G k × IsUnbegun old n new c) ⊎ ((other : List Flat) × WasRefused allocates (S other) old n k new c)

@@ -1,20 +1,25 @@
 //! The two halves of a call with core values in arrays.
-ghost use Rattle.std.specs.Prelude.{◌≡◌, ◌≤◌, ◌<◌, [], IfOk, IfErr, OnOk, length, map};
+ghost use Rattle.std.specs.Prelude.{◌≡◌, ◌≤◌, ◌<◌, List, [], IfOk, IfErr, OnOk, length, map};
 ghost use Rattle.layout.specs.Layout.{AreWithin};
 ghost use Rattle.tables.specs.Closed.{IsFunction, function_type};
 ghost use Rattle.tables.specs.declared.tables.FunctionId.{FunctionId};
 ghost use Rattle.lending.specs.Values.{flat_of};
+ghost use Rattle.lending.specs.declared.value.Value.{Value};
 ghost use Rattle.host_calls.specs.Calling.{AreTooMany, EnterDone, LeaveDone, EnterAsks, LeaveAsks};
 
 use crate::area::can_return;
 use crate::error::CallError;
 use adapter::{Link, Request};
-use canonical_abi::{Fault, Step, Trap, TrapKind};
+use arrayvec::ArrayVec;
+use canonical_abi::{Fault, Flat, Step, Trap, TrapKind};
 use lending::{MAX_VALUES, NOWHERE, Value, enter_lent, leave_lent, put_flats, tell};
 use lift_lower::{Flats, Types};
 use memory::{Block, Lent, can_lend};
 use std::alloc::Global;
 use tables::{Definition, FunctionId};
+
+/// A list for few flat values, as most calls have them: a longer one takes longer to make.
+type Few = ArrayVec<Flat, 4>;
 
 /// The function of this number.
 pub fn function_of(types: &Types, number: u32) -> Result<FunctionId, CallError>
@@ -54,6 +59,44 @@ fn room_in(values: &[Value]) -> Result<(), CallError>
     Ok(())
 }
 
+/// The first half of a call, of flat values: what `enter` does of core values that are these.
+fn enter_flats(
+    alloc: Global,
+    types: &Types,
+    func: FunctionId,
+    flats: &[Flat],
+    caller: &mut [u8],
+    callee: &mut [u8],
+    blocks: &[Block],
+    handed: &mut [Value],
+) -> Result<usize, CallError>
+    requires within { ∥ AreWithin types.now ∥₁ }
+    requires function { IsFunction types.now func }
+    requires room { 17 ≤ length handed.old }
+    ensures done { (values : List Value) → flats.now ≡ map flat_of values
+        → EnterDone (function_type types.now func) values caller.old callee.old blocks.now handed.old result callee.new handed.new }
+    ensures same_caller { caller.new ≡ caller.old }
+{
+    if u32::try_from(caller.len()).is_err() {
+        return Err(CallError::BadBlock);
+    }
+    if !can_lend(alloc, callee.len(), &NOWHERE, blocks)? {
+        return Err(CallError::BadBlock);
+    }
+    let mut given = Flats::new();
+    let (resolve, layouts) = (types.resolve(), types.layouts());
+    match enter_lent(
+        resolve, layouts, func, flats, caller, callee, blocks, &mut given,
+    ) {
+        Ok(()) => {
+            let count = given.len();
+            tell(&given, handed);
+            Ok(count)
+        }
+        Err(fault) => Err(CallError::Fault(fault)),
+    }
+}
+
 /// The first half of a call: puts the arguments into the callee's blocks, and tells the core values for its core function at the front of
 /// `handed`, which has room for 17 whatever the function. Answers how many they are. `flats` are those of a whole call, the return area's address
 /// behind the arguments. The caller is only read. 71 where there is no room, 72 where the blocks can't be handed out or the caller
@@ -74,30 +117,88 @@ pub fn enter(
     ensures same_caller { caller.new ≡ caller.old }
 {
     room_in(handed)?;
+    let mut few = Few::new();
+    if put_flats(flats, &mut few) {
+        let flats = few.as_slice();
+        return enter_flats(alloc, types, func, flats, caller, callee, blocks, handed);
+    }
     let mut values = Flats::new();
     put_values(flats, &mut values, Step::LiftArgs)?;
-    if u32::try_from(caller.len()).is_err() {
+    let flats = values.as_slice();
+    enter_flats(alloc, types, func, flats, caller, callee, blocks, handed)
+}
+
+/// The second half, of flat values: what `leave` does of core values that are these.
+fn leave_flats(
+    alloc: Global,
+    types: &Types,
+    func: FunctionId,
+    flats: &[Flat],
+    answer: &[Flat],
+    callee: &mut [u8],
+    caller: &mut [u8],
+    blocks: &[Block],
+    back: &mut [Value],
+) -> Result<usize, CallError>
+    requires within { ∥ AreWithin types.now ∥₁ }
+    requires function { IsFunction types.now func }
+    requires room { 17 ≤ length back.old }
+    ensures done { (values answers : List Value) → flats.now ≡ map flat_of values → answer.now ≡ map flat_of answers
+        → LeaveDone (function_type types.now func) values callee.old answers caller.old blocks.now back.old result caller.new back.new }
+    ensures same_callee { callee.new ≡ callee.old }
+{
+    if u32::try_from(callee.len()).is_err() {
         return Err(CallError::BadBlock);
     }
-    if !can_lend(alloc, callee.len(), &NOWHERE, blocks)? {
+    if !can_return(alloc, types, func, flats, caller.len(), blocks)? {
         return Err(CallError::BadBlock);
     }
-    let entered = enter_lent(
-        types.resolve(),
-        types.layouts(),
-        func,
-        values.as_slice(),
-        caller,
-        callee,
-        blocks,
-    );
-    match &entered {
-        Ok(given) => {
-            tell(given, handed);
-            Ok(given.len())
+    let mut given = Flats::new();
+    let (resolve, layouts) = (types.resolve(), types.layouts());
+    match leave_lent(
+        resolve, layouts, func, flats, answer, callee, caller, blocks, &mut given,
+    ) {
+        Ok(()) => {
+            let count = given.len();
+            tell(&given, back);
+            Ok(count)
         }
-        Err(fault) => Err(CallError::Fault(*fault)),
+        Err(fault) => Err(CallError::Fault(fault)),
     }
+}
+
+/// The second half, of flat values and of the core values of the answer.
+fn leave_answer(
+    alloc: Global,
+    types: &Types,
+    func: FunctionId,
+    flats: &[Flat],
+    answer: &[Value],
+    callee: &mut [u8],
+    caller: &mut [u8],
+    blocks: &[Block],
+    back: &mut [Value],
+) -> Result<usize, CallError>
+    requires within { ∥ AreWithin types.now ∥₁ }
+    requires function { IsFunction types.now func }
+    requires room { 17 ≤ length back.old }
+    ensures done { (values : List Value) → flats.now ≡ map flat_of values
+        → LeaveDone (function_type types.now func) values callee.old answer.now caller.old blocks.now back.old result caller.new back.new }
+    ensures same_callee { callee.new ≡ callee.old }
+{
+    let mut few = Few::new();
+    if put_flats(answer, &mut few) {
+        let answer = few.as_slice();
+        return leave_flats(
+            alloc, types, func, flats, answer, callee, caller, blocks, back,
+        );
+    }
+    let mut answers = Flats::new();
+    put_values(answer, &mut answers, Step::LiftResult)?;
+    let answer = answers.as_slice();
+    leave_flats(
+        alloc, types, func, flats, answer, callee, caller, blocks, back,
+    )
 }
 
 /// The second half: puts what the core function answered into the caller's blocks and its return area, and tells the core values for the caller at
@@ -120,33 +221,19 @@ pub fn leave(
     ensures same_callee { callee.new ≡ callee.old }
 {
     room_in(back)?;
+    let mut few = Few::new();
+    if put_flats(flats, &mut few) {
+        let flats = few.as_slice();
+        return leave_answer(
+            alloc, types, func, flats, answer, callee, caller, blocks, back,
+        );
+    }
     let mut values = Flats::new();
     put_values(flats, &mut values, Step::LowerResult)?;
-    let mut answers = Flats::new();
-    put_values(answer, &mut answers, Step::LiftResult)?;
-    if u32::try_from(callee.len()).is_err() {
-        return Err(CallError::BadBlock);
-    }
-    if !can_return(alloc, types, func, values.as_slice(), caller.len(), blocks)? {
-        return Err(CallError::BadBlock);
-    }
-    let returned = leave_lent(
-        types.resolve(),
-        types.layouts(),
-        func,
-        values.as_slice(),
-        answers.as_slice(),
-        callee,
-        caller,
-        blocks,
-    );
-    match &returned {
-        Ok(given) => {
-            tell(given, back);
-            Ok(given.len())
-        }
-        Err(fault) => Err(CallError::Fault(*fault)),
-    }
+    let flats = values.as_slice();
+    leave_answer(
+        alloc, types, func, flats, answer, callee, caller, blocks, back,
+    )
 }
 
 /// Tells what the first half will ask the callee for, in its order: as many requests as there is room for, and how many there are in all.

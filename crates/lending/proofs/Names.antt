@@ -1,12 +1,11 @@
 -- A memory that is lent keeps the name of its bytes in each half of a call, so what is told of it is told of the host's bytes.
-use Rattle.std.proofs.Common.{◌≡◌, ℕ, List, ◌∷◌, Result, Ok, Err, IfOk, IfErr, inl, inr, refl, sym, ap, subst}
+use Rattle.std.proofs.Common.{◌≡◌, ℕ, List, ◌∷◌, Result, Ok, Err, OnOk, IfErr, inl, inr, refl, sym, ap, subst}
 use Rattle.canonical_abi.specs.Types.{FunctionType}
 use Rattle.canonical_abi.specs.Guest.{Memory}
 use Rattle.canonical_abi.specs.Halves.{HasEntered, EntryFails, HasReturned, ReturnFails}
 use Rattle.canonical_abi.specs.declared.flat.Flat.{Flat}
 use Rattle.canonical_abi.specs.declared.trap.Fault.{Fault}
 use Rattle.canonical_abi.specs.declared.trap.Fault.TheVariants.{Trap, NoMemory}
-use Rattle.arrayvec.specs.ArrayVec.{ArrayVec}
 use Rattle.memory.specs.Lent.{numbers, lent, LentAllocates}
 use Rattle.memory.specs.declared.block.Block.{Block}
 use Rattle.memory.proofs.LentNames.{IsNamed, trace_keeps, begun_keeps, break_keeps}
@@ -47,22 +46,22 @@ own name other bytes now rest (more, is) same =
 
 module _ (f : FunctionType) (flats : List Flat) (m n : List ℕ) (old : Memory) (name other count : ℕ) (before after now : List ℕ) (blocks rest : List Block)
     (read : n ≡ m) (is : old ≡ lent name before blocks) (same : name ≡ other → now ≡ after) where
-  pub entered : (result : Result (ArrayVec Flat) Fault) → IfOk result (λ handed. HasEntered LentAllocates f flats n old handed.items (lent other after rest) count)
-      → IfOk result (λ handed. EntersLent f flats m before blocks handed.items now)
-  entered (Ok handed) h =
-      let kept = entry_keeps f flats n old (lent other after rest) name count handed.items h (named_lent old name before blocks is) in
+  pub entered : (handed : List Flat) (result : Result (Unit {0}) Fault) → OnOk result (HasEntered LentAllocates f flats n old handed (lent other after rest) count)
+      → OnOk result (EntersLent f flats m before blocks handed now)
+  entered handed (Ok _) h =
+      let kept = entry_keeps f flats n old (lent other after rest) name count handed h (named_lent old name before blocks is) in
       let e = own name other after now rest kept same in (
         name,
         count,
         rest,
-        subst (λ x. HasEntered LentAllocates f flats x (lent name before blocks) handed.items (lent name now rest) count) read
-            (subst (λ x. HasEntered LentAllocates f flats n x handed.items (lent name now rest) count) is (subst (λ x. HasEntered LentAllocates f flats n old handed.items x count) e h)),
+        subst (λ x. HasEntered LentAllocates f flats x (lent name before blocks) handed (lent name now rest) count) read
+            (subst (λ x. HasEntered LentAllocates f flats n x handed (lent name now rest) count) is (subst (λ x. HasEntered LentAllocates f flats n old handed x count) e h)),
       )
-  entered (Err fault) h = tt
+  entered handed (Err fault) h = tt
 
-  pub not_entered : (result : Result (ArrayVec Flat) Fault) → IfErr result (λ fault. EntryFails LentAllocates f flats n old fault (lent other after rest) count)
+  pub not_entered : (result : Result (Unit {0}) Fault) → IfErr result (λ fault. EntryFails LentAllocates f flats n old fault (lent other after rest) count)
       → IfErr result (λ fault. EntryOfLentFails f flats m before blocks fault now)
-  not_entered (Ok handed) h = tt
+  not_entered (Ok _) h = tt
   not_entered (Err fault) h =
       let kept = failed_entry_keeps f flats n old (lent other after rest) name count fault h (named_lent old name before blocks is) in
       let e = own name other after now rest kept same in (
@@ -73,22 +72,22 @@ module _ (f : FunctionType) (flats : List Flat) (m n : List ℕ) (old : Memory) 
             (subst (λ x. EntryFails LentAllocates f flats n x fault (lent name now rest) count) is (subst (λ x. EntryFails LentAllocates f flats n old fault x count) e h)),
       )
 
-  pub returned : (answer : List Flat) (result : Result (ArrayVec Flat) Fault) → IfOk result (λ given. HasReturned LentAllocates f flats n answer old given.items (lent other after rest) count)
-      → IfOk result (λ given. ReturnsLent f flats m answer before blocks given.items now)
-  returned answer (Ok given) h =
-      let kept = return_keeps f flats n old (lent other after rest) name count answer given.items h (named_lent old name before blocks is) in
+  pub returned : (answer given : List Flat) (result : Result (Unit {0}) Fault) → OnOk result (HasReturned LentAllocates f flats n answer old given (lent other after rest) count)
+      → OnOk result (ReturnsLent f flats m answer before blocks given now)
+  returned answer given (Ok _) h =
+      let kept = return_keeps f flats n old (lent other after rest) name count answer given h (named_lent old name before blocks is) in
       let e = own name other after now rest kept same in (
         name,
         count,
         rest,
-        subst (λ x. HasReturned LentAllocates f flats x answer (lent name before blocks) given.items (lent name now rest) count) read
-            (subst (λ x. HasReturned LentAllocates f flats n answer x given.items (lent name now rest) count) is (subst (λ x. HasReturned LentAllocates f flats n answer old given.items x count) e h)),
+        subst (λ x. HasReturned LentAllocates f flats x answer (lent name before blocks) given (lent name now rest) count) read
+            (subst (λ x. HasReturned LentAllocates f flats n answer x given (lent name now rest) count) is (subst (λ x. HasReturned LentAllocates f flats n answer old given x count) e h)),
       )
-  returned answer (Err fault) h = tt
+  returned answer given (Err fault) h = tt
 
-  pub not_returned : (answer : List Flat) (result : Result (ArrayVec Flat) Fault) → IfErr result (λ fault. ReturnFails LentAllocates f flats n answer old fault (lent other after rest) count)
+  pub not_returned : (answer : List Flat) (result : Result (Unit {0}) Fault) → IfErr result (λ fault. ReturnFails LentAllocates f flats n answer old fault (lent other after rest) count)
       → IfErr result (λ fault. ReturnOfLentFails f flats m answer before blocks fault now)
-  not_returned answer (Ok given) h = tt
+  not_returned answer (Ok _) h = tt
   not_returned answer (Err fault) h =
       let kept = failed_return_keeps f flats n old (lent other after rest) name count answer fault h (named_lent old name before blocks is) in
       let e = own name other after now rest kept same in (

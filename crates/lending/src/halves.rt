@@ -1,5 +1,5 @@
 //! The two halves of a call between memories that a host lends.
-ghost use Rattle.std.specs.Prelude.{◌≡◌, ◌<◌, IfOk, IfErr, IsTrue, length};
+ghost use Rattle.std.specs.Prelude.{◌≡◌, ◌<◌, OnOk, IfErr, IsTrue, length};
 ghost use Rattle.layout.specs.Layout.{layouts_of, AreWithin};
 ghost use Rattle.memory.specs.Blocks.{are_good};
 ghost use Rattle.tables.specs.Closed.{IsFunction, function_type};
@@ -19,8 +19,8 @@ pub const NOWHERE: Block = Block {
     at: 0,
 };
 
-/// The first half of a call (`Link::enter`): puts the arguments into the callee's blocks, and answers the flat values for its core
-/// function. The caller is only read.
+/// The first half of a call (`Link::enter`): puts the arguments into the callee's blocks, and the flat values for its core function
+/// into `handed`, whatever that held; it says nothing after a fault. The caller is only read.
 pub fn enter_lent(
     resolve: &Resolve,
     layouts: &Layouts,
@@ -29,15 +29,16 @@ pub fn enter_lent(
     caller: &mut [u8],
     callee: &mut [u8],
     blocks: &[Block],
-) -> Result<Flats, Fault>
+    handed: &mut Flats,
+) -> Result<(), Fault>
     requires laid_out { layouts.now ≡ layouts_of resolve.now }
     requires within { ∥ AreWithin resolve.now ∥₁ }
     requires function { IsFunction resolve.now func }
     requires short { length caller.old < 4294967296 }
     requires limited { length callee.old < 4294967296 }
     requires good { IsTrue (are_good (length callee.old) blocks.now) }
-    ensures entered { IfOk result (λ handed. EntersLent (function_type resolve.now func) flats.now caller.old
-        callee.old blocks.now handed.items callee.new) }
+    ensures entered { OnOk result (EntersLent (function_type resolve.now func) flats.now caller.old
+        callee.old blocks.now handed.new.items callee.new) }
     ensures fault { IfErr result (λ fault. EntryOfLentFails (function_type resolve.now func) flats.now caller.old
         callee.old blocks.now fault callee.new) }
     ensures same_caller { caller.new ≡ caller.old }
@@ -45,11 +46,12 @@ pub fn enter_lent(
     let source = Lent::new(caller, &[]);
     let mut target = Lent::new(callee, blocks);
     let mut link = Link::new(resolve, layouts);
-    link.enter(func, flats, &source, &mut target)
+    link.enter(func, flats, &source, &mut target, handed)
 }
 
-/// The second half (`Link::leave`): puts what the core function answered into the caller's blocks and its return area, and answers the
-/// flat values for the caller. The callee is only read. `can_lend` tests with the return area as its place that no block meets it.
+/// The second half (`Link::leave`): puts what the core function answered into the caller's blocks and its return area, and the flat
+/// values for the caller into `back`, whatever that held; it says nothing after a fault. The callee is only read. `can_lend` tests
+/// with the return area as its place that no block meets it.
 pub fn leave_lent(
     resolve: &Resolve,
     layouts: &Layouts,
@@ -59,15 +61,16 @@ pub fn leave_lent(
     callee: &mut [u8],
     caller: &mut [u8],
     blocks: &[Block],
-) -> Result<Flats, Fault>
+    back: &mut Flats,
+) -> Result<(), Fault>
     requires laid_out { layouts.now ≡ layouts_of resolve.now }
     requires within { ∥ AreWithin resolve.now ∥₁ }
     requires function { IsFunction resolve.now func }
     requires short { length callee.old < 4294967296 }
     requires limited { length caller.old < 4294967296 }
     requires good { IsTrue (are_good (length caller.old) blocks.now) }
-    ensures returned { IfOk result (λ back. ReturnsLent (function_type resolve.now func) flats.now callee.old answer.now
-        caller.old blocks.now back.items caller.new) }
+    ensures returned { OnOk result (ReturnsLent (function_type resolve.now func) flats.now callee.old answer.now
+        caller.old blocks.now back.new.items caller.new) }
     ensures fault { IfErr result (λ fault. ReturnOfLentFails (function_type resolve.now func) flats.now callee.old answer.now
         caller.old blocks.now fault caller.new) }
     ensures same_callee { callee.new ≡ callee.old }
@@ -75,5 +78,5 @@ pub fn leave_lent(
     let source = Lent::new(callee, &[]);
     let mut target = Lent::new(caller, blocks);
     let mut link = Link::new(resolve, layouts);
-    link.leave(func, flats, answer, &mut target, &source)
+    link.leave(func, flats, answer, &mut target, &source, back)
 }

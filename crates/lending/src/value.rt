@@ -3,6 +3,7 @@ ghost use Rattle.std.specs.Prelude.{◌≡◌, ◌↔◌, ◌≤◌, [], drop, l
 ghost use Rattle.arrayvec.specs.ArrayVec.{array_vec_len};
 ghost use Rattle.lending.specs.Values.{flat_of, HoldsFlats};
 
+use arrayvec::ArrayVec;
 use canonical_abi::Flat;
 use lift_lower::Flats;
 
@@ -43,13 +44,13 @@ impl Value {
     }
 }
 
-/// Puts the core values as flat values where there were none; whether they are at most as many as a core function takes.
-pub fn put_flats(values: &[Value], flats: &mut Flats) -> bool
+/// Puts the core values as flat values where there were none; whether there is room for them.
+pub fn put_flats<const CAP: usize>(values: &[Value], flats: &mut ArrayVec<Flat, CAP>) -> bool
     requires empty { flats.old.items ≡ [] }
     ensures flats { IsTrue result → flats.new.items ≡ map flat_of values.now }
-    ensures few { IsTrue result ↔ (length values.now ≤ 17) }
+    ensures few { IsTrue result ↔ (length values.now ≤ CAP) }
 {
-    if values.len() > MAX_VALUES {
+    if values.len() > CAP {
         return false;
     }
     for value in values {

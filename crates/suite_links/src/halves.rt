@@ -52,8 +52,9 @@ fn assert_asks_back(rt: &impl Abort, package: &Package, callee: &Bump) -> Result
 fn handed(package: &Package, caller: &Bump, callee: &mut Bump) -> Result<Flats, Fail> {
     let f = function(package)?;
     let mut link = Link::new(package.resolve(), package.layouts());
-    match link.enter(f, &FLATS, caller, callee) {
-        Ok(handed) => Ok(handed),
+    let mut handed = Flats::new();
+    match link.enter(f, &FLATS, caller, callee, &mut handed) {
+        Ok(()) => Ok(handed),
         Err(_) => Err(Fail::from("a trap on the way there")),
     }
 }
@@ -62,8 +63,9 @@ fn handed(package: &Package, caller: &Bump, callee: &mut Bump) -> Result<Flats, 
 fn given_back(package: &Package, caller: &mut Bump, callee: &Bump) -> Result<Flats, Fail> {
     let f = function(package)?;
     let mut link = Link::new(package.resolve(), package.layouts());
-    match link.leave(f, &FLATS, &ANSWER, caller, callee) {
-        Ok(back) => Ok(back),
+    let mut back = Flats::new();
+    match link.leave(f, &FLATS, &ANSWER, caller, callee, &mut back) {
+        Ok(()) => Ok(back),
         Err(_) => Err(Fail::from("a trap on the way back")),
     }
 }

@@ -46,8 +46,8 @@ returns-in-Ok-clause-entered g c =
     let kinds : KindsFit f flats = search rules in
     let same = same-arguments f flats _ c.len-count.result (signature_of c.lifted.result) refl c.len-count.ensures.value (c.lifted.ensures r c.layouts-layouts.ensures c.requires.function) in
     let ends = rw (row, same, c.bytes.ensures) at c.cross_params-crossed.ensures in
-    let told = arguments-end EA f flats caller.bytes callee kinds _ c.cross_params-crossed.result callee' _ c.requires.fresh (omega arith) ends in
-    subst (EndsArguments EA f flats caller.bytes callee callee' c.cross_params-crossed.new.nodes) c.in-Ok.is told
+    let told = arguments-end EA f flats caller.bytes callee kinds _ c.cross_params-crossed.result callee' _ c.cross_params-crossed.new.out.items c.requires.fresh (omega arith) ends in
+    subst (EndsArguments EA f flats caller.bytes callee callee' c.cross_params-crossed.new.nodes c.cross_params-crossed.new.out.items) c.in-Ok.is told
 
 pub returns-in-Err-clause-fault : goal.returns-in-Err-clause-fault
 returns-in-Err-clause-fault g c =
@@ -62,5 +62,5 @@ returns-in-Err-clause-fault g c =
     let kinds : KindsFit f flats = search rules in
     let same = same-arguments f flats _ c.len-count.result (signature_of c.lifted.result) refl c.len-count.ensures.value (c.lifted.ensures r c.layouts-layouts.ensures c.requires.function) in
     let ends = rw (row, same, c.bytes.ensures) at c.cross_params-crossed.ensures in
-    let told = arguments-end EA f flats caller.bytes callee kinds _ c.cross_params-crossed.result callee' _ c.requires.fresh (omega arith) ends in
-    rw c.fault_of.ensures (subst (EndsArguments EA f flats caller.bytes callee callee' c.cross_params-crossed.new.nodes) c.in-Err.is told)
+    let told = arguments-end EA f flats caller.bytes callee kinds _ c.cross_params-crossed.result callee' _ c.cross_params-crossed.new.out.items c.requires.fresh (omega arith) ends in
+    rw c.fault_of.ensures (subst (EndsArguments EA f flats caller.bytes callee callee' c.cross_params-crossed.new.nodes c.cross_params-crossed.new.out.items) c.in-Err.is told)

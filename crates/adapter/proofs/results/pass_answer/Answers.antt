@@ -40,9 +40,9 @@ returns-in-Ok-clause-returned g c =
     let is = result-is r c.args.func c.requires.function s (rw c.resolve.ensures at c.signature.ensures) in
     let own : fields_of_types r c.as_slice-types.result.now ≡ result_fields f.result = ap (fields_of_types r) (same_types s.result _ c.as_slice-types.ensures) ∙ result-fields r s.result ∙ ap result_fields (sym is) in
     let area = area-is f flats c.area_in-area.result c.len.result (signature_of c.lifted-signature.result) c.area_in-area.ensures c.len.ensures.value (c.lifted-signature.ensures r c.layouts.ensures c.requires.function) in
-    let ends = rw (own, area, c.bytes.ensures) at c.cross_result-crossed.ensures in
-    let told = result-ends CA f flats caller callee.bytes c.args.answer.now _ c.cross_result-crossed.result caller' _ c.requires.fresh (omega arith) ends in
-    subst (EndsResult CA f flats caller callee.bytes c.args.answer.now caller' c.cross_result-crossed.new.nodes) c.in-Ok.is told
+    let ends = rw (own, area, c.bytes-bytes.ensures) at c.cross_result-crossed.ensures in
+    let told = result-ends CA f flats caller callee.bytes c.args.answer.now _ c.cross_result-crossed.result caller' _ c.cross_result-crossed.new.out.items c.requires.fresh (omega arith) ends in
+    subst (EndsResult CA f flats caller callee.bytes c.args.answer.now caller' c.cross_result-crossed.new.nodes c.cross_result-crossed.new.out.items) c.in-Ok.is told
 
 pub returns-in-Err-clause-fault : goal.returns-in-Err-clause-fault
 returns-in-Err-clause-fault g c =
@@ -57,6 +57,6 @@ returns-in-Err-clause-fault g c =
     let is = result-is r c.args.func c.requires.function s (rw c.resolve.ensures at c.signature.ensures) in
     let own : fields_of_types r c.as_slice-types.result.now ≡ result_fields f.result = ap (fields_of_types r) (same_types s.result _ c.as_slice-types.ensures) ∙ result-fields r s.result ∙ ap result_fields (sym is) in
     let area = area-is f flats c.area_in-area.result c.len.result (signature_of c.lifted-signature.result) c.area_in-area.ensures c.len.ensures.value (c.lifted-signature.ensures r c.layouts.ensures c.requires.function) in
-    let ends = rw (own, area, c.bytes.ensures) at c.cross_result-crossed.ensures in
-    let told = result-ends CA f flats caller callee.bytes c.args.answer.now _ c.cross_result-crossed.result caller' _ c.requires.fresh (omega arith) ends in
-    rw c.fault_of.ensures (subst (EndsResult CA f flats caller callee.bytes c.args.answer.now caller' c.cross_result-crossed.new.nodes) c.in-Err.is told)
+    let ends = rw (own, area, c.bytes-bytes.ensures) at c.cross_result-crossed.ensures in
+    let told = result-ends CA f flats caller callee.bytes c.args.answer.now _ c.cross_result-crossed.result caller' _ c.cross_result-crossed.new.out.items c.requires.fresh (omega arith) ends in
+    rw c.fault_of.ensures (subst (EndsResult CA f flats caller callee.bytes c.args.answer.now caller' c.cross_result-crossed.new.nodes c.cross_result-crossed.new.out.items) c.in-Err.is told)

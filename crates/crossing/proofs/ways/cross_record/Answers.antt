@@ -50,7 +50,7 @@ returns-in_err-cross_fields g c =
     let Q : ℕ → Type 0 = λ p. HasStopped A (FieldsWalk fs m c.low_word-from.result p 0) mid c.args.nodes.now s new c.cross_fields.new.nodes in
     let p = err_from_is_err_and c.from_residual.result c.from_residual.ensures.1 in
     rw (p.1, p.2) (record-stopped A max_flat_params fs m c.args.flats.now c.requires.kinds c.requires.spilled c.low_word-from.result c.low_word-from.ensures stands gr.0 gr.1
-    (AddressFaulty max_flat_params fs m c.args.flats.now) (λ k. ⊥) old mid c.args.nodes.now s new c.cross_fields.new.nodes gr.3 ok.no_shorter (subst Q (sym gr.2) c.in_err-cross_fields.ensures))
+    (AddressFaulty max_flat_params fs m c.args.flats.now) (λ k. ⊥) old mid c.args.nodes.now s new c.cross_fields.new.nodes gr.3 ok.no_shorter (subst Q (sym gr.2) c.in_err-cross_fields.ensures) c.args.out.now.items)
 
 pub returns : goal.returns
 returns g c =
@@ -66,6 +66,6 @@ returns g c =
     let new = g.G.Guest.memory c.cross_fields.new.guest in
     let gr = granted-led 4294967295 A (align (record_type fs)) (size (record_type fs)) c.in-Ok.place old mid ok in
     let Q : ℕ → Type 0 = λ p. IsDone A (FieldsWalk fs m c.low_word-from.result p 0) mid c.args.nodes.now new c.cross_fields.new.nodes in
-    let told : c.push.new.self.items ≡ I32 gr.0.at ∷ [] = c.push.ensures.items ∙ ap (λ l. l ++ (I32 c.in-Ok.place ∷ [])) c.new-out.ensures ∙ ap (λ p. I32 p ∷ []) (sym gr.2) in
+    let told : c.push.new.self.items ≡ I32 gr.0.at ∷ [] = c.push.ensures.items ∙ ap (λ l. l ++ (I32 c.in-Ok.place ∷ [])) c.requires.empty ∙ ap (λ p. I32 p ∷ []) (sym gr.2) in
     record-done A max_flat_params fs m c.args.flats.now c.requires.kinds c.requires.spilled c.low_word-from.result c.low_word-from.ensures stands gr.0 gr.1 c.push.new.self.items told
     old mid c.args.nodes.now new c.cross_fields.new.nodes gr.3 ok.no_shorter (subst Q (sym gr.2) c.in_ok-cross_fields.ensures)

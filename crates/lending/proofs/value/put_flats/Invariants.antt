@@ -4,4 +4,4 @@ use Rattle.lending.specs.Values.{flat_of}
 use Rattle.lending.proofs.value.put_flats.Given as goal
 
 abbrev pub invariant-loop-value : goal.invariant-loop-value
-invariant-loop-value l = l.flats.items ≡ map flat_of (take l.value-index l.values)
+invariant-loop-value g l = l.flats.items ≡ map flat_of (take l.value-index l.values)

@@ -7,8 +7,8 @@ use Rattle.tables.specs.Closed.{function_type}
 use Rattle.adapter.proofs.Promised.{link-promised, link-told}
 use Rattle.adapter.proofs.link.Link.call.Goals as goal
 
-pub returns-in_err-handed-clause-call : goal.returns-in_err-handed-clause-call
-returns-in_err-handed-clause-call g c =
+pub returns-in_err-enter-clause-call : goal.returns-in_err-enter-clause-call
+returns-in_err-enter-clause-call g c =
     let r = c.args.self.now.resolve in
     let f = function_type r c.args.func in
     let flats = c.args.flats.now in
@@ -18,9 +18,9 @@ returns-in_err-handed-clause-call g c =
     let entered = g.E.Guest.memory c.enter.new.callee in
     let there = c.enter.new.self.there in
     let p = err_from_is_err_and c.from_residual.result c.from_residual.ensures.1 in
-    let fails : EntryFails g.E.Guest.allocates f flats old.caller.bytes old.callee c.in_err-handed.field-0.0 entered there = c.in_err-handed.ensures.fault in
-    rw (p.1, p.2) (link-told parties r within c.args.func flats old (Err c.in_err-handed.field-0.0) (world old.caller entered old.body) there c.enter.new.self.back c.requires.function
-    (subst (λ (n : ℕ). CallsInHalves parties f flats old (Err c.in_err-handed.field-0.0) there n (world old.caller entered old.body)) (sym c.enter.ensures.back) (ends_at_entry c.in_err-handed.field-0.0 there entered fails)))
+    let fails : EntryFails g.E.Guest.allocates f flats old.caller.bytes old.callee c.in_err-enter.field-0.0 entered there = c.in_err-enter.ensures.fault in
+    rw (p.1, p.2) (link-told parties r within c.args.func flats old (Err c.in_err-enter.field-0.0) (world old.caller entered old.body) there c.enter.new.self.back c.requires.function
+    (subst (λ (n : ℕ). CallsInHalves parties f flats old (Err c.in_err-enter.field-0.0) there n (world old.caller entered old.body)) (sym c.enter.ensures.back) (ends_at_entry c.in_err-enter.field-0.0 there entered fails)))
 
 pub returns-in_default-clause-call : goal.returns-in_default-clause-call
 returns-in_default-clause-call g c =
@@ -33,15 +33,15 @@ returns-in_default-clause-call g c =
     let entered = g.E.Guest.memory c.enter.new.callee in
     let there = c.enter.new.self.there in
     let handed = c.as_slice.result.now in
-    let enters : HasEntered g.E.Guest.allocates f flats old.caller.bytes old.callee handed entered there = rw c.as_slice.ensures.value c.in_ok-handed.ensures.entered in
+    let enters : HasEntered g.E.Guest.allocates f flats old.caller.bytes old.callee handed entered there = rw c.as_slice.ensures.value c.in_ok-enter.ensures.entered in
     let ran = g.E.Guest.memory c.call.new.memory in
     let body = g.B.Body.state c.call.new.self in
     let runs : RunsBetween parties f flats old there None ran body = record { handed = handed; entered = entered; enters = enters; run = c.in_default.ensures.run } in
     rw c.trap.ensures (link-told parties r within c.args.func flats old _ (world old.caller ran body) there c.enter.new.self.back c.requires.function
     (subst (λ (n : ℕ). CallsInHalves parties f flats old (Err body_stopped) there n (world old.caller ran body)) (sym c.enter.ensures.back) (ends_at_run there ran body runs)))
 
-pub returns-in_err-back-clause-call : goal.returns-in_err-back-clause-call
-returns-in_err-back-clause-call g c =
+pub returns-in_err-leave-clause-call : goal.returns-in_err-leave-clause-call
+returns-in_err-leave-clause-call g c =
     let r = c.args.self.now.resolve in
     let f = function_type r c.args.func in
     let flats = c.args.flats.now in
@@ -51,7 +51,7 @@ returns-in_err-back-clause-call g c =
     let entered = g.E.Guest.memory c.enter.new.callee in
     let there = c.leave.new.self.there in
     let handed = c.as_slice.result.now in
-    let enters : HasEntered g.E.Guest.allocates f flats old.caller.bytes old.callee handed entered there = rw (c.as_slice.ensures.value, c.leave.ensures.there) c.in_ok-handed.ensures.entered in
+    let enters : HasEntered g.E.Guest.allocates f flats old.caller.bytes old.callee handed entered there = rw (c.as_slice.ensures.value, c.leave.ensures.there) c.in_ok-enter.ensures.entered in
     let ran = g.E.Guest.memory c.call.new.memory in
     let body = g.B.Body.state c.call.new.self in
     let answer = c.as_slice-answer.result.now in
@@ -59,10 +59,10 @@ returns-in_err-back-clause-call g c =
     let runs : RunsBetween parties f flats old there (Some answer) ran body = record { handed = handed; entered = entered; enters = enters; run = run } in
     let caller = g.C.Guest.memory c.leave.new.caller in
     let back = c.leave.new.self.back in
-    let p = err_from_is_err_and c.from_residual-in_err-back.result c.from_residual-in_err-back.ensures.1 in
-    let fails : ReturnFails g.C.Guest.allocates f flats ran.bytes answer old.caller c.in_err-back.field-0.0 caller back = rw c.enter.ensures.same_package at c.in_err-back.ensures.fault in
-    rw (p.1, p.2) (link-told parties r within c.args.func flats old (Err c.in_err-back.field-0.0) (world caller ran body) there back c.requires.function
-    (ends_at_return there back answer c.in_err-back.field-0.0 caller ran body runs fails))
+    let p = err_from_is_err_and c.from_residual-in_err-leave.result c.from_residual-in_err-leave.ensures.1 in
+    let fails : ReturnFails g.C.Guest.allocates f flats ran.bytes answer old.caller c.in_err-leave.field-0.0 caller back = rw c.enter.ensures.same_package at c.in_err-leave.ensures.fault in
+    rw (p.1, p.2) (link-told parties r within c.args.func flats old (Err c.in_err-leave.field-0.0) (world caller ran body) there back c.requires.function
+    (ends_at_return there back answer c.in_err-leave.field-0.0 caller ran body runs fails))
 
 pub returns-in_default-post_return-clause-call : goal.returns-in_default-post_return-clause-call
 returns-in_default-post_return-clause-call g c =
@@ -75,7 +75,7 @@ returns-in_default-post_return-clause-call g c =
     let entered = g.E.Guest.memory c.enter.new.callee in
     let there = c.leave.new.self.there in
     let handed = c.as_slice.result.now in
-    let enters : HasEntered g.E.Guest.allocates f flats old.caller.bytes old.callee handed entered there = rw (c.as_slice.ensures.value, c.leave.ensures.there) c.in_ok-handed.ensures.entered in
+    let enters : HasEntered g.E.Guest.allocates f flats old.caller.bytes old.callee handed entered there = rw (c.as_slice.ensures.value, c.leave.ensures.there) c.in_ok-enter.ensures.entered in
     let ran = g.E.Guest.memory c.call.new.memory in
     let body = g.B.Body.state c.call.new.self in
     let answer = c.as_slice-answer.result.now in
@@ -83,8 +83,8 @@ returns-in_default-post_return-clause-call g c =
     let runs : RunsBetween parties f flats old there (Some answer) ran body = record { handed = handed; entered = entered; enters = enters; run = run } in
     let caller = g.C.Guest.memory c.leave.new.caller in
     let back = c.leave.new.self.back in
-    let given = c.in_ok-back.back.items in
-    let returns : RunsAndReturns parties f flats old there back answer given caller ran body = record { runs = runs; returns = rw c.enter.ensures.same_package at c.in_ok-back.ensures.returned } in
+    let given = c.leave.new.back.items in
+    let returns : RunsAndReturns parties f flats old there back answer given caller ran body = record { runs = runs; returns = rw c.enter.ensures.same_package at c.in_ok-leave.ensures.returned } in
     let callee = g.E.Guest.memory c.post_return.new.memory in
     let kept = g.B.Body.state c.post_return.new.self in
     let post = (c.call.ensures.same_posts _ _ _ _ _ _).1 c.in_default-post_return.ensures.run in
@@ -102,7 +102,7 @@ returns-clause-call g c =
     let entered = g.E.Guest.memory c.enter.new.callee in
     let there = c.leave.new.self.there in
     let handed = c.as_slice.result.now in
-    let enters : HasEntered g.E.Guest.allocates f flats old.caller.bytes old.callee handed entered there = rw (c.as_slice.ensures.value, c.leave.ensures.there) c.in_ok-handed.ensures.entered in
+    let enters : HasEntered g.E.Guest.allocates f flats old.caller.bytes old.callee handed entered there = rw (c.as_slice.ensures.value, c.leave.ensures.there) c.in_ok-enter.ensures.entered in
     let ran = g.E.Guest.memory c.call.new.memory in
     let body = g.B.Body.state c.call.new.self in
     let answer = c.as_slice-answer.result.now in
@@ -110,25 +110,25 @@ returns-clause-call g c =
     let runs : RunsBetween parties f flats old there (Some answer) ran body = record { handed = handed; entered = entered; enters = enters; run = run } in
     let caller = g.C.Guest.memory c.leave.new.caller in
     let back = c.leave.new.self.back in
-    let given = c.in_ok-back.back.items in
-    let returns : RunsAndReturns parties f flats old there back answer given caller ran body = record { runs = runs; returns = rw c.enter.ensures.same_package at c.in_ok-back.ensures.returned } in
+    let given = c.leave.new.back.items in
+    let returns : RunsAndReturns parties f flats old there back answer given caller ran body = record { runs = runs; returns = rw c.enter.ensures.same_package at c.in_ok-leave.ensures.returned } in
     let callee = g.E.Guest.memory c.post_return.new.memory in
     let kept = g.B.Body.state c.post_return.new.self in
     let post = (c.call.ensures.same_posts _ _ _ _ _ _).1 c.in-Ok-post_return.ensures.run in
     link-told parties r within c.args.func flats old (Ok given) (world caller callee kept) there back c.requires.function
     (completes there back answer given caller ran body returns callee kept post)
 
-pub returns-in_err-handed-clause-promise : goal.returns-in_err-handed-clause-promise
-returns-in_err-handed-clause-promise g c =
-    link-promised _ _ _ c.args.self.now.resolve c.args.func _ _ _ _ c.requires.function (returns-in_err-handed-clause-call g c).0 (returns-in_err-handed-clause-call g c).1
+pub returns-in_err-enter-clause-promise : goal.returns-in_err-enter-clause-promise
+returns-in_err-enter-clause-promise g c =
+    link-promised _ _ _ c.args.self.now.resolve c.args.func _ _ _ _ c.requires.function (returns-in_err-enter-clause-call g c).0 (returns-in_err-enter-clause-call g c).1
 
 pub returns-in_default-clause-promise : goal.returns-in_default-clause-promise
 returns-in_default-clause-promise g c =
     link-promised _ _ _ c.args.self.now.resolve c.args.func _ _ _ _ c.requires.function (returns-in_default-clause-call g c).0 (returns-in_default-clause-call g c).1
 
-pub returns-in_err-back-clause-promise : goal.returns-in_err-back-clause-promise
-returns-in_err-back-clause-promise g c =
-    link-promised _ _ _ c.args.self.now.resolve c.args.func _ _ _ _ c.requires.function (returns-in_err-back-clause-call g c).0 (returns-in_err-back-clause-call g c).1
+pub returns-in_err-leave-clause-promise : goal.returns-in_err-leave-clause-promise
+returns-in_err-leave-clause-promise g c =
+    link-promised _ _ _ c.args.self.now.resolve c.args.func _ _ _ _ c.requires.function (returns-in_err-leave-clause-call g c).0 (returns-in_err-leave-clause-call g c).1
 
 pub returns-in_default-post_return-clause-promise : goal.returns-in_default-post_return-clause-promise
 returns-in_default-post_return-clause-promise g c =
