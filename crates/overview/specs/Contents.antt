@@ -1,5 +1,5 @@
 -- How much a package has, in lines: WIT.md, "Package Names", "Interfaces", "Worlds".
-use Rattle.std.specs.Prelude.{ℕ, Bool, true, false, List, ◌++◌, length, flat_map, codes}
+use Rattle.std.specs.Prelude.{ℕ, Bool, true, false, if◌then◌else◌, List, [], ◌++◌, length, drop, flat_map, codes}
 use Rattle.std.specs.List.{count_by}
 use Rattle.std.specs.Fmt.{decimal}
 use Rattle.atoms.specs.FullName.{version_suffix}
@@ -10,6 +10,8 @@ use Rattle.tables.specs.declared.tables.WorldItem.{WorldItem}
 use Rattle.tables.specs.declared.tables.Interface.{Interface}
 use Rattle.tables.specs.declared.tables.World.{World}
 use Rattle.tables.specs.declared.tables.Resolve.{Resolve}
+use Rattle.package_form.specs.Closed.{own_package, is_world_of}
+use Rattle.package_form.specs.Reached.{is_interface_of}
 
 abbrev pub is_same : Direction → Direction → Bool
 is_same Import Import = true
@@ -34,6 +36,15 @@ world_line w =
     codes "world " ++ (w.name ++ (codes " imports " ++ (decimal (count_by (crosses Import) w.items) ++ (codes " exports "
     ++ (decimal (count_by (crosses Export) w.items) ++ codes "\n")))))
 
--- the package, its interfaces in order, and its worlds
+-- what is written of an interface or a world of this package; nothing of another's
+abbrev pub interface_in : ℕ → Interface → List ℕ
+interface_in own i = if is_interface_of own i then interface_line i else []
+
+abbrev pub world_in : ℕ → World → List ℕ
+world_in own w = if is_world_of own w then world_line w else []
+
+-- the last package, its interfaces in order, and its worlds
 abbrev pub shown : Resolve → List ℕ
-shown r = flat_map package_line r.packages ++ (flat_map interface_line r.interfaces ++ flat_map world_line r.worlds)
+shown r =
+    let own = own_package r.packages in
+    flat_map package_line (drop own r.packages) ++ (flat_map (interface_in own) r.interfaces ++ flat_map (world_in own) r.worlds)

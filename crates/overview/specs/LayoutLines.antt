@@ -1,5 +1,5 @@
 -- How a package is laid out, in lines: CanonicalABI.md, "Alignment", "Element Size" and "Flattening" of its named types and functions.
-use Rattle.std.specs.Prelude.{ℕ, List, [], ◌++◌, flat_map, codes, Option, None, Some, slice_get}
+use Rattle.std.specs.Prelude.{ℕ, if◌then◌else◌, List, [], ◌++◌, flat_map, codes, Option, None, Some, slice_get}
 use Rattle.std.specs.List.{join_by}
 use Rattle.std.specs.Fmt.{decimal}
 use Rattle.canonical_abi.specs.Layout.{size, align, CoreSignature, lifted_signature, lowered_signature}
@@ -16,6 +16,8 @@ use Rattle.tables.specs.declared.tables.Function.{Function}
 use Rattle.tables.specs.declared.tables.ValType.TheVariants as val
 use Rattle.tables.specs.declared.tables.Interface.{Interface}
 use Rattle.tables.specs.declared.tables.Resolve.{Resolve}
+use Rattle.package_form.specs.Closed.{own_package}
+use Rattle.package_form.specs.Reached.{is_interface_of}
 
 abbrev pub kind_word : CoreKind → List ℕ
 kind_word I32 = codes "i32"
@@ -57,5 +59,10 @@ function_line r interface id =
 abbrev pub lines_of : Resolve → List ℕ → Interface → List ℕ
 lines_of r name i = flat_map (type_line r name) i.uses ++ (flat_map (type_line r name) i.types ++ flat_map (function_line r name) i.functions)
 
+-- .. if it is of this package
+abbrev pub lines_in : Resolve → ℕ → Interface → List ℕ
+lines_in r own i = if is_interface_of own i then lines_of r (full_name r i) i else []
+
+-- those of the last package
 abbrev pub laid_out : Resolve → List ℕ
-laid_out r = flat_map (λ i. lines_of r (full_name r i) i) r.interfaces
+laid_out r = flat_map (lines_in r (own_package r.packages)) r.interfaces

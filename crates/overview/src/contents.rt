@@ -1,8 +1,9 @@
 //! The name of a package, and how much each interface and each world of it has.
 ghost use Rattle.std.specs.Prelude.{◌≡◌, ◌++◌, IfOk, OnOk, string_bytes, flat_map};
 ghost use Rattle.std.specs.List.{count_by};
-ghost use Rattle.overview.specs.Contents.{package_line, interface_line, crosses, world_line, shown};
+ghost use Rattle.overview.specs.Contents.{package_line, interface_line, interface_in, crosses, world_line, world_in, shown};
 
+use package_form::own_package;
 use std::alloc::{AllocError, Global};
 use tables::{Direction, Interface, PackageName, Resolve, World, WorldItem};
 
@@ -95,33 +96,45 @@ fn push_packages(
 fn push_interfaces(
     alloc: Global,
     text: &mut String,
+    own: usize,
     interfaces: &[Interface],
 ) -> Result<(), AllocError>
-    ensures { OnOk result (string_bytes text.new ≡ string_bytes text.old ++ flat_map interface_line interfaces.now) }
+    ensures { OnOk result (string_bytes text.new ≡ string_bytes text.old ++ flat_map (interface_in own) interfaces.now) }
 {
     for interface in interfaces {
-        text.push_str(interface_line(alloc, interface)?.as_str())?;
+        if interface.package.0 as usize == own {
+            text.push_str(interface_line(alloc, interface)?.as_str())?;
+        }
     }
     Ok(())
 }
 
-fn push_worlds(alloc: Global, text: &mut String, worlds: &[World]) -> Result<(), AllocError>
-    ensures { OnOk result (string_bytes text.new ≡ string_bytes text.old ++ flat_map world_line worlds.now) }
+fn push_worlds(
+    alloc: Global,
+    text: &mut String,
+    own: usize,
+    worlds: &[World],
+) -> Result<(), AllocError>
+    ensures { OnOk result (string_bytes text.new ≡ string_bytes text.old ++ flat_map (world_in own) worlds.now) }
 {
     for world in worlds {
-        text.push_str(world_line(alloc, world)?.as_str())?;
+        if world.package.0 as usize == own {
+            text.push_str(world_line(alloc, world)?.as_str())?;
+        }
     }
     Ok(())
 }
 
-/// A line `package` with the package's name, and a line for each interface and each world, with its label: how many names
-/// an interface uses and how many types and functions it has, and how many items a world imports and exports.
+/// A line `package` with the name of the last package, and a line for each interface and each world of it, with its label: how
+/// many names an interface uses and how many types and functions it has, and how many items a world imports and exports.
 pub fn shown(alloc: Global, resolve: &Resolve) -> Result<String, AllocError>
     ensures { IfOk result (λ s. string_bytes s ≡ shown resolve.now) }
 {
     let mut text = String::new(alloc);
-    push_packages(alloc, &mut text, resolve.packages.as_slice())?;
-    push_interfaces(alloc, &mut text, resolve.interfaces.as_slice())?;
-    push_worlds(alloc, &mut text, resolve.worlds.as_slice())?;
+    let packages = resolve.packages.as_slice();
+    let own = own_package(packages);
+    push_packages(alloc, &mut text, &packages[own..])?;
+    push_interfaces(alloc, &mut text, own, resolve.interfaces.as_slice())?;
+    push_worlds(alloc, &mut text, own, resolve.worlds.as_slice())?;
     Ok(text)
 }

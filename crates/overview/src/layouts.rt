@@ -10,6 +10,7 @@ ghost use Rattle.overview.specs.LayoutLines.{kind_word, kinds_text, signature_te
 
 use canonical_abi::CoreKind;
 use layout::{CoreSignature, Layouts};
+use package_form::own_package;
 use std::alloc::{AllocError, Global};
 use tables::{Definition, FunctionId, Interface, Name, Resolve, TypeId, ValType};
 
@@ -252,16 +253,19 @@ fn full_name(alloc: Global, resolve: &Resolve, interface: &Interface) -> Result<
     package.full_name(alloc, &interface.name)
 }
 
-/// A line for each used name, type and function of each interface, in package order: size and alignment in bytes, and
-/// the core signatures of the callee's function and of the caller's import. Functions of worlds are left out.
+/// A line for each used name, type and function of each interface of the last package, in its order: size and alignment in
+/// bytes, and the core signatures of the callee's function and of the caller's import. Functions of worlds are left out.
 pub fn laid_out(alloc: Global, resolve: &Resolve, layouts: &Layouts) -> Result<String, AllocError>
     requires laid_out { layouts.now ≡ layouts_of resolve.now }
     ensures { IfOk result (λ s. string_bytes s ≡ laid_out resolve.now) }
 {
     let mut text = String::new(alloc);
+    let own = own_package(resolve.packages.as_slice());
     for interface in resolve.interfaces.as_slice() {
-        let name = full_name(alloc, resolve, interface)?;
-        push_interface(alloc, resolve, layouts, &mut text, name.as_str(), interface)?;
+        if interface.package.0 as usize == own {
+            let name = full_name(alloc, resolve, interface)?;
+            push_interface(alloc, resolve, layouts, &mut text, name.as_str(), interface)?;
+        }
     }
     Ok(text)
 }
