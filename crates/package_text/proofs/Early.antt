@@ -9,12 +9,15 @@ use Rattle.std.proofs.lemmas.List.{get_or-map, length-map}
 use Rattle.std.specs.List.{take-map}
 use Rattle.std.proofs.lemmas.Slice.Eq.{bytes_eq-Decides}
 use Rattle.package_form.specs.Scope.{lowered}
-use Rattle.package_form.proofs.Lists.{all-head, all-tail, all-mono, contains-left, contains-either, contains-map}
-use Rattle.resolve.specs.Declarations.{UsedItem, InterfaceTree, interface_at, interface_name, interface_names, no_interface, use_interface, used_names, own_types, named_definition}
+use Rattle.package_form.proofs.Lists.{all-head, all-tail, all-mono, all-contained, contains-left, contains-either, contains-map}
+use Rattle.tables.specs.PackageNames.{PackageParts}
+use Rattle.resolve.specs.Declarations.{UsedItem, InterfaceTree, interface_at, interface_name, interface_names, no_interface, used_names, own_types, named_definition}
 use Rattle.resolve.specs.Resolved.{no_type}
-use Rattle.resolve.specs.Resolves.{place_of, places, uses_of_interface, interface_uses, uses_of_type, type_uses, IsKnownUse}
+use Rattle.resolve.specs.Imports.{Imports}
+use Rattle.resolve.specs.Resolves.{place_of, places, own_uses, uses_of_interface, interface_uses, uses_of_type, type_uses, IsKnownIn, IsKnownUseOf}
 use Rattle.resolve.proofs.Apart.{every-contained, AreOthers, AreApart, only}
 use Rattle.resolve.proofs.Finding.{place-has}
+use Rattle.resolve.proofs.Uses.{own-uses-all}
 use Rattle.resolve.proofs.ItemNames.{function_name, HasDistinctParts}
 use Rattle.package_text.proofs.Orders.{UsesEarlier, NamesEarlier}
 use Rattle.package_text.proofs.Knowing.{IsKnownTree, AreKnownTrees, known-at}
@@ -69,32 +72,28 @@ apart-across (x ∷ xs) ys n h c d = elim (contains-either (x ∷ []) xs n c) [
 
 -- ---- interfaces
 
-all-mapped : {A B : Type 0} (P : B → Type 0) (f : A → B) (xs : List A) → All (λ x. P (f x)) xs → All P (map f xs)
-all-mapped P f [] h k d l = absurd (omega (arith, l))
-all-mapped P f (x ∷ xs) h zero d l = all-head (λ x. P (f x)) x xs h
-all-mapped P f (x ∷ xs) h (suc k) d l = all-mapped P f xs (all-tail (λ x. P (f x)) x xs h) k d (omega (arith, l))
-
-pub interfaces-earlier : (is : List InterfaceTree) → AreKnownTrees [] is → UsesEarlier (interface_uses is)
-interfaces-earlier is h k l =
-    let m : k < length is = omega (arith, l, length-map is (uses_of_interface (interface_names is))) in
+pub interfaces-earlier : (m : Imports) (is : List InterfaceTree) → AreKnownTrees m [] is → UsesEarlier (interface_uses is)
+interfaces-earlier m is h k l =
+    let below : k < length is = omega (arith, l, length-map is (uses_of_interface (interface_names is))) in
     let i = interface_at is k in
-    let uses : All (IsKnownUse (take k is)) i.uses = (known-at [] is h k m).uses in
-    let wanted : All (IsEarlier k (interface_names is)) (map use_interface i.uses) =
-    all-mapped (IsEarlier k (interface_names is)) use_interface i.uses
-    (all-mono (IsKnownUse (take k is)) (λ (u : UsedItem). IsEarlier k (interface_names is) u.interface) (λ u x. taken-earlier k (interface_names is) u.interface (before u x)) i.uses uses) in
-    ap (list_all (λ u. nat_lt u k)) (get_or-map (uses_of_interface (interface_names is)) is k no_interface [] m) ∙ places-before k (interface_names is) (map use_interface i.uses) wanted
+    let uses : All (IsKnownUseOf m (take k is)) i.uses = (known-at m [] is h k below).uses in
+    let names = interface_names is in
+    let wanted : All (IsEarlier k names) (own_uses i) = own-uses-all (IsEarlier k names) i.uses (λ u c e. taken-earlier k names u.interface (before u e (all-contained (IsKnownUseOf m (take k is)) i.uses u uses c))) in
+    ap (list_all (λ u. nat_lt u k)) (get_or-map (uses_of_interface names) is k no_interface [] below) ∙ places-before k names (own_uses i) wanted
   where
-    before : (u : UsedItem) → IsKnownUse (take k is) u → Contains (take k (interface_names is)) u.interface
-    before u (j, c, name, has) = subst (λ (ns : List (List ℕ)). Contains ns u.interface) (sym (take-map interface_name k is)) (subst (Contains (map interface_name (take k is))) name (contains-map interface_name (take k is) j c))
+    before : (u : UsedItem) → u.«package» ≡ None → IsKnownUseOf m (take k is) u → Contains (take k (interface_names is)) u.interface
+    before u e x =
+        let o = subst (λ (q : Option PackageParts). IsKnownIn m (take k is) q u.interface u.name) e x in
+        subst (λ (ns : List (List ℕ)). Contains ns u.interface) (sym (take-map interface_name k is)) (subst (Contains (map interface_name (take k is))) o.2 (contains-map interface_name (take k is) o.0 o.1))
 
 -- ---- types
 
-pub types-earlier : (before : List InterfaceTree) (i : InterfaceTree) → IsKnownTree before i → HasDistinctParts i → UsesEarlier (type_uses i)
-types-earlier before i h apart k l =
-    let m : k < length i.types = omega (arith, l, length-map i.types (uses_of_type (own_types i))) in
+pub types-earlier : (m : Imports) (before : List InterfaceTree) (i : InterfaceTree) → IsKnownTree m before i → HasDistinctParts i → UsesEarlier (type_uses i)
+types-earlier m before i h apart k l =
+    let below : k < length i.types = omega (arith, l, length-map i.types (uses_of_type (own_types i))) in
     let names = named_definition (get_or i.types k no_type).definition in
-    ap (list_all (λ u. nat_lt u k)) (get_or-map (uses_of_type (own_types i)) i.types k no_type [] m)
-    ∙ places-before k (own_types i) names (all-mono (Contains (used_names i ++ take k (own_types i))) (IsEarlier k (own_types i)) early names (h.types k m))
+    ap (list_all (λ u. nat_lt u k)) (get_or-map (uses_of_type (own_types i)) i.types k no_type [] below)
+    ∙ places-before k (own_types i) names (all-mono (Contains (used_names i ++ take k (own_types i))) (IsEarlier k (own_types i)) early names (h.types k below))
   where
     early : (n : List ℕ) → Contains (used_names i ++ take k (own_types i)) n → IsEarlier k (own_types i) n
     early n c = elim (contains-either (used_names i) (take k (own_types i)) n c) [
@@ -102,8 +101,8 @@ types-earlier before i h apart k l =
       | inr q ↦ taken-earlier k (own_types i) n q
     ]
 
-pub names-earlier : (is : List InterfaceTree) → AreKnownTrees [] is → All HasDistinctParts is → NamesEarlier is
-names-earlier is h apart = record {
-  interfaces = interfaces-earlier is h;
-  types = λ k l. types-earlier (take k is) (interface_at is k) (known-at [] is h k l) (apart k no_interface l);
+pub names-earlier : (m : Imports) (is : List InterfaceTree) → AreKnownTrees m [] is → All HasDistinctParts is → NamesEarlier is
+names-earlier m is h apart = record {
+  interfaces = interfaces-earlier m is h;
+  types = λ k l. types-earlier m (take k is) (interface_at is k) (known-at m [] is h k l) (apart k no_interface l);
 }

@@ -1,16 +1,16 @@
 -- What is written for single rows, for the rows of an interface, and for the items of a world.
 use Rattle.std.proofs.Common.{◌≡◌, ◌+◌, ◌<◌, ℕ, List, [], ◌∷◌, ◌++◌, map, flat_map, length, take, get_or, slice_get, refl, sym, ap, subst, ◌∙◌, append_assoc, append-nil, Option, None, Some}
-use Rattle.std.specs.Prelude.{true, slice_index_or}
+use Rattle.std.specs.Prelude.{true}
 use Rattle.std.specs.List.{list_all}
 use Rattle.std.proofs.lemmas.List.{map-append}
 use Rattle.std.proofs.lemmas.List.Folds.{flat_map-map}
 use Rattle.std.proofs.lemmas.Bool.{false≢true}
-use Rattle.wit_syntax.specs.Syntax.{Entry, Local, Uses}
+use Rattle.wit_syntax.specs.Syntax.{Entry, Uses}
 use Rattle.wit_syntax.specs.View.{entry_view}
 use Rattle.wit_syntax.specs.declared.ast.InterfaceItem.{InterfaceItem}
 use Rattle.wit_print.specs.Unplaced.{nowhere}
-use Rattle.tables.specs.Tables.{type_of, function_of, is_there, is_function_of, is_placed_item, is_placed_world, are_placed_worlds}
-use Rattle.tables.specs.Package.{read_val, named_by, named_function, function_meaning, meaning_of}
+use Rattle.tables.specs.Tables.{function_of, is_there, is_function_of, is_placed_item, is_placed_world, are_placed_worlds}
+use Rattle.tables.specs.Package.{Tree, Reference, key_of, read_val, named_by, named_function, function_meaning, meaning_of}
 use Rattle.tables.specs.declared.tables.TypeId.{TypeId}
 use Rattle.tables.specs.declared.tables.FunctionId.{FunctionId}
 use Rattle.tables.specs.declared.tables.InterfaceId.{InterfaceId}
@@ -29,38 +29,41 @@ use Rattle.tables.specs.declared.tables.WorldItemKind.TheVariants as item
 use Rattle.tables.specs.declared.tables.World.{World}
 use Rattle.tables.specs.declared.tables.Resolve.{Resolve}
 use Rattle.tables.proofs.Rows.{split, both}
+use Rattle.package_form.specs.Reached.{used_by, name_at}
 use Rattle.package_form.specs.Form.{ids_of}
 use Rattle.package_form.proofs.Lists.{flat_map-append, list-grows}
 use Rattle.package_form.proofs.Meeting.{split-at}
 use Rattle.resolve.proofs.Blocks.{at-true}
-use Rattle.package_text.specs.Tree.{own_names, own_trees, local_of, use_entry, entry_by, entry_of, definitions_in, interface_definitions}
-use Rattle.package_text.specs.Pieces.{name_in, entries_at, is_item}
+use Rattle.package_text.specs.Tree.{path_at, name_path, row_path, own_names, own_trees, local_of, use_entry, entry_by, entry_of, row_entries, entries_at}
+use Rattle.package_text.specs.Pieces.{is_item}
 use Rattle.package_text.proofs.Standing.{name-at}
 
--- a used name, by the interface's own name
-pub use-written : (r : Resolve) (t : TypeId) (n : TypeName) (l : List ℕ) → name_in (type_of (slice_get r.definitions t.0)) ≡ Some n
-    → use_entry (read_val (own_trees r) (val.Id t)) l ≡ Uses nowhere (Local (slice_index_or (own_names r) n.interface.0 [])) (record { name = n.name; local = local_of n.name l } ∷ [])
-use-written r t n l h = ap (λ x. use_entry x l) (name-at r t.0 n h)
+-- a used name, by the path to its interface
+pub use-written : (r : Resolve) (t : TypeId) (n : TypeName) (l : List ℕ) → name_at r.definitions (Some t) ≡ Some n
+    → use_entry (name_path r (name_at r.definitions (Some t))) (read_val (own_trees r) (val.Id t)) l ≡ Uses nowhere (path_at r n.interface.0) (record { name = n.name; local = local_of n.name l } ∷ [])
+use-written r t n l h = ap (λ (x : Tree). use_entry (name_path r (name_at r.definitions (Some t))) x l) (name-at r t.0 n h)
+    ∙ ap (λ (m : Option TypeName). use_entry (name_path r m) (Reference (key_of (own_names r) n)) l) h
 
 module _ (r : Resolve) (k : ℕ) where
-  by-row : (o : Option Definition) → slice_get r.definitions k ≡ o → entries_at r k ≡ map entry_of (definitions_in (own_names r) (own_trees r) o)
-  by-row o e = ap (λ x. map entry_of (definitions_in (own_names r) (own_trees r) x)) e
+  by-row : (o : Option Definition) → slice_get r.definitions k ≡ o → entries_at r k ≡ row_entries r o
+  by-row o e = ap (row_entries r) e
 
   pub no-entries : slice_get r.definitions k ≡ None → entries_at r k ≡ []
   no-entries e = by-row None e
 
   pub unnamed-entries : (d : TypeDef) → slice_get r.definitions k ≡ Some (row.Type d) → d.name ≡ None → entries_at r k ≡ []
-  unnamed-entries d e q = by-row (Some (row.Type d)) e ∙ ap (λ o. map entry_of (named_by (own_names r) (own_trees r) o d.kind)) q
+  unnamed-entries d e q = by-row (Some (row.Type d)) e ∙ ap (λ o. map (entry_of (row_path r (Some (row.Type d)))) (named_by (own_names r) (own_trees r) o d.kind)) q
 
-  pub type-entries : (d : TypeDef) (n : TypeName) → slice_get r.definitions k ≡ Some (row.Type d) → d.name ≡ Some n → entries_at r k ≡ entry_by n.name (meaning_of (own_trees r) d.kind) ∷ []
-  type-entries d n e q = by-row (Some (row.Type d)) e ∙ ap (λ o. map entry_of (named_by (own_names r) (own_trees r) o d.kind)) q
+  pub type-entries : (d : TypeDef) (n : TypeName) → slice_get r.definitions k ≡ Some (row.Type d) → d.name ≡ Some n
+      → entries_at r k ≡ entry_by (name_path r (name_at r.definitions (used_by d.kind))) n.name (meaning_of (own_trees r) d.kind) ∷ []
+  type-entries d n e q = by-row (Some (row.Type d)) e ∙ ap (λ o. map (entry_of (row_path r (Some (row.Type d)))) (named_by (own_names r) (own_trees r) o d.kind)) q
 
   by-owner : (f : Function) (o : Owner) → slice_get r.definitions k ≡ Some (row.Function f) → f.owner ≡ o
-      → entries_at r k ≡ map entry_of (named_function (own_names r) o f.name (function_meaning (own_trees r) f))
-  by-owner f o e q = by-row (Some (row.Function f)) e ∙ ap (λ x. map entry_of (named_function (own_names r) x f.name (function_meaning (own_trees r) f))) q
+      → entries_at r k ≡ map (entry_of (name_path r None)) (named_function (own_names r) o f.name (function_meaning (own_trees r) f))
+  by-owner f o e q = by-row (Some (row.Function f)) e ∙ ap (λ x. map (entry_of (name_path r None)) (named_function (own_names r) x f.name (function_meaning (own_trees r) f))) q
 
   pub function-entries : (f : Function) (i : InterfaceId) → slice_get r.definitions k ≡ Some (row.Function f) → f.owner ≡ owner.Interface i
-      → entries_at r k ≡ entry_by f.name (function_meaning (own_trees r) f) ∷ []
+      → entries_at r k ≡ entry_by (name_path r None) f.name (function_meaning (own_trees r) f) ∷ []
   function-entries f i e q = by-owner f (owner.Interface i) e q
 
   pub world-entries : (f : Function) (w : WorldId) → slice_get r.definitions k ≡ Some (row.Function f) → f.owner ≡ owner.World w → entries_at r k ≡ []
@@ -77,21 +80,16 @@ unchanged old es h = sym (ap (λ (ys : List Entry). map entry_view old ++ ys) h 
 
 -- ---- interfaces
 
-map-flat_map : {A B C : Type 0} (f : B → C) (g : A → List B) (xs : List A) → map f (flat_map g xs) ≡ flat_map (λ x. map f (g x)) xs
-map-flat_map f g [] = refl
-map-flat_map f g (x ∷ xs) = map-append f (g x) (flat_map g xs) ∙ ap (λ ys. map f (g x) ++ ys) (map-flat_map f g xs)
-
 pub interface-entries : (r : Resolve) (i : Interface)
-    → map entry_of (interface_definitions r i)
+    → flat_map (entries_at r) (ids_of i)
     ≡ flat_map (λ t. entries_at r t.0) i.uses ++ (flat_map (λ t. entries_at r t.0) i.types ++ flat_map (λ f. entries_at r f.0) i.functions)
 interface-entries r i =
-    map-flat_map entry_of (λ k. definitions_in (own_names r) (own_trees r) (slice_get r.definitions k)) (ids_of i)
-    ∙ (flat_map-append (entries_at r) uses (types ++ functions)
+    flat_map-append (entries_at r) uses (types ++ functions)
     ∙ (ap (λ (xs : List Entry). xs ++ flat_map (entries_at r) (types ++ functions)) (flat_map-map (entries_at r) (λ t. t.0) i.uses)
     ∙ ap (λ (xs : List Entry). flat_map (λ t. entries_at r t.0) i.uses ++ xs)
     (flat_map-append (entries_at r) types functions
     ∙ (ap (λ (xs : List Entry). xs ++ flat_map (entries_at r) functions) (flat_map-map (entries_at r) (λ t. t.0) i.types)
-    ∙ ap (λ (xs : List Entry). flat_map (λ t. entries_at r t.0) i.types ++ xs) (flat_map-map (entries_at r) (λ f. f.0) i.functions)))))
+    ∙ ap (λ (xs : List Entry). flat_map (λ t. entries_at r t.0) i.types ++ xs) (flat_map-map (entries_at r) (λ f. f.0) i.functions))))
   where
     uses : List ℕ
     uses = map (λ t. t.0) i.uses
@@ -105,7 +103,7 @@ interface-entries r i =
 -- what is appended for the three parts, one behind the other
 pub interface-pushed : (r : Resolve) (i : Interface) (us ts : List TypeId) (fs : List FunctionId) (none first second all : List Entry) → us ≡ i.uses → ts ≡ i.types → fs ≡ i.functions → none ≡ []
     → first ≡ none ++ flat_map (λ t. entries_at r t.0) us → second ≡ first ++ flat_map (λ t. entries_at r t.0) ts → all ≡ second ++ flat_map (λ f. entries_at r f.0) fs
-    → all ≡ map entry_of (interface_definitions r i)
+    → all ≡ flat_map (entries_at r) (ids_of i)
 interface-pushed r i us ts fs none first second all u t f n a b c =
     let begun : first ≡ used us = a ∙ ap (λ (xs : List Entry). xs ++ used us) n in
     let same : used us ++ (used ts ++ declared fs) ≡ used i.uses ++ (used i.types ++ declared i.functions) = cc in

@@ -8,14 +8,17 @@ use Rattle.package_form.proofs.Lists.{flat_map-append}
 use Rattle.wit_syntax.specs.Syntax.{Entry, FileEntry, AnInterface}
 use Rattle.tables.specs.Package.{Tree, Reference, Key, IsUse, IsType, IsFunction, NamedDefinition}
 use Rattle.resolve.specs.Order.{IsPlacement}
-use Rattle.resolve.specs.Declarations.{TypeItem, InterfaceTree, entry_uses, entry_types, entry_functions, name_or, interface_tree, interface_of, interface_names, own_types}
+use Rattle.tables.specs.Names.{full_name_in}
+use Rattle.resolve.specs.Declarations.{path_package, path_interface, TypeItem, InterfaceTree, entry_uses, entry_types, entry_functions, name_or, interface_tree, interface_of, interface_names, own_types}
 use Rattle.resolve.specs.Resolved.{Labelled, fields_of, use_meaning, type_meaning, function_meaning, interface_meaning, in_order, no_type, resolved_if}
 use Rattle.resolve.specs.Resolves.{interface_uses, uses_of_interface, type_uses, uses_of_type}
 use Rattle.resolve.proofs.Places.{same-bytes}
 use Rattle.package_text.proofs.Back.{Anything, MaybeExpressed, FieldsExpressed, Defined, members-back, maybe-back, body-back}
 use Rattle.package_text.proofs.Orders.{UsesEarlier, NamesEarlier, places_of, map-places, own-placement}
 use Rattle.package_text.specs.Written.{ty_of}
-use Rattle.package_text.specs.Tree.{entry_of, local_of}
+use Rattle.package_text.specs.Tree.{local_of}
+use Rattle.package_text.proofs.Paths.{path_named, named-back}
+use Rattle.package_text.proofs.Named.{entry_of}
 
 -- ---- the definitions of a package in package order
 
@@ -59,7 +62,10 @@ local-back n l = by (bytes_eq n l) refl
 uses-back : (i : List ℕ) (us : List NamedDefinition) → Each (UseOf i) us → map (use_meaning i) (flat_map entry_uses (map entry_of us)) ≡ us
 uses-back i _ none_left = refl
 uses-back i _ (and_next _ us (a_use l k) e) =
-    ap (λ m. record { key = record { interface = i; name = m }; meaning = IsUse (Reference k) } ∷ map (use_meaning i) (flat_map entry_uses (map entry_of us))) (local-back k.name l)
+    let path = path_named k.interface in
+    ap (λ m. record { key = record { interface = i; name = m }; meaning = IsUse (Reference (record { interface = full_name_in (path_package path) (path_interface path); name = k.name })) }
+    ∷ map (use_meaning i) (flat_map entry_uses (map entry_of us))) (local-back k.name l)
+    ∙ ap (λ n. record { key = record { interface = i; name = l }; meaning = IsUse (Reference (record { interface = n; name = k.name })) } ∷ map (use_meaning i) (flat_map entry_uses (map entry_of us))) (named-back k.interface)
     ∙ ap (λ xs. record { key = record { interface = i; name = l }; meaning = IsUse (Reference k) } ∷ xs) (uses-back i us e)
 
 uses-no-types : (i : List ℕ) (us : List NamedDefinition) → Each (UseOf i) us → flat_map entry_types (map entry_of us) ≡ []

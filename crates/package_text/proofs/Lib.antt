@@ -5,6 +5,10 @@ pub mod Expressions
 pub mod References
 pub mod Entries
 pub mod Back
+pub mod Versions
+pub mod Paths
+pub mod Named
+pub mod SameTree
 pub mod Names
 pub mod Orders
 pub mod InPlace
@@ -21,11 +25,12 @@ pub mod Early
 pub mod Walk
 pub mod Sized
 pub mod Spelt
+pub mod Begins
+pub mod ImportParts
 pub mod OwnIds
 pub mod OwnPaths
 pub mod Whole
 pub mod Scopes
-pub mod Versions
 pub mod Printed
 pub mod Worlds
 pub mod WorldsBack

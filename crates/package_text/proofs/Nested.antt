@@ -4,13 +4,12 @@ use Rattle.std.specs.Prelude.{Bool, true, false, Option, None, Some}
 use Rattle.std.specs.List.{list_all}
 use Rattle.std.specs.Option.{option_map}
 use Rattle.std.proofs.lemmas.Bool.{and_parts, false≢true, le-leb}
-use Rattle.std.proofs.lemmas.List.{map-append}
 use Rattle.std.proofs.lemmas.List.Folds.{list_all-append}
 use Rattle.canonical_abi.specs.Types.{ClosedType, prim_type, string_type, list_type, record_type, variant_type, flags_type, fields_of, cases_of}
 use Rattle.canonical_abi.specs.Types as closed
 use Rattle.tables.specs.Closed.{closed_val, closed_kind, closed_params, closed_definition, closed_rows, closed_types}
 use Rattle.tables.specs.Tables.{option_all, kind_all, definition_all, is_below, definition_below, are_earlier, is_type, is_there, type_of, function_of}
-use Rattle.tables.specs.Package.{Tree, PrimTree, TextTree, Reference, ListTree, RecordTree, VariantTree, FlagsTree, Plain, AsTuple, AsEnum, AsOption, AsResult, NamedDefinition, read_val, read_choice, read_tuple, read_fields, read_params, read_cases, read_kind, meaning_of, function_meaning, reference_by, reference, references, named_by, named_function, function_item, item_meaning}
+use Rattle.tables.specs.Package.{Tree, PrimTree, TextTree, Reference, ListTree, RecordTree, VariantTree, FlagsTree, Plain, AsTuple, AsEnum, AsOption, AsResult, read_val, read_choice, read_tuple, read_fields, read_params, read_cases, read_kind, meaning_of, function_meaning, reference_by, reference, references, named_by, named_function, function_item, item_meaning}
 use Rattle.tables.specs.declared.tables.ValType.{ValType}
 use Rattle.tables.specs.declared.tables.ValType.TheVariants as val
 use Rattle.tables.specs.declared.tables.TypeDef.{TypeDef}
@@ -37,13 +36,13 @@ use Rattle.package_form.specs.Postfix.{is_inner, IsPostfix}
 use Rattle.package_form.specs.Form.{ids_of}
 use Rattle.package_form.proofs.Postfix.{postfix-used}
 use Rattle.package_form.proofs.Lists.{all-get}
-use Rattle.wit_syntax.specs.Syntax.{Ty, Prim, depth, depth_all}
+use Rattle.wit_syntax.specs.Syntax.{Ty, Prim, depth, depth_all, PathTo}
 use Rattle.resolve.specs.Resolves.{fits, fits_if, member_fits, case_fits, body_fits, signature_fits, entry_fits, world_entry_fits, interface_fits, file_fits}
 use Rattle.resolve.proofs.Owning.{is_inner_row}
 use Rattle.resolve.proofs.Blocks.{used-inner}
 use Rattle.resolve.proofs.Weighed.{name-tree}
 use Rattle.package_text.specs.Written.{ty_of, tys_in, members_in, cases_in, body_of}
-use Rattle.package_text.specs.Tree.{use_entry, function_by, entry_by, entry_of, own_names, own_trees, definitions_in, interface_entry, item_entry, own_item, world_entry, file_of}
+use Rattle.package_text.specs.Tree.{row_path, item_path, use_entry, function_by, entry_by, entry_of, own_names, own_trees, row_entries, entries_at, interface_entry, own_interfaces, item_entry, item_written, world_entry, file_of}
 use Rattle.package_text.specs.Laws.{IsShallow}
 use Rattle.package_text.proofs.Loose.{inner-at}
 
@@ -60,14 +59,14 @@ at-least-one (record_type fs) = omega arith
 at-least-one (variant_type cs) = omega arith
 at-least-one (flags_type n) = omega arith
 
-use-fits : (n : List ℕ) (t : Tree) → fits (ty_of t) ≡ true → entry_fits (use_entry t n) ≡ true
-use-fits n (PrimTree p) h = h
-use-fits n TextTree h = h
-use-fits n (Reference k) h = refl
-use-fits n (ListTree t) h = h
-use-fits n (RecordTree form fs) h = h
-use-fits n (VariantTree form cs) h = h
-use-fits n (FlagsTree labels) h = h
+use-fits : (q : PathTo) (n : List ℕ) (t : Tree) → fits (ty_of t) ≡ true → entry_fits (use_entry q t n) ≡ true
+use-fits q n (PrimTree p) h = h
+use-fits q n TextTree h = h
+use-fits q n (Reference k) h = refl
+use-fits q n (ListTree t) h = h
+use-fits q n (RecordTree form fs) h = h
+use-fits q n (VariantTree form cs) h = h
+use-fits q n (FlagsTree labels) h = h
 
 -- a tree that is written as a type
 abbrev is_expression : Tree → Bool
@@ -173,18 +172,18 @@ module _ (trees : List Tree) (ts : List ClosedType) (has : ValType → Bool) (to
   if-fits (Some v) h l = below-limit (ty_of (read_val trees v)) (closed.depth (closed_val ts v)) (told v h) (l v h)
 
   -- what is written for a kind whose closed type is at most 64 deep
-  pub kind-fits : (n : List ℕ) (k : TypeDefKind) → kind_all has k ≡ true → ((v : ValType) → k ≡ kind.Alias v → is_expression (read_val trees v) ≡ true) → closed.depth (closed_kind ts k) ≤ 64
-      → entry_fits (entry_by n (meaning_of trees k)) ≡ true
-  kind-fits n (kind.Use t) h b l = use-fits n (read_val trees (val.Id t)) (below-limit (ty_of (read_val trees (val.Id t))) (closed.depth (closed_val ts (val.Id t))) (told (val.Id t) h) l)
-  kind-fits n (kind.Alias v) h b l = expression-fits (read_val trees v) (b v refl) (below-limit (ty_of (read_val trees v)) (closed.depth (closed_val ts v)) (told v h) l)
-  kind-fits n (kind.List v) h b l = below-limit (ty_of (read_kind trees (kind.List v))) (closed.depth (closed_kind ts (kind.List v))) (inner-deep (kind.List v) refl h) l
-  kind-fits n (kind.Option v) h b l = below-limit (ty_of (read_kind trees (kind.Option v))) (closed.depth (closed_kind ts (kind.Option v))) (inner-deep (kind.Option v) refl h) l
-  kind-fits n (kind.Result ok error) h b l = below-limit (ty_of (read_kind trees (kind.Result ok error))) (closed.depth (closed_kind ts (kind.Result ok error))) (inner-deep (kind.Result ok error) refl h) l
-  kind-fits n (kind.Tuple vs) h b l = below-limit (ty_of (read_kind trees (kind.Tuple vs))) (closed.depth (closed_kind ts (kind.Tuple vs))) (inner-deep (kind.Tuple vs) refl h) l
-  kind-fits n (kind.Record fs) h b l = fields-fit fs h (omega (arith, l))
-  kind-fits n (kind.Variant cs) h b l = cases-fit cs h (omega (arith, l))
-  kind-fits n (kind.Enum ls) h b l = refl
-  kind-fits n (kind.Flags ls) h b l = refl
+  pub kind-fits : (q : PathTo) (n : List ℕ) (k : TypeDefKind) → kind_all has k ≡ true → ((v : ValType) → k ≡ kind.Alias v → is_expression (read_val trees v) ≡ true) → closed.depth (closed_kind ts k) ≤ 64
+      → entry_fits (entry_by q n (meaning_of trees k)) ≡ true
+  kind-fits q n (kind.Use t) h b l = use-fits q n (read_val trees (val.Id t)) (below-limit (ty_of (read_val trees (val.Id t))) (closed.depth (closed_val ts (val.Id t))) (told (val.Id t) h) l)
+  kind-fits q n (kind.Alias v) h b l = expression-fits (read_val trees v) (b v refl) (below-limit (ty_of (read_val trees v)) (closed.depth (closed_val ts v)) (told v h) l)
+  kind-fits q n (kind.List v) h b l = below-limit (ty_of (read_kind trees (kind.List v))) (closed.depth (closed_kind ts (kind.List v))) (inner-deep (kind.List v) refl h) l
+  kind-fits q n (kind.Option v) h b l = below-limit (ty_of (read_kind trees (kind.Option v))) (closed.depth (closed_kind ts (kind.Option v))) (inner-deep (kind.Option v) refl h) l
+  kind-fits q n (kind.Result ok error) h b l = below-limit (ty_of (read_kind trees (kind.Result ok error))) (closed.depth (closed_kind ts (kind.Result ok error))) (inner-deep (kind.Result ok error) refl h) l
+  kind-fits q n (kind.Tuple vs) h b l = below-limit (ty_of (read_kind trees (kind.Tuple vs))) (closed.depth (closed_kind ts (kind.Tuple vs))) (inner-deep (kind.Tuple vs) refl h) l
+  kind-fits q n (kind.Record fs) h b l = fields-fit fs h (omega (arith, l))
+  kind-fits q n (kind.Variant cs) h b l = cases-fit cs h (omega (arith, l))
+  kind-fits q n (kind.Enum ls) h b l = refl
+  kind-fits q n (kind.Flags ls) h b l = refl
 
 -- ---- the rows of a table
 
@@ -272,57 +271,56 @@ module _ (r : Resolve) (postfix : IsPostfix r.definitions) (shallow : IsShallow 
       by (Some (row.Function f)) e q = absurd (false≢true q)
       by (Some (row.Type d)) e q = named d d.name refl e
 
-  type-fits : (k : ℕ) (d : TypeDef) (n : List ℕ) → slice_get r.definitions k ≡ Some (row.Type d) → entry_fits (entry_by n (meaning_of (own_trees r) d.kind)) ≡ true
-  type-fits k d n e =
+  type-fits : (q : PathTo) (k : ℕ) (d : TypeDef) (n : List ℕ) → slice_get r.definitions k ≡ Some (row.Type d) → entry_fits (entry_by q n (meaning_of (own_trees r) d.kind)) ≡ true
+  type-fits q k d n e =
       let at = get-at r.definitions k (row.Type d) e in
       let front = closed_rows [] (take k r.definitions) in
       let below : definition_below k (row.Type d) ≡ true = below-at k r.definitions k (row.Type d) r.earlier at.0 refl (sym (at.1 (row.Type d))) in
       let here : get_or (closed_types r) k string_type ≡ closed_kind front d.kind = closed-at r.definitions k (row.Type d) at.0 ∙ ap (closed_definition front) (at.1 (row.Type d)) in
       let told : (v : ValType) → is_below k v ≡ true → depth (ty_of (read_val (own_trees r) v)) ≤ closed.depth (closed_val front v) = λ v h. val-front k (omega (arith, at.0)) v h in
-      kind-fits (own_trees r) front (is_below k) told n d.kind below
-      (λ v q. val-expression v (subst (λ (c : TypeDefKind). kind_all (is_type r.definitions) c ≡ true) q (typed-at k (row.Type d) e)))
+      kind-fits (own_trees r) front (is_below k) told q n d.kind below
+      (λ v u. val-expression v (subst (λ (c : TypeDefKind). kind_all (is_type r.definitions) c ≡ true) u (typed-at k (row.Type d) e)))
       (subst (λ (c : ClosedType). closed.depth c ≤ 64) here (shallow k d e))
     where
       val-front : (j : ℕ) → j ≤ length r.definitions → (v : ValType) → is_below j v ≡ true → depth (ty_of (read_val (own_trees r) v)) ≤ closed.depth (closed_val (closed_rows [] (take j r.definitions)) v)
       val-front j l v h = subst (λ (c : ClosedType). depth (ty_of (read_val (own_trees r) v)) ≤ closed.depth c) (sym (closed_val-stays r.definitions j v l h)) (val-bounded (own_trees r) (closed_types r) bounded v)
 
-  place-fits : (k : ℕ) → list_all entry_fits (map entry_of (definitions_in (own_names r) (own_trees r) (slice_get r.definitions k))) ≡ true
+  place-fits : (k : ℕ) → list_all entry_fits (entries_at r k) ≡ true
   place-fits k = by (slice_get r.definitions k) refl
     where
-      named : (d : TypeDef) (m : Option TypeName) → slice_get r.definitions k ≡ Some (row.Type d) → list_all entry_fits (map entry_of (named_by (own_names r) (own_trees r) m d.kind)) ≡ true
+      named : (d : TypeDef) (m : Option TypeName) → slice_get r.definitions k ≡ Some (row.Type d)
+          → list_all entry_fits (map (entry_of (row_path r (Some (row.Type d)))) (named_by (own_names r) (own_trees r) m d.kind)) ≡ true
       named d None e = refl
-      named d (Some n) e = both _ _ (type-fits k d n.name e) refl
+      named d (Some n) e = both _ _ (type-fits (row_path r (Some (row.Type d))) k d n.name e) refl
 
-      owned : (f : Function) (o : Owner) → slice_get r.definitions k ≡ Some (row.Function f) → list_all entry_fits (map entry_of (named_function (own_names r) o f.name (function_meaning (own_trees r) f))) ≡ true
+      owned : (f : Function) (o : Owner) → slice_get r.definitions k ≡ Some (row.Function f)
+          → list_all entry_fits (map (entry_of (row_path r (Some (row.Function f)))) (named_function (own_names r) o f.name (function_meaning (own_trees r) f))) ≡ true
       owned f (owner.Interface i) e = both _ _ (function-fits k f e) refl
       owned f (owner.World w) e = refl
 
-      by : (o : Option Definition) → slice_get r.definitions k ≡ o → list_all entry_fits (map entry_of (definitions_in (own_names r) (own_trees r) o)) ≡ true
+      by : (o : Option Definition) → slice_get r.definitions k ≡ o → list_all entry_fits (row_entries r o) ≡ true
       by None e = refl
       by (Some (row.Type d)) e = named d d.name e
       by (Some (row.Function f)) e = owned f f.owner e
 
-  places-fit : (ks : List ℕ) → list_all entry_fits (map entry_of (flat_map (λ k. definitions_in (own_names r) (own_trees r) (slice_get r.definitions k)) ks)) ≡ true
+  places-fit : (ks : List ℕ) → list_all entry_fits (flat_map (entries_at r) ks) ≡ true
   places-fit [] = refl
-  places-fit (k ∷ ks) =
-      let here : List NamedDefinition = definitions_in (own_names r) (own_trees r) (slice_get r.definitions k) in
-      let rest : List NamedDefinition = flat_map (λ k. definitions_in (own_names r) (own_trees r) (slice_get r.definitions k)) ks in
-      ap (list_all entry_fits) (map-append entry_of here rest) ∙ (list_all-append entry_fits (map entry_of here) (map entry_of rest) ∙ both _ _ (place-fits k) (places-fit ks))
+  places-fit (k ∷ ks) = list_all-append entry_fits (entries_at r k) (flat_map (entries_at r) ks) ∙ both _ _ (place-fits k) (places-fit ks)
 
   interfaces-fit : (is : List Interface) → list_all interface_fits (map (interface_entry r) is) ≡ true
   interfaces-fit [] = refl
   interfaces-fit (i ∷ is) = both _ _ (places-fit (ids_of i)) (interfaces-fit is)
 
-  item-fits : (way : Direction) (i : WorldItemKind) → world_entry_fits (item_entry (item_meaning (own_names r) (own_trees r) r.definitions way i)) ≡ true
+  item-fits : (way : Direction) (i : WorldItemKind) → world_entry_fits (item_entry (item_path r i) (item_meaning (own_names r) (own_trees r) r.definitions way i)) ≡ true
   item-fits way (item.Interface j) = refl
   item-fits way (item.Function f) = by (slice_get r.definitions f.0) refl
     where
-      by : (o : Option Definition) → slice_get r.definitions f.0 ≡ o → world_entry_fits (item_entry (function_item (own_trees r) way (function_of o))) ≡ true
+      by : (o : Option Definition) → slice_get r.definitions f.0 ≡ o → world_entry_fits (item_entry (item_path r (item.Function f)) (function_item (own_trees r) way (function_of o))) ≡ true
       by None e = refl
       by (Some (row.Type d)) e = refl
       by (Some (row.Function g)) e = function-fits f.0 g e
 
-  items-fit : (is : List WorldItem) → list_all world_entry_fits (map (λ i. item_entry (own_item r i)) is) ≡ true
+  items-fit : (is : List WorldItem) → list_all world_entry_fits (map (item_written r) is) ≡ true
   items-fit [] = refl
   items-fit (i ∷ is) = both _ _ (item-fits i.direction i.kind) (items-fit is)
 
@@ -331,4 +329,4 @@ module _ (r : Resolve) (postfix : IsPostfix r.definitions) (shallow : IsShallow 
   worlds-fit (w ∷ ws) = both _ _ (items-fit w.items) (worlds-fit ws)
 
   pub tree-fits : file_fits (file_of r) ≡ true
-  tree-fits = list_all-append interface_fits (map (interface_entry r) r.interfaces) (map (world_entry r) r.worlds) ∙ both _ _ (interfaces-fit r.interfaces) (worlds-fit r.worlds)
+  tree-fits = list_all-append interface_fits (map (interface_entry r) (own_interfaces r)) (map (world_entry r) r.worlds) ∙ both _ _ (interfaces-fit (own_interfaces r)) (worlds-fit r.worlds)

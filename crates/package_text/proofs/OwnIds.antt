@@ -14,14 +14,15 @@ use Rattle.tables.specs.declared.tables.Definition.{Definition}
 use Rattle.tables.specs.declared.tables.Definition.TheVariants as row
 use Rattle.tables.specs.declared.tables.Interface.{Interface}
 use Rattle.package_form.specs.Entries.{labels_of}
-use Rattle.package_form.specs.Ids.{places_where, is_in, is_use, is_use_in, is_type_in, is_owned_by, is_function_in, is_of_worlds, package_id, type_id, function_id, interface_in, interfaces_from}
+use Rattle.package_form.specs.Ids.{places_where, is_in, is_use, is_use_in, is_type_in, is_owned_by, is_function_in, is_of_worlds, type_id, function_id, interface_in}
 use Rattle.package_form.specs.References.{row_references}
 use Rattle.package_form.specs.Form.{is_own_name, is_own, uses_earlier, is_owned, is_local, is_named, is_use_type, is_use_at, is_nameless}
-use Rattle.package_form.proofs.OnePackage.{is_first}
+use Rattle.package_form.specs.Reached.{is_interface_of}
 use Rattle.package_form.proofs.Lists.{list-grows}
 use Rattle.resolve.proofs.Parting.{places-append}
 use Rattle.package_text.proofs.Fronts.{get-there}
-use Rattle.resolve.specs.Resolves.{is_behind}
+use Rattle.resolve.specs.Resolves.{is_behind, in_package, interfaces_behind}
+use Rattle.package_text.proofs.SameRows.{append-same}
 use Rattle.package_text.proofs.Regions.{is_behind_row, AreRegions, no_region, and_region}
 
 -- ---- one kind of rows
@@ -257,6 +258,14 @@ function-ids : (fs : List FunctionId) → map function_id (map (λ (f : Function
 function-ids [] = refl
 function-ids (f ∷ fs) = ap (λ (gs : List FunctionId). f ∷ gs) (function-ids fs)
 
+-- the interface that these rows make, in the package of this one
+abbrev pub made_one : List Definition → ℕ → Interface → Interface
+made_one rows k i = in_package i.«package».0 (interface_in rows k i.name)
+
+abbrev pub made : List Definition → ℕ → List Interface → List Interface
+made rows k [] = []
+made rows k (i ∷ is) = made_one rows k i ∷ made rows (k + 1) is
+
 module _ (rows : List Definition) (at : ℕ → ℕ) where
   abbrev Before : (ℕ → Definition → Bool) → ℕ → List Definition → Type 0
   Before T k pre = (j : ℕ) → k ≤ j → places_where (T j) 0 pre ≡ []
@@ -267,19 +276,18 @@ module _ (rows : List Definition) (at : ℕ → ℕ) where
       ∙ (ap (λ (ns : List ℕ). ns ++ places_where (T j) (0 + length pre) own) (h j (omega (arith, l))) ∙ none-of rows at T one j k (0 + length pre) own (λ e. omega (arith, e, l)) locals)
 
   ids-from : (k : ℕ) (pre : List Definition) (is : List Interface) (post : List Definition) → AreRegions rows at k pre is post → rows ≡ pre ++ post
-      → Before is_use_in k pre → Before is_type_in k pre → Before is_function_in k pre → list_all (is_placed rows) is ≡ true → list_all is_first is ≡ true → is ≡ interfaces_from rows k (labels_of is)
-  ids-from _ _ _ _ (no_region k pre back behind home) e bu bt bf placed firsts = refl
-  ids-from _ _ _ _ (and_region k pre own post i is ends ids uses types locals here more) e bu bt bf placed firsts =
+      → Before is_use_in k pre → Before is_type_in k pre → Before is_function_in k pre → list_all (is_placed rows) is ≡ true → is ≡ made rows k is
+  ids-from _ _ _ _ (no_region k pre back behind home) e bu bt bf placed = refl
+  ids-from _ _ _ _ (and_region k pre own post i is ends ids uses types locals here more) e bu bt bf placed =
       let us = map (λ (t : TypeId). t.0) i.uses in
       let ts = map (λ (t : TypeId). t.0) i.types in
       let fs = map (λ (f : FunctionId). f.0) i.functions in
       let s = and_parts (is_placed rows i) (list_all (is_placed rows) is) placed in
       let q = and_parts (list_all (is_type_id rows) i.uses) (list_all (is_type_id rows) i.types && list_all (is_function_id rows) i.functions) s.0 in
       let q' = and_parts (list_all (is_type_id rows) i.types) (list_all (is_function_id rows) i.functions) q.1 in
-      let w = and_parts (is_first i) (list_all is_first is) firsts in
       let flat : rows ≡ (pre ++ own) ++ post = e ∙ sym (append_assoc pre own post) in
       let others = ids-from (suc k) (pre ++ own) is post more flat (before-more is_use_in (use-one rows) k pre own bu locals) (before-more is_type_in (type-one rows) k pre own bt locals)
-      (before-more is_function_in (function-one rows) k pre own bf locals) s.1 w.1 in
+      (before-more is_function_in (function-one rows) k pre own bf locals) s.1 in
       let used : places_where (is_use_in k) 0 rows ≡ us =
       places-own rows at is_use_in (use-one rows) use_test (use-told rows) k pre own is post e (bu k (omega arith)) locals more
       ∙ (ap (filter (λ n. use_test (slice_get rows n))) (sym ids)
@@ -301,10 +309,9 @@ module _ (rows : List Definition) (at : ℕ → ℕ) where
       (lose (λ (t : TypeId). t.0) (λ n. function_test (slice_get rows n)) i.uses (list-grows (is_type_id rows) (λ t. not (function_test (slice_get rows t.0))) (λ t. type-no-function (slice_get rows t.0)) i.uses q.0))
       (lose (λ (t : TypeId). t.0) (λ n. function_test (slice_get rows n)) i.types (list-grows (is_type_id rows) (λ t. not (function_test (slice_get rows t.0))) (λ t. type-no-function (slice_get rows t.0)) i.types q'.0))
       (keep (λ (f : FunctionId). f.0) (λ n. function_test (slice_get rows n)) i.functions q'.1)) in
-      let first : i.«package» ≡ package_id 0 = ap package_id (eqb-true i.«package».0 0 w.0) in
-      let mine : i ≡ interface_in rows k i.name = same-interface i (interface_in rows k i.name) first refl
+      let mine : i ≡ made_one rows k i = same-interface i (made_one rows k i) refl refl
       (sym (ap (map type_id) used ∙ type-ids i.uses)) (sym (ap (map type_id) typed ∙ type-ids i.types)) (sym (ap (map function_id) called ∙ function-ids i.functions)) in
-      ap (λ (x : Interface). x ∷ is) mine ∙ (ap (λ (js : List Interface). interface_in rows k i.name ∷ js) others ∙ ap (λ m. interface_in rows k i.name ∷ interfaces_from rows m (labels_of is)) (sym (add-one k)))
+      ap (λ (x : Interface). x ∷ is) mine ∙ (ap (λ (js : List Interface). made_one rows k i ∷ js) others ∙ ap (λ m. made_one rows k i ∷ made rows m is) (sym (add-one k)))
     where
       parted : (q : ℕ → Bool) (ks bs cs xs ys zs : List ℕ) → filter q ks ≡ xs → filter q bs ≡ ys → filter q cs ≡ zs → filter q (ks ++ (bs ++ cs)) ≡ xs ++ (ys ++ zs)
       parted q ks bs cs xs ys zs a b c = let x = filter-append q ks (bs ++ cs) in let y = filter-append q bs cs in cc
@@ -317,6 +324,27 @@ module _ (rows : List Definition) (at : ℕ → ℕ) where
           ∙ (ap (λ x. record { «package» = j.«package»; name = j.name; uses = j.uses; types = x; functions = i.functions }) d
           ∙ ap (λ x. record { «package» = j.«package»; name = j.name; uses = j.uses; types = j.types; functions = x }) e)))
 
--- the interfaces are what their rows make them
-pub own-ids : (rows : List Definition) (at : ℕ → ℕ) (is : List Interface) → AreRegions rows at 0 [] is rows → list_all (is_placed rows) is ≡ true → list_all is_first is ≡ true → is ≡ interfaces_from rows 0 (labels_of is)
-own-ids rows at is regions placed firsts = ids-from rows at 0 [] is rows regions refl (λ j l. refl) (λ j l. refl) (λ j l. refl) placed firsts
+made-append : (rows : List Definition) (k : ℕ) (is js : List Interface) → made rows k (is ++ js) ≡ made rows k is ++ made rows (k + length is) js
+made-append rows k [] js = ap (λ n. made rows n js) (omega arith)
+made-append rows k (i ∷ is) js = ap (λ (xs : List Interface). made_one rows k i ∷ xs) (made-append rows (k + 1) is js ∙ ap (λ n. made rows (k + 1) is ++ made rows n js) (omega arith))
+
+made-length : (rows : List Definition) (k : ℕ) (is : List Interface) → length (made rows k is) ≡ length is
+made-length rows k [] = refl
+made-length rows k (i ∷ is) = ap suc (made-length rows (k + 1) is)
+
+made-of : (n : ℕ) (rows : List Definition) (k : ℕ) (is : List Interface) → list_all (is_interface_of n) is ≡ true → made rows k is ≡ interfaces_behind n k rows (labels_of is)
+made-of n rows k [] h = refl
+made-of n rows k (i ∷ is) h =
+    let s = and_parts (is_interface_of n i) (list_all (is_interface_of n) is) h in
+    ap (λ m. in_package m (interface_in rows k i.name) ∷ made rows (k + 1) is) (eqb-true i.«package».0 n s.0)
+    ∙ ap (λ (xs : List Interface). in_package n (interface_in rows k i.name) ∷ xs) (made-of n rows (k + 1) is s.1)
+
+-- the interfaces of package n are what their rows make them, behind those of others
+pub own-ids : (n : ℕ) (rows : List Definition) (at : ℕ → ℕ) (front own : List Interface) → AreRegions rows at 0 [] (front ++ own) rows → list_all (is_placed rows) (front ++ own) ≡ true
+    → list_all (is_interface_of n) own ≡ true → own ≡ interfaces_behind n (length front) rows (labels_of own)
+own-ids n rows at front own regions placed all =
+    let whole = ids-from rows at 0 [] (front ++ own) rows regions refl (λ j l. refl) (λ j l. refl) (λ j l. refl) placed in
+    let parted = whole ∙ made-append rows 0 front own in
+    let back = (append-same front (made rows 0 front) own (made rows (0 + length front) own) (sym (made-length rows 0 front)) parted).1 in
+    let here : 0 + length front ≡ length front = omega arith in
+    back ∙ (ap (λ m. made rows m own) here ∙ made-of n rows (length front) own all)

@@ -21,7 +21,8 @@ use Rattle.tables.specs.declared.tables.Owner.{Owner}
 use Rattle.tables.specs.declared.tables.Owner.TheVariants as owner
 use Rattle.package_form.proofs.Lists.{flat_map-append}
 use Rattle.resolve.proofs.Blocks.{references-append}
-use Rattle.package_text.specs.Tree.{entry_of, definitions_in}
+use Rattle.package_text.specs.Tree.{definitions_in}
+use Rattle.package_text.proofs.Named.{entry_of}
 use Rattle.package_text.proofs.InPlace.{Each, none_left, and_next, each-append, each-map, UseOf, TypeOf, FunctionOf, AreParts, no_part, and_part}
 use Rattle.package_text.proofs.Rows.{IsOwned, each-front, each-back}
 use Rattle.package_text.proofs.Ordered.{is_use_row, is_type_row, is_function_row, definitions-split, use-means, type-means, function-means}

@@ -30,7 +30,7 @@ use Rattle.wit_syntax.specs.Syntax.{Ty, depth, Alias}
 use Rattle.wit_tokens.specs.declared.token.Punctuation.TheVariants as mark
 use Rattle.wit_print.specs.Words.{mark_word}
 use Rattle.wit_print.specs.Canonical.{blank, ty_words, member_words, parameter_words, result_words, field_words, case_words, label_words, lined_words, definition_words, entry_words, file_entry_words, items_words}
-use Rattle.wit_print.specs.Printable.{IsPrintableType, IsPrintableOption, IsPrintableMember, IsPrintableCase, ArePrintable, IsLabelOrNone, IsPrintableDefinition, IsPrintableEntry, IsPrintableFileEntry}
+use Rattle.wit_print.specs.Printable.{IsPrintableType, IsPrintableOption, IsPrintableMember, IsPrintableCase, ArePrintable, IsLabelOrNone, IsPrintableDefinition, IsPrintableEntry, IsPrintableFileEntry, IsPrintablePath}
 use Rattle.package_form.specs.Entries.{labels_of}
 use Rattle.package_form.specs.Ids.{is_use, is_owned_by, is_of_worlds}
 use Rattle.package_form.specs.Postfix.{IsPostfix}
@@ -42,7 +42,9 @@ use Rattle.resolve.specs.Resolves.{fits, fits_if, member_fits, case_fits, body_f
 use Rattle.resolve.proofs.Blocks.{references-append}
 use Rattle.resolve.proofs.Referring.{Every, every-append}
 use Rattle.package_text.specs.Written.{ty_of, members_in, cases_in, labels_in, body_of}
-use Rattle.package_text.specs.Tree.{local_of, use_entry, entry_by, entry_of}
+use Rattle.package_text.specs.Tree.{local_of}
+use Rattle.package_text.proofs.Paths.{path_named}
+use Rattle.package_text.proofs.Named.{use_entry, entry_by, entry_of}
 use Rattle.package_text.proofs.Back.{labels-back}
 use Rattle.package_text.proofs.Rows.{is_own, is_local_kind, type-meaning, IsNamed, IsOwned}
 use Rattle.package_text.proofs.Parts.{stands-at, got, written}
@@ -213,15 +215,15 @@ definitions-fewer ns ts (d ∷ ds) =
     by (row.Function f) = called f.owner f.name (function_meaning ts f)
 
 module _ (ns : List (List ℕ)) (rows : List Definition) (at : ℕ → ℕ) (earlier : are_earlier 0 rows ≡ true) (o : IsOwned ns rows at) (p : IsPostfix rows) (w : AreWritten rows)
-    (homes : (front : List Definition) (d : Definition) (rest : List Definition) → rows ≡ front ++ d ∷ rest → is_behind d ≡ false → IsLabel (get_or ns (at (length front)) [])) where
-  -- a type that a use names is of an interface whose name is a label, and so is its name
-  use-labels : (front rest : List Definition) → rows ≡ front ++ rest → (m : TypeName) → IsNamed front m.interface.0 m.name → IsLabel (get_or ns m.interface.0 []) × IsLabel m.name
+    (homes : (front : List Definition) (d : Definition) (rest : List Definition) → rows ≡ front ++ d ∷ rest → is_behind d ≡ false → IsPrintablePath (path_named (get_or ns (at (length front)) []))) where
+  -- a type that a use names is of an interface whose path has a text, and its name is a label
+  use-labels : (front rest : List Definition) → rows ≡ front ++ rest → (m : TypeName) → IsNamed front m.interface.0 m.name → IsPrintablePath (path_named (get_or ns m.interface.0 [])) × IsLabel m.name
   use-labels front rest e m (t, d, n, s, q, i, same) =
       let x = home-here ns rows at o p front rest t d n e s q in
       let y = stands-at front t (row.Type d) s in
       let flat : rows ≡ y.0 ++ row.Type d ∷ (y.1 ++ rest) = e ∙ (ap (λ (ds : List Definition). ds ++ rest) y.2 ∙ append_assoc y.0 (row.Type d ∷ y.1) rest) in
       let name : All IsLabel (name_if (Some n)) = subst (λ (a : Option TypeName). All IsLabel (name_if a)) q (names-here rows w y.0 (row.Type d) (y.1 ++ rest) flat) in
-      (subst (λ j. IsLabel (get_or ns j [])) (ap at y.3 ∙ (sym x.0 ∙ i)) (homes y.0 (row.Type d) (y.1 ++ rest) flat (ap (λ (a : Option TypeName). not (is_some a)) q)), subst IsLabel same (all-head IsLabel n.name [] name))
+      (subst (λ j. IsPrintablePath (path_named (get_or ns j []))) (ap at y.3 ∙ (sym x.0 ∙ i)) (homes y.0 (row.Type d) (y.1 ++ rest) flat (ap (λ (a : Option TypeName). not (is_some a)) q)), subst IsLabel same (all-head IsLabel n.name [] name))
 
   use-printable : (front rest : List Definition) → rows ≡ front ++ rest → (l : List ℕ) → IsLabel l → (t : Tree) → IsTold ns front (at (length front)) (IsUse t) → IsPrintableEntry (use_entry t l)
   use-printable front rest e l label t (m, q, lt, named) =

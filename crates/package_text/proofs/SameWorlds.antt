@@ -1,6 +1,6 @@
 -- The worlds of a table, and which world each of its functions is of, are told by what the worlds read as.
 use Rattle.std.proofs.Common.{◌≡◌, ◌<◌, ◌+◌, ℕ, List, [], ◌∷◌, ◌++◌, length, map, flat_map, get_or, slice_get, refl, sym, ap, ◌∙◌, append_assoc, length-append, arith}
-use Rattle.std.specs.Prelude.{Bool, true, false, ◌==◌, Option, None, Some, if◌then◌else◌}
+use Rattle.std.specs.Prelude.{Bool, true, false, Option, None, Some, if◌then◌else◌}
 use Rattle.std.specs.List.{list_all}
 use Rattle.std.proofs.lemmas.Bool.{and_parts, false≢true, ltb-true, eqb-true}
 use Rattle.tables.specs.Tables.{function_of, is_owner_world, is_function_of, is_placed_item, is_placed_world, are_placed_worlds}
@@ -20,6 +20,7 @@ use Rattle.package_form.specs.Form.{item_function, function_at, functions_of}
 use Rattle.package_form.specs.Naming.{item_direction}
 use Rattle.package_form.proofs.Lists.{flat_map-append}
 use Rattle.package_form.proofs.OnePackage.{one-full-name}
+use Rattle.resolve.specs.Resolves.{is_world_in}
 use Rattle.package_text.proofs.Fronts.{get-there}
 use Rattle.package_text.proofs.SameRows.{owner_world, row_world, world_owners}
 
@@ -108,10 +109,6 @@ module _ (ns : List (List ℕ)) (trees : List Tree) (rows : List Definition) (co
 
 -- ---- items and worlds
 
--- a world of the first package
-abbrev pub is_first_world : World → Bool
-is_first_world w = w.«package».0 == 0
-
 abbrev is_function : ItemMeaning → Bool
 is_function (WithInterface way n) = false
 is_function (WithFunction way n params result) = true
@@ -165,24 +162,25 @@ module _ (ns : List (List ℕ)) (apart : (i j : ℕ) → i < length ns → j < l
       let rest = more.0 in
       (ap (λ (x : WorldItem). x ∷ is) same ∙ ap (λ (xs : List WorldItem). j ∷ xs) rest, more.1)
 
-  pub worlds-same : (q : PackageParts) (name other : World → List ℕ) → ((w : World) → is_first_world w ≡ true → name w ≡ own_name q w.name) → ((w : World) → is_first_world w ≡ true → other w ≡ own_name q w.name)
-      → (k l : ℕ) (vs ws : List World) → list_all is_first_world vs ≡ true → list_all is_first_world ws ≡ true → are_placed_worlds rows count k vs ≡ true → are_placed_worlds rows count l ws ≡ true
+  -- worlds of package n
+  pub worlds-same : (n : ℕ) (q : PackageParts) (name other : World → List ℕ) → ((w : World) → is_world_in n w ≡ true → name w ≡ own_name q w.name) → ((w : World) → is_world_in n w ≡ true → other w ≡ own_name q w.name)
+      → (k l : ℕ) (vs ws : List World) → list_all (is_world_in n) vs ≡ true → list_all (is_world_in n) ws ≡ true → are_placed_worlds rows count k vs ≡ true → are_placed_worlds rows count l ws ≡ true
       → map (λ w. world_meaning ns trees rows (name w) w) vs ≡ map (λ w. world_meaning ns trees rows (other w) w) ws → (ps qs : List ℕ) → flat_map functions_of vs ++ ps ≡ flat_map functions_of ws ++ qs → vs ≡ ws
-  worlds-same q name other own owned k l [] [] f g h m e ps qs p = refl
-  worlds-same q name other own owned k l [] (w ∷ ws) f g h m e ps qs p = absurd cc
-  worlds-same q name other own owned k l (v ∷ vs) [] f g h m e ps qs p = absurd cc
-  worlds-same q name other own owned k l (v ∷ vs) (w ∷ ws) f g h m e ps qs p =
-      let a = and_parts (is_first_world v) (list_all is_first_world vs) f in
-      let b = and_parts (is_first_world w) (list_all is_first_world ws) g in
+  worlds-same n q name other own owned k l [] [] f g h m e ps qs p = refl
+  worlds-same n q name other own owned k l [] (w ∷ ws) f g h m e ps qs p = absurd cc
+  worlds-same n q name other own owned k l (v ∷ vs) [] f g h m e ps qs p = absurd cc
+  worlds-same n q name other own owned k l (v ∷ vs) (w ∷ ws) f g h m e ps qs p =
+      let a = and_parts (is_world_in n v) (list_all (is_world_in n) vs) f in
+      let b = and_parts (is_world_in n w) (list_all (is_world_in n) ws) g in
       let t = and_parts (is_placed_world rows count k v) (are_placed_worlds rows count (k + 1) vs) h in
       let u = and_parts (is_placed_world rows count l w) (are_placed_worlds rows count (l + 1) ws) m in
       let front : world_meaning ns trees rows (name v) v ≡ world_meaning ns trees rows (other w) w = cc in
       let back : map (λ w. world_meaning ns trees rows (name w) w) vs ≡ map (λ w. world_meaning ns trees rows (other w) w) ws = cc in
       let label : v.name ≡ w.name = one-full-name q v.name w.name (sym (own v a.0) ∙ (ap (λ (x : WorldMeaning). x.name) front ∙ owned w b.0)) in
-      let of : v.«package».0 ≡ w.«package».0 = eqb-true v.«package».0 0 a.0 ∙ sym (eqb-true w.«package».0 0 b.0) in
+      let of : v.«package».0 ≡ w.«package».0 = eqb-true v.«package».0 n a.0 ∙ sym (eqb-true w.«package».0 n b.0) in
       let one = items-same k l v.items w.items t.0 u.0 (ap (λ (x : WorldMeaning). x.items) front) (flat_map functions_of vs ++ ps) (flat_map functions_of ws ++ qs)
       (sym (append_assoc (functions_of v) (flat_map functions_of vs) ps) ∙ (p ∙ append_assoc (functions_of w) (flat_map functions_of ws) qs)) in
-      let more = worlds-same q name other own owned (k + 1) (l + 1) vs ws a.1 b.1 t.1 u.1 back ps qs one.1 in
+      let more = worlds-same n q name other own owned (k + 1) (l + 1) vs ws a.1 b.1 t.1 u.1 back ps qs one.1 in
       let items = one.0 in
       let same : v ≡ w = rw (of, label, items) refl in
       ap (λ (x : World). x ∷ vs) same ∙ ap (λ (xs : List World). w ∷ xs) more

@@ -1,6 +1,7 @@
 -- The scopes of a package's tree are those of its table: in each, names differ.
 use Rattle.std.proofs.Common.{◌≡◌, ◌-◌, ℕ, suc, List, [], ◌∷◌, ◌++◌, length, map, flat_map, filter_map, take, drop, get_or, refl, sym, ap, subst, ◌∙◌, append_assoc, length-append, arith, All}
-use Rattle.std.specs.Prelude.{true, not, Option, None, Some, is_some}
+use Rattle.std.specs.Prelude.{Bool, true, false, cond, not, Option, None, Some, is_some}
+use Rattle.std.specs.List.{list_all, filter}
 use Rattle.std.proofs.lemmas.Bool.{and_parts}
 use Rattle.std.proofs.lemmas.List.{map-append}
 use Rattle.std.proofs.Math.Seq.{drop-append_seam, take-append_seam}
@@ -22,12 +23,13 @@ use Rattle.tables.specs.declared.tables.Resolve.{Resolve}
 use Rattle.tables.specs.declared.tables.World.{World}
 use Rattle.tables.specs.PackageNames.{PackageParts}
 use Rattle.wit_syntax.specs.Syntax.{Alias, FileEntry}
-use Rattle.package_form.specs.Ends.{end_of, rows_of}
+use Rattle.package_form.specs.Ends.{end_of, rows_of, interfaces_end}
 use Rattle.package_form.specs.Scope.{AreDistinct}
-use Rattle.package_form.specs.Closed.{IsAlone}
-use Rattle.package_form.proofs.Scopes.{interfaces-distinct, worlds-distinct}
-use Rattle.package_form.proofs.OwnPackage.{alone-scopes}
-use Rattle.package_form.specs.Naming.{field_name, case_name, parameter_name, interface_name, kind_members, row_members, row_names, rows_scopes, interfaces_scopes, world_scopes, label_of, package_scopes}
+use Rattle.package_form.specs.Closed.{own_package, is_world_of}
+use Rattle.package_form.specs.Reached.{is_interface_of}
+use Rattle.package_form.proofs.Scopes.{interfaces-distinct, worlds-distinct, labels-distinct}
+use Rattle.package_form.proofs.OwnPackage.{some-package, own-worlds}
+use Rattle.package_form.specs.Naming.{field_name, case_name, parameter_name, interface_name, interface_labels_of, world_labels_of, kind_members, row_members, row_names, rows_scopes, interfaces_scopes, world_scopes, label_of, package_scopes}
 use Rattle.package_form.specs.Ids.{is_world_function}
 use Rattle.package_form.proofs.Lists.{list-grows, all-none, all-cons, all-head, all-tail, all-append, all-left, all-right, flat_map-append}
 use Rattle.resolve.specs.Resolved as tree
@@ -37,11 +39,12 @@ use Rattle.resolve.proofs.RowNames.{key_name, names-defined}
 use Rattle.resolve.proofs.Blocks.{references-append}
 use Rattle.resolve.proofs.AllDefinitions.{all-are}
 use Rattle.package_text.specs.Written.{ty_of, members_in, cases_in, labels_in, body_of}
-use Rattle.package_text.specs.Tree.{entry_of, entry_by, use_entry}
+use Rattle.package_text.proofs.Named.{entry_of, entry_by, use_entry}
 use Rattle.package_form.specs.Postfix.{unnamed, aliased, IsPostfix}
 use Rattle.package_form.specs.Form.{is_own_name, ids_of, is_local, IsInPackageForm}
 use Rattle.resolve.specs.Resolves.{HasDistinctNames}
-use Rattle.package_text.specs.Tree.{own_names, interface_entry, world_entry, file_of}
+use Rattle.package_text.specs.Tree.{own_names, own_interfaces}
+use Rattle.package_text.proofs.Named.{interface_entry, world_entry, file_of}
 use Rattle.package_text.proofs.Back.{alias-body}
 use Rattle.package_text.proofs.InPlace.{local-back, Each, none_left}
 use Rattle.package_text.proofs.Rows.{IsOwned, IsNamed, PlaceExpressed, val-expressed, is_local_kind}
@@ -51,7 +54,8 @@ use Rattle.package_text.proofs.Fronts.{places-mean}
 use Rattle.package_text.proofs.Regions.{AreRegions, no_region, and_region, home}
 use Rattle.package_text.proofs.Owned.{rows-owned, local-unworldly}
 use Rattle.package_text.proofs.Parts.{got, written}
-use Rattle.package_text.proofs.Whole.{form-regions, tree-worlds}
+use Rattle.package_text.proofs.Begins.{form-regions, begins}
+use Rattle.package_text.proofs.Whole.{tree-worlds}
 
 abbrev Scopes : Type 0
 Scopes = List (List (List ℕ))
@@ -189,28 +193,59 @@ module _ (ns : List (List ℕ)) (rows : List Definition) (at : ℕ → ℕ) (ear
       all-append AreDistinct (flat_map entry_names (map entry_of ds) ∷ flat_map entry_scopes (map entry_of ds)) (flat_map (interface_scopes named) (map (written ns rows at earlier o p) is))
       (all-cons AreDistinct _ _ (subst AreDistinct (sym names) (all-head AreDistinct (flat_map row_names own) (map row_members own) first)) members) others
 
+scopes-parted : (rows : List Definition) (start : ℕ) (front own : List Interface)
+    → interfaces_scopes rows start (front ++ own) ≡ interfaces_scopes rows start front ++ interfaces_scopes rows (interfaces_end start front) own
+scopes-parted rows start [] own = refl
+scopes-parted rows start (i ∷ is) own =
+    ap (λ (ss : Scopes). rows_scopes (rows_of rows start i) ++ ss) (scopes-parted rows (end_of start i) is own)
+    ∙ sym (append_assoc (rows_scopes (rows_of rows start i)) (interfaces_scopes rows (end_of start i) is) (interfaces_scopes rows (interfaces_end (end_of start i) is) own))
+
+-- the names of the own interfaces are those of its package
+own-named : (k : ℕ) (is : List Interface) → interface_labels_of is k ≡ map interface_name (filter (is_interface_of k) is)
+own-named k [] = refl
+own-named k (i ∷ is) = by (is_interface_of k i) (own-named k is)
+  where
+    by : (b : Bool) → interface_labels_of is k ≡ map interface_name (filter (is_interface_of k) is)
+        → cond b (i.name ∷ []) [] ++ interface_labels_of is k ≡ map interface_name (cond b (i ∷ filter (is_interface_of k) is) (filter (is_interface_of k) is))
+    by true h = ap (λ (ns : List (List ℕ)). i.name ∷ ns) h
+    by false h = h
+
+worlds-named : (k : ℕ) (ws : List World) → list_all (is_world_of k) ws ≡ true → world_labels_of ws k ≡ map label_of ws
+worlds-named k [] h = refl
+worlds-named k (w ∷ ws) h =
+    let s = and_parts (is_world_of k w) (list_all (is_world_of k) ws) h in
+    ap (λ (b : Bool). cond b (w.name ∷ []) [] ++ world_labels_of ws k) s.0 ∙ ap (λ (ns : List (List ℕ)). w.name ∷ ns) (worlds-named k ws s.1)
+
 -- in the scopes of the tree's interfaces names differ
-pub tree-interfaces-distinct : (r : Resolve) → IsInPackageForm r → All AreDistinct (package_scopes r) → All AreDistinct (flat_map (interface_scopes (package_named (file_of r))) (map (interface_entry r) r.interfaces))
+pub tree-interfaces-distinct : (r : Resolve) → IsInPackageForm r → All AreDistinct (package_scopes r) → All AreDistinct (flat_map (interface_scopes (package_named (file_of r))) (map (interface_entry r) (own_interfaces r)))
 tree-interfaces-distinct r f h =
+    let b = begins r f in
     let regions = form-regions r f in
     let owned = rows-owned (own_names r) r.definitions (home 0 0 r.interfaces) r.interfaces r.earlier f.postfix regions in
-    scopes-from (own_names r) r.definitions (home 0 0 r.interfaces) r.earlier owned f.postfix (package_named (file_of r)) 0 [] r.interfaces r.definitions regions refl
-    (interfaces-distinct r h)
+    scopes-from (own_names r) r.definitions (home 0 0 r.interfaces) r.earlier owned f.postfix (package_named (file_of r)) (length b.front) b.before (own_interfaces r) b.behind b.regions b.rows
+    (subst (λ (n : ℕ). All AreDistinct (interfaces_scopes r.definitions n (own_interfaces r))) (sym b.ends)
+    (all-right AreDistinct (interfaces_scopes r.definitions 0 b.front) (interfaces_scopes r.definitions (interfaces_end 0 b.front) (own_interfaces r))
+    (subst (All AreDistinct) (ap (interfaces_scopes r.definitions 0) b.interfaces ∙ scopes-parted r.definitions 0 b.front (own_interfaces r)) (interfaces-distinct r h))))
 
 -- in the scopes of the tree names differ where they do in those of the table, whose worlds are those of the tree
-pub tree-distinct : (r : Resolve) → IsInPackageForm r → IsAlone r → worlds r ≡ map tree.world_meaning (full_worlds (file_of r)) → All AreDistinct (package_scopes r) → HasDistinctNames (file_of r)
-tree-distinct r f alone same h =
+pub tree-distinct : (r : Resolve) → IsInPackageForm r → worlds r ≡ map tree.world_meaning (full_worlds (file_of r)) → All AreDistinct (package_scopes r) → HasDistinctNames (file_of r)
+tree-distinct r f same h =
     let p = package_named (file_of r) in
-    let A : List FileEntry = map (interface_entry r) r.interfaces in
+    let A : List FileEntry = map (interface_entry r) (own_interfaces r) in
     let B : List FileEntry = map (world_entry r) r.worlds in
-    let names : map interface_name r.interfaces ++ map label_of r.worlds ≡ map file_name (map (interface_entry r) r.interfaces ++ map (world_entry r) r.worlds) =
-    sym (map-append file_name A B ∙ (ap (λ (ns : List (List ℕ)). ns ++ map file_name B) (file-names r.interfaces) ∙ ap (λ (ns : List (List ℕ)). map interface_name r.interfaces ++ ns) (world-names r.worlds))) in
+    let names : map interface_name (own_interfaces r) ++ map label_of r.worlds ≡ map file_name (map (interface_entry r) (own_interfaces r) ++ map (world_entry r) r.worlds) =
+    sym (map-append file_name A B ∙ (ap (λ (ns : List (List ℕ)). ns ++ map file_name B) (file-names (own_interfaces r)) ∙ ap (λ (ns : List (List ℕ)). map interface_name (own_interfaces r) ++ ns) (world-names r.worlds))) in
     let told : flat_map world_scopes (worlds r) ≡ flat_map (interface_scopes (package_named (file_of r))) (map (world_entry r) r.worlds) =
     ap (flat_map world_scopes) (same ∙ ap (λ (ts : List WorldTree). map tree.world_meaning (map (full_world p) ts)) (tree-worlds r)) ∙ sym (worlds-scopes r.worlds) in
     let outer : All AreDistinct (flat_map (interface_scopes (package_named (file_of r))) (map (world_entry r) r.worlds)) =
     subst (All AreDistinct) told
     (worlds-distinct r h) in
-    all-cons AreDistinct (map file_name (A ++ B)) (flat_map (interface_scopes p) (A ++ B)) (subst AreDistinct names (all-head AreDistinct (map interface_name r.interfaces ++ map label_of r.worlds) _ (subst (λ (ss : List (List (List ℕ))). All AreDistinct ss) (alone-scopes r alone) h)))
+    let own = own_package r.packages in
+    let scope : AreDistinct (interface_labels_of r.interfaces own ++ world_labels_of r.worlds own) = labels-distinct r h own (omega (arith, some-package r f.closed)) in
+    let told_names : interface_labels_of r.interfaces own ++ world_labels_of r.worlds own ≡ map interface_name (own_interfaces r) ++ map label_of r.worlds =
+    ap (λ (ns : List (List ℕ)). ns ++ world_labels_of r.worlds own) (own-named own r.interfaces)
+    ∙ ap (λ (ns : List (List ℕ)). map interface_name (own_interfaces r) ++ ns) (worlds-named own r.worlds (own-worlds r f.closed)) in
+    all-cons AreDistinct (map file_name (A ++ B)) (flat_map (interface_scopes p) (A ++ B)) (subst AreDistinct (told_names ∙ names) scope)
     (subst (All AreDistinct) (sym (flat_map-append (interface_scopes p) A B))
     (all-append AreDistinct (flat_map (interface_scopes p) A) (flat_map (interface_scopes p) B) (tree-interfaces-distinct r f h) outer))
   where

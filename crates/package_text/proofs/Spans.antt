@@ -8,7 +8,8 @@ use Rattle.package_form.specs.Naming.{world_scopes}
 use Rattle.resolve.specs.Declarations.{InterfaceTree, WorldTree, ItemTree, entry_packages, world_entry_packages, file_entry_packages, other_packages, entry_uses, entry_types, entry_functions, entry_names, entry_scopes, interface_tree, interface_of, interfaces, item_tree, world_of, worlds, package_named, full_interface, full_interfaces, full_world, full_worlds, interface_names}
 use Rattle.resolve.specs.Resolved.{world_meaning}
 use Rattle.resolve.specs.Scopes.{file_name, interface_scopes, scopes}
-use Rattle.resolve.specs.Resolves.{Resolves, earlier_packages, KnowsPackages, HasKnownNames, IsKnownWorld, HasNoFaults, IsPackageOf, body_fits, signature_fits, entry_fits, world_entry_fits, interface_fits, file_fits}
+use Rattle.resolve.specs.Imports.{Imports, imports_of}
+use Rattle.resolve.specs.Resolves.{ResolvesBehind, KnowsPackagesOf, HasKnownNamesOf, IsKnownWorldOf, HasNoFaultsOf, IsClosedPackageOf, body_fits, signature_fits, entry_fits, world_entry_fits, interface_fits, file_fits}
 use Rattle.tables.specs.Package.{package_of}
 use Rattle.tables.specs.PackageNames.{PackageParts}
 use Rattle.tables.specs.declared.tables.Resolve.{Resolve}
@@ -125,8 +126,8 @@ module _ (f g : File) (same : unplaced g ≡ unplaced f) where
   packages-same : other_packages g ≡ other_packages f
   packages-same = sym (packages-kept g.entries) ∙ (ap (flat_map file_entry_packages) entries-same ∙ packages-kept f.entries)
 
-  packages-known : KnowsPackages f → KnowsPackages g
-  packages-known h = subst (All (Contains earlier_packages)) (sym packages-same) h
+  packages-known : (m : Imports) → KnowsPackagesOf m f → KnowsPackagesOf m g
+  packages-known m h = subst (All (Contains m.packages)) (sym packages-same) h
 
   worlds-same : worlds g ≡ worlds f
   worlds-same = sym (worlds-kept g.entries) ∙ (ap (filter_map world_of) entries-same ∙ worlds-kept f.entries)
@@ -149,16 +150,18 @@ module _ (f g : File) (same : unplaced g ≡ unplaced f) where
       ∙ (sym (all-scopes-kept p g.entries) ∙ (ap (flat_map (interface_scopes p)) entries-same ∙ all-scopes-kept p f.entries)) in
       ap (λ (ns : List (List ℕ)). ns ∷ flat_map (interface_scopes (package_named g)) g.entries) a ∙ ap (λ (ss : List (List (List ℕ))). map file_name f.entries ∷ ss) b
 
-  pub package-kept : (r : Resolve) → IsPackageOf f r → IsPackageOf g r
-  package-kept r h = record {
-    earlier = packages-known h.earlier;
-    packages = h.packages ∙ ap (λ (p : PackageParts). p ∷ []) (sym named-same);
-    resolves = subst (λ (is : List InterfaceTree). Resolves is (full_worlds g) (package_of r)) (sym full-same)
-        (subst (λ (ws : List WorldTree). Resolves (full_interfaces f) ws (package_of r)) (sym full-worlds-same) h.resolves);
+  pub package-kept : (imports r : Resolve) → IsClosedPackageOf imports f r → IsClosedPackageOf imports g r
+  package-kept imports r h = record {
+    earlier = packages-known (imports_of imports) h.earlier;
+    packages = h.packages ∙ ap (λ (p : PackageParts). imports.packages ++ p ∷ []) (sym named-same);
+    resolves = subst (λ (is : List InterfaceTree). ResolvesBehind (package_of imports) is (full_worlds g) (package_of r)) (sym full-same)
+        (subst (λ (ws : List WorldTree). ResolvesBehind (package_of imports) (full_interfaces f) ws (package_of r)) (sym full-worlds-same) h.resolves);
     postfix = h.postfix;
     behind = h.behind;
     items = h.items;
-    ids = h.ids;
+    rows = h.rows;
+    own = h.own;
+    worlds = h.worlds;
     within = h.within;
   }
 
@@ -172,14 +175,14 @@ module _ (f g : File) (same : unplaced g ≡ unplaced f) where
       none [] q = refl
       none (x ∷ es) q = absurd cc
 
-  pub faults-kept : HasNoFaults f → HasNoFaults g
-  faults-kept h = record {
+  pub faults-kept : (m : Imports) → HasNoFaultsOf m f → HasNoFaultsOf m g
+  faults-kept m h = record {
     some = some-kept h.some;
     distinct = subst (All AreDistinct) (sym scopes-same) h.distinct;
-    packages = packages-known h.packages;
+    packages = packages-known m h.packages;
     known = record {
-      in_interfaces = subst (λ (is : List InterfaceTree). All (HasKnownNames is) is) (sym interfaces-same) h.known.in_interfaces;
-      in_worlds = subst (λ (ws : List WorldTree). All (IsKnownWorld (interface_names (interfaces g))) ws) (sym worlds-same)
-          (subst (λ (is : List InterfaceTree). All (IsKnownWorld (interface_names is)) (worlds f)) (sym interfaces-same) h.known.in_worlds);
+      in_interfaces = subst (λ (is : List InterfaceTree). All (HasKnownNamesOf m is) is) (sym interfaces-same) h.known.in_interfaces;
+      in_worlds = subst (λ (ws : List WorldTree). All (IsKnownWorldOf m (interface_names (interfaces g))) ws) (sym worlds-same)
+          (subst (λ (is : List InterfaceTree). All (IsKnownWorldOf m (interface_names is)) (worlds f)) (sym interfaces-same) h.known.in_worlds);
     };
   }

@@ -13,11 +13,11 @@ use Rattle.tables.specs.declared.tables.Definition.TheVariants as row
 use Rattle.tables.specs.declared.tables.Resolve.{Resolve}
 use Rattle.tables.proofs.Rows.{get-at, below-at, both}
 use Rattle.tables.proofs.Earlier.{definition-both}
+use Rattle.package_form.specs.Reached.{name_of}
 use Rattle.package_form.proofs.Lists.{all-get}
 use Rattle.package_form.proofs.Meeting.{split-at}
 use Rattle.resolve.proofs.Weighed.{tree-here}
 use Rattle.package_text.specs.Tree.{own_names, own_trees}
-use Rattle.package_text.specs.Pieces.{name_in}
 use Rattle.package_text.proofs.Fronts.{kind-front, params-front, row-below}
 
 reference-front : (ns : List (List ℕ)) (front rest : List Definition) (d : Definition) → definition_below (length front) d ≡ true
@@ -49,10 +49,10 @@ pub type-tree : (r : Resolve) (k : ℕ) (d : TypeDef) (o : Option TypeName) → 
     → get_or (own_trees r) k TextTree ≡ reference_by (own_names r) o (read_kind (own_trees r) d.kind)
 type-tree r k d o e n = row-tree r k (row.Type d) e ∙ ap (λ (m : Option TypeName). reference_by (own_names r) m (read_kind (own_trees r) d.kind)) n
 
-pub name-at : (r : Resolve) (k : ℕ) (n : TypeName) → name_in (type_of (slice_get r.definitions k)) ≡ Some n → get_or (own_trees r) k TextTree ≡ Reference (key_of (own_names r) n)
+pub name-at : (r : Resolve) (k : ℕ) (n : TypeName) → name_of (type_of (slice_get r.definitions k)) ≡ Some n → get_or (own_trees r) k TextTree ≡ Reference (key_of (own_names r) n)
 name-at r k n h = by (slice_get r.definitions k) refl h
   where
-    by : (o : Option Definition) → slice_get r.definitions k ≡ o → name_in (type_of o) ≡ Some n → get_or (own_trees r) k TextTree ≡ Reference (key_of (own_names r) n)
+    by : (o : Option Definition) → slice_get r.definitions k ≡ o → name_of (type_of o) ≡ Some n → get_or (own_trees r) k TextTree ≡ Reference (key_of (own_names r) n)
     by None e q = absurd cc
     by (Some (row.Function f)) e q = absurd cc
     by (Some (row.Type d)) e q = type-tree r k d (Some n) e q

@@ -1,9 +1,8 @@
 -- The tree of a table whose names are labels, and whose types nest as in a text, has a text.
-use Rattle.std.proofs.Common.{◌≡◌, ◌+◌, ◌≤◌, ℕ, List, [], ◌∷◌, ◌++◌, length, map, flat_map, get_or, refl, sym, ap, subst, ◌∙◌, arith, All}
+use Rattle.std.proofs.Common.{◌≡◌, ◌<◌, ◌+◌, ◌≤◌, ℕ, List, [], ◌∷◌, ◌++◌, length, map, flat_map, get_or, refl, sym, ap, subst, ◌∙◌, arith, All}
 use Rattle.std.specs.Prelude.{true, false, ◌&&◌, Option, None, Some}
 use Rattle.std.specs.List.{list_all, AllByRecursion}
 use Rattle.std.proofs.lemmas.Bool.{and_parts, ltb-true, false≢true}
-use Rattle.std.proofs.lemmas.List.{length-map}
 use Rattle.atoms.specs.Label.{IsLabel}
 use Rattle.atoms.specs.FullName.{is_package_label, is_version_or_none}
 use Rattle.tables.specs.Tables.{are_earlier}
@@ -11,36 +10,38 @@ use Rattle.tables.specs.Package.{Meaning, IsUse, function_meaning, references}
 use Rattle.tables.specs.declared.tables.Function.{Function}
 use Rattle.tables.specs.declared.tables.Definition.{Definition}
 use Rattle.tables.specs.declared.tables.Definition.TheVariants as row
-use Rattle.tables.specs.declared.tables.Interface.{Interface}
 use Rattle.tables.specs.declared.tables.World.{World}
 use Rattle.tables.specs.declared.tables.Resolve.{Resolve}
-use Rattle.tables.specs.PackageNames.{PackageParts}
 use Rattle.wit_tokens.specs.Lexing.{limit}
 use Rattle.wit_syntax.specs.Syntax.{FileEntry, File}
 use Rattle.wit_tokens.specs.declared.token.Punctuation.TheVariants as mark
 use Rattle.wit_print.specs.Words.{mark_word}
 use Rattle.wit_print.specs.Canonical.{line, file_entry_words, items_words, version_words, file_words, canonical_text}
-use Rattle.wit_print.specs.Printable.{IsPrintableFileEntry, IsPrintableVersionOrNone, IsPrintable}
+use Rattle.wit_print.specs.Printable.{IsPrintablePath, IsPrintableFileEntry, IsPrintable}
 use Rattle.package_form.specs.Entries.{labels_of}
+use Rattle.package_form.specs.Closed.{own_package}
 use Rattle.package_form.specs.Form.{is_package_name}
 use Rattle.package_form.specs.Naming.{label_of}
-use Rattle.package_form.proofs.Lists.{all-head, all-tail, all-left, all-right}
+use Rattle.package_form.proofs.Lists.{all-get, all-head, all-tail, all-left, all-right}
 use Rattle.package_form.proofs.Forms.{rows-few}
-use Rattle.package_form.proofs.OnePackage.{single}
+use Rattle.package_form.proofs.OwnPackage.{some-package}
 use Rattle.resolve.specs.Resolves.{interface_fits, file_fits, is_behind}
-use Rattle.package_text.specs.Tree.{own_names, interface_entry, world_entry, first_name, file_of}
+use Rattle.package_text.specs.Tree.{own_names, own_interfaces, own_parts}
+use Rattle.package_text.proofs.Named.{interface_entry, world_entry, file_of}
 use Rattle.package_text.specs.Writable.{row_labels, IsWritable}
 use Rattle.package_text.proofs.Parts.{stands-at}
 use Rattle.package_text.proofs.Regions.{home}
 use Rattle.package_text.proofs.Owned.{rows-owned}
-use Rattle.package_text.proofs.Whole.{form-regions}
+use Rattle.package_text.proofs.Begins.{form-regions, begins, own-are-labels, own-there}
+use Rattle.package_text.proofs.Paths.{path_named, paths-printable}
 use Rattle.package_text.proofs.Versions.{version-printable}
 use Rattle.package_text.proofs.Sized.{weight, weight-append, weight-text}
 use Rattle.package_text.proofs.Spelt.{AreWritten}
 use Rattle.package_text.proofs.Printed.{PrintsAs, function-printed, files-printable, regions-homes}
 use Rattle.package_text.proofs.Fronts.{row-below, function-front}
 use Rattle.package_text.specs.Written.{direction_for}
-use Rattle.package_text.specs.Tree.{function_by, own_trees, item_entry, own_item}
+use Rattle.package_text.specs.Tree.{function_by, own_trees, own_item}
+use Rattle.package_text.proofs.Named.{item_entry}
 use Rattle.wit_print.specs.Unplaced.{nowhere}
 use Rattle.wit_syntax.specs.Syntax.{WorldEntry, Whole, Single, AnInterface, AWorld}
 use Rattle.wit_syntax.specs.declared.ast.Direction.{Direction as Way}
@@ -113,7 +114,7 @@ SinglePrints way n (IsFunction fs result) =
 abbrev ItemPrints : WorldEntry → Type 0
 ItemPrints e = world_entry_fits e ≡ true → weight (world_entry_words e) ≤ limit → IsPrintableWorldEntry e
 
-module _ (r : Resolve) (named : All IsLabel (own_names r)) (singles : (front : List Definition) (g : Function) (rest : List Definition) → r.definitions ≡ front ++ row.Function g ∷ rest
+module _ (r : Resolve) (paths : (j : ℕ) → j < length r.interfaces → IsPrintablePath (path_named (get_or (own_names r) j []))) (singles : (front : List Definition) (g : Function) (rest : List Definition) → r.definitions ≡ front ++ row.Function g ∷ rest
     → PrintsAs g.name (function_meaning (references (own_names r) [] front) g)) where
   single-prints : (way : Way) (front : List Definition) (g : Function) (rest : List Definition) → r.definitions ≡ front ++ row.Function g ∷ rest → SinglePrints way g.name (function_meaning (own_trees r) g)
   single-prints way front g rest e =
@@ -123,7 +124,7 @@ module _ (r : Resolve) (named : All IsLabel (own_names r)) (singles : (front : L
       subst (SinglePrints way g.name) (sym same) (λ f l. singles front g rest e f (omega (arith, l)))
 
   item-prints : (w : ℕ) (way : Direction) (i : WorldItemKind) → is_placed_item r.definitions (length r.interfaces) w i ≡ true → ItemPrints (item_entry (item_meaning (own_names r) (own_trees r) r.definitions way i))
-  item-prints w way (item.Interface j) h = λ f l. named j.0 [] (omega (arith, ltb-true j.0 (length r.interfaces) h, length-map r.interfaces (λ (i : Interface). i.name)))
+  item-prints w way (item.Interface j) h = λ f l. paths j.0 (ltb-true j.0 (length r.interfaces) h)
   item-prints w way (item.Function c) h = by (slice_get r.definitions c.0) refl h
     where
       by : (d : Option Definition) → slice_get r.definitions c.0 ≡ d → is_function_of w (function_of d) ≡ true → ItemPrints (item_entry (function_item (own_trees r) way (function_of d)))
@@ -160,33 +161,34 @@ pub tree-printable : (r : Resolve) → IsWritable r → file_fits (file_of r) �
 tree-printable r w nested few =
     let regions = form-regions r w.form in
     let owned = rows-owned (own_names r) r.definitions (home 0 0 r.interfaces) r.interfaces r.earlier w.form.postfix regions in
-    let named : All IsLabel (own_names r) = all-left IsLabel (labels_of r.interfaces) (map label_of r.worlds ++ flat_map row_labels r.definitions) w.labels in
+    let b = begins r w.form in
+    let named : All IsLabel (labels_of r.interfaces) = all-left IsLabel (labels_of r.interfaces) (map label_of r.worlds ++ flat_map row_labels r.definitions) w.labels in
     let others = all-right IsLabel (labels_of r.interfaces) (map label_of r.worlds ++ flat_map row_labels r.definitions) w.labels in
     let rows : All IsLabel (flat_map row_labels r.definitions) = all-right IsLabel (map label_of r.worlds) (flat_map row_labels r.definitions) others in
     let written : AreWritten r.definitions = record { standard = r.standard; labels = rows } in
-    let long = length-map r.interfaces (λ (i : Interface). i.name) in
-    let homes : (front : List Definition) (d : Definition) (rest : List Definition) → r.definitions ≡ front ++ d ∷ rest → is_behind d ≡ false → IsLabel (get_or (own_names r) (home 0 0 r.interfaces (length front)) []) =
+    let paths = paths-printable r w.form.names named in
+    let homes : (front : List Definition) (d : Definition) (rest : List Definition) → r.definitions ≡ front ++ d ∷ rest → is_behind d ≡ false → IsPrintablePath (path_named (get_or (own_names r) (home 0 0 r.interfaces (length front)) [])) =
     λ front d rest e h.
-    named (home 0 0 r.interfaces (length front)) [] (let q = regions-homes r.definitions (home 0 0 r.interfaces) 0 [] r.interfaces r.definitions regions refl front d rest e (omega arith) h in omega (arith, q, long)) in
-    let A : List FileEntry = map (interface_entry r) r.interfaces in
+    paths (home 0 0 r.interfaces (length front)) (let q = regions-homes r.definitions (home 0 0 r.interfaces) 0 [] r.interfaces r.definitions regions refl front d rest e (omega arith) h in omega (arith, q)) in
+    let A : List FileEntry = map (interface_entry r) (own_interfaces r) in
     let B : List FileEntry = map (world_entry r) r.worlds in
-    let split = items-split (map (interface_entry r) r.interfaces) (map (world_entry r) r.worlds) in
+    let split = items-split (map (interface_entry r) (own_interfaces r)) (map (world_entry r) r.worlds) in
     let room = items-room (file_of r) few in
     let fit = and_parts (list_all interface_fits A) (list_all interface_fits B) (sym (list_all-append interface_fits A B) ∙ nested) in
-    let interfaces = files-printable (own_names r) r.definitions (home 0 0 r.interfaces) r.earlier owned w.form.postfix written homes 0 [] r.interfaces r.definitions regions refl
-    (within-limit (length r.definitions) (rows-few r w.form)) named fit.0 (omega (arith, room, split)) in
-    let worlds = worlds-print r named (function-printed (own_names r) r.definitions (home 0 0 r.interfaces) r.earlier owned w.form.postfix written homes)
+    let interfaces = files-printable (own_names r) r.definitions (home 0 0 r.interfaces) r.earlier owned w.form.postfix written homes (length b.front) b.before (own_interfaces r) b.behind b.regions b.rows
+    (within-limit (length r.definitions) (rows-few r w.form)) (own-are-labels r b named) fit.0 (omega (arith, room, split)) in
+    let worlds = worlds-print r paths (function-printed (own_names r) r.definitions (home 0 0 r.interfaces) r.earlier owned w.form.postfix written homes)
     0 r.worlds r.worlds_placed (all-left IsLabel (map label_of r.worlds) (flat_map row_labels r.definitions) others) fit.1 (omega (arith, room, split)) in
-    let one = single r.packages w.alone in
-    let first : first_name r.packages ≡ one.0 = ap first_name one.1 in
-    let s = and_parts (is_package_name one.0) true (subst (λ (ps : List PackageParts). list_all is_package_name ps ≡ true) one.1 w.form.names) in
-    let t = and_parts (is_package_label one.0.namespace) (is_package_label one.0.name && is_version_or_none one.0.version) s.0 in
-    let u = and_parts (is_package_label one.0.name) (is_version_or_none one.0.version) t.1 in
-    let fewer = files-long (map (interface_entry r) r.interfaces ++ map (world_entry r) r.worlds) in
+    let named_so : is_package_name (own_parts r.packages) ≡ true =
+    all-get is_package_name r.packages (own_package r.packages) (own_parts r.packages) w.form.names (own-there r.packages (some-package r w.form.closed)) in
+    let p = own_parts r.packages in
+    let t = and_parts (is_package_label p.namespace) (is_package_label p.name && is_version_or_none p.version) named_so in
+    let u = and_parts (is_package_label p.name) (is_version_or_none p.version) t.1 in
+    let fewer = files-long (map (interface_entry r) (own_interfaces r) ++ map (world_entry r) r.worlds) in
     record {
-      namespace = ap (λ (q : PackageParts). is_package_label q.namespace) first ∙ t.0;
-      name = ap (λ (q : PackageParts). is_package_label q.name) first ∙ u.0;
-      version = subst (λ (q : PackageParts). IsPrintableVersionOrNone q.version) (sym first) (version-printable one.0.version u.1);
+      namespace = t.0;
+      name = u.0;
+      version = version-printable p.version u.1;
       few = omega (arith, fewer, room);
       entries = recursion-append IsPrintableFileEntry A B interfaces worlds;
     }

@@ -20,26 +20,32 @@ use Rattle.package_form.specs.Entries.{labels_of}
 use Rattle.package_form.specs.Naming.{name_if}
 use Rattle.package_form.specs.Postfix.{IsPostfix}
 use Rattle.package_form.specs.Form.{is_own_name, ids_of}
-use Rattle.package_form.proofs.Lists.{all-mono, contains-here, contains-later, contains-left, contains-right, contains-flat, flat_map-append, flat_map-one, get-front}
-use Rattle.resolve.specs.Declarations.{InterfaceTree, interface_of, interface_tree, type_names, named_definition, named_function as function_names}
+use Rattle.package_form.proofs.Lists.{all-head, all-tail, all-mono, contains-here, contains-later, contains-left, contains-right, contains-flat, flat_map-append, flat_map-one, get-front}
+use Rattle.atoms.specs.Label.{IsLabel}
+use Rattle.wit_syntax.specs.Syntax.{PathTo, Local}
+use Rattle.resolve.specs.Imports.{Imports}
+use Rattle.resolve.specs.Resolves.{IsKnownIn}
+use Rattle.resolve.specs.Declarations.{path_package, path_interface, InterfaceTree, interface_of, interface_tree, type_names, named_definition, named_function as function_names}
 use Rattle.resolve.proofs.Blocks.{references-append}
 use Rattle.resolve.proofs.Referring.{every-mono}
 use Rattle.package_text.specs.Written.{body_of}
-use Rattle.package_text.specs.Tree.{function_by, entry_of}
+use Rattle.package_text.specs.Tree.{function_by}
+use Rattle.package_text.proofs.Named.{entry_of}
 use Rattle.package_text.proofs.Rows.{IsNamed, is_local_kind, IsOwned}
 use Rattle.package_text.proofs.Known.{IsTold, row-told}
-use Rattle.package_text.proofs.Knowing.{type_given, gives, HasType, IsKnownBy, AreKnownBy, known-append, IsKnownTree, part-types, part-known, AreKnownTrees}
+use Rattle.package_text.proofs.Paths.{path_named, label-path}
+use Rattle.package_text.proofs.Knowing.{type_given, gives, HasType, type-more, IsKnownBy, AreKnownBy, known-append, IsKnownTree, part-types, part-known, AreKnownTrees}
 use Rattle.package_text.proofs.Regions.{AreRegions, no_region, and_region}
 use Rattle.package_text.proofs.Parts.{stands-at, got, written, part-from}
 
 -- ---- lists
 
-got-behind : {A : Type 0} (xs ys : List A) (n : ℕ) → length xs ≤ n → slice_get (xs ++ ys) n ≡ slice_get ys (n - length xs)
+pub got-behind : {A : Type 0} (xs ys : List A) (n : ℕ) → length xs ≤ n → slice_get (xs ++ ys) n ≡ slice_get ys (n - length xs)
 got-behind [] ys n l = ap (slice_get ys) (omega arith)
 got-behind (x ∷ xs) ys zero l = absurd (omega (arith, l))
 got-behind (x ∷ xs) ys (suc n) l = got-behind xs ys n (omega (arith, l)) ∙ ap (slice_get ys) (omega arith)
 
-contains-got : {A : Type 0} (xs : List A) (n : ℕ) (x : A) → slice_get xs n ≡ Some x → Contains xs x
+pub contains-got : {A : Type 0} (xs : List A) (n : ℕ) (x : A) → slice_get xs n ≡ Some x → Contains xs x
 contains-got [] n x e = absurd cc
 contains-got (y ∷ xs) zero x e = let same : y ≡ x = cc in subst (Contains (y ∷ xs)) same (contains-here y xs)
 contains-got (y ∷ xs) (suc n) x e = contains-later y x xs (contains-got xs n x e)
@@ -128,9 +134,9 @@ module _ (ns : List (List ℕ)) (rows : List Definition) (at : ℕ → ℕ) (o :
         by true h home u = (t, d, m, sym (get-front pre own t (ltb-true t (length pre) h)) ∙ s, q, i, same)
         by false h home u = absurd (let a = here t (ltb-false t (length pre) h) u in omega (arith, a, home, i, l))
 
-    module _ (before : List InterfaceTree) (rooms : (m : TypeName) → IsNamed pre m.interface.0 m.name → HasType before (key_of ns m)) where
+    module _ (known : Imports) (before : List InterfaceTree) (rooms : (m : TypeName) → IsNamed pre m.interface.0 m.name → HasType known before (key_of ns m)) where
       told-known : (own more : List Definition) → rows ≡ (pre ++ own) ++ more → IsHere k pre own → at (length (pre ++ own)) ≡ k → (x : Meaning) → IsTold ns (pre ++ own) (at (length (pre ++ own))) x
-          → IsKnownBy before (flat_map row_gives own) x
+          → IsKnownBy known before (flat_map row_gives own) x
       told-known own more e here end (IsUse t) (m, q, l, named) =
           (key_of ns m, q, rooms m (past-named own more e here m.interface.0 m.name (omega (arith, l, end)) named))
       told-known own more e here end (IsType t) h =
@@ -140,7 +146,7 @@ module _ (ns : List (List ℕ)) (rows : List Definition) (at : ℕ → ℕ) (o :
           all-mono (IsNamed (pre ++ own) k) (Contains (flat_map row_gives own)) (own-named own more e) (function_names (function_by fs result))
           (subst (λ j. All (IsNamed (pre ++ own) j) (function_names (function_by fs result))) end h)
 
-      rows-known : (own xs rest : List Definition) → rows ≡ (pre ++ own) ++ (xs ++ rest) → IsHere k pre (own ++ xs) → AreKnownBy before (flat_map row_gives own) (definitions_from ns (references ns [] (pre ++ own)) xs)
+      rows-known : (own xs rest : List Definition) → rows ≡ (pre ++ own) ++ (xs ++ rest) → IsHere k pre (own ++ xs) → AreKnownBy known before (flat_map row_gives own) (definitions_from ns (references ns [] (pre ++ own)) xs)
       rows-known own [] rest e here = tt
       rows-known own (x ∷ xs) rest e here =
           let front = pre ++ own in
@@ -150,7 +156,7 @@ module _ (ns : List (List ℕ)) (rows : List Definition) (at : ℕ → ℕ) (o :
           let inner = length-append own (x ∷ xs) in
           let end : at (length (pre ++ own)) ≡ k = here (length (pre ++ own)) (omega (arith, long)) (omega (arith, long, longer, inner)) in
           let so-far : IsHere k pre own = λ n l u. here n l (omega (arith, u, long, longer, inner)) in
-          let now = every-mono (λ y. IsTold ns (pre ++ own) (at (length (pre ++ own))) y.meaning) (λ y. IsKnownBy before (flat_map row_gives own) y.meaning)
+          let now = every-mono (λ y. IsTold ns (pre ++ own) (at (length (pre ++ own))) y.meaning) (λ y. IsKnownBy known before (flat_map row_gives own) y.meaning)
           (λ y h. told-known own (x ∷ (xs ++ rest)) e so-far end y.meaning h) (definition_of ns ts x) (row-told ns rows at o p front x (xs ++ rest) e) in
           let next-front : pre ++ (own ++ x ∷ []) ≡ (pre ++ own) ++ x ∷ [] = sym (append_assoc pre own (x ∷ [])) in
           let flat : rows ≡ (pre ++ (own ++ x ∷ [])) ++ (xs ++ rest) =
@@ -160,13 +166,13 @@ module _ (ns : List (List ℕ)) (rows : List Definition) (at : ℕ → ℕ) (o :
           flat_map-append row_gives own (x ∷ []) ∙ ap (λ (ms : List (List ℕ)). flat_map row_gives own ++ ms) (flat_map-one row_gives x ∙ sym (definition-gives ns ts x)) in
           let trees : references ns [] (pre ++ (own ++ x ∷ [])) ≡ references ns [] (pre ++ own) ++ reference ns (references ns [] (pre ++ own)) x ∷ [] =
           ap (references ns []) next-front ∙ references-append ns [] (pre ++ own) (x ∷ []) in
-          known-append before (flat_map row_gives own) (definition_of ns ts x) (definitions_from ns (ts ++ reference ns ts x ∷ []) xs) now
-          (subst (λ ms. AreKnownBy before ms (definitions_from ns (ts ++ reference ns ts x ∷ []) xs)) given
-          (subst (λ us. AreKnownBy before (flat_map row_gives (own ++ x ∷ [])) (definitions_from ns us xs)) trees on))
+          known-append known before (flat_map row_gives own) (definition_of ns ts x) (definitions_from ns (ts ++ reference ns ts x ∷ []) xs) now
+          (subst (λ ms. AreKnownBy known before ms (definitions_from ns (ts ++ reference ns ts x ∷ []) xs)) given
+          (subst (λ us. AreKnownBy known before (flat_map row_gives (own ++ x ∷ [])) (definitions_from ns us xs)) trees on))
 
 -- ---- all interfaces
 
-module _ (ns : List (List ℕ)) (rows : List Definition) (at : ℕ → ℕ) (earlier : are_earlier 0 rows ≡ true) (o : IsOwned ns rows at) (p : IsPostfix rows) where
+module _ (known : Imports) (ns : List (List ℕ)) (rows : List Definition) (at : ℕ → ℕ) (earlier : are_earlier 0 rows ≡ true) (o : IsOwned ns rows at) (p : IsPostfix rows) where
   abbrev uses_at : Interface → List NamedDefinition
   uses_at i = flat_map (got ns rows at earlier o p) (map (λ (t : TypeId). t.0) i.uses)
 
@@ -181,11 +187,11 @@ module _ (ns : List (List ℕ)) (rows : List Definition) (at : ℕ → ℕ) (ear
   tree_at k i = interface_tree (get_or ns k []) (map entry_of (uses_at i ++ (types_at i ++ functions_at i)))
 
   pub trees-from : (k : ℕ) (pre : List Definition) (is : List Interface) (post : List Definition) → AreRegions rows at k pre is post → rows ≡ pre ++ post → list_all (is_placed rows) is ≡ true
-      → ((j : ℕ) → get_or ns (k + j) [] ≡ get_or (labels_of is) j []) → IsPast ns rows at o p k pre
-      → (before : List InterfaceTree) → ((m : TypeName) → IsNamed pre m.interface.0 m.name → HasType before (key_of ns m))
-      → AreKnownTrees before (filter_map interface_of (map (written ns rows at earlier o p) is))
-  trees-from _ _ _ _ (no_region k pre back behind home) e placed names past before rooms = tt
-  trees-from _ _ _ _ (and_region k pre own post i is ends ids uses types locals here more) e placed names past before rooms =
+      → ((j : ℕ) → get_or ns (k + j) [] ≡ get_or (labels_of is) j []) → All IsLabel (labels_of is) → IsPast ns rows at o p k pre
+      → (before : List InterfaceTree) → ((m : TypeName) → IsNamed pre m.interface.0 m.name → HasType known before (key_of ns m))
+      → AreKnownTrees known before (filter_map interface_of (map (written ns rows at earlier o p) is))
+  trees-from _ _ _ _ (no_region k pre back behind home) e placed names labels past before rooms = tt
+  trees-from _ _ _ _ (and_region k pre own post i is ends ids uses types locals here more) e placed names labels past before rooms =
       let U = uses_at i in
       let T = types_at i in
       let F = functions_at i in
@@ -194,18 +200,18 @@ module _ (ns : List (List ℕ)) (rows : List Definition) (at : ℕ → ℕ) (ear
       let name : get_or ns k [] ≡ i.name = ap (λ j. get_or ns j []) (omega arith) ∙ names 0 in
       let flat : rows ≡ (pre ++ own) ++ post = e ∙ sym (append_assoc pre own post) in
       let none = append-nil pre in
-      let known : AreKnownBy before [] (definitions_from ns (references ns [] (pre ++ [])) own) =
-      rows-known ns rows at o p k pre past before rooms [] own post (e ∙ ap (λ (ds : List Definition). ds ++ (own ++ post)) (sym none)) here in
-      let known' : AreKnownBy before [] (U ++ (T ++ F)) =
-      subst (AreKnownBy before []) (part.means ∙ part.written) (subst (λ (ds : List Definition). AreKnownBy before [] (definitions_from ns (references ns [] ds) own)) none known) in
+      let told : AreKnownBy known before [] (definitions_from ns (references ns [] (pre ++ [])) own) =
+      rows-known ns rows at o p k pre past known before rooms [] own post (e ∙ ap (λ (ds : List Definition). ds ++ (own ++ post)) (sym none)) here in
+      let told' : AreKnownBy known before [] (U ++ (T ++ F)) =
+      subst (AreKnownBy known before []) (part.means ∙ part.written) (subst (λ (ds : List Definition). AreKnownBy known before [] (definitions_from ns (references ns [] ds) own)) none told) in
       let mine : interface_tree i.name (map entry_of (flat_map (got ns rows at earlier o p) (ids_of i))) ≡ tree_at k i =
       ap (λ (ds : List NamedDefinition). interface_tree i.name (map entry_of ds)) part.written ∙ ap (λ (n : List ℕ). interface_tree n (map entry_of (U ++ (T ++ F)))) (sym name) in
-      let first : IsKnownTree before (tree_at k i) = part-known before (get_or ns k []) U T F part.uses part.types part.functions known' in
+      let first : IsKnownTree known before (tree_at k i) = part-known known before (get_or ns k []) U T F part.uses part.types part.functions told' in
       let given : type_names (tree_at k i) ≡ flat_map row_gives own =
-      part-types before (get_or ns k []) U T F part.uses part.types part.functions ∙ (ap (flat_map gives) (sym (part.means ∙ part.written)) ∙ rows-give ns (references ns [] pre) own) in
-      let others = trees-from (suc k) (pre ++ own) is post more flat s.1 (λ j. ap (λ n. get_or ns n []) (omega arith) ∙ names (suc j)) (past-more k pre own past here)
-      (before ++ tree_at k i ∷ []) (rooms-more k pre own post flat past here before (tree_at k i) refl given rooms) in
-      subst (λ (t : InterfaceTree). AreKnownTrees before (t ∷ filter_map interface_of (map (written ns rows at earlier o p) is))) (sym mine) (first, others)
+      part-types known before (get_or ns k []) U T F part.uses part.types part.functions ∙ (ap (flat_map gives) (sym (part.means ∙ part.written)) ∙ rows-give ns (references ns [] pre) own) in
+      let others = trees-from (suc k) (pre ++ own) is post more flat s.1 (λ j. ap (λ n. get_or ns n []) (omega arith) ∙ names (suc j)) (all-tail IsLabel i.name (labels_of is) labels) (past-more k pre own past here)
+      (before ++ tree_at k i ∷ []) (rooms-more k pre own post flat past here before (tree_at k i) refl given (subst IsLabel (sym name) (all-head IsLabel i.name (labels_of is) labels)) rooms) in
+      subst (λ (t : InterfaceTree). AreKnownTrees known before (t ∷ filter_map interface_of (map (written ns rows at earlier o p) is))) (sym mine) (first, others)
     where
       past-more : (k : ℕ) (pre own : List Definition) → IsPast ns rows at o p k pre → IsHere ns rows at o p k pre own → IsPast ns rows at o p (suc k) (pre ++ own)
       past-more k pre own past here n l = by (nat_lt n (length pre)) refl
@@ -215,16 +221,18 @@ module _ (ns : List (List ℕ)) (rows : List Definition) (at : ℕ → ℕ) (ear
           by false h = let q = here n (ltb-false n (length pre) h) l in omega (arith, q)
 
       rooms-more : (k : ℕ) (pre own post : List Definition) → rows ≡ (pre ++ own) ++ post → IsPast ns rows at o p k pre → IsHere ns rows at o p k pre own → (before : List InterfaceTree) (tree : InterfaceTree)
-          → tree.name ≡ get_or ns k [] → type_names tree ≡ flat_map row_gives own → ((m : TypeName) → IsNamed pre m.interface.0 m.name → HasType before (key_of ns m))
-          → (m : TypeName) → IsNamed (pre ++ own) m.interface.0 m.name → HasType (before ++ tree ∷ []) (key_of ns m)
-      rooms-more k pre own post flat past here before tree name given rooms m (t, d, n, s, q, i, same) = by (nat_lt t (length pre)) refl
+          → tree.name ≡ get_or ns k [] → type_names tree ≡ flat_map row_gives own → IsLabel (get_or ns k []) → ((m : TypeName) → IsNamed pre m.interface.0 m.name → HasType known before (key_of ns m))
+          → (m : TypeName) → IsNamed (pre ++ own) m.interface.0 m.name → HasType known (before ++ tree ∷ []) (key_of ns m)
+      rooms-more k pre own post flat past here before tree name given label rooms m (t, d, n, s, q, i, same) = by (nat_lt t (length pre)) refl
         where
-          by : (b : Bool) → nat_lt t (length pre) ≡ b → HasType (before ++ tree ∷ []) (key_of ns m)
+          by : (b : Bool) → nat_lt t (length pre) ≡ b → HasType known (before ++ tree ∷ []) (key_of ns m)
           by true h =
-              let x = rooms m (t, d, n, sym (get-front pre own t (ltb-true t (length pre) h)) ∙ s, q, i, same) in
-              (x.0, contains-left before (tree ∷ []) x.0 x.1, x.2, x.3)
+              type-more known before (before ++ tree ∷ []) (λ j c. contains-left before (tree ∷ []) j c) (key_of ns m)
+              (rooms m (t, d, n, sym (get-front pre own t (ltb-true t (length pre) h)) ∙ s, q, i, same))
           by false h =
               let home = home-here ns rows at o p (pre ++ own) post t d n flat s q in
               let this : m.interface.0 ≡ k = sym i ∙ (home.0 ∙ here t (ltb-false t (length pre) h) home.1) in
               let has = own-named ns rows at o p k pre past own post flat m.name (t, d, n, s, q, i ∙ this, same) in
-              (tree, contains-right before (tree ∷ []) tree (contains-here tree []), name ∙ ap (λ j. get_or ns j []) (sym this), subst (λ (ms : List (List ℕ)). Contains ms m.name) (sym given) has)
+              let path : path_named (get_or ns m.interface.0 []) ≡ Local (get_or ns k []) = ap (λ j. path_named (get_or ns j [])) this ∙ label-path (get_or ns k []) label in
+              subst (λ (x : PathTo). IsKnownIn known (before ++ tree ∷ []) (path_package x) (path_interface x) m.name) (sym path)
+              (tree, contains-right before (tree ∷ []) tree (contains-here tree []), name, subst (λ (ms : List (List ℕ)). Contains ms m.name) (sym given) has)

@@ -3,7 +3,6 @@ use Rattle.std.proofs.Common.{◌≡◌, ◌+◌, ◌<◌, ◌≤◌, ℕ, suc, 
 use Rattle.std.specs.Prelude.{Bool, true, false, not, nat_lt, Option, None, Some, is_some}
 use Rattle.std.specs.List.{list_all}
 use Rattle.std.proofs.lemmas.Bool.{and_parts, false≢true, ltb-true, ltb-false}
-use Rattle.std.proofs.lemmas.List.{length-map, get_or_default}
 use Rattle.tables.specs.Tables.{are_earlier, function_of, is_owner_world, is_function_of, is_placed_item, is_placed_world, are_placed_worlds}
 use Rattle.tables.specs.Package.{Meaning, IsUse, IsType, IsFunction, function_meaning, function_item, references, item_meaning}
 use Rattle.tables.specs.declared.tables.Direction.{Direction}
@@ -23,8 +22,15 @@ use Rattle.package_form.specs.Ids.{is_of_worlds, is_world_function}
 use Rattle.package_form.specs.Form.{is_local, IsInPackageForm}
 use Rattle.package_form.proofs.Lists.{all-none, all-cons, all-head, all-get}
 use Rattle.resolve.specs.Declarations.{world_of, worlds, item_tree, named_function}
-use Rattle.resolve.specs.Resolves.{IsKnownItem, IsKnownWorld}
-use Rattle.package_text.specs.Tree.{function_by, own_names, own_trees, item_entry, own_item, world_entry, file_of}
+use Rattle.wit_syntax.specs.Syntax.{Whole}
+use Rattle.wit_syntax.specs.declared.ast.Direction.{Direction as Way}
+use Rattle.resolve.specs.Imports.{Imports}
+use Rattle.resolve.specs.Resolves.{IsKnownItemOf, IsKnownWorldOf}
+use Rattle.package_text.specs.Tree.{function_by}
+use Rattle.package_text.specs.Written.{direction_for}
+use Rattle.package_text.specs.Tree.{own_names, own_trees, own_item}
+use Rattle.package_text.proofs.Paths.{path_named}
+use Rattle.package_text.proofs.Named.{item_entry, world_entry, file_of}
 use Rattle.package_text.proofs.Fronts.{row-below, function-front}
 use Rattle.package_text.proofs.Rows.{IsNamed, IsOwned, parts-ready}
 use Rattle.package_text.proofs.Ordered.{leaves-at}
@@ -33,7 +39,8 @@ use Rattle.package_text.proofs.Walk.{home-here}
 use Rattle.package_text.proofs.Regions.{AreRegions, no_region, and_region, home}
 use Rattle.package_text.proofs.Owned.{inside, rows-owned, local-unworldly}
 use Rattle.package_text.proofs.Parts.{stands-at}
-use Rattle.package_text.proofs.Whole.{form-regions, tree-worlds}
+use Rattle.package_text.proofs.Begins.{form-regions}
+use Rattle.package_text.proofs.Whole.{tree-worlds}
 use Rattle.package_text.proofs.Printed.{regions-homes}
 
 -- a function of a world stands behind the rows of all interfaces
@@ -96,32 +103,31 @@ module _ (r : Resolve) (f : IsInPackageForm r) where
           let here = ap (home 0 0 r.interfaces) y.3 in
           omega (arith, l, here, x.0, i, behind)
 
-  item-known : (w : ℕ) (way : Direction) (i : WorldItemKind) → is_placed_item r.definitions (length r.interfaces) w i ≡ true
-      → IsKnownItem (own_names r) (item_tree (item_entry (item_meaning (own_names r) (own_trees r) r.definitions way i)))
-  item-known w way (item.Interface j) h =
-      let l : j.0 < length (own_names r) = omega (arith, ltb-true j.0 (length r.interfaces) h, length-map r.interfaces (λ (i : Interface). i.name)) in
-      (j.0, l, get_or_default (own_names r) j.0 (get_or (own_names r) j.0 []) [] l)
-  item-known w way (item.Function c) h = by (slice_get r.definitions c.0) refl h
-    where
-      by : (d : Option Definition) → slice_get r.definitions c.0 ≡ d → is_function_of w (function_of d) ≡ true → IsKnownItem (own_names r) (item_tree (item_entry (function_item (own_trees r) way (function_of d))))
-      by None e q = absurd (false≢true q)
-      by (Some (row.Type d)) e q = absurd (false≢true q)
-      by (Some (row.Function g)) e q =
-          let x = stands-at r.definitions c.0 (row.Function g) e in names-none x.0 g x.1 x.2 (owner-of-world w g.owner q)
+  module _ (m : Imports) (names : List (List ℕ)) (there : (d : Way) (j : ℕ) → j < length r.interfaces → IsKnownItemOf m names (item_tree (Whole d (path_named (get_or (own_names r) j []))))) where
+    item-known : (w : ℕ) (way : Direction) (i : WorldItemKind) → is_placed_item r.definitions (length r.interfaces) w i ≡ true
+        → IsKnownItemOf m names (item_tree (item_entry (item_meaning (own_names r) (own_trees r) r.definitions way i)))
+    item-known w way (item.Interface j) h = there (direction_for way) j.0 (ltb-true j.0 (length r.interfaces) h)
+    item-known w way (item.Function c) h = by (slice_get r.definitions c.0) refl h
+      where
+        by : (d : Option Definition) → slice_get r.definitions c.0 ≡ d → is_function_of w (function_of d) ≡ true → IsKnownItemOf m names (item_tree (item_entry (function_item (own_trees r) way (function_of d))))
+        by None e q = absurd (false≢true q)
+        by (Some (row.Type d)) e q = absurd (false≢true q)
+        by (Some (row.Function g)) e q =
+            let x = stands-at r.definitions c.0 (row.Function g) e in names-none x.0 g x.1 x.2 (owner-of-world w g.owner q)
 
-  items-known : (w : ℕ) (is : List WorldItem) → list_all (λ i. is_placed_item r.definitions (length r.interfaces) w i.kind) is ≡ true
-      → All (IsKnownItem (own_names r)) (map item_tree (map (λ i. item_entry (own_item r i)) is))
-  items-known w [] h = all-none (IsKnownItem (own_names r))
-  items-known w (i ∷ is) h =
-      let t = and_parts (is_placed_item r.definitions (length r.interfaces) w i.kind) (list_all (λ i. is_placed_item r.definitions (length r.interfaces) w i.kind) is) h in
-      all-cons (IsKnownItem (own_names r)) _ _ (item-known w i.direction i.kind t.0) (items-known w is t.1)
+    items-known : (w : ℕ) (is : List WorldItem) → list_all (λ i. is_placed_item r.definitions (length r.interfaces) w i.kind) is ≡ true
+        → All (IsKnownItemOf m names) (map item_tree (map (λ i. item_entry (own_item r i)) is))
+    items-known w [] h = all-none (IsKnownItemOf m names)
+    items-known w (i ∷ is) h =
+        let t = and_parts (is_placed_item r.definitions (length r.interfaces) w i.kind) (list_all (λ i. is_placed_item r.definitions (length r.interfaces) w i.kind) is) h in
+        all-cons (IsKnownItemOf m names) _ _ (item-known w i.direction i.kind t.0) (items-known w is t.1)
 
-  worlds-known : (w : ℕ) (ws : List World) → are_placed_worlds r.definitions (length r.interfaces) w ws ≡ true → All (IsKnownWorld (own_names r)) (filter_map world_of (map (world_entry r) ws))
-  worlds-known w [] h = all-none (IsKnownWorld (own_names r))
-  worlds-known w (x ∷ xs) h =
-      let t = and_parts (is_placed_world r.definitions (length r.interfaces) w x) (are_placed_worlds r.definitions (length r.interfaces) (w + 1) xs) h in
-      all-cons (IsKnownWorld (own_names r)) _ _ (items-known w x.items t.0) (worlds-known (w + 1) xs t.1)
+    worlds-known : (w : ℕ) (ws : List World) → are_placed_worlds r.definitions (length r.interfaces) w ws ≡ true → All (IsKnownWorldOf m names) (filter_map world_of (map (world_entry r) ws))
+    worlds-known w [] h = all-none (IsKnownWorldOf m names)
+    worlds-known w (x ∷ xs) h =
+        let t = and_parts (is_placed_world r.definitions (length r.interfaces) w x) (are_placed_worlds r.definitions (length r.interfaces) (w + 1) xs) h in
+        all-cons (IsKnownWorldOf m names) _ _ (items-known w x.items t.0) (worlds-known (w + 1) xs t.1)
 
-  -- the worlds of the tree name interfaces of the tree, and no types
-  pub tree-worlds-known : All (IsKnownWorld (own_names r)) (worlds (file_of r))
-  tree-worlds-known = subst (All (IsKnownWorld (own_names r))) (sym (tree-worlds r)) (worlds-known 0 r.worlds r.worlds_placed)
+    -- the worlds of the tree name interfaces that are known, and no types
+    pub tree-worlds-known : All (IsKnownWorldOf m names) (worlds (file_of r))
+    tree-worlds-known = subst (All (IsKnownWorldOf m names)) (sym (tree-worlds r)) (worlds-known 0 r.worlds r.worlds_placed)

@@ -16,20 +16,23 @@ use Rattle.tables.specs.declared.tables.WorldItemKind.{WorldItemKind}
 use Rattle.tables.specs.declared.tables.WorldItemKind.TheVariants as item
 use Rattle.tables.specs.declared.tables.WorldItem.{WorldItem}
 use Rattle.tables.specs.declared.tables.World.{World}
-use Rattle.tables.specs.declared.tables.Interface.{Interface}
 use Rattle.tables.specs.declared.tables.Resolve.{Resolve}
-use Rattle.package_form.specs.Entries.{table_of}
 use Rattle.package_form.specs.Ids.{is_owned_by, is_of_worlds}
 use Rattle.package_form.specs.Postfix.{unnamed_if, unnamed_parameter}
 use Rattle.package_form.specs.Form.{IsInPackageForm}
-use Rattle.resolve.specs.Declarations.{world_of, worlds, item_tree}
+use Rattle.tables.specs.Names.{full_name_in}
+use Rattle.wit_syntax.specs.declared.ast.Direction.{Direction as Way}
+use Rattle.wit_syntax.specs.Syntax.{PathTo, Local, Foreign, Whole}
+use Rattle.resolve.specs.Declarations.{path_package, path_interface, world_of, worlds, item_tree}
 use Rattle.resolve.specs.Resolved.{direction_meaning, fields_of, resolved_if, member_meaning}
 use Rattle.resolve.specs.Resolved as tree
 use Rattle.resolve.specs.Building.{table_trees, read_parameter}
 use Rattle.resolve.specs.WorldRows.{world_reads}
 use Rattle.resolve.proofs.Lowering.{parameters-read}
 use Rattle.package_text.specs.Written.{ty_of, members_in, direction_for}
-use Rattle.package_text.specs.Tree.{own_names, own_trees, item_entry, own_item, world_entry, file_of}
+use Rattle.package_text.specs.Tree.{name_here, own_names, own_trees, own_item}
+use Rattle.package_text.proofs.Paths.{path_named, named-back}
+use Rattle.package_text.proofs.Named.{item_entry, world_entry, file_of}
 use Rattle.package_text.proofs.Back.{members-back, maybe-back}
 use Rattle.package_text.proofs.Fronts.{row-below, function-front}
 use Rattle.package_text.proofs.Rows.{is_own, IsNamed, PlaceExpressed, parts-ready, params-expressed, if-expressed, each-front, each-back}
@@ -37,12 +40,18 @@ use Rattle.package_text.proofs.Ordered.{leaves-at}
 use Rattle.package_text.proofs.Regions.{home}
 use Rattle.package_text.proofs.Owned.{rows-owned}
 use Rattle.package_text.proofs.Parts.{stands-at}
-use Rattle.package_text.proofs.Whole.{form-regions, tree-worlds}
+use Rattle.package_text.proofs.Begins.{form-regions}
+use Rattle.package_text.proofs.Whole.{tree-worlds}
 use Rattle.package_text.proofs.Worlds.{regions-behind, owner-of-world}
 
 way-back : (d : Direction) → direction_meaning (direction_for d) ≡ d
 way-back direction.Import = refl
 way-back direction.Export = refl
+
+-- an interface that is named by a path goes by the path's name
+path-means : (d : Way) (p : PathTo) → tree.item_meaning (item_tree (Whole d p)) ≡ WithInterface (direction_meaning d) (full_name_in (path_package p) (path_interface p))
+path-means d (Local i) = refl
+path-means d (Foreign namespace name v i) = refl
 
 -- what is written for a function that names no type stands for it
 abbrev IsBack : Meaning → Type 0
@@ -74,7 +83,7 @@ module _ (r : Resolve) (f : IsInPackageForm r) where
       let ready = parts-ready ns r.definitions (home 0 0 r.interfaces) o front (row.Function g) (leaves-at r.definitions [] f.postfix front (row.Function g) rest e refl).0 rest e in
       let params = params-expressed ns front k g.params u.0 (each-front (PlaceExpressed ns front k) (flat_map (unnamed_parameter front) g.params) (unnamed_if front g.result) ready) in
       let result = if-expressed ns front k g.result u.1 (each-back (PlaceExpressed ns front k) (flat_map (unnamed_parameter front) g.params) (unnamed_if front g.result) ready) in
-      let long = length-map r.interfaces (λ (i : Interface). i.name) in
+      let long = length-map r.interfaces (name_here r) in
       let none : get_or (own_names r) (home 0 0 r.interfaces (length front)) [] ≡ [] = get_or_past (own_names r) (home 0 0 r.interfaces (length front)) [] (omega (arith, behind, long)) in
       let below = row-below front (row.Function g) rest (subst (λ (ds : List Definition). are_earlier 0 ds ≡ true) e r.earlier) in
       let same : function_meaning (own_trees r) g ≡ function_meaning (references (own_names r) [] front) g =
@@ -87,7 +96,9 @@ module _ (r : Resolve) (f : IsInPackageForm r) where
   -- an item of a world
   item-back : (w : ℕ) (way : Direction) (i : WorldItemKind) → is_placed_item r.definitions (length r.interfaces) w i ≡ true
       → tree.item_meaning (item_tree (item_entry (item_meaning (own_names r) (own_trees r) r.definitions way i))) ≡ item_meaning (own_names r) (own_trees r) r.definitions way i
-  item-back w way (item.Interface j) h = ap (λ (d : Direction). WithInterface d (get_or (own_names r) j.0 [])) (way-back way)
+  item-back w way (item.Interface j) h =
+      path-means (direction_for way) (path_named (get_or (own_names r) j.0 []))
+      ∙ (ap (WithInterface (direction_meaning (direction_for way))) (named-back (get_or (own_names r) j.0 [])) ∙ ap (λ (d : Direction). WithInterface d (get_or (own_names r) j.0 [])) (way-back way))
   item-back w way (item.Function c) h = by (slice_get r.definitions c.0) refl h
     where
       by : (d : Option Definition) → slice_get r.definitions c.0 ≡ d → is_function_of w (function_of d) ≡ true
@@ -121,6 +132,6 @@ module _ (r : Resolve) (f : IsInPackageForm r) where
       ∙ ap (λ (ms : List WorldMeaning). record { name = x.name; items = map tree.item_meaning (map item_tree (map (λ i. item_entry (own_item r i)) x.items)) } ∷ ms) (worlds-back (w + 1) xs t.1)
 
   -- the worlds of the table are read as those of the tree
-  pub tree-worlds-read : map (world_reads (table_of r)) r.worlds ≡ map tree.world_meaning (worlds (file_of r))
+  pub tree-worlds-read : map (world_reads (record { interfaces = own_names r; worlds = r.worlds; rows = r.definitions })) r.worlds ≡ map tree.world_meaning (worlds (file_of r))
   unfolding table_trees
   tree-worlds-read = worlds-back 0 r.worlds r.worlds_placed ∙ ap (map tree.world_meaning) (sym (tree-worlds r))

@@ -8,22 +8,34 @@ use Rattle.tables.specs.declared.tables.Definition.TheVariants as row
 use Rattle.tables.specs.declared.tables.Resolve.{Resolve}
 use Rattle.package_form.specs.Scope.{AreDistinct}
 use Rattle.package_form.specs.Naming.{package_scopes}
+use Rattle.package_form.specs.Closed.{IsAlone}
 use Rattle.package_form.specs.Form.{IsInPackageForm}
 use Rattle.wit_tokens.specs.Lexing.{limit}
 use Rattle.wit_syntax.specs.Syntax.{File}
 use Rattle.wit_text.specs.Reading.{IsRead}
-use Rattle.resolve.specs.Resolves.{file_fits, HasNoFaults, IsPackageOf, HasPackage}
+use Rattle.resolve.specs.Imports.{imports_of}
+use Rattle.resolve.specs.Resolves.{file_fits, HasNoFaults, HasNoFaultsOf, IsPackageOf, AreImports, IsClosedPackageOf, HasPackage, HasClosedPackage}
 use Rattle.package_text.specs.Tree.{file_of}
 use Rattle.package_text.specs.Text.{text_of}
 use Rattle.package_text.specs.Writable.{IsWritable}
+use Rattle.package_text.specs.Imports.{AreImportsOf}
 
--- the tree is without faults and resolves to the package
+-- of a closed table, the imports are such as trees resolve behind, and behind them the tree is without faults and resolves to it
+abbrev pub IsTreeOfClosed : Resolve → Resolve → Type 0
+IsTreeOfClosed r imports = IsWritable r → AreImportsOf r imports → AreImports imports × HasNoFaultsOf (imports_of imports) (file_of r) × IsClosedPackageOf imports (file_of r) r
+
+-- .. and where types nest as in a text, its text is read as a tree without faults, nested as a text, that resolves to it behind them
+abbrev pub IsTextOfClosed : Resolve → Resolve → Type 0
+IsTextOfClosed r imports =
+    IsWritable r → AreImportsOf r imports → file_fits (file_of r) ≡ true → length (text_of r) ≤ limit → (g : File) × IsRead (text_of r) g × HasClosedPackage imports g r
+
+-- of a package that stands alone, the tree is without faults and resolves to it
 abbrev pub IsTreeOfPackage : Resolve → Type 0
-IsTreeOfPackage r = IsWritable r → HasNoFaults (file_of r) × IsPackageOf (file_of r) r
+IsTreeOfPackage r = IsWritable r → IsAlone r → HasNoFaults (file_of r) × IsPackageOf (file_of r) r
 
--- where types nest as in a text, the text is read as a tree without faults, nested as a text, that resolves to the package
+-- .. and where types nest as in a text, its text is read as a tree without faults, nested as a text, that resolves to the package
 abbrev pub IsTextOfPackage : Resolve → Type 0
-IsTextOfPackage r = IsWritable r → file_fits (file_of r) ≡ true → length (text_of r) ≤ limit → (g : File) × IsRead (text_of r) g × HasPackage g r
+IsTextOfPackage r = IsWritable r → IsAlone r → file_fits (file_of r) ≡ true → length (text_of r) ≤ limit → (g : File) × IsRead (text_of r) g × HasPackage g r
 
 -- no type is more than 64 deep
 abbrev pub IsShallow : Resolve → Type 0
@@ -38,6 +50,10 @@ pub record IsFormed (r : Resolve) : Type 0 where
   pub form : IsInPackageForm r
   pub distinct : All AreDistinct (package_scopes r)
 
--- a tree resolves to one such table
+-- a tree resolves to one such table of a package that stands alone
 abbrev pub HasOneTable : File → Type 0
 HasOneTable f = (r s : Resolve) → IsFormed r → IsFormed s → IsPackageOf f r → IsPackageOf f s → IsSamePackage r s
+
+-- .. and behind its imports to one table that can be written
+abbrev pub HasOneClosedTable : File → Type 0
+HasOneClosedTable f = (imports r s : Resolve) → IsWritable r → IsWritable s → IsClosedPackageOf imports f r → IsClosedPackageOf imports f s → IsSamePackage r s

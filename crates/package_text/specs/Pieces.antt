@@ -1,12 +1,10 @@
--- What is written for the parts of a row and for a row, by what the rows of the table stand for.
-use Rattle.std.specs.Prelude.{ℕ, Bool, nat_lt, List, map, length, Option, None, Some, slice_get}
+-- What is written for the parts of a row, by what the rows of the table stand for.
+use Rattle.std.specs.Prelude.{ℕ, Bool, nat_lt, List, length, Option, None, Some}
 use Rattle.std.specs.Option.{option_map}
-use Rattle.wit_syntax.specs.Syntax.{Ty, MaybeTy, Absent, Present, Member, CaseOf, Entry}
+use Rattle.wit_syntax.specs.Syntax.{Ty, MaybeTy, Absent, Present, Member, CaseOf}
 use Rattle.tables.specs.Tables.{is_function_id}
 use Rattle.tables.specs.Package.{Tree, read_val}
 use Rattle.tables.specs.declared.tables.ValType.{ValType}
-use Rattle.tables.specs.declared.tables.TypeName.{TypeName}
-use Rattle.tables.specs.declared.tables.TypeDef.{TypeDef}
 use Rattle.tables.specs.declared.tables.Field.{Field}
 use Rattle.tables.specs.declared.tables.Parameter.{Parameter}
 use Rattle.tables.specs.declared.tables.Case.{Case}
@@ -14,7 +12,6 @@ use Rattle.tables.specs.declared.tables.WorldItemKind.{WorldItemKind}
 use Rattle.tables.specs.declared.tables.WorldItemKind.TheVariants as item
 use Rattle.tables.specs.declared.tables.Resolve.{Resolve}
 use Rattle.package_text.specs.Written.{ty_of}
-use Rattle.package_text.specs.Tree.{own_names, own_trees, definitions_in, entry_of}
 
 -- the type that is written for a type of the table
 abbrev pub type_by : List Tree → ValType → Ty
@@ -35,15 +32,6 @@ parameter_by trees p = member_by trees p.name p.ty
 
 abbrev pub case_by : List Tree → Case → CaseOf
 case_by trees c = record { name = c.name; payload = option_map (type_by trees) c.ty }
-
--- what is written for the row at this place: an entry, if it has a name in an interface
-abbrev pub entries_at : Resolve → ℕ → List Entry
-entries_at r k = map entry_of (definitions_in (own_names r) (own_trees r) (slice_get r.definitions k))
-
--- the name of a type
-abbrev pub name_in : Option TypeDef → Option TypeName
-name_in None = None
-name_in (Some d) = d.name
 
 -- an item of a world is an interface or a function of the table
 abbrev pub is_item : Resolve → WorldItemKind → Bool

@@ -1,87 +1,150 @@
--- The syntax tree of a package: what is written for each interface, its used names, then its types, then its functions, and behind the
--- interfaces for each world its items.
-use Rattle.std.specs.Prelude.{ℕ, List, [], ◌∷◌, ◌++◌, map, flat_map, slice_get, Option, None, Some, if◌then◌else◌}
+-- The syntax tree of a package: what is written for each of its own interfaces, its used names, then its types, then its functions, and
+-- behind the interfaces for each world its items. Its imports, the interfaces of other packages, are named by their paths alone.
+use Rattle.std.specs.Prelude.{ℕ, List, [], ◌∷◌, ◌++◌, map, flat_map, filter, slice_get, slice_index_or, Option, None, Some, if◌then◌else◌}
 use Rattle.std.specs.Option.{option_map}
 use Rattle.std.specs.Str.{bytes_eq}
-use Rattle.wit_syntax.specs.Syntax.{Function, Local, Entry, Uses, Defines, Declares, Alias, WorldEntry, Whole, Single, FileEntry, AnInterface, AWorld, File}
+use Rattle.wit_syntax.specs.Syntax.{Function, PathTo, Local, Foreign, Entry, Uses, Defines, Declares, Alias, WorldEntry, Whole, Single, FileEntry, AnInterface, AWorld, File}
 use Rattle.tables.specs.PackageNames.{PackageParts}
-use Rattle.tables.specs.Package.{Tree, Reference, Fields, Meaning, IsUse, IsType, IsFunction, NamedDefinition, ItemMeaning, WithInterface, WithFunction, references, definition_of, definitions_from, item_meaning}
+use Rattle.tables.specs.Names.{full_name_in}
+use Rattle.tables.specs.Package.{Tree, Reference, Fields, Meaning, IsUse, IsType, IsFunction, NamedDefinition, ItemMeaning, WithInterface, WithFunction, references, definition_of, item_meaning}
+use Rattle.tables.specs.declared.tables.TypeName.{TypeName}
 use Rattle.tables.specs.declared.tables.Definition.{Definition}
 use Rattle.tables.specs.declared.tables.Interface.{Interface}
+use Rattle.tables.specs.declared.tables.WorldItemKind.{WorldItemKind}
+use Rattle.tables.specs.declared.tables.WorldItemKind.TheVariants as item
 use Rattle.tables.specs.declared.tables.WorldItem.{WorldItem}
 use Rattle.tables.specs.declared.tables.World.{World}
 use Rattle.tables.specs.declared.tables.Resolve.{Resolve}
 use Rattle.wit_print.specs.Unplaced.{nowhere}
-use Rattle.package_form.specs.Entries.{labels_of}
+use Rattle.package_form.specs.Closed.{own_package}
+use Rattle.package_form.specs.Reached.{used_in, name_at, is_interface_of}
 use Rattle.package_form.specs.Form.{ids_of}
+use Rattle.resolve.specs.Imports.{nameless}
 use Rattle.package_text.specs.Written.{ty_of, members_in, body_of, direction_for}
 
--- the local name, where it is another
-abbrev pub local_of : List ℕ → List ℕ → Option (List ℕ)
-local_of n l = if bytes_eq n l then None else Some l
+-- ---- paths
 
--- a use of a named type; a used type without a name, which no package has, would be a new name of it
-abbrev pub use_entry : Tree → List ℕ → Entry
-use_entry (Reference k) l = Uses nowhere (Local k.interface) (record { name = k.name; local = local_of k.name l } ∷ [])
-use_entry t l = Defines nowhere l (Alias (ty_of t))
+-- the package of an interface, where it isn't the own one
+abbrev pub other_package : Resolve → Interface → Option PackageParts
+other_package r i = if is_interface_of (own_package r.packages) i then None else slice_get r.packages i.«package».0
 
--- the parameters and the result that are written for a function
-abbrev pub function_by : Fields → Option Tree → Function
-function_by fs result = record { params = members_in fs; result = option_map ty_of result }
+-- the path to an interface of this name, in full where it is one of another package
+abbrev pub path_in : Option PackageParts → List ℕ → PathTo
+path_in None n = Local n
+path_in (Some p) n = Foreign p.namespace p.name p.version n
 
-abbrev pub entry_by : List ℕ → Meaning → Entry
-entry_by n (IsUse t) = use_entry t n
-entry_by n (IsType t) = Defines nowhere n (body_of t)
-entry_by n (IsFunction fs result) = Declares nowhere n (function_by fs result)
+abbrev pub path_to : Resolve → Interface → PathTo
+path_to r i = path_in (other_package r i) i.name
 
--- what is written for a definition
-abbrev pub entry_of : NamedDefinition → Entry
-entry_of d = entry_by d.key.name d.meaning
+-- the path to an interface of the table
+abbrev pub path_if : Resolve → Option Interface → PathTo
+path_if r None = Local []
+path_if r (Some i) = path_to r i
 
--- the interfaces' own names
+abbrev pub path_at : Resolve → ℕ → PathTo
+path_at r k = path_if r (slice_get r.interfaces k)
+
+-- the path to the interface of a type of this name
+abbrev pub name_path : Resolve → Option TypeName → PathTo
+name_path r None = Local []
+name_path r (Some n) = path_at r n.interface.0
+
+-- the path to the interface whose type a row uses
+abbrev pub row_path : Resolve → Option Definition → PathTo
+row_path r None = Local []
+row_path r (Some d) = name_path r (name_at r.definitions (used_in d))
+
+-- ---- what the rows stand for
+
+-- the name that an interface goes by: its own, or the full name of one of another package
+abbrev pub name_here : Resolve → Interface → List ℕ
+name_here r i = full_name_in (other_package r i) i.name
+
 abbrev pub own_names : Resolve → List (List ℕ)
-own_names r = labels_of r.interfaces
+own_names r = map (name_here r) r.interfaces
 
--- what the rows of a table stand for, where interfaces go by their own names
+-- what the rows of a table stand for, where interfaces go by these names
 abbrev pub own_trees : Resolve → List Tree
 own_trees r = references (own_names r) [] r.definitions
-
-abbrev pub own_definitions : Resolve → List NamedDefinition
-own_definitions r = definitions_from (own_names r) [] r.definitions
 
 -- the definition of a row that has a name
 abbrev pub definitions_in : List (List ℕ) → List Tree → Option Definition → List NamedDefinition
 definitions_in ns trees None = []
 definitions_in ns trees (Some d) = definition_of ns trees d
 
--- the definitions of an interface: its used names, its types and its functions
-abbrev pub interface_definitions : Resolve → Interface → List NamedDefinition
-interface_definitions r i = flat_map (λ k. definitions_in (own_names r) (own_trees r) (slice_get r.definitions k)) (ids_of i)
+-- ---- what is written for a definition
 
+-- the local name, where it is another
+abbrev pub local_of : List ℕ → List ℕ → Option (List ℕ)
+local_of n l = if bytes_eq n l then None else Some l
+
+-- a use of a named type by this path; a used type without a name, which no package has, would be a new name of it
+abbrev pub use_entry : PathTo → Tree → List ℕ → Entry
+use_entry p (Reference k) l = Uses nowhere p (record { name = k.name; local = local_of k.name l } ∷ [])
+use_entry p t l = Defines nowhere l (Alias (ty_of t))
+
+-- the parameters and the result that are written for a function
+abbrev pub function_by : Fields → Option Tree → Function
+function_by fs result = record { params = members_in fs; result = option_map ty_of result }
+
+abbrev pub entry_by : PathTo → List ℕ → Meaning → Entry
+entry_by p n (IsUse t) = use_entry p t n
+entry_by p n (IsType t) = Defines nowhere n (body_of t)
+entry_by p n (IsFunction fs result) = Declares nowhere n (function_by fs result)
+
+-- what is written for a definition: a use names the interface by this path
+abbrev pub entry_of : PathTo → NamedDefinition → Entry
+entry_of p d = entry_by p d.key.name d.meaning
+
+-- ---- interfaces
+
+-- what is written for a row, if it has a name in an interface
+abbrev pub row_entries : Resolve → Option Definition → List Entry
+row_entries r d = map (entry_of (row_path r d)) (definitions_in (own_names r) (own_trees r) d)
+
+abbrev pub entries_at : Resolve → ℕ → List Entry
+entries_at r k = row_entries r (slice_get r.definitions k)
+
+-- its used names, its types and its functions
 abbrev pub interface_entry : Resolve → Interface → FileEntry
-interface_entry r i = AnInterface i.name (map entry_of (interface_definitions r i))
+interface_entry r i = AnInterface i.name (flat_map (entries_at r) (ids_of i))
 
--- what is written for an item of a world: an interface of the package goes by its own name
-abbrev pub item_entry : ItemMeaning → WorldEntry
-item_entry (WithInterface way i) = Whole (direction_for way) (Local i)
-item_entry (WithFunction way n fs result) = Single (direction_for way) nowhere n (function_by fs result)
+-- the interfaces of the own package
+abbrev pub own_interfaces : Resolve → List Interface
+own_interfaces r = filter (is_interface_of (own_package r.packages)) r.interfaces
+
+-- ---- worlds
+
+-- the path to an interface that is an item of a world
+abbrev pub item_path : Resolve → WorldItemKind → PathTo
+item_path r (item.Interface i) = path_at r i.0
+item_path r (item.Function f) = Local []
+
+-- what is written for an item of a world: an interface by this path
+abbrev pub item_entry : PathTo → ItemMeaning → WorldEntry
+item_entry p (WithInterface way i) = Whole (direction_for way) p
+item_entry p (WithFunction way n fs result) = Single (direction_for way) nowhere n (function_by fs result)
 
 abbrev pub own_item : Resolve → WorldItem → ItemMeaning
 own_item r i = item_meaning (own_names r) (own_trees r) r.definitions i.direction i.kind
 
-abbrev pub world_entry : Resolve → World → FileEntry
-world_entry r w = AWorld nowhere w.name (map (λ i. item_entry (own_item r i)) w.items)
+abbrev pub item_written : Resolve → WorldItem → WorldEntry
+item_written r i = item_entry (item_path r i.kind) (own_item r i)
 
--- the name of the package
-abbrev pub first_name : List PackageParts → PackageParts
-first_name [] = record { namespace = []; name = []; version = None }
-first_name (p ∷ ps) = p
+abbrev pub world_entry : Resolve → World → FileEntry
+world_entry r w = AWorld nowhere w.name (map (item_written r) w.items)
+
+-- ---- the package
+
+-- the name of the own package
+abbrev pub own_parts : List PackageParts → PackageParts
+own_parts ps = slice_index_or ps (own_package ps) nameless
 
 abbrev pub file_of : Resolve → File
 file_of r =
-    let p = first_name r.packages in record {
+    let p = own_parts r.packages in record {
       namespace = p.namespace;
       name = p.name;
       version = p.version;
-      entries = map (interface_entry r) r.interfaces ++ map (world_entry r) r.worlds;
+      entries = map (interface_entry r) (own_interfaces r) ++ map (world_entry r) r.worlds;
     }

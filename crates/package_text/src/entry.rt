@@ -1,24 +1,24 @@
 //! Interfaces: what is written for each of their rows.
-ghost use Rattle.std.specs.Prelude.{◌≡◌, ◌<◌, ◌∷◌, [], ◌++◌, map, flat_map, length, None, Some, MatchOption, IfOk, OnOk, IsTrue, slice_get, slice_index_or};
+ghost use Rattle.std.specs.Prelude.{◌≡◌, ◌<◌, ◌∷◌, [], ◌++◌, map, flat_map, length, None, Some, MatchOption, IfOk, OnOk, IsTrue, slice_get};
 ghost use Rattle.wit_tokens.specs.declared.token.Span.{Span};
-ghost use Rattle.wit_syntax.specs.View.{path_view, used_view, entry_view, item_view, function_view};
-ghost use Rattle.wit_syntax.specs.Syntax.{Local};
+ghost use Rattle.wit_syntax.specs.View.{version_view, path_view, used_view, entry_view, item_view, function_view};
 ghost use Rattle.wit_print.specs.Unplaced.{nowhere};
-ghost use Rattle.tables.specs.Tables.{kind_all, function_all, is_earlier, type_of};
+ghost use Rattle.tables.specs.Tables.{kind_all, function_all, is_earlier};
 ghost use Rattle.tables.specs.declared.tables.ValType.TheVariants as val;
 ghost use Rattle.tables.specs.Package.{read_val, meaning_of, function_meaning};
+ghost use Rattle.package_form.specs.Reached.{used_by, name_at};
 ghost use Rattle.package_form.specs.Form.{IsInPackageForm, is_earlier as is_used, uses_earlier};
-ghost use Rattle.package_text.specs.Tree.{own_names, own_trees, local_of, use_entry, entry_by, interface_entry};
-ghost use Rattle.package_text.specs.Pieces.{name_in, entries_at};
+ghost use Rattle.package_text.specs.Tree.{other_package, path_at, name_path, own_trees, local_of, use_entry, entry_by, entries_at, interface_entry};
 
 use crate::definition::{definition, function_type};
 use atoms::Label;
+use package_form::own_package;
 use std::alloc::{AllocError, Global};
 use tables::{
-    Definition, Function, FunctionId, Interface, InterfaceId, Owner, Resolve, TypeDefKind, TypeId,
-    TypeName,
+    Definition, Function, FunctionId, Interface, InterfaceId, Owner, PackageName, Resolve,
+    TypeDefKind, TypeId, TypeName, copy_version,
 };
-use wit_syntax::{Func, InterfaceItem, Item, Path, TypeDef, Use, UsedName};
+use wit_syntax::{Func, InterfaceItem, Item, PackageId, Path, TypeDef, Use, UsedName};
 use wit_tokens::Span;
 
 /// The place of what stands in no text.
@@ -28,19 +28,52 @@ pub(crate) fn nowhere() -> Span
     Span { start: 0, end: 0 }
 }
 
-/// The path to an interface of the package.
+/// The name of a package in a tree.
+pub(crate) fn package_id(alloc: Global, name: &PackageName) -> Result<PackageId, AllocError>
+    ensures namespace { IfOk result (λ p. p.namespace ≡ name.now.namespace) }
+    ensures name { IfOk result (λ p. p.name ≡ name.now.name) }
+    ensures version { IfOk result (λ p. version_view p.version ≡ name.now.version) }
+{
+    Ok(PackageId {
+        namespace: name.namespace.copy(alloc)?,
+        name: name.name.copy(alloc)?,
+        version: copy_version(&name.version)?,
+    })
+}
+
+/// The package of an interface, where it isn't the own one.
+fn other_package<'a>(resolve: &'a Resolve, interface: &Interface) -> Option<&'a PackageName>
+    ensures { MatchOption result (other_package resolve.now interface.now ≡ None) (λ p. other_package resolve.now interface.now ≡ Some p.now) }
+{
+    let packages = resolve.packages.as_slice();
+    let place = interface.package.0 as usize;
+    if place == own_package(packages) {
+        None
+    } else {
+        packages.get(place)
+    }
+}
+
+/// The path to an interface of the table.
 pub(crate) fn path_to(alloc: Global, resolve: &Resolve, id: InterfaceId) -> Result<Path, AllocError>
     requires { id.0 < length resolve.now.interfaces }
-    ensures { IfOk result (λ p. path_view p ≡ Local (slice_index_or (own_names resolve.now) id.0 [])) }
+    ensures { IfOk result (λ p. path_view p ≡ path_at resolve.now id.0) }
 {
     let interface = &resolve.interfaces.as_slice()[id.0 as usize];
-    Ok(Path::Local(interface.name.copy(alloc)?))
+    let name = interface.name.copy(alloc)?;
+    match other_package(resolve, interface) {
+        None => Ok(Path::Local(name)),
+        Some(package) => Ok(Path::Foreign {
+            package: package_id(alloc, package)?,
+            interface: name,
+        }),
+    }
 }
 
 /// The name of a type that another interface uses.
 fn used_name(resolve: &Resolve, target: TypeId) -> &TypeName
     requires { IsTrue (is_used resolve.now.definitions (length resolve.now.interfaces) target) }
-    ensures name { name_in (type_of (slice_get resolve.now.definitions target.0)) ≡ Some result.now }
+    ensures name { name_at resolve.now.definitions (Some target) ≡ Some result.now }
     ensures interface { result.now.interface.0 < length resolve.now.interfaces }
 {
     match resolve.definitions.as_slice().get(target.0 as usize) {
@@ -81,7 +114,7 @@ fn use_entry(
     local: &Label,
 ) -> Result<InterfaceItem, AllocError>
     requires { IsTrue (is_used resolve.now.definitions (length resolve.now.interfaces) target) }
-    ensures { IfOk result (λ e. entry_view e ≡ use_entry (read_val (own_trees resolve.now) (val.Id target)) local.now) }
+    ensures { IfOk result (λ e. entry_view e ≡ use_entry (name_path resolve.now (name_at resolve.now.definitions (Some target))) (read_val (own_trees resolve.now) (val.Id target)) local.now) }
 {
     let name = used_name(resolve, target);
     Ok(InterfaceItem::Use(Use {
@@ -101,7 +134,7 @@ fn type_entry(
     requires form { IsInPackageForm resolve.now }
     requires earlier { IsTrue (kind_all (is_earlier resolve.now.definitions place) kind.now) }
     requires used { IsTrue (uses_earlier resolve.now.definitions (length resolve.now.interfaces) kind.now) }
-    ensures { IfOk result (λ e. entry_view e ≡ entry_by name.now (meaning_of (own_trees resolve.now) kind.now)) }
+    ensures { IfOk result (λ e. entry_view e ≡ entry_by (name_path resolve.now (name_at resolve.now.definitions (used_by kind.now))) name.now (meaning_of (own_trees resolve.now) kind.now)) }
 {
     match kind {
         TypeDefKind::Use(target) => use_entry(alloc, resolve, *target, name),
@@ -122,7 +155,7 @@ pub(crate) fn func(
 ) -> Result<Func, AllocError>
     requires form { IsInPackageForm resolve.now }
     requires earlier { IsTrue (function_all (is_earlier resolve.now.definitions place) function.now) }
-    ensures { IfOk result (λ f. entry_view (InterfaceItem.Func f) ≡ entry_by function.now.name (function_meaning (own_trees resolve.now) function.now)) }
+    ensures { IfOk result (λ f. entry_view (InterfaceItem.Func f) ≡ entry_by (name_path resolve.now None) function.now.name (function_meaning (own_trees resolve.now) function.now)) }
 {
     Ok(Func {
         span: nowhere(),

@@ -1,41 +1,34 @@
 //! Whole packages.
-ghost use Rattle.std.specs.Prelude.{◌≡◌, ◌++◌, map, IfOk, OnOk, OnErr};
+ghost use Rattle.std.specs.Prelude.{◌≡◌, ◌++◌, map, filter, IfOk, OnOk, OnErr};
 ghost use Rattle.std.specs.String.{string_bytes};
-ghost use Rattle.wit_syntax.specs.View.{item_view, version_view, file_view};
-ghost use Rattle.package_form.specs.Closed.{IsAlone};
+ghost use Rattle.wit_syntax.specs.View.{item_view, file_view};
+ghost use Rattle.package_form.specs.Reached.{is_interface_of};
 ghost use Rattle.package_form.specs.Form.{IsInPackageForm};
 ghost use Rattle.package_text.specs.Tree.{interface_entry, world_entry, file_of};
 ghost use Rattle.package_text.specs.Text.{text_of};
 
-use crate::entry::interface_tree;
+use crate::entry::{interface_tree, package_id};
 use crate::world::world_tree;
+use package_form::own_package;
 use std::alloc::{AllocError, Global};
-use tables::{PackageName, Resolve, copy_version};
+use tables::Resolve;
 use wit_print::print_file;
-use wit_syntax::{Ast, Item, PackageId};
+use wit_syntax::{Ast, Item};
 
-fn package_id(alloc: Global, name: &PackageName) -> Result<PackageId, AllocError>
-    ensures namespace { IfOk result (λ p. p.namespace ≡ name.now.namespace) }
-    ensures name { IfOk result (λ p. p.name ≡ name.now.name) }
-    ensures version { IfOk result (λ p. version_view p.version ≡ name.now.version) }
-{
-    Ok(PackageId {
-        namespace: name.namespace.copy(alloc)?,
-        name: name.name.copy(alloc)?,
-        version: copy_version(&name.version)?,
-    })
-}
-
+/// The interfaces of the package at place `own`.
 fn push_interfaces(
     alloc: Global,
     resolve: &Resolve,
+    own: usize,
     items: &mut Vec<Item>,
 ) -> Result<(), AllocError>
     requires { IsInPackageForm resolve.now }
-    ensures { OnOk result (map item_view items.new.items ≡ map item_view items.old.items ++ map (interface_entry resolve.now) resolve.now.interfaces) }
+    ensures { OnOk result (map item_view items.new.items ≡ map item_view items.old.items ++ map (interface_entry resolve.now) (filter (is_interface_of own) resolve.now.interfaces)) }
 {
     for interface in resolve.interfaces.as_slice() {
-        items.push(interface_tree(alloc, resolve, interface)?)?;
+        if interface.package.0 as usize == own {
+            items.push(interface_tree(alloc, resolve, interface)?)?;
+        }
     }
     Ok(())
 }
@@ -52,22 +45,22 @@ fn push_worlds(alloc: Global, resolve: &Resolve, items: &mut Vec<Item>) -> Resul
 
 /// The syntax tree of a package, each row without a name in the place where it is named.
 fn tree(alloc: Global, resolve: &Resolve) -> Result<Ast, AllocError>
-    requires form { IsInPackageForm resolve.now }
-    requires alone { IsAlone resolve.now }
+    requires { IsInPackageForm resolve.now }
     ensures { IfOk result (λ a. file_view a ≡ file_of resolve.now) }
 {
-    let package = package_id(alloc, &resolve.packages.as_slice()[0])?;
+    let packages = resolve.packages.as_slice();
+    let own = own_package(packages);
+    let package = package_id(alloc, &packages[own])?;
     let mut items = Vec::new(alloc);
-    push_interfaces(alloc, resolve, &mut items)?;
+    push_interfaces(alloc, resolve, own, &mut items)?;
     push_worlds(alloc, resolve, &mut items)?;
     Ok(Ast { package, items })
 }
 
-/// Appends the canonical text of a package that imports no other. Where memory is wanting, the text is as it was. Takes time linear in the
-/// table and in the text, and room on the stack for each type within a type.
+/// Appends the canonical text of the own package of a closed table, in which its imports go by their paths. Where memory is wanting, the text
+/// is as it was. Takes time linear in the table and in the text, and room on the stack for each type within a type.
 pub fn print(alloc: Global, resolve: &Resolve, out: &mut String) -> Result<(), AllocError>
-    requires form { ∥ IsInPackageForm resolve.now ∥₁ }
-    requires alone { IsAlone resolve.now }
+    requires { ∥ IsInPackageForm resolve.now ∥₁ }
     ensures ok { OnOk result (string_bytes out.new ≡ string_bytes out.old ++ text_of resolve.now) }
     ensures err { OnErr result (string_bytes out.new ≡ string_bytes out.old) }
 {

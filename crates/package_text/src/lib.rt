@@ -1,7 +1,8 @@
 //! The text of a package: the syntax tree of its tables, and the canonical text of that tree.
 //!
-//! `print` appends what `specs/Text.antt` defines by `specs/Tree.antt`: an entry for each name of an interface, in the
-//! order of the table, and for each item of a world. `laws` says that the tree and its text stand for the package. Stands on
+//! `print` appends what `specs/Text.antt` defines by `specs/Tree.antt`: an entry for each name of an own interface, in the
+//! order of the table, and for each item of a world. Interfaces of other packages, the imports of a closed table, are named
+//! by their paths alone. `laws` says that the tree and its text stand for the package, behind its imports. Stands on
 //! `tables` and `package_form` (packages), `resolve` (what trees stand for), `wit_syntax` (trees) and `wit_print` (their text).
 #![tactic(auto)]
 

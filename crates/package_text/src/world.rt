@@ -4,7 +4,7 @@ ghost use Rattle.std.specs.List.{list_all};
 ghost use Rattle.wit_syntax.specs.View.{world_kind_view, world_entry_view, item_view};
 ghost use Rattle.package_form.specs.Form.{IsInPackageForm};
 ghost use Rattle.package_text.specs.Written.{direction_for};
-ghost use Rattle.package_text.specs.Tree.{item_entry, own_item, world_entry};
+ghost use Rattle.package_text.specs.Tree.{item_written, world_entry};
 ghost use Rattle.package_text.specs.Pieces.{is_item};
 
 use crate::entry::{func, nowhere, path_to};
@@ -28,7 +28,7 @@ fn item_tree(
 ) -> Result<wit_syntax::WorldItem, AllocError>
     requires form { IsInPackageForm resolve.now }
     requires placed { IsTrue (is_item resolve.now item.kind) }
-    ensures { IfOk result (λ i. world_entry_view i ≡ item_entry (own_item resolve.now item)) }
+    ensures { IfOk result (λ i. world_entry_view i ≡ item_written resolve.now item) }
 {
     let kind = match item.kind {
         WorldItemKind::Interface(id) => {

@@ -28,7 +28,7 @@ AreApart (n ∷ ns) = IsFresh ns n × AreApart ns
 
 -- ---- the same by places
 
-pub only : (x y : List ℕ) → Contains (x ∷ []) y → x ≡ y
+pub only : {A : Type 0} (x y : A) → Contains (x ∷ []) y → x ≡ y
 only x y (zero, l, e) = e
 only x y (suc k, l, e) = absurd (omega (arith, l))
 

@@ -3,7 +3,8 @@ use Rattle.std.proofs.Common.{◌≡◌, ℕ, zero, suc, ◌+◌, ◌<◌, inl, 
 use Rattle.std.specs.List.{cons_option, filter_map}
 use Rattle.wit_syntax.specs.Syntax.{FileEntry, AnInterface, AWorld}
 use Rattle.resolve.specs.Declarations.{InterfaceTree, interface_tree, world_tree, interface_of, world_of, interface_names}
-use Rattle.resolve.specs.Resolves.{HasKnownNames, IsKnownWorld}
+use Rattle.resolve.specs.Imports.{Imports}
+use Rattle.resolve.specs.Resolves.{HasKnownNamesOf, IsKnownWorldOf}
 use Rattle.resolve.specs.Sources.{declared_tree}
 use Rattle.resolve.specs.declared.declared.Declarations.{Declarations}
 use Rattle.resolve.specs.Knowing.{KnowsFileEntry, LacksFileEntry, RefusesUnknown}
@@ -48,25 +49,25 @@ pub given-next : {A B C : Type 0} (h : A → Option B) (g : C → A) (xs : List 
     → filter_map h (map g (take (k + 1) xs)) ≡ filter_map h (map g (take k xs)) ++ cons_option (h (g x)) []
 given-next h g xs k x l is = ap (filter_map h) (map-more g xs k x l is) ∙ filter_map-append h (map g (take k xs)) (g x ∷ [])
 
-module _ (is : List InterfaceTree) where
-  pub interfaces-known : (es : List FileEntry) → All (KnowsFileEntry is) es → All (HasKnownNames is) (filter_map interface_of es)
-  interfaces-known [] h = all-none (HasKnownNames is)
+module _ (m : Imports) (is : List InterfaceTree) where
+  pub interfaces-known : (es : List FileEntry) → All (KnowsFileEntry m is) es → All (HasKnownNamesOf m is) (filter_map interface_of es)
+  interfaces-known [] h = all-none (HasKnownNamesOf m is)
   interfaces-known (AnInterface n xs ∷ es) h =
-      all-cons (HasKnownNames is) (interface_tree n xs) (filter_map interface_of es) (all-head (KnowsFileEntry is) (AnInterface n xs) es h)
-      (interfaces-known es (all-tail (KnowsFileEntry is) (AnInterface n xs) es h))
-  interfaces-known (AWorld at n ws ∷ es) h = interfaces-known es (all-tail (KnowsFileEntry is) (AWorld at n ws) es h)
+      all-cons (HasKnownNamesOf m is) (interface_tree n xs) (filter_map interface_of es) (all-head (KnowsFileEntry m is) (AnInterface n xs) es h)
+      (interfaces-known es (all-tail (KnowsFileEntry m is) (AnInterface n xs) es h))
+  interfaces-known (AWorld at n ws ∷ es) h = interfaces-known es (all-tail (KnowsFileEntry m is) (AWorld at n ws) es h)
 
-  pub worlds-known : (es : List FileEntry) → All (KnowsFileEntry is) es → All (IsKnownWorld (interface_names is)) (filter_map world_of es)
-  worlds-known [] h = all-none (IsKnownWorld (interface_names is))
-  worlds-known (AnInterface n xs ∷ es) h = worlds-known es (all-tail (KnowsFileEntry is) (AnInterface n xs) es h)
+  pub worlds-known : (es : List FileEntry) → All (KnowsFileEntry m is) es → All (IsKnownWorldOf m (interface_names is)) (filter_map world_of es)
+  worlds-known [] h = all-none (IsKnownWorldOf m (interface_names is))
+  worlds-known (AnInterface n xs ∷ es) h = worlds-known es (all-tail (KnowsFileEntry m is) (AnInterface n xs) es h)
   worlds-known (AWorld at n ws ∷ es) h =
-      all-cons (IsKnownWorld (interface_names is)) (world_tree n ws) (filter_map world_of es) (all-head (KnowsFileEntry is) (AWorld at n ws) es h)
-      (worlds-known es (all-tail (KnowsFileEntry is) (AWorld at n ws) es h))
+      all-cons (IsKnownWorldOf m (interface_names is)) (world_tree n ws) (filter_map world_of es) (all-head (KnowsFileEntry m is) (AWorld at n ws) es h)
+      (worlds-known es (all-tail (KnowsFileEntry m is) (AWorld at n ws) es h))
 
-  pub entry-lacks : (es : List FileEntry) (e : FileEntry) (m : List ℕ) → filter_map interface_of es ≡ is → Contains es e → LacksFileEntry is e m
-      → RefusesUnknown is (filter_map world_of es) (error.Unknown m)
-  entry-lacks es (AnInterface n xs) m same c h = inl (interface_tree n xs, subst (λ (ts : List InterfaceTree). Contains ts (interface_tree n xs)) same (found interface_of es (AnInterface n xs) (interface_tree n xs) c refl), h)
-  entry-lacks es (AWorld at n ws) m same c h = inr (world_tree n ws, found world_of es (AWorld at n ws) (world_tree n ws) c refl, h)
+  pub entry-lacks : (es : List FileEntry) (e : FileEntry) (name : List ℕ) → filter_map interface_of es ≡ is → Contains es e → LacksFileEntry m is e name
+      → RefusesUnknown m is (filter_map world_of es) (error.Unknown name)
+  entry-lacks es (AnInterface n xs) name same c h = inl (interface_tree n xs, subst (λ (ts : List InterfaceTree). Contains ts (interface_tree n xs)) same (found interface_of es (AnInterface n xs) (interface_tree n xs) c refl), h)
+  entry-lacks es (AWorld at n ws) name same c h = inr (world_tree n ws, found world_of es (AWorld at n ws) (world_tree n ws) c refl, h)
 
 -- the declarations of one entry more
 pub declared-more : (all before : List Declarations) (d : Declarations) (i : InterfaceTree) (is js : List InterfaceTree) → all ≡ before ++ d ∷ [] → map declared_tree before ≡ is → declared_tree d ≡ i

@@ -10,7 +10,8 @@ use Rattle.resolve.specs.Lent.{lent}
 use Rattle.std.proofs.lemmas.List.{get_or-map, length-map}
 use Rattle.resolve.proofs.Using.{place-below}
 use Rattle.resolve.specs.Sources.{declared_tree}
-use Rattle.resolve.specs.Resolves.{place_of, IsKnownUse, IsUnknownName, IsUnknownIn, HasKnownNames}
+use Rattle.resolve.specs.Imports.{Imports}
+use Rattle.resolve.specs.Resolves.{place_of, IsKnownUseOf, IsUnknownName, IsUnknownIn, HasKnownNamesOf}
 use Rattle.resolve.specs.declared.declared.Declarations.{Declarations}
 use Rattle.package_form.proofs.Lists.{contains-here, contains-later, contains-flat, all-none, all-cons, all-head, all-tail, all-append}
 use Rattle.resolve.proofs.Placing.{place-found}
@@ -90,47 +91,47 @@ module _ (d : Declarations) where
 
 -- ---- an interface, of its items
 
-module _ (is : List InterfaceTree) (i : InterfaceTree) where
-  uses-known : (es : List Entry) → All (KnowsEntry is i) es → All (IsKnownUse is) (flat_map entry_uses es)
-  uses-known [] h = all-none (IsKnownUse is)
-  uses-known (Uses at p us ∷ es) h = all-append (IsKnownUse is) (path_uses p us) (flat_map entry_uses es) (all-head (KnowsEntry is i) (Uses at p us) es h) (uses-known es (all-tail (KnowsEntry is i) (Uses at p us) es h))
-  uses-known (Defines at n d ∷ es) h = uses-known es (all-tail (KnowsEntry is i) (Defines at n d) es h)
-  uses-known (Declares at n f ∷ es) h = uses-known es (all-tail (KnowsEntry is i) (Declares at n f) es h)
+module _ (m : Imports) (is : List InterfaceTree) (i : InterfaceTree) where
+  uses-known : (es : List Entry) → All (KnowsEntry m is i) es → All (IsKnownUseOf m is) (flat_map entry_uses es)
+  uses-known [] h = all-none (IsKnownUseOf m is)
+  uses-known (Uses at p us ∷ es) h = all-append (IsKnownUseOf m is) (path_uses p us) (flat_map entry_uses es) (all-head (KnowsEntry m is i) (Uses at p us) es h) (uses-known es (all-tail (KnowsEntry m is i) (Uses at p us) es h))
+  uses-known (Defines at n d ∷ es) h = uses-known es (all-tail (KnowsEntry m is i) (Defines at n d) es h)
+  uses-known (Declares at n f ∷ es) h = uses-known es (all-tail (KnowsEntry m is i) (Declares at n f) es h)
 
-  types-known : (es : List Entry) → All (KnowsEntry is i) es → All (λ t. All (Contains (type_names i)) (named_definition t.definition)) (flat_map entry_types es)
+  types-known : (es : List Entry) → All (KnowsEntry m is i) es → All (λ t. All (Contains (type_names i)) (named_definition t.definition)) (flat_map entry_types es)
   types-known [] h = all-none (λ (t : TypeItem). All (Contains (type_names i)) (named_definition t.definition))
-  types-known (Uses at p us ∷ es) h = types-known es (all-tail (KnowsEntry is i) (Uses at p us) es h)
+  types-known (Uses at p us ∷ es) h = types-known es (all-tail (KnowsEntry m is i) (Uses at p us) es h)
   types-known (Defines at n d ∷ es) h =
       all-cons (λ (t : TypeItem). All (Contains (type_names i)) (named_definition t.definition)) (record { name = n; definition = d }) (flat_map entry_types es)
-      (all-head (KnowsEntry is i) (Defines at n d) es h) (types-known es (all-tail (KnowsEntry is i) (Defines at n d) es h))
-  types-known (Declares at n f ∷ es) h = types-known es (all-tail (KnowsEntry is i) (Declares at n f) es h)
+      (all-head (KnowsEntry m is i) (Defines at n d) es h) (types-known es (all-tail (KnowsEntry m is i) (Defines at n d) es h))
+  types-known (Declares at n f ∷ es) h = types-known es (all-tail (KnowsEntry m is i) (Declares at n f) es h)
 
-  functions-known : (es : List Entry) → All (KnowsEntry is i) es → All (λ f. All (Contains (type_names i)) (named_function f.function)) (flat_map entry_functions es)
+  functions-known : (es : List Entry) → All (KnowsEntry m is i) es → All (λ f. All (Contains (type_names i)) (named_function f.function)) (flat_map entry_functions es)
   functions-known [] h = all-none (λ (f : FunctionItem). All (Contains (type_names i)) (named_function f.function))
-  functions-known (Uses at p us ∷ es) h = functions-known es (all-tail (KnowsEntry is i) (Uses at p us) es h)
-  functions-known (Defines at n d ∷ es) h = functions-known es (all-tail (KnowsEntry is i) (Defines at n d) es h)
+  functions-known (Uses at p us ∷ es) h = functions-known es (all-tail (KnowsEntry m is i) (Uses at p us) es h)
+  functions-known (Defines at n d ∷ es) h = functions-known es (all-tail (KnowsEntry m is i) (Defines at n d) es h)
   functions-known (Declares at n f ∷ es) h =
       all-cons (λ (g : FunctionItem). All (Contains (type_names i)) (named_function g.function)) (record { name = n; function = f }) (flat_map entry_functions es)
-      (all-head (KnowsEntry is i) (Declares at n f) es h) (functions-known es (all-tail (KnowsEntry is i) (Declares at n f) es h))
+      (all-head (KnowsEntry m is i) (Declares at n f) es h) (functions-known es (all-tail (KnowsEntry m is i) (Declares at n f) es h))
 
-  pub interface-known : (n : List ℕ) (es : List Entry) → i ≡ interface_tree n es → All (KnowsEntry is i) es → HasKnownNames is i
+  pub interface-known : (n : List ℕ) (es : List Entry) → i ≡ interface_tree n es → All (KnowsEntry m is i) es → HasKnownNamesOf m is i
   interface-known n es e h = record {
-    uses = subst (λ (j : InterfaceTree). All (IsKnownUse is) j.uses) (sym e) (uses-known es h);
+    uses = subst (λ (j : InterfaceTree). All (IsKnownUseOf m is) j.uses) (sym e) (uses-known es h);
     types = subst (λ (j : InterfaceTree). All (λ t. All (Contains (type_names i)) (named_definition t.definition)) j.types) (sym e) (types-known es h);
     functions = subst (λ (j : InterfaceTree). All (λ f. All (Contains (type_names i)) (named_function f.function)) j.functions) (sym e) (functions-known es h);
   }
 
-  lacks-by : (n : List ℕ) (es : List Entry) (m : List ℕ) (e : Entry) → i ≡ interface_tree n es → Contains es e → LacksEntry is i e m → IsUnknownIn is i m
-  lacks-by n es m (Uses at p us) same c l = inl (l.0, subst (λ (j : InterfaceTree). Contains j.uses l.0) (sym same) (contains-flat entry_uses es (Uses at p us) l.0 c l.1), l.2)
-  lacks-by n es m (Defines at k d) same c l =
+  lacks-by : (n : List ℕ) (es : List Entry) (name : List ℕ) (e : Entry) → i ≡ interface_tree n es → Contains es e → LacksEntry m is i e name → IsUnknownIn m is i name
+  lacks-by n es name (Uses at p us) same c l = inl (l.0, subst (λ (j : InterfaceTree). Contains j.uses l.0) (sym same) (contains-flat entry_uses es (Uses at p us) l.0 c l.1), l.2)
+  lacks-by n es name (Defines at k d) same c l =
       let t : TypeItem = record { name = k; definition = d } in
       inr (inl (t, subst (λ (j : InterfaceTree). Contains j.types t) (sym same) (contains-flat entry_types es (Defines at k d) t c (contains-here t [])), l))
-  lacks-by n es m (Declares at k f) same c l =
+  lacks-by n es name (Declares at k f) same c l =
       let g : FunctionItem = record { name = k; function = f } in
       inr (inr (g, subst (λ (j : InterfaceTree). Contains j.functions g) (sym same) (contains-flat entry_functions es (Declares at k f) g c (contains-here g [])), l))
 
-  pub interface-lacks : (n : List ℕ) (es : List Entry) (m : List ℕ) → i ≡ interface_tree n es → LacksAny is i es m → IsUnknownIn is i m
-  interface-lacks n es m same l = lacks-by n es m l.0 same l.1 l.2
+  pub interface-lacks : (n : List ℕ) (es : List Entry) (name : List ℕ) → i ≡ interface_tree n es → LacksAny m is i es name → IsUnknownIn m is i name
+  interface-lacks n es name same l = lacks-by n es name l.0 same l.1 l.2
 
 pub tree-at : (all : List Declarations) (k : ℕ) (d : Declarations) → k < length all → d ≡ get_or all k d → interface_at (map declared_tree all) k ≡ declared_tree d
 tree-at all k d l is = get_or-map declared_tree all k d no_interface l ∙ ap declared_tree (sym is)

@@ -7,7 +7,7 @@ use Rattle.std.proofs.lemmas.Option.{same_Some}
 use Rattle.tables.specs.declared.tables.TypeName.{TypeName}
 use Rattle.tables.specs.declared.tables.TypeDefKind.{TypeDefKind}
 use Rattle.tables.specs.declared.tables.TypeDefKind.TheVariants as kind
-use Rattle.tables.specs.Tables.{is_type_id, is_function_id, is_placed, are_placed, are_grouped, is_there, type_of, function_of}
+use Rattle.tables.specs.Tables.{is_type_id, is_function_id, is_placed, are_placed, is_there, type_of, function_of}
 use Rattle.package_form.specs.Ids.{places_where, is_in, is_use, is_owned_by, is_use_in, is_type_in, is_function_in, type_id, function_id, interface_in, interfaces_from}
 use Rattle.resolve.specs.Finished.{named_in, owned_in, interface_of, with_type, with_row}
 use Rattle.tables.specs.declared.tables.TypeDef.{TypeDef}
@@ -51,11 +51,11 @@ interfaces-end rows i (m ∷ ns) n =
     let e : i + 1 + length ns ≡ i + suc (length ns) = omega arith in
     ap (λ (is : List Interface). interface_in rows i m ∷ is) (interfaces-end rows (i + 1) ns n ∙ ap (λ (j : ℕ). interfaces_from rows (i + 1) ns ++ interface_in rows j n ∷ []) e)
 
-pub interfaces-more : (rows : List Definition) (ns : List (List ℕ)) (k : ℕ) (n : List ℕ) → k < length ns → n ≡ get_or ns k n
-    → interfaces_from rows 0 (take (k + 1) ns) ≡ interfaces_from rows 0 (take k ns) ++ interface_in rows k n ∷ []
-interfaces-more rows ns k n l is =
-    let len : 0 + length (take k ns) ≡ k = omega (arith, length-take k ns) in
-    ap (interfaces_from rows 0) (take-more ns k n l is) ∙ interfaces-end rows 0 (take k ns) n ∙ ap (λ (j : ℕ). interfaces_from rows 0 (take k ns) ++ interface_in rows j n ∷ []) len
+pub interfaces-more : (rows : List Definition) (first : ℕ) (ns : List (List ℕ)) (k : ℕ) (n : List ℕ) → k < length ns → n ≡ get_or ns k n
+    → interfaces_from rows first (take (k + 1) ns) ≡ interfaces_from rows first (take k ns) ++ interface_in rows (first + k) n ∷ []
+interfaces-more rows first ns k n l is =
+    let len : first + length (take k ns) ≡ first + k = omega (arith, length-take k ns) in
+    ap (interfaces_from rows first) (take-more ns k n l is) ∙ interfaces-end rows first (take k ns) n ∙ ap (λ (j : ℕ). interfaces_from rows first (take k ns) ++ interface_in rows j n ∷ []) len
 
 -- ---- a row more
 
@@ -200,8 +200,3 @@ one-placed rows i n =
 pub all-placed-ids : (rows : List Definition) (i : ℕ) (ns : List (List ℕ)) → IsTrue (are_placed rows (interfaces_from rows i ns))
 all-placed-ids rows i [] = refl
 all-placed-ids rows i (n ∷ ns) = both _ _ (one-placed rows i n) (all-placed-ids rows (i + 1) ns)
-
--- all of them are of the first package
-pub all-grouped : (rows : List Definition) (i : ℕ) (ns : List (List ℕ)) → IsTrue (are_grouped 1 0 (interfaces_from rows i ns))
-all-grouped rows i [] = refl
-all-grouped rows i (n ∷ ns) = all-grouped rows (i + 1) ns

@@ -1,18 +1,16 @@
 -- Interfaces under their full names: what is said of them under their own names holds.
-use Rattle.std.proofs.Common.{◌≡◌, ℕ, suc, ◌<◌, Bool, true, false, cond, List, [], ◌∷◌, ◌++◌, Option, Some, map, take, length, get_or, refl, ap, sym, subst, ◌∙◌, arith, All, Contains}
-use Rattle.std.specs.List.{cons_option}
+use Rattle.std.proofs.Common.{◌≡◌, ℕ, suc, ◌<◌, Bool, true, false, cond, List, [], ◌∷◌, ◌++◌, Option, None, Some, map, length, refl, ap, sym, subst, ◌∙◌, All, Contains}
+use Rattle.std.specs.List.{cons_option, filter_map}
 use Rattle.std.specs.Option.{option_map}
 use Rattle.std.specs.Str.{bytes_eq}
-use Rattle.std.specs.Char.{to_ascii_lowercase}
-use Rattle.std.proofs.lemmas.List.{length-map, map-append, take-map, get_or-map, append_cancel_left, append_cancel_right}
+use Rattle.std.proofs.lemmas.List.{get_or-map}
 use Rattle.std.proofs.lemmas.Slice.Eq.{bytes_eq-Decides}
-use Rattle.atoms.specs.FullName.{version_suffix, name_text, package_text}
-use Rattle.tables.specs.PackageNames.{PackageParts, name_parts, own_name}
-use Rattle.package_form.specs.Scope.{lowered, IsMetBefore, AreDistinct}
+use Rattle.tables.specs.PackageNames.{PackageParts, own_name}
 use Rattle.package_form.proofs.Lists.{all-contained, contains-map, contains-unmap}
 use Rattle.package_form.proofs.OnePackage.{one-full-name}
-use Rattle.resolve.specs.Declarations.{UsedItem, InterfaceTree, full_use, full_interface, interface_at, no_interface, interface_names, use_interface, use_local, own_types, type_names, named_definition, named_function}
-use Rattle.resolve.specs.Resolves.{place_of, places, uses_of_interface, interface_uses, IsKnownUse, HasKnownNames}
+use Rattle.resolve.specs.Declarations.{UsedItem, InterfaceTree, full_label, full_use, full_interface, interface_at, no_interface, interface_names, own_interface, own_use, use_local, own_types, type_names, named_definition, named_function}
+use Rattle.resolve.specs.Imports.{Imports}
+use Rattle.resolve.specs.Resolves.{place_of, places, own_uses, uses_of_interface, interface_uses, IsKnownIn, IsKnownUseOf, HasKnownNamesOf}
 use Rattle.resolve.proofs.Placing.{all-from}
 
 -- ---- places of names
@@ -44,9 +42,15 @@ names-full : (p : PackageParts) (is : List InterfaceTree) → interface_names (m
 names-full p [] = refl
 names-full p (i ∷ is) = ap (λ (ns : List (List ℕ)). own_name p i.name ∷ ns) (names-full p is)
 
-used-full : (p : PackageParts) (us : List UsedItem) → map use_interface (map (full_use p) us) ≡ map (own_name p) (map use_interface us)
+-- an interface of another package isn't one of these
+used-full : (p : PackageParts) (us : List UsedItem) → filter_map own_use (map (full_use p) us) ≡ map (own_name p) (filter_map own_use us)
 used-full p [] = refl
-used-full p (u ∷ us) = ap (λ (ns : List (List ℕ)). own_name p u.interface ∷ ns) (used-full p us)
+used-full p (u ∷ us) = by u.«package» (used-full p us)
+  where
+    by : (o : Option PackageParts) → filter_map own_use (map (full_use p) us) ≡ map (own_name p) (filter_map own_use us)
+        → cons_option (own_interface o (full_label p o u.interface)) (filter_map own_use (map (full_use p) us)) ≡ map (own_name p) (cons_option (own_interface o u.interface) (filter_map own_use us))
+    by None h = ap (λ (ns : List (List ℕ)). own_name p u.interface ∷ ns) h
+    by (Some q) h = h
 
 pub locals-full : (p : PackageParts) (us : List UsedItem) → map use_local (map (full_use p) us) ≡ map use_local us
 locals-full p [] = refl
@@ -64,64 +68,35 @@ uses-full p is = by is
   where
     one : (i : InterfaceTree) → uses_of_interface (interface_names (map (full_interface p) is)) (full_interface p i) ≡ uses_of_interface (interface_names is) i
     one i =
-        ap (λ (ms : List (List ℕ)). places ms (map use_interface (map (full_use p) i.uses))) (names-full p is)
+        ap (λ (ms : List (List ℕ)). places ms (filter_map own_use (map (full_use p) i.uses))) (names-full p is)
         ∙ ap (places (map (own_name p) (interface_names is))) (used-full p i.uses)
-        ∙ places-same p (interface_names is) (map use_interface i.uses)
+        ∙ places-same p (interface_names is) (own_uses i)
 
     by : (js : List InterfaceTree) → map (uses_of_interface (interface_names (map (full_interface p) is))) (map (full_interface p) js) ≡ map (uses_of_interface (interface_names is)) js
     by [] = refl
     by (j ∷ js) = let a = one j in let b = by js in cc
 
--- ---- names that differ
-
-lowered-own : (p : PackageParts) (a : List ℕ) → lowered (own_name p a)
-    ≡ lowered p.namespace ++ to_ascii_lowercase 58 ∷ (lowered p.name ++ to_ascii_lowercase 47 ∷ (lowered a ++ lowered (version_suffix p.version)))
-lowered-own p a =
-    map-append to_ascii_lowercase p.namespace (58 ∷ package_text (name_parts p a))
-    ∙ ap (λ (ns : List ℕ). lowered p.namespace ++ to_ascii_lowercase 58 ∷ ns)
-    (map-append to_ascii_lowercase p.name (47 ∷ name_text (name_parts p a))
-    ∙ ap (λ (ns : List ℕ). lowered p.name ++ to_ascii_lowercase 47 ∷ ns) (map-append to_ascii_lowercase a (version_suffix p.version)))
-
-tail-same : (x : ℕ) (xs ys : List ℕ) → x ∷ xs ≡ x ∷ ys → xs ≡ ys
-tail-same x xs ys e = cc
-
-lowered-same : (p : PackageParts) (a b : List ℕ) → lowered (own_name p a) ≡ lowered (own_name p b) → lowered a ≡ lowered b
-lowered-same p a b e =
-    let whole = sym (lowered-own p a) ∙ e ∙ lowered-own p b in
-    let inner = tail-same _ _ _ (append_cancel_left (lowered p.namespace) _ _ whole) in
-    let last = tail-same _ _ _ (append_cancel_left (lowered p.name) _ _ inner) in
-    append_cancel_right (lowered a) (lowered b) (lowered (version_suffix p.version)) last
-
-distinct-own : (p : PackageParts) (ns : List (List ℕ)) → AreDistinct ns → AreDistinct (map (own_name p) ns)
-distinct-own p ns d = record { each = λ k l met. d.each k (omega (arith, l, length-map ns (own_name p))) (before k (omega (arith, l, length-map ns (own_name p))) met) }
-  where
-    before : (k : ℕ) → k < length ns → IsMetBefore (map (own_name p) ns) k → IsMetBefore ns k
-    before k l met =
-        let front = subst (λ (ms : List (List ℕ)). Contains (map lowered ms) (lowered (get_or (map (own_name p) ns) k []))) (take-map (own_name p) k ns) met in
-        let x = contains-unmap lowered (map (own_name p) (take k ns)) (lowered (get_or (map (own_name p) ns) k [])) front in
-        let y = contains-unmap (own_name p) (take k ns) x.0 x.1 in
-        let same : lowered (own_name p y.0) ≡ lowered (own_name p (get_or ns k [])) = ap lowered y.2 ∙ x.2 ∙ ap lowered (get_or-map (own_name p) ns k [] [] l) in
-        subst (Contains (map lowered (take k ns))) (lowered-same p y.0 (get_or ns k []) same) (contains-map lowered (take k ns) y.0 y.1)
-
-pub distinct-full : (p : PackageParts) (is : List InterfaceTree) → AreDistinct (interface_names is) → AreDistinct (interface_names (map (full_interface p) is))
-distinct-full p is d = subst AreDistinct (sym (names-full p is)) (distinct-own p (interface_names is) d)
-
 -- ---- names that stand for something
 
-known-use : (p : PackageParts) (is : List InterfaceTree) (u : UsedItem) → IsKnownUse is u → IsKnownUse (map (full_interface p) is) (full_use p u)
-known-use p is u (j, c, e, has) =
-    (full_interface p j, contains-map (full_interface p) is j c, ap (own_name p) e, subst (λ (ns : List (List ℕ)). Contains ns u.name) (sym (type-names-full p j)) has)
+module _ (m : Imports) where
+  known-use : (p : PackageParts) (is : List InterfaceTree) (u : UsedItem) → IsKnownUseOf m is u → IsKnownUseOf m (map (full_interface p) is) (full_use p u)
+  known-use p is u h = by u.«package» h
+    where
+      by : (o : Option PackageParts) → IsKnownIn m is o u.interface u.name → IsKnownIn m (map (full_interface p) is) o (full_label p o u.interface) u.name
+      by None (j, c, e, has) =
+          (full_interface p j, contains-map (full_interface p) is j c, ap (own_name p) e, subst (λ (ns : List (List ℕ)). Contains ns u.name) (sym (type-names-full p j)) has)
+      by (Some q) k = k
 
-known-interface : (p : PackageParts) (is : List InterfaceTree) (i : InterfaceTree) → HasKnownNames is i → HasKnownNames (map (full_interface p) is) (full_interface p i)
-known-interface p is i h = record {
-  uses = all-from (IsKnownUse (map (full_interface p) is)) (map (full_use p) i.uses) (λ v c.
-      let u = contains-unmap (full_use p) i.uses v c in
-      subst (IsKnownUse (map (full_interface p) is)) u.2 (known-use p is u.0 (all-contained (IsKnownUse is) i.uses u.0 h.uses u.1)));
-  types = subst (λ (ns : List (List ℕ)). All (λ t. All (Contains ns) (named_definition t.definition)) i.types) (sym (type-names-full p i)) h.types;
-  functions = subst (λ (ns : List (List ℕ)). All (λ f. All (Contains ns) (named_function f.function)) i.functions) (sym (type-names-full p i)) h.functions;
-}
+  known-interface : (p : PackageParts) (is : List InterfaceTree) (i : InterfaceTree) → HasKnownNamesOf m is i → HasKnownNamesOf m (map (full_interface p) is) (full_interface p i)
+  known-interface p is i h = record {
+    uses = all-from (IsKnownUseOf m (map (full_interface p) is)) (map (full_use p) i.uses) (λ v c.
+        let u = contains-unmap (full_use p) i.uses v c in
+        subst (IsKnownUseOf m (map (full_interface p) is)) u.2 (known-use p is u.0 (all-contained (IsKnownUseOf m is) i.uses u.0 h.uses u.1)));
+    types = subst (λ (ns : List (List ℕ)). All (λ t. All (Contains ns) (named_definition t.definition)) i.types) (sym (type-names-full p i)) h.types;
+    functions = subst (λ (ns : List (List ℕ)). All (λ f. All (Contains ns) (named_function f.function)) i.functions) (sym (type-names-full p i)) h.functions;
+  }
 
-pub known-full : (p : PackageParts) (is : List InterfaceTree) → All (HasKnownNames is) is → All (HasKnownNames (map (full_interface p) is)) (map (full_interface p) is)
-known-full p is h = all-from (HasKnownNames (map (full_interface p) is)) (map (full_interface p) is) (λ v c.
-    let i = contains-unmap (full_interface p) is v c in
-    subst (HasKnownNames (map (full_interface p) is)) i.2 (known-interface p is i.0 (all-contained (HasKnownNames is) is i.0 h i.1)))
+  pub known-full : (p : PackageParts) (is : List InterfaceTree) → All (HasKnownNamesOf m is) is → All (HasKnownNamesOf m (map (full_interface p) is)) (map (full_interface p) is)
+  known-full p is h = all-from (HasKnownNamesOf m (map (full_interface p) is)) (map (full_interface p) is) (λ v c.
+      let i = contains-unmap (full_interface p) is v c in
+      subst (HasKnownNamesOf m (map (full_interface p) is)) i.2 (known-interface p is i.0 (all-contained (HasKnownNamesOf m is) is i.0 h i.1)))

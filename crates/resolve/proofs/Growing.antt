@@ -5,6 +5,7 @@ use Rattle.std.specs.List.{list_all}
 use Rattle.tables.specs.Tables.{is_type, option_all, function_all}
 use Rattle.tables.specs.Package.{Tree, Reference, NamedDefinition, Meaning, IsUse, IsFunction, definition_of, read_params}
 use Rattle.package_form.specs.Postfix.{Leaves, whole, unnamed_if, unnamed_parameter}
+use Rattle.resolve.specs.Imports.{Import}
 use Rattle.resolve.specs.Declarations.{UsedItem, TypeItem, FunctionItem, InterfaceTree, used_names}
 use Rattle.resolve.specs.Resolved.{Labelled, use_meaning, function_meaning, in_order, interface_meaning, no_type, fields_of}
 use Rattle.package_form.specs.Entries.{Table}
@@ -25,7 +26,7 @@ use Rattle.tables.specs.declared.tables.Definition.TheVariants as row
 use Rattle.tables.proofs.Rows.{both}
 use Rattle.package_form.proofs.Lists.{all-append, all-cons, all-none}
 use Rattle.resolve.proofs.Reading.{With, with-rows, with-front, with-own, with-definitions, with-stands, with-unnamed, front-trans, adds-trans, extends-none, extends-trans}
-use Rattle.resolve.proofs.Lowering.{scope-later, same_name, all-stay, parameter-stays, parameters-read}
+use Rattle.resolve.proofs.Lowering.{scope-later, all-stay, parameter-stays, parameters-read}
 
 -- ---- one definition
 
@@ -132,10 +133,13 @@ use-names i (u ∷ us) = ap (λ (ns : List (List ℕ)). u.local ∷ ns) (use-nam
 pub knows-by : (s : KnownTypes) (ns ms : List (List ℕ)) → scope_names s ≡ ms → All (Contains ms) ns → KnowsNames s ns
 knows-by s ns ms e h = subst (λ (zs : List (List ℕ)). All (Contains zs) ns) (sym e) h
 
-pub can_use-later : (old new : Table) (scopes : List KnownTypes) (u : UsedItem) → Front old new → CanUse old scopes u → CanUse new scopes u
-can_use-later old new scopes u x h = record {
-  some = (h.some.0, h.some.1, same_name old new h.some.0 x ∙ h.some.2);
-  each = λ k d l e. h.each k d l (sym (same_name old new (get_or scopes k d) x) ∙ e);
+pub can_use-later : (ks : List Import) (names : List (List ℕ)) (old new : Table) (scopes : List KnownTypes) (u : UsedItem) → Front old new → CanUse ks names old scopes u → CanUse ks names new scopes u
+can_use-later ks names old new scopes u x h = record {
+  place = h.place;
+  found = h.found;
+  within = h.within;
+  named = ap (λ (ns : List (List ℕ)). get_or ns h.place []) x.interfaces ∙ h.named;
+  has = h.has;
 }
 
 pub scopes-later : (old new : Table) (scopes : List KnownTypes) → Front old new → All (IsScope old) scopes → All (IsScope new) scopes

@@ -1,6 +1,6 @@
 -- The scopes of a syntax tree, seen from what its interfaces declare.
 use Rattle.std.proofs.Common.{◌≡◌, ℕ, List, [], ◌∷◌, ◌++◌, map, flat_map, filter_map, refl, ap, sym, subst, append_assoc, All}
-use Rattle.wit_syntax.specs.Syntax.{Local, Foreign, UsedAs, Entry, Uses, Defines, Declares, FileEntry, AnInterface, AWorld}
+use Rattle.wit_syntax.specs.Syntax.{PathTo, UsedAs, Entry, Uses, Defines, Declares, FileEntry, AnInterface, AWorld}
 use Rattle.package_form.specs.Scope.{AreDistinct}
 use Rattle.resolve.specs.Declarations.{UsedItem, TypeItem, FunctionItem, InterfaceTree, local_name, used_item, entry_uses, entry_types, entry_functions, interface_of, use_local, type_name, member_name, definition_scopes, entry_names, entry_scopes}
 use Rattle.resolve.specs.Scopes.{interface_scopes}
@@ -35,7 +35,7 @@ functions_in es = map function_name (flat_map entry_functions es)
 abbrev parts : List Entry → List (List ℕ)
 parts es = uses_in es ++ (types_in es ++ functions_in es)
 
-used-first : (i : List ℕ) (us : List UsedAs) (rest : List UsedItem) (ns : List (List ℕ)) → map use_local (map (used_item i) us ++ rest) ++ ns ≡ map local_name us ++ (map use_local rest ++ ns)
+used-first : (i : PathTo) (us : List UsedAs) (rest : List UsedItem) (ns : List (List ℕ)) → map use_local (map (used_item i) us ++ rest) ++ ns ≡ map local_name us ++ (map use_local rest ++ ns)
 used-first i [] rest ns = refl
 used-first i (u ∷ us) rest ns = ap (λ (ms : List (List ℕ)). local_name u ∷ ms) (used-first i us rest ns)
 
@@ -44,8 +44,7 @@ every-insert P n xs ys p h = every-append P xs (n ∷ ys) (every-front P xs ys h
 
 every-part : (P : List ℕ → Type 0) (es : List Entry) → Every P (flat_map entry_names es) → Every P (parts es)
 every-part P [] h = tt
-every-part P (Uses at (Foreign a b v i) us ∷ es) h = every-part P es (every-back P (map local_name us) (flat_map entry_names es) h)
-every-part P (Uses at (Local i) us ∷ es) h =
+every-part P (Uses at i us ∷ es) h =
     subst (Every P) (sym (used-first i us (flat_map entry_uses es) (types_in es ++ functions_in es)))
     (every-append P (map local_name us) (parts es) (every-front P (map local_name us) (flat_map entry_names es) h) (every-part P es (every-back P (map local_name us) (flat_map entry_names es) h)))
 every-part P (Defines at n d ∷ es) h = every-insert P n (uses_in es) (types_in es ++ functions_in es) h.0 (every-part P es h.1)
@@ -55,8 +54,7 @@ every-part P (Declares at n f ∷ es) h =
 
 parts-apart : (es : List Entry) → AreApart (flat_map entry_names es) → AreApart (parts es)
 parts-apart [] h = tt
-parts-apart (Uses at (Foreign a b v i) us ∷ es) h = parts-apart es (apart-back (map local_name us) (flat_map entry_names es) h)
-parts-apart (Uses at (Local i) us ∷ es) h =
+parts-apart (Uses at i us ∷ es) h =
     subst AreApart (sym (used-first i us (flat_map entry_uses es) (types_in es ++ functions_in es)))
     (apart-exchange (map local_name us) (flat_map entry_names es) (parts es) h (λ P. every-part P es) (parts-apart es (apart-back (map local_name us) (flat_map entry_names es) h)))
 parts-apart (Defines at n d ∷ es) h = apart-insert n (uses_in es) (types_in es ++ functions_in es) (every-part (AreOthers n) es h.0) (parts-apart es h.1)

@@ -8,12 +8,14 @@ pub mod Lowering
 pub mod Growing
 pub mod WorldRows
 pub mod Placing
-pub mod Scoping
 pub mod Nesting
 pub mod Finding
 pub mod Using
+pub mod Imported
+pub mod Uses
 pub mod Packaging
 pub mod Finishing
+pub mod Closing
 pub mod FullNames
 pub mod WorldScopes
 pub mod FileEntries
@@ -25,6 +27,7 @@ pub mod Trees
 pub mod Segments
 pub mod Owning
 pub mod Homes
+pub mod NamePlaces
 pub mod Locals
 pub mod Parting
 pub mod Blocks
@@ -35,7 +38,10 @@ pub mod TypedRows
 pub mod WorldTables
 pub mod WorldMeanings
 pub mod WorldForms
+pub mod ClosedForms
 pub mod TreeForms
+pub mod Reaching
+pub mod ClosedTables
 pub mod Members
 pub mod ItemNames
 pub mod TreeNames
@@ -44,5 +50,10 @@ pub mod PackageScopes
 pub mod Counted
 pub mod Weighed
 pub mod StandardRows
+pub mod ImportScopes
+pub mod Defined
+pub mod Alone
+pub mod AloneForms
 pub mod Only
 pub mod PathNames
+pub mod ImportTables

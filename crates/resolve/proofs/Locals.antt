@@ -20,6 +20,7 @@ use Rattle.package_form.specs.Postfix.{is_inner}
 use Rattle.package_form.specs.Ids.{is_owned_by}
 use Rattle.package_form.specs.Form.{is_own_name, is_own_type, is_own, is_earlier_name, is_earlier_type, is_earlier, uses_earlier, is_owned, is_local}
 use Rattle.package_form.specs.References.{kind_references, row_references}
+use Rattle.package_form.specs.Reached.{name_of, name_at}
 use Rattle.tables.proofs.Rows.{split, both}
 use Rattle.package_form.proofs.Fronts.{stands_before, row-all, row-before}
 use Rattle.package_form.proofs.Lists.{get-front, all-get}
@@ -31,6 +32,42 @@ use Rattle.resolve.proofs.AllDefinitions.{owner_name}
 
 pub is-that : (m j : ℕ) → m ≡ j → (m == j) ≡ true
 is-that m j e = grind (arith, nat_tests)
+
+-- ---- the row of a reference
+
+module _ (ns : List (List ℕ)) (rows : List Definition) (pre post : List Definition) (parts : rows ≡ pre ++ post) (inner : list_all is_inner_row rows ≡ true) where
+  abbrev front_trees : List Tree
+  front_trees = references ns [] pre
+
+  there : (t : TypeId) (d : TypeDef) → t.0 < length pre → slice_get rows t.0 ≡ Some (row.Type d)
+      → (before : List Tree) × (tree_of front_trees t ≡ reference_by ns d.name (read_kind before d.kind))
+  there t d l e =
+      let here : slice_get pre t.0 ≡ Some (row.Type d) = sym (get-front pre post t.0 l) ∙ ap (λ (xs : List Definition). slice_get xs t.0) (sym parts) ∙ e in
+      let x = tree-at ns [] pre t.0 d here in
+      (x.0, ap (λ (n : ℕ). slice_index_or front_trees n TextTree) (omega arith) ∙ x.1)
+
+  named-there : (o : Option TypeName) (before : List Tree) (k : TypeDefKind) (target : Key) (m : ℕ) → cond (is_some o) true (is_inner k) ≡ true
+      → reference_by ns o (read_kind before k) ≡ Reference target → IsPlace ns m target.interface → (n : TypeName) × (o ≡ Some n) × (n.interface.0 ≡ m)
+  named-there None before k target m inside e at = absurd (inner-reads before k target inside e)
+  named-there (Some n) before k target m inside e at =
+      let is : slice_index_or ns n.interface.0 [] ≡ target.interface = cc in
+      (n, refl, at n.interface.0 is)
+
+  -- a reference to a name is to a row of it, in the interface of that place
+  pub name-there : (t : TypeId) (target : Key) (m : ℕ) → t.0 < length pre → is_type_id rows t ≡ true → tree_of front_trees t ≡ Reference target → IsPlace ns m target.interface
+      → (n : TypeName) × (name_at rows (Some t) ≡ Some n) × (n.interface.0 ≡ m)
+  name-there t target m l typed h at = by (slice_get rows t.0) refl typed
+    where
+      by : (o : Option Definition) → slice_get rows t.0 ≡ o → is_there (type_of o) ≡ true → (n : TypeName) × (name_of (type_of o) ≡ Some n) × (n.interface.0 ≡ m)
+      by None e q = absurd (cc)
+      by (Some (row.Function f)) e q = absurd (cc)
+      by (Some (row.Type d)) e q =
+          let x = there t d l e in
+          named-there d.name x.0 d.kind target m (all-get is_inner_row rows t.0 (row.Type d) inner e) (sym x.1 ∙ h) at
+
+earlier-named : {j : ℕ} (o : Option TypeDef) (n : TypeName) → name_of o ≡ Some n → n.interface.0 < j → is_earlier_type j o ≡ true
+earlier-named None n e l = absurd (cc)
+earlier-named {j = j} (Some d) n e l = ap (is_earlier_name j) e ∙ lt-ltb n.interface.0 j l
 
 module _ (ns : List (List ℕ)) (rows : List Definition) (j : ℕ) (i : List ℕ) (place : IsPlace ns j i) (some : i ≢ []) where
   -- ---- a row with a name
@@ -65,13 +102,6 @@ module _ (ns : List (List ℕ)) (rows : List Definition) (j : ℕ) (i : List ℕ
     abbrev trees : List Tree
     trees = references ns [] pre
 
-    there : (t : TypeId) (d : TypeDef) → t.0 < length pre → slice_get rows t.0 ≡ Some (row.Type d)
-        → (before : List Tree) × (tree_of trees t ≡ reference_by ns d.name (read_kind before d.kind))
-    there t d l e =
-        let here : slice_get pre t.0 ≡ Some (row.Type d) = sym (get-front pre post t.0 l) ∙ ap (λ (xs : List Definition). slice_get xs t.0) (sym parts) ∙ e in
-        let x = tree-at ns [] pre t.0 d here in
-        (x.0, ap (λ (n : ℕ). slice_index_or trees n TextTree) (omega arith) ∙ x.1)
-
     named-own : (o : Option TypeName) (tree : Tree) → Refers i (reference_by ns o tree) → is_own_name j o ≡ true
     named-own None tree h = refl
     named-own (Some n) tree h = is-that n.interface.0 j (place n.interface.0 h)
@@ -82,25 +112,13 @@ module _ (ns : List (List ℕ)) (rows : List Definition) (j : ℕ) (i : List ℕ
         by : (o : Option Definition) → slice_get rows t.0 ≡ o → is_there (type_of o) ≡ true → is_own_type j (type_of o) ≡ true
         by None e q = absurd (cc)
         by (Some (row.Function f)) e q = absurd (cc)
-        by (Some (row.Type d)) e q = let x = there t d l e in named-own d.name (read_kind x.0 d.kind) (subst (Refers i) x.1 h)
-
-    named-earlier : (o : Option TypeName) (before : List Tree) (k : TypeDefKind) (target : Key) (m : ℕ) → cond (is_some o) true (is_inner k) ≡ true
-        → reference_by ns o (read_kind before k) ≡ Reference target → IsPlace ns m target.interface → m < j → is_earlier_name j o ≡ true
-    named-earlier None before k target m inside e at l = absurd (inner-reads before k target inside e)
-    named-earlier (Some n) before k target m inside e at l =
-        let is : slice_index_or ns n.interface.0 [] ≡ target.interface = cc in
-        lt-ltb n.interface.0 j (subst (λ (x : ℕ). x < j) (sym (at n.interface.0 is)) l)
+        by (Some (row.Type d)) e q = let x = there ns rows pre post parts inner t d l e in named-own d.name (read_kind x.0 d.kind) (subst (Refers i) x.1 h)
 
     earlier : (t : TypeId) (target : Key) (m : ℕ) → t.0 < length pre → is_type_id rows t ≡ true → tree_of trees t ≡ Reference target → IsPlace ns m target.interface → m < j
         → is_earlier rows j t ≡ true
-    earlier t target m l typed h at lt = by (slice_get rows t.0) refl typed
-      where
-        by : (o : Option Definition) → slice_get rows t.0 ≡ o → is_there (type_of o) ≡ true → is_earlier_type j (type_of o) ≡ true
-        by None e q = absurd (cc)
-        by (Some (row.Function f)) e q = absurd (cc)
-        by (Some (row.Type d)) e q =
-            let x = there t d l e in
-            named-earlier d.name x.0 d.kind target m (all-get is_inner_row rows t.0 (row.Type d) inner e) (sym x.1 ∙ h) at lt
+    earlier t target m l typed h at lt =
+        let x = name-there ns rows pre post parts inner t target m l typed h at in
+        earlier-named (type_of (slice_get rows t.0)) x.0 x.1 (omega (arith, x.2, lt))
 
     -- ---- where a row stands
 

@@ -9,7 +9,8 @@ use Rattle.std.proofs.lemmas.List.{take_all, length-map}
 use Rattle.tables.specs.Package.{WorldMeaning, Package, NamedDefinition}
 use Rattle.resolve.specs.Declarations.{InterfaceTree, WorldTree, interface_at, interface_names}
 use Rattle.resolve.specs.Resolved.{interface_meaning}
-use Rattle.resolve.specs.Resolves.{Resolves, interface_uses, uses_of_interface, type_uses, names_in_order}
+use Rattle.resolve.specs.Imports.{no_package}
+use Rattle.resolve.specs.Resolves.{Resolves, ResolvesBehind, interface_uses, uses_of_interface, type_uses, names_in_order}
 use Rattle.resolve.specs.Order.{is_among, IsNext, IsPlacement, IsCycle}
 
 all-at : (test : ℕ → Bool) (xs : List ℕ) (k x : ℕ) → list_all test xs ≡ true → k < length xs → get_or xs k x ≡ x → test x ≡ true
@@ -89,19 +90,24 @@ pub same-flat : {A : Type 0} (f g : ℕ → List A) (xs : List ℕ) → ((k : �
 same-flat f g [] h = refl
 same-flat f g (x ∷ xs) h = let a = h 0 (omega arith) in let b = same-flat f g xs (λ k l. h (suc k) (omega (arith, l))) in cc
 
--- Interfaces and worlds resolve to one package.
-pub one-package : (is : List InterfaceTree) (ws : List WorldTree) (p q : Package) → Resolves is ws p → Resolves is ws q → p ≡ q
-one-package is ws p q a b =
+-- Interfaces and worlds resolve to one package behind their imports.
+pub one-behind : (before : Package) (is : List InterfaceTree) (ws : List WorldTree) (p q : Package) → ResolvesBehind before is ws p → ResolvesBehind before is ws q → p ≡ q
+one-behind before is ws p q a b =
     let order : a.order ≡ b.order = one-placement (interface_uses is) a.order b.order a.placed b.placed in
     let counted : length (interface_uses is) ≡ length is = length-map is (uses_of_interface (interface_names is)) in
     let inside : (k : ℕ) → k < length a.order → get_or a.order k 0 < length is = λ k l. subst (λ n. get_or a.order k 0 < n) counted (a.placed.next k l).in_range in
     let types : (k : ℕ) → k < length is → a.types k ≡ b.types k = λ k l. one-placement (type_uses (interface_at is k)) (a.types k) (b.types k) (a.types_placed k l) (b.types_placed k l) in
     let definitions : p.definitions ≡ q.definitions =
     a.definitions
-    ∙ (same-flat (λ k. interface_meaning (interface_at is k) (a.types k)) (λ k. interface_meaning (interface_at is k) (b.types k)) a.order
+    ∙ ap (λ (ds : List NamedDefinition). before.definitions ++ ds)
+    (same-flat (λ k. interface_meaning (interface_at is k) (a.types k)) (λ k. interface_meaning (interface_at is k) (b.types k)) a.order
     (λ k l. ap (interface_meaning (interface_at is (get_or a.order k 0))) (types (get_or a.order k 0) (inside k l)))
-    ∙ (ap (flat_map (λ k. interface_meaning (interface_at is k) (b.types k))) order ∙ sym b.definitions)) in
-    let names : p.interfaces ≡ q.interfaces = a.names ∙ (ap (names_in_order is) order ∙ sym b.names) in
+    ∙ ap (flat_map (λ k. interface_meaning (interface_at is k) (b.types k))) order)
+    ∙ sym b.definitions in
+    let names : p.interfaces ≡ q.interfaces = a.names ∙ (ap (λ (o : List ℕ). before.interfaces ++ names_in_order is o) order ∙ sym b.names) in
     ap (λ (ns : List (List ℕ)). record { interfaces = ns; worlds = p.worlds; definitions = p.definitions }) names
     ∙ ap (λ (ms : List WorldMeaning). record { interfaces = q.interfaces; worlds = ms; definitions = p.definitions }) (a.worlds ∙ sym b.worlds)
     ∙ ap (λ (ds : List NamedDefinition). record { interfaces = q.interfaces; worlds = q.worlds; definitions = ds }) definitions
+
+pub one-package : (is : List InterfaceTree) (ws : List WorldTree) (p q : Package) → Resolves is ws p → Resolves is ws q → p ≡ q
+one-package is ws p q a b = one-behind no_package is ws p q a b

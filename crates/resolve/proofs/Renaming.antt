@@ -26,7 +26,7 @@ use Rattle.tables.specs.declared.tables.WorldItemKind.TheVariants as item
 use Rattle.tables.specs.declared.tables.WorldItem.{WorldItem}
 use Rattle.tables.specs.declared.tables.Definition.{Definition}
 use Rattle.tables.specs.declared.tables.Definition.TheVariants as row
-use Rattle.resolve.specs.Declarations.{UsedItem, TypeItem, FunctionItem, InterfaceTree, ItemTree, InterfaceNamed, ForeignNamed, FunctionOf}
+use Rattle.resolve.specs.Declarations.{UsedItem, use_interface, TypeItem, FunctionItem, InterfaceTree, ItemTree, InterfaceNamed, ForeignNamed, FunctionOf}
 use Rattle.resolve.specs.Resolved.{primitive_tree, fields_of, unlabelled, choice, choices_of, option_tree, resolved, resolved_all, resolved_maybe, resolved_if, member_meaning, case_meaning, definition_meaning, use_meaning, function_meaning, no_type, in_order, interface_meaning, direction_meaning, item_meaning as item_tree_meaning}
 
 -- each interface gets another name; none has none
@@ -289,7 +289,7 @@ module _ (to : List ℕ → List ℕ) (none-kept : to [] ≡ []) where
 
   -- the interface, and those that it uses, under their new names
   abbrev pub used_under : UsedItem → UsedItem
-  used_under u = record { interface = to u.interface; name = u.name; local = u.local }
+  used_under u = record { «package» = None; interface = to (use_interface u); name = u.name; local = u.local }
 
   abbrev pub interface_under : InterfaceTree → InterfaceTree
   interface_under i = record { name = to i.name; uses = map used_under i.uses; types = i.types; functions = i.functions }

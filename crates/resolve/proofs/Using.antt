@@ -6,10 +6,10 @@ use Rattle.std.specs.Str.{bytes_eq}
 use Rattle.std.proofs.lemmas.List.{length-map, length-append, get_or-map, get_or_append_left, get_or_at}
 use Rattle.std.proofs.lemmas.List.Elements.{filter_map-append}
 use Rattle.resolve.specs.Order.{IsPlacement}
-use Rattle.resolve.specs.Declarations.{InterfaceTree, interface_at, no_interface, interface_names, interface_name, own_types, type_name, use_interface, named_definition}
+use Rattle.resolve.specs.Declarations.{InterfaceTree, interface_at, no_interface, interface_names, interface_name, own_types, type_name, named_definition}
 use Rattle.resolve.specs.Lent.{lent, lent_name}
 use Rattle.resolve.specs.Sources.{declared_tree}
-use Rattle.resolve.specs.Resolves.{place_of, places, interface_uses, uses_of_interface, type_uses, uses_of_type}
+use Rattle.resolve.specs.Resolves.{place_of, places, interface_uses, uses_of_interface, own_uses, type_uses, uses_of_type}
 use Rattle.resolve.specs.declared.declared.Declarations.{Declarations}
 use Rattle.package_form.proofs.Lists.{map-more, all-none, all-cons}
 use Rattle.package_form.proofs.Meeting.{below_or_at}
@@ -60,7 +60,7 @@ interface_graph-below is g e =
     let ns = interface_names is in
     let len : length ns ≡ length (interface_uses is) = length-map is interface_name ∙ sym (length-map is (uses_of_interface ns)) in
     subst (λ (x : List (List ℕ)). All (λ used. All (λ u. u < length x) used) x) (sym e)
-    (graph-below (uses_of_interface ns) (length ns) is len (λ i. places-below ns (map use_interface i.uses)))
+    (graph-below (uses_of_interface ns) (length ns) is len (λ i. places-below ns (own_uses i)))
 
 pub type_graph-below : (i : InterfaceTree) (g : List (List ℕ)) → g ≡ type_uses i → All (λ used. All (λ u. u < length g) used) g
 type_graph-below i g e =

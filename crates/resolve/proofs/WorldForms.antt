@@ -27,7 +27,8 @@ use Rattle.package_form.proofs.Fronts.{stands_before, row-all, row-before}
 use Rattle.package_form.proofs.Lists.{get-front, all-none, all-append, all-cons, all-head, all-tail}
 use Rattle.resolve.specs.Declarations.{ItemTree, InterfaceNamed, ForeignNamed, FunctionOf, WorldTree, full_item, full_world}
 use Rattle.resolve.specs.Resolved.{fields_of, member_meaning, resolved_if, item_meaning, world_meaning}
-use Rattle.resolve.specs.Resolves.{IsKnownItem, IsKnownWorld, is_behind}
+use Rattle.resolve.specs.Imports.{Imports}
+use Rattle.resolve.specs.Resolves.{IsKnownItemOf, IsKnownWorldOf, is_behind}
 use Rattle.tables.proofs.Rows.{split, both}
 use Rattle.resolve.proofs.WorldRows.{members-same, if-same, none-left, none-right}
 use Rattle.resolve.proofs.WorldMeanings.{item_definitions, world_definitions, worlds_definitions}
@@ -51,10 +52,10 @@ pub record RefersNowhere (x : NamedDefinition) : Type 0 where
   pub params_refer : (i : List ℕ) → FieldsRefer i params
   pub result_refers : (i : List ℕ) → RefersIf i result
 
-item-nowhere : (q : PackageParts) (ns : List (List ℕ)) (i : ItemTree) → IsKnownItem ns i → All RefersNowhere (item_definitions (item_meaning (full_item q i)))
-item-nowhere q ns (InterfaceNamed way n) h = all-none RefersNowhere
-item-nowhere q ns (ForeignNamed way p n) h = absurd h
-item-nowhere q ns (FunctionOf way f) h =
+item-nowhere : (m : Imports) (q : PackageParts) (ns : List (List ℕ)) (i : ItemTree) → IsKnownItemOf m ns i → All RefersNowhere (item_definitions (item_meaning (full_item q i)))
+item-nowhere m q ns (InterfaceNamed way n) h = all-none RefersNowhere
+item-nowhere m q ns (ForeignNamed way p n) h = all-none RefersNowhere
+item-nowhere m q ns (FunctionOf way f) h =
     let ms = f.function.params in
     let r = f.function.result in
     all-cons RefersNowhere _ [] (record {
@@ -65,17 +66,17 @@ item-nowhere q ns (FunctionOf way f) h =
       result_refers = λ i. subst (RefersIf i) (if-same i [] r (none-right _ _ h)) (if-refers i r);
     }) (all-none RefersNowhere)
 
-items-nowhere : (q : PackageParts) (ns : List (List ℕ)) (is : List ItemTree) → All (IsKnownItem ns) is → All RefersNowhere (flat_map item_definitions (map item_meaning (map (full_item q) is)))
-items-nowhere q ns [] h = all-none RefersNowhere
-items-nowhere q ns (i ∷ is) h =
+items-nowhere : (m : Imports) (q : PackageParts) (ns : List (List ℕ)) (is : List ItemTree) → All (IsKnownItemOf m ns) is → All RefersNowhere (flat_map item_definitions (map item_meaning (map (full_item q) is)))
+items-nowhere m q ns [] h = all-none RefersNowhere
+items-nowhere m q ns (i ∷ is) h =
     all-append RefersNowhere (item_definitions (item_meaning (full_item q i))) (flat_map item_definitions (map item_meaning (map (full_item q) is)))
-    (item-nowhere q ns i (all-head (IsKnownItem ns) i is h)) (items-nowhere q ns is (all-tail (IsKnownItem ns) i is h))
+    (item-nowhere m q ns i (all-head (IsKnownItemOf m ns) i is h)) (items-nowhere m q ns is (all-tail (IsKnownItemOf m ns) i is h))
 
-pub worlds-nowhere : (q : PackageParts) (ns : List (List ℕ)) (ws : List WorldTree) → All (IsKnownWorld ns) ws → All RefersNowhere (worlds_definitions (map world_meaning (map (full_world q) ws)))
-worlds-nowhere q ns [] h = all-none RefersNowhere
-worlds-nowhere q ns (w ∷ ws) h =
+pub worlds-nowhere : (m : Imports) (q : PackageParts) (ns : List (List ℕ)) (ws : List WorldTree) → All (IsKnownWorldOf m ns) ws → All RefersNowhere (worlds_definitions (map world_meaning (map (full_world q) ws)))
+worlds-nowhere m q ns [] h = all-none RefersNowhere
+worlds-nowhere m q ns (w ∷ ws) h =
     all-append RefersNowhere (world_definitions (world_meaning (full_world q w))) (worlds_definitions (map world_meaning (map (full_world q) ws)))
-    (items-nowhere q ns w.items (all-head (IsKnownWorld ns) w ws h)) (worlds-nowhere q ns ws (all-tail (IsKnownWorld ns) w ws h))
+    (items-nowhere m q ns w.items (all-head (IsKnownWorldOf m ns) w ws h)) (worlds-nowhere m q ns ws (all-tail (IsKnownWorldOf m ns) w ws h))
 
 -- ---- rows cut behind the last function of a world
 

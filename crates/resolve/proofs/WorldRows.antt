@@ -1,5 +1,5 @@
 -- Items of worlds that stand in a table, when more rows come behind it.
-use Rattle.std.proofs.Common.{◌≡◌, ℕ, zero, suc, ◌+◌, true, ◌&&◌, ◌==◌, nat_lt, List, [], ◌∷◌, ◌++◌, Option, None, Some, map, flat_map, length, get_or, slice_get, refl, ap, sym, ◌∙◌, subst, arith, append_assoc, append-nil}
+use Rattle.std.proofs.Common.{◌≡◌, ℕ, zero, suc, ◌+◌, ◌<◌, true, ◌&&◌, ◌==◌, nat_lt, List, [], ◌∷◌, ◌++◌, Option, None, Some, map, flat_map, length, get_or, slice_get, refl, ap, sym, ◌∙◌, subst, arith, append_assoc, append-nil}
 use Rattle.std.specs.List.{list_all}
 use Rattle.std.specs.Option.{option_map}
 use Rattle.std.proofs.lemmas.Bool.{lt-ltb}
@@ -13,11 +13,11 @@ use Rattle.package_form.specs.Entries.{Table}
 use Rattle.package_form.specs.Form.{function_at, functions_of}
 use Rattle.resolve.specs.Declarations.{named, named_all, named_maybe, named_if, named_member}
 use Rattle.resolve.specs.Resolved.{Labelled, resolved, resolved_all, resolved_maybe, resolved_if, member_meaning, fields_of, option_tree, tuple_tree, result_tree}
-use Rattle.resolve.specs.Resolves.{place_of}
 use Rattle.resolve.specs.Building.{Front, Extends, LowersIf, LowersParameters, table_trees, world_functions, parameter_typed, read_parameter}
 use Rattle.resolve.specs.WorldRows.{AddsFunctions, is_typed, has_types, item_stands, world_stands, worlds_stand, item_reads, world_reads, DefinesItem, DefinesItems, DefinesWorld, DefinesWorlds}
 use Rattle.tables.specs.declared.tables.Direction.{Direction}
 use Rattle.tables.specs.declared.tables.WorldId.{WorldId}
+use Rattle.tables.specs.declared.tables.PackageId.{PackageId}
 use Rattle.tables.specs.declared.tables.InterfaceId.{InterfaceId}
 use Rattle.tables.specs.declared.tables.Owner.TheVariants as owner
 use Rattle.tables.specs.declared.tables.Parameter.{Parameter}
@@ -31,8 +31,6 @@ use Rattle.tables.specs.declared.tables.WorldItem.{WorldItem}
 use Rattle.tables.specs.declared.tables.World.{World}
 use Rattle.tables.proofs.Rows.{split, both}
 use Rattle.package_form.proofs.Lists.{flat_map-append, flat_map-one}
-use Rattle.resolve.proofs.Finding.{place-at}
-use Rattle.resolve.proofs.Using.{place-below}
 use Rattle.resolve.proofs.Locals.{is-that}
 use Rattle.resolve.proofs.Reading.{With, with-rows, with-front, with-functions, with-definitions, get-end, front-none, front-trans, extends-trans}
 use Rattle.resolve.proofs.Lowering.{all-stay, option-stays, parameter-stays, parameters-read}
@@ -143,15 +141,15 @@ module _ (old new : Table) (x : Front old new) where
       let b = items-stay k is s.1 in
       (both (item_stands new k i) (list_all (item_stands new k) is) a.0 b.0, rw (a.1, b.1) refl)
 
-  worlds-stay : (k : ℕ) (ws : List World) → worlds_stand old k ws ≡ true → (worlds_stand new k ws ≡ true) × (map (world_reads new) ws ≡ map (world_reads old) ws)
-  worlds-stay k [] h = (refl, refl)
-  worlds-stay k (w ∷ ws) h =
-      let s = split (world_stands old k w) (worlds_stand old (k + 1) ws) h in
-      let r = split (w.«package».0 == 0) (list_all (item_stands old k) w.items) s.0 in
+  worlds-stay : (own k : ℕ) (ws : List World) → worlds_stand own old k ws ≡ true → (worlds_stand own new k ws ≡ true) × (map (world_reads new) ws ≡ map (world_reads old) ws)
+  worlds-stay own k [] h = (refl, refl)
+  worlds-stay own k (w ∷ ws) h =
+      let s = split (world_stands own old k w) (worlds_stand own old (k + 1) ws) h in
+      let r = split (w.«package».0 == own) (list_all (item_stands old k) w.items) s.0 in
       let a = items-stay k w.items r.1 in
-      let b = worlds-stay (k + 1) ws s.1 in
+      let b = worlds-stay own (k + 1) ws s.1 in
       let named : List ItemMeaning → WorldMeaning = λ ms. record { name = w.name; items = ms } in (
-        both (world_stands new k w) (worlds_stand new (k + 1) ws) (both (w.«package».0 == 0) (list_all (item_stands new k) w.items) r.0 a.0) b.0,
+        both (world_stands own new k w) (worlds_stand own new (k + 1) ws) (both (w.«package».0 == own) (list_all (item_stands new k) w.items) r.0 a.0) b.0,
         ap (λ (ms : List ItemMeaning). named ms ∷ map (world_reads new) ws) a.1 ∙ ap (λ (us : List WorldMeaning). world_reads old w ∷ us) b.1,
       )
 
@@ -186,34 +184,34 @@ items-more a b c k is ms i m x y =
       read = map-append (item_reads c) is (i ∷ []) ∙ rw (s.1, x.read, y.reads) refl;
     }
 
-pub world-defined : (old new : Table) (k : ℕ) (n name : List ℕ) (is js : List WorldItem) (ms ns : List ItemMeaning) → n ≡ name → js ≡ is → ms ≡ ns → DefinesItems old new k is ms
-    → DefinesWorld old new k (record { «package» = record { 0 = 0 }; name = n; items = js }) (record { name = name; items = ns })
-world-defined old new k n name is js ms ns en ej em d =
+pub world-defined : (own : PackageId) (old new : Table) (k : ℕ) (n name : List ℕ) (is js : List WorldItem) (ms ns : List ItemMeaning) → n ≡ name → js ≡ is → ms ≡ ns → DefinesItems old new k is ms
+    → DefinesWorld old new own.0 k (record { «package» = own; name = n; items = js }) (record { name = name; items = ns })
+world-defined own old new k n name is js ms ns en ej em d =
     let named : List ℕ → List ItemMeaning → WorldMeaning = λ m xs. record { name = m; items = xs } in
     record {
       adds = subst (λ (xs : List WorldItem). AddsFunctions old new (flat_map function_at xs)) (sym ej) d.adds;
-      stands = both (0 == 0) (list_all (item_stands new k) js) refl (ap (list_all (item_stands new k)) ej ∙ d.stand);
+      stands = both (own.0 == own.0) (list_all (item_stands new k) js) (is-that own.0 own.0 refl) (ap (list_all (item_stands new k)) ej ∙ d.stand);
       reads = ap (λ (m : List ℕ). named m (map (item_reads new) js)) en ∙ ap (named name) (ap (map (item_reads new)) ej ∙ d.read ∙ em);
     }
 
-pub worlds-none : (t : Table) → DefinesWorlds t t [] []
-worlds-none t = record { adds = functions-none t; stand = refl; read = refl }
+pub worlds-none : (own : ℕ) (t : Table) → DefinesWorlds t t own [] []
+worlds-none own t = record { adds = functions-none t; stand = refl; read = refl }
 
-worlds-end : (t : Table) (j : ℕ) (ws : List World) (w : World) → worlds_stand t j ws ≡ true → world_stands t (j + length ws) w ≡ true → worlds_stand t j (ws ++ w ∷ []) ≡ true
-worlds-end t j [] w h q = let here : j + 0 ≡ j = omega arith in both (world_stands t j w) true (subst (λ (n : ℕ). world_stands t n w ≡ true) here q) refl
-worlds-end t j (v ∷ ws) w h q =
-    let s = split (world_stands t j v) (worlds_stand t (j + 1) ws) h in
+worlds-end : (own : ℕ) (t : Table) (j : ℕ) (ws : List World) (w : World) → worlds_stand own t j ws ≡ true → world_stands own t (j + length ws) w ≡ true → worlds_stand own t j (ws ++ w ∷ []) ≡ true
+worlds-end own t j [] w h q = let here : j + 0 ≡ j = omega arith in both (world_stands own t j w) true (subst (λ (n : ℕ). world_stands own t n w ≡ true) here q) refl
+worlds-end own t j (v ∷ ws) w h q =
+    let s = split (world_stands own t j v) (worlds_stand own t (j + 1) ws) h in
     let here : j + suc (length ws) ≡ j + 1 + length ws = omega arith in
-    both (world_stands t j v) (worlds_stand t (j + 1) (ws ++ w ∷ [])) s.0 (worlds-end t (j + 1) ws w s.1 (subst (λ (n : ℕ). world_stands t n w ≡ true) here q))
+    both (world_stands own t j v) (worlds_stand own t (j + 1) (ws ++ w ∷ [])) s.0 (worlds-end own t (j + 1) ws w s.1 (subst (λ (n : ℕ). world_stands own t n w ≡ true) here q))
 
-pub worlds-more : (a b c : Table) (ws : List World) (ms : List WorldMeaning) (k : ℕ) (w : World) (m : WorldMeaning) → k ≡ length ws
-    → DefinesWorlds a b ws ms → DefinesWorld b c k w m → DefinesWorlds a c (ws ++ w ∷ []) (ms ++ m ∷ [])
-worlds-more a b c ws ms k w m at x y =
-    let s = worlds-stay b c y.adds.front 0 ws x.stand in
+pub worlds-more : (own : ℕ) (a b c : Table) (ws : List World) (ms : List WorldMeaning) (k : ℕ) (w : World) (m : WorldMeaning) → k ≡ length ws
+    → DefinesWorlds a b own ws ms → DefinesWorld b c own k w m → DefinesWorlds a c own (ws ++ w ∷ []) (ms ++ m ∷ [])
+worlds-more own a b c ws ms k w m at x y =
+    let s = worlds-stay b c y.adds.front own 0 ws x.stand in
     let here : k ≡ 0 + length ws = omega (arith, at) in
     record {
       adds = subst (AddsFunctions a c) (last-flat functions_of ws w) (functions-trans a b c _ _ x.adds y.adds);
-      stand = worlds-end c 0 ws w s.0 (subst (λ (n : ℕ). world_stands c n w ≡ true) here y.stands);
+      stand = worlds-end own c 0 ws w s.0 (subst (λ (n : ℕ). world_stands own c n w ≡ true) here y.stands);
       read = map-append (world_reads c) ws (w ∷ []) ∙ rw (s.1, x.read, y.reads) refl;
     }
 
@@ -247,10 +245,10 @@ function-defined old mid last new k n name ps ls r t id l m en at with way =
     }
 
 -- an interface that stands at this place
-pub interface-defined : (t : Table) (k : ℕ) (way d : Direction) (n : List ℕ) (id : InterfaceId) (place : ℕ) → d ≡ way → id.0 ≡ place → place_of t.interfaces n ≡ Some place
+pub interface-defined : (t : Table) (k : ℕ) (way d : Direction) (n : List ℕ) (id : InterfaceId) (place : ℕ) → d ≡ way → id.0 ≡ place → place < length t.interfaces → get_or t.interfaces place [] ≡ n
     → DefinesItem t t k (record { direction = d; kind = item.Interface id }) (WithInterface way n)
-interface-defined t k way d n id place same at e = record {
+interface-defined t k way d n id place same at below named = record {
   adds = functions-none t;
-  stands = both (nat_lt id.0 (length t.interfaces)) true (lt-ltb id.0 (length t.interfaces) (omega (arith, at, place-below t.interfaces n place e))) refl;
-  reads = rw (same, at, place-at t.interfaces n place [] e) refl;
+  stands = both (nat_lt id.0 (length t.interfaces)) true (lt-ltb id.0 (length t.interfaces) (omega (arith, at, below))) refl;
+  reads = rw (same, at, named) refl;
 }

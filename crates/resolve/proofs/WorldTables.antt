@@ -1,62 +1,60 @@
 -- The table of a file: the rows of its interfaces, and behind them those of its worlds.
-use Rattle.std.proofs.Common.{◌≡◌, ℕ, ◌+◌, ◌<◌, true, ◌&&◌, ◌==◌, nat_le, nat_lt, List, [], ◌∷◌, ◌++◌, Option, None, Some, map, flat_map, length, get_or, refl, ap, sym, ◌∙◌, subst, append-nil, All, Contains}
+use Rattle.std.proofs.Common.{◌≡◌, ℕ, ◌+◌, ◌<◌, ◌≤◌, true, cond, ◌&&◌, ◌==◌, nat_le, nat_lt, IsTrue, List, [], ◌∷◌, ◌++◌, Option, None, Some, map, flat_map, length, get_or, refl, ap, sym, ◌∙◌, subst, arith, append-nil, All, Contains}
 use Rattle.std.specs.List.{list_all}
-use Rattle.std.proofs.lemmas.Bool.{eqb-true}
+use Rattle.std.proofs.lemmas.Bool.{eqb-true, le-leb, lt-ltb}
 use Rattle.std.proofs.lemmas.List.{append_cancel_left}
 use Rattle.atoms.specs.Label.{IsLabel}
 use Rattle.wit_syntax.specs.Syntax.{File}
-use Rattle.tables.specs.Tables.{are_worlds_grouped, are_placed_worlds, is_placed_item, is_placed_world}
-use Rattle.tables.specs.Package.{Tree, NamedDefinition, definition_of, definitions_from, reference, references}
+use Rattle.tables.specs.Tables.{are_earlier, name_types, are_worlds_grouped, are_placed_worlds, is_placed_item, is_placed_world}
+use Rattle.tables.specs.Package.{Tree, NamedDefinition, definition_of, definitions_from, reference, references, package_of, interface_names as names_in}
 use Rattle.tables.specs.declared.tables.Definition.{Definition}
 use Rattle.tables.specs.declared.tables.Definition.TheVariants as row
 use Rattle.tables.specs.declared.tables.Owner.{Owner}
 use Rattle.tables.specs.declared.tables.Owner.TheVariants as owner
 use Rattle.tables.specs.declared.tables.TypeName.{TypeName}
 use Rattle.tables.specs.declared.tables.World.{World}
+use Rattle.tables.specs.declared.tables.Resolve.{Resolve}
 use Rattle.package_form.specs.Entries.{Table}
 use Rattle.package_form.specs.Form.{functions_of}
+use Rattle.package_form.specs.Ids.{is_of_worlds, is_world_function, places_where}
 use Rattle.resolve.specs.Order.{IsPlacement}
 use Rattle.resolve.specs.Declarations.{InterfaceTree, ItemTree, InterfaceNamed, ForeignNamed, FunctionOf, WorldTree, interfaces, worlds, package_named, interface_at, interface_names}
+use Rattle.resolve.specs.Imports.{Imports, imports_of}
 use Rattle.resolve.specs.Resolved.{world_meaning}
-use Rattle.resolve.specs.Resolves.{interface_uses, type_uses, names_in_order, IsKnownItem, IsKnownWorld, KnowsAll, is_behind, HasWorldsBehind}
-use Rattle.resolve.specs.Building.{DefinesPackage, table_definitions, world_functions}
-use Rattle.resolve.specs.WorldRows.{AddsFunctions, item_stands, world_stands, worlds_stand, with_worlds, DefinesWorlds}
+use Rattle.resolve.specs.Resolves.{interface_uses, type_uses, names_in_order, IsKnownItemOf, IsKnownWorldOf, KnowsAllOf, is_behind, HasWorldsBehind, is_owned_among, is_of_interfaces, AreImports}
+use Rattle.resolve.specs.Building.{DefinesPackage, start_table, table_definitions, world_functions}
+use Rattle.resolve.specs.WorldRows.{AddsFunctions, item_stands, world_stands, worlds_stand, DefinesWorlds}
 use Rattle.tables.proofs.Rows.{split, both}
 use Rattle.package_form.proofs.Lists.{all-mono, list-grows}
-use Rattle.resolve.proofs.Reading.{definitions-append}
+use Rattle.resolve.proofs.Reading.{definitions-append, front-trans}
 use Rattle.resolve.proofs.AllDefinitions.{none-there}
 use Rattle.resolve.proofs.Packaging.{ordered-has}
-use Rattle.resolve.proofs.Trees.{IsTableOf, table-resolves}
+use Rattle.resolve.proofs.Trees.{IsTableOf, own_table, table-resolves}
 
--- ---- worlds are placed, and of the first package
+-- ---- worlds are placed, and of the package behind its imports
 
-pub worlds-placed : (t : Table) (k : ℕ) (ws : List World) → worlds_stand t k ws ≡ true → are_placed_worlds t.rows (length t.interfaces) k ws ≡ true
-worlds-placed t k [] h = refl
-worlds-placed t k (w ∷ ws) h =
-    let s = split (world_stands t k w) (worlds_stand t (k + 1) ws) h in
-    let items = (split (w.«package».0 == 0) (list_all (item_stands t k) w.items) s.0).1 in
+pub worlds-placed : (own : ℕ) (t : Table) (k : ℕ) (ws : List World) → worlds_stand own t k ws ≡ true → are_placed_worlds t.rows (length t.interfaces) k ws ≡ true
+worlds-placed own t k [] h = refl
+worlds-placed own t k (w ∷ ws) h =
+    let s = split (world_stands own t k w) (worlds_stand own t (k + 1) ws) h in
+    let items = (split (w.«package».0 == own) (list_all (item_stands t k) w.items) s.0).1 in
     both (is_placed_world t.rows (length t.interfaces) k w) (are_placed_worlds t.rows (length t.interfaces) (k + 1) ws)
     (list-grows (item_stands t k) (λ i. is_placed_item t.rows (length t.interfaces) k i.kind) (λ i q. (split (is_placed_item t.rows (length t.interfaces) k i.kind) _ q).0) w.items items)
-    (worlds-placed t (k + 1) ws s.1)
+    (worlds-placed own t (k + 1) ws s.1)
 
-pub worlds-grouped : (t : Table) (k : ℕ) (ws : List World) → worlds_stand t k ws ≡ true → are_worlds_grouped 1 0 ws ≡ true
-worlds-grouped t k [] h = refl
-worlds-grouped t k (w ∷ ws) h =
-    let s = split (world_stands t k w) (worlds_stand t (k + 1) ws) h in
-    let first : w.«package».0 ≡ 0 = eqb-true w.«package».0 0 (split (w.«package».0 == 0) (list_all (item_stands t k) w.items) s.0).0 in
-    subst (λ (n : ℕ). ((nat_le 0 n && nat_lt n 1) && are_worlds_grouped 1 n ws) ≡ true) (sym first) (worlds-grouped t (k + 1) ws s.1)
+worlds-behind-first : (own : ℕ) (t : Table) (k first : ℕ) (ws : List World) → first ≤ own → worlds_stand own t k ws ≡ true → are_worlds_grouped (own + 1) first ws ≡ true
+worlds-behind-first own t k first [] l h = refl
+worlds-behind-first own t k first (w ∷ ws) l h =
+    let s = split (world_stands own t k w) (worlds_stand own t (k + 1) ws) h in
+    let last : w.«package».0 ≡ own = eqb-true w.«package».0 own (split (w.«package».0 == own) (list_all (item_stands t k) w.items) s.0).0 in
+    both (nat_le first w.«package».0 && nat_lt w.«package».0 (own + 1)) (are_worlds_grouped (own + 1) w.«package».0 ws)
+    (both (nat_le first w.«package».0) (nat_lt w.«package».0 (own + 1)) (le-leb first w.«package».0 (omega (arith, l, last))) (lt-ltb w.«package».0 (own + 1) (omega (arith, last))))
+    (worlds-behind-first own t (k + 1) w.«package».0 ws (omega (arith, last)) s.1)
+
+pub worlds-grouped : (own : ℕ) (t : Table) (k : ℕ) (ws : List World) → worlds_stand own t k ws ≡ true → are_worlds_grouped (own + 1) 0 ws ≡ true
+worlds-grouped own t k ws h = worlds-behind-first own t k 0 ws (omega arith) h
 
 -- ---- what the rows of worlds leave as it was
-
-package-later : (is : List InterfaceTree) (order : List ℕ) (orders : List (List ℕ)) (old new : Table) (fs : List ℕ) → DefinesPackage is order orders old → AddsFunctions old new fs
-    → DefinesPackage is order orders new
-package-later is order orders old new fs d a = record {
-  interfaces = a.front.interfaces ∙ d.interfaces;
-  definitions = a.same ∙ d.definitions;
-  postfix = a.postfix d.postfix;
-  earlier = a.front.earlier d.earlier;
-  typed = a.front.typed d.typed;
-}
 
 -- rows that define nothing in an interface are types without names and functions of worlds
 nothing-defined : (ns : List (List ℕ)) (trees : List Tree) (ds : List Definition) → definitions_from ns trees ds ≡ [] → list_all is_behind ds ≡ true
@@ -98,31 +96,57 @@ worlds-behind old new fs none a =
 
 -- ---- the table of a file
 
-known-more : (ns ms : List (List ℕ)) → ((n : List ℕ) → Contains ns n → Contains ms n) → (i : ItemTree) → IsKnownItem ns i → IsKnownItem ms i
-known-more ns ms f (InterfaceNamed way n) h = f n h
-known-more ns ms f (ForeignNamed way q n) h = absurd h
-known-more ns ms f (FunctionOf way g) h = h
+-- rows of interfaces are no functions of worlds
+none-owned : (n k : ℕ) (ds : List Definition) → list_all (is_of_interfaces n) ds ≡ true → places_where is_world_function k ds ≡ []
+none-owned n k [] h = refl
+none-owned n k (row.Type d ∷ ds) h = none-owned n (k + 1) ds (split (is_of_interfaces n (row.Type d)) (list_all (is_of_interfaces n) ds) h).1
+none-owned n k (row.Function f ∷ ds) h =
+    let s = split (is_of_interfaces n (row.Function f)) (list_all (is_of_interfaces n) ds) h in
+    by f.owner s.0 (none-owned n (k + 1) ds s.1)
+  where
+    by : (o : Owner) → is_owned_among n o ≡ true → places_where is_world_function (k + 1) ds ≡ [] → cond (is_of_worlds o) (k ∷ places_where is_world_function (k + 1) ds) (places_where is_world_function (k + 1) ds) ≡ []
+    by (owner.Interface i) q rest = rest
+    by (owner.World w) q rest = absurd (cc)
 
-pub worlds-known : (is : List InterfaceTree) (order : List ℕ) (ns : List (List ℕ)) (trees : List WorldTree) → ns ≡ names_in_order is order → IsPlacement (interface_uses is) order
-    → All (IsKnownWorld (interface_names is)) trees → All (IsKnownWorld ns) trees
-worlds-known is order ns trees same placed known =
-    all-mono (IsKnownWorld (interface_names is)) (IsKnownWorld ns)
-    (λ w h. all-mono (IsKnownItem (interface_names is)) (IsKnownItem ns) (known-more (interface_names is) ns (λ n c. subst (λ (ms : List (List ℕ)). Contains ms n) (sym same) (ordered-has is order placed n c))) w.items h)
+known-more : (m : Imports) (ns ms : List (List ℕ)) → ((n : List ℕ) → Contains ns n → Contains ms n) → (i : ItemTree) → IsKnownItemOf m ns i → IsKnownItemOf m ms i
+known-more m ns ms f (InterfaceNamed way n) h = f n h
+known-more m ns ms f (ForeignNamed way q n) h = h
+known-more m ns ms f (FunctionOf way g) h = h
+
+pub worlds-known : (m : Imports) (is : List InterfaceTree) (order : List ℕ) (ns : List (List ℕ)) (trees : List WorldTree) → ns ≡ names_in_order is order → IsPlacement (interface_uses is) order
+    → All (IsKnownWorldOf m (interface_names is)) trees → All (IsKnownWorldOf m ns) trees
+worlds-known m is order ns trees same placed known =
+    all-mono (IsKnownWorldOf m (interface_names is)) (IsKnownWorldOf m ns)
+    (λ w h. all-mono (IsKnownItemOf m (interface_names is)) (IsKnownItemOf m ns) (known-more m (interface_names is) ns (λ n c. subst (λ (ms : List (List ℕ)). Contains ms n) (sym same) (ordered-has is order placed n c))) w.items h)
     trees known
 
-pub is-table : (f : File) (order : List ℕ) (orders : List (List ℕ)) (old new : Table) (ws : List World) → IsPlacement (interface_uses (interfaces f)) order
-    → ((k : ℕ) → k < length (interfaces f) → IsPlacement (type_uses (interface_at (interfaces f) k)) (get_or orders k []))
-    → DefinesPackage (interfaces f) order orders old → world_functions old ≡ [] → All IsLabel (interface_names (interfaces f)) → KnowsAll f
-    → DefinesWorlds old new ws (map world_meaning (worlds f)) → IsTableOf f (with_worlds new ws)
-is-table f order orders old new ws placed types made none labels known d =
-    let is = interfaces f in
-    let later = package-later is order orders old new (flat_map functions_of ws) made d.adds in
-    record {
-      resolves = table-resolves (package_named f) is order orders new placed types later labels known.in_interfaces ws (worlds f) d.read
-          (worlds-known is order new.interfaces (worlds f) later.interfaces placed known.in_worlds);
-      postfix = later.postfix;
-      behind = worlds-behind old new (flat_map functions_of ws) none d.adds;
-      items = d.adds.own ∙ ap (λ (ns : List ℕ). ns ++ flat_map functions_of ws) none;
-      earlier = later.earlier;
-      typed = later.typed;
-    }
+module _ (imports : Resolve) (a : AreImports imports) (f : File) (order : List ℕ) (orders : List (List ℕ)) (names : List (List ℕ)) (old new : Table) (ws : List World)
+    (placed : IsPlacement (interface_uses (interfaces f)) order)
+    (types : (k : ℕ) → k < length (interfaces f) → IsPlacement (type_uses (interface_at (interfaces f) k)) (get_or orders k [])) (ordered : names ≡ names_in_order (interfaces f) order)
+    (made : DefinesPackage (start_table imports names) (interfaces f) order orders old) (labels : All IsLabel (interface_names (interfaces f))) (known : KnowsAllOf (imports_of imports) f)
+    (d : DefinesWorlds old new (length imports.packages) ws (map world_meaning (worlds f))) where
+  none : world_functions old ≡ []
+  none = made.adds.own ∙ none-owned (length imports.interfaces) 0 imports.definitions a.owned
+
+  pub interfaces-are : new.interfaces ≡ names_in imports ++ names
+  interfaces-are = d.adds.front.interfaces ∙ made.adds.front.interfaces
+
+  pub rows-are : (own : List Definition) × (new.rows ≡ imports.definitions ++ own)
+  rows-are = (front-trans (start_table imports names) old new made.adds.front d.adds.front).rows
+
+  pub earlier-are : IsTrue (are_earlier 0 new.rows)
+  earlier-are = d.adds.front.earlier (made.adds.front.earlier imports.earlier)
+
+  pub typed-are : IsTrue (name_types new.rows)
+  typed-are = d.adds.front.typed (made.adds.front.typed imports.typed)
+
+  pub is-table : IsTableOf (package_of imports) f (own_table names new ws)
+  is-table = record {
+    resolves = table-resolves imports a (package_named f) (interfaces f) order orders names new placed types ordered interfaces-are (d.adds.same ∙ made.adds.definitions) labels known.in_interfaces ws (worlds f) d.read
+        (worlds-known (imports_of imports) (interfaces f) order names (worlds f) ordered placed known.in_worlds);
+    postfix = d.adds.postfix (made.adds.postfix a.postfix);
+    behind = worlds-behind old new (flat_map functions_of ws) none d.adds;
+    items = d.adds.own ∙ ap (λ (ns : List ℕ). ns ++ flat_map functions_of ws) none;
+    earlier = earlier-are;
+    typed = typed-are;
+  }

@@ -1,15 +1,16 @@
 -- What the building of a table keeps.
-use Rattle.std.specs.Prelude.{ℕ, ◌<◌, ◌≡◌, Bool, true, List, [], ◌∷◌, ◌++◌, map, flat_map, length, slice_index_or, All, Contains, take, Option, IsTrue}
+use Rattle.std.specs.Prelude.{ℕ, ◌<◌, ◌≡◌, Bool, true, List, [], ◌∷◌, ◌++◌, map, flat_map, length, slice_index_or, All, Contains, take, Option, Some, IsTrue}
 use Rattle.std.specs.List.{list_all}
 use Rattle.std.specs.Option.{option_map}
 use Rattle.tables.specs.Tables.{option_all, kind_all, are_earlier, is_type, name_types}
-use Rattle.tables.specs.Package.{Tree, Reference, NamedDefinition, Meaning, IsType, references, definitions_from, read_val, meaning_of}
-use Rattle.package_form.specs.Postfix.{Leaves, IsPostfix, unnamed, unnamed_if, unnamed_field, unnamed_case, unnamed_parameter, parts, aliased, is_inner}
-use Rattle.resolve.specs.Declarations.{UsedItem, TypeItem, InterfaceTree, interface_at, named_definition, named_function, used_names, type_names}
+use Rattle.tables.specs.Package.{Tree, Reference, NamedDefinition, Meaning, IsType, references, definitions_from, read_val, meaning_of, interface_names}
+use Rattle.package_form.specs.Postfix.{Leaves, unnamed, unnamed_if, unnamed_field, unnamed_case, unnamed_parameter, parts, aliased, is_inner}
+use Rattle.resolve.specs.Declarations.{UsedItem, TypeItem, InterfaceTree, interface_at, use_interface, named_definition, named_function, used_names, type_names}
 use Rattle.resolve.specs.Resolved.{Labelled, Choice, interface_meaning, no_type}
 use Rattle.package_form.specs.Entries.{Table}
 use Rattle.package_form.specs.Ids.{is_world_function, places_where}
-use Rattle.resolve.specs.Resolves.{names_in_order}
+use Rattle.resolve.specs.Imports.{Import, interfaces_of}
+use Rattle.resolve.specs.Resolves.{used_place}
 use Rattle.tables.specs.declared.tables.ValType.{ValType}
 use Rattle.tables.specs.declared.tables.ValType.TheVariants as val
 use Rattle.tables.specs.declared.tables.InterfaceId.{InterfaceId}
@@ -19,6 +20,7 @@ use Rattle.tables.specs.declared.tables.Field.{Field}
 use Rattle.tables.specs.declared.tables.Case.{Case}
 use Rattle.tables.specs.declared.tables.TypeDefKind.{TypeDefKind}
 use Rattle.tables.specs.declared.tables.TypeDefKind.TheVariants as kind
+use Rattle.tables.specs.declared.tables.Resolve.{Resolve}
 use Rattle.package_form.specs.Scoped.{Entry}
 use Rattle.resolve.specs.declared.known.KnownTypes.{KnownTypes}
 
@@ -170,10 +172,23 @@ NamesEarlier names types order = (k : ℕ) → k < length order → (slice_index
 abbrev pub ArePlaced : List KnownTypes → Type 0
 ArePlaced scopes = (m : ℕ) (d : KnownTypes) → m < length scopes → (slice_index_or scopes m d).interface.0 ≡ m
 
--- an interface of the name stands before, and each of the name has the type
-pub record CanUse (t : Table) (scopes : List KnownTypes) (u : UsedItem) : Type 0 where
-  pub some : (s : KnownTypes) × Contains scopes s × (scope_name t s ≡ u.interface)
-  pub each : All (λ s. scope_name t s ≡ u.interface → Contains (scope_names s) u.name) scopes
+-- the used interface stands before, at a place among the imports or the own interfaces of these names, and has the type
+pub record CanUse (ks : List Import) (names : List (List ℕ)) (t : Table) (scopes : List KnownTypes) (u : UsedItem) : Type 0 where
+  pub place : ℕ
+  pub found : used_place ks names u.«package» u.interface ≡ Some place
+  pub within : place < length scopes
+  pub named : name_at t place ≡ use_interface u
+  pub has : (d : KnownTypes) → Contains (scope_names (slice_index_or scopes place d)) u.name
+
+-- a scope for each import, with the names of its types
+pub record AreImportScopes (r : Resolve) (scopes : List KnownTypes) : Type 0 where
+  pub names : map scope_names scopes ≡ map (λ k. k.types) (interfaces_of r)
+  pub placed : ArePlaced scopes
+  pub scoped : (t : Table) → t.rows ≡ r.definitions → All (IsScope t) scopes
+
+-- the table of the imports, behind which the own interfaces of these names are to come
+abbrev pub start_table : Resolve → List (List ℕ) → Table
+start_table r names = record { interfaces = interface_names r ++ names; worlds = []; rows = r.definitions }
 
 abbrev pub ordered_names : List TypeItem → List ℕ → List (List ℕ)
 ordered_names types order = map (λ j. (slice_index_or types j no_type).name) order
@@ -195,9 +210,6 @@ pub record DefinesInterface (old new : Table) (s : KnownTypes) (place : Interfac
 abbrev pub package_meaning : List InterfaceTree → List (List ℕ) → List ℕ → List NamedDefinition
 package_meaning is orders order = flat_map (λ k. interface_meaning (interface_at is k) (slice_index_or orders k [])) order
 
-pub record DefinesPackage (is : List InterfaceTree) (order : List ℕ) (orders : List (List ℕ)) (t : Table) : Type 0 where
-  pub interfaces : t.interfaces ≡ names_in_order is order
-  pub definitions : table_definitions t ≡ package_meaning is orders order
-  pub postfix : IsPostfix t.rows
-  pub earlier : IsTrue (are_earlier 0 t.rows)
-  pub typed : IsTrue (name_types t.rows)
+-- .. behind those that the first table has
+pub record DefinesPackage (start : Table) (is : List InterfaceTree) (order : List ℕ) (orders : List (List ℕ)) (t : Table) : Type 0 where
+  pub adds : Adds start t (package_meaning is orders order)

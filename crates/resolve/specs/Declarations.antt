@@ -3,10 +3,12 @@
 use Rattle.std.specs.Prelude.{ℕ, List, [], ◌∷◌, ◌++◌, map, flat_map, filter_map, Option, None, Some, slice_index_or}
 use Rattle.wit_syntax.specs.Syntax.{Ty, Prim, Named, ListOf, OptionOf, TupleOf, ResultOf, Tys, none, more, MaybeTy, Absent, Present, Definition, Alias, Record, Variant, Enumeration, FlagSet, Function, Member, CaseOf, PathTo, Local, Foreign, UsedAs, Entry, Uses, Defines, Declares, WorldEntry, Whole, Single, FileEntry, AnInterface, AWorld, File}
 use Rattle.tables.specs.PackageNames.{PackageParts, own_name}
+use Rattle.tables.specs.Names.{full_name_in}
 use Rattle.wit_syntax.specs.declared.ast.Direction.{Direction}
 
--- `use interface.{name as local}`
+-- `use interface.{name as local}`, of an interface of the file's own package or of another one
 pub record UsedItem : Type 0 where
+  pub «package» : Option PackageParts
   pub interface : List ℕ
   pub name : List ℕ
   pub local : List ℕ
@@ -32,13 +34,22 @@ name_or (Some m) n = m
 abbrev pub local_name : UsedAs → List ℕ
 local_name u = name_or u.local u.name
 
-abbrev pub used_item : List ℕ → UsedAs → UsedItem
-used_item i u = record { interface = i; name = u.name; local = local_name u }
+-- the package that a path names, where it is another one
+abbrev pub path_package : PathTo → Option PackageParts
+path_package (Local i) = None
+path_package (Foreign namespace name v i) = Some (record { namespace = namespace; name = name; version = v })
 
--- names that are used of an interface of the file's own package; of another package's none is known
+-- the own name of the interface that a path names
+abbrev pub path_interface : PathTo → List ℕ
+path_interface (Local i) = i
+path_interface (Foreign namespace name v i) = i
+
+abbrev pub used_item : PathTo → UsedAs → UsedItem
+used_item p u = record { «package» = path_package p; interface = path_interface p; name = u.name; local = local_name u }
+
+-- names that are used of an interface
 abbrev pub path_uses : PathTo → List UsedAs → List UsedItem
-path_uses (Local i) us = map (used_item i) us
-path_uses (Foreign namespace name v i) us = []
+path_uses p us = map (used_item p) us
 
 abbrev pub entry_uses : Entry → List UsedItem
 entry_uses (Uses at p us) = path_uses p us
@@ -121,20 +132,20 @@ file_entry_packages (AWorld at n es) = flat_map world_entry_packages es
 abbrev pub other_packages : File → List PackageParts
 other_packages f = flat_map file_entry_packages f.entries
 
--- the own name of the interface that a path names
-abbrev pub path_interface : PathTo → List ℕ
-path_interface (Local i) = i
-path_interface (Foreign namespace name v i) = i
-
 -- ---- WIT.md, "Package Names": full names
 
 -- the name of a tree's package
 abbrev pub package_named : File → PackageParts
 package_named f = record { namespace = f.namespace; name = f.name; version = f.version }
 
+-- the name that an interface of this package goes by there: one of another package by its own, behind which its package is told
+abbrev pub full_label : PackageParts → Option PackageParts → List ℕ → List ℕ
+full_label p None i = own_name p i
+full_label p (Some q) i = i
+
 -- a used name, under the full name of its interface
 abbrev pub full_use : PackageParts → UsedItem → UsedItem
-full_use p u = record { interface = own_name p u.interface; name = u.name; local = u.local }
+full_use p u = record { «package» = u.«package»; interface = full_label p u.«package» u.interface; name = u.name; local = u.local }
 
 -- an interface under its full name
 abbrev pub full_interface : PackageParts → InterfaceTree → InterfaceTree
@@ -208,8 +219,17 @@ interface_name i = i.name
 abbrev pub interface_names : List InterfaceTree → List (List ℕ)
 interface_names is = map interface_name is
 
+-- the name that a used interface goes by: one of another package has its full name
 abbrev pub use_interface : UsedItem → List ℕ
-use_interface u = u.interface
+use_interface u = full_name_in u.«package» u.interface
+
+abbrev pub own_interface : Option PackageParts → List ℕ → Option (List ℕ)
+own_interface None i = Some i
+own_interface (Some q) i = None
+
+-- the used interface, where it is one of the file's own package
+abbrev pub own_use : UsedItem → Option (List ℕ)
+own_use u = own_interface u.«package» u.interface
 
 abbrev pub use_local : UsedItem → List ℕ
 use_local u = u.local

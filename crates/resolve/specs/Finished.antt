@@ -1,11 +1,12 @@
 -- A package that was made of a table.
-use Rattle.std.specs.Prelude.{◌≡◌, ◌≤◌, ℕ, [], ◌∷◌, ◌++◌, Option, None, Some}
+use Rattle.std.specs.Prelude.{◌≡◌, ◌≤◌, ℕ, List, [], ◌∷◌, ◌++◌, length, Option, None, Some}
 use Rattle.std.specs.Option.{option_map}
 use Rattle.std.specs.String.{string_bytes}
 use Rattle.tables.specs.PackageNames.{PackageParts}
 use Rattle.wit_syntax.specs.declared.ast.PackageId.{PackageId}
 use Rattle.package_form.specs.Entries.{Table, type_entries}
-use Rattle.package_form.specs.Ids.{type_id, function_id, interfaces_in}
+use Rattle.package_form.specs.Ids.{type_id, function_id}
+use Rattle.resolve.specs.Resolves.{interfaces_behind}
 use Rattle.tables.specs.declared.tables.Owner.{Owner}
 use Rattle.tables.specs.declared.tables.Owner.TheVariants as owner
 use Rattle.tables.specs.declared.tables.TypeName.{TypeName}
@@ -42,9 +43,10 @@ with_row k (row.Function f) i = record { «package» = i.«package»; name = i.n
 abbrev pub header : PackageId → PackageParts
 header p = record { namespace = p.namespace; name = p.name; version = option_map string_bytes p.version }
 
-pub record IsFinished (p : PackageParts) (t : Table) (r : Resolve) : Type 0 where
-  pub packages : r.packages ≡ p ∷ []
+-- .. behind its imports, with own interfaces of these names
+pub record IsFinished (imports : Resolve) (p : PackageParts) (names : List (List ℕ)) (t : Table) (r : Resolve) : Type 0 where
+  pub packages : r.packages ≡ imports.packages ++ p ∷ []
   pub worlds : r.worlds ≡ t.worlds
-  pub interfaces : r.interfaces ≡ interfaces_in t
+  pub interfaces : r.interfaces ≡ imports.interfaces ++ interfaces_behind (length imports.packages) (length imports.interfaces) t.rows names
   pub definitions : r.definitions ≡ t.rows
   pub within : type_entries t ≤ 65535

@@ -10,3 +10,5 @@ pub mod Sources
 pub mod Knowing
 pub mod Lent
 pub mod Finished
+pub mod Imports
+pub mod ImportForms

@@ -13,7 +13,7 @@ use Rattle.tables.specs.declared.tables.ValType.{ValType}
 use Rattle.tables.specs.declared.tables.ValType.TheVariants as val
 use Rattle.tables.specs.PackageNames.{own_name}
 use Rattle.tables.specs.Package.{Tree, PrimTree, TextTree, Reference, ListTree, RecordTree, VariantTree, FlagsTree, Fields, no_fields, field, Choices, no_choices, empty, holding, Plain, AsTuple, AsEnum, AsOption, AsResult, NamedDefinition, IsUse, IsType, IsFunction, ItemMeaning, WithInterface, WithFunction, WorldMeaning, read_enum}
-use Rattle.resolve.specs.Declarations.{UsedItem, TypeItem, FunctionItem, InterfaceTree, ItemTree, InterfaceNamed, ForeignNamed, FunctionOf, WorldTree}
+use Rattle.resolve.specs.Declarations.{UsedItem, TypeItem, FunctionItem, InterfaceTree, ItemTree, InterfaceNamed, ForeignNamed, FunctionOf, WorldTree, use_interface}
 
 abbrev pub primitive_tree : Keyword → Tree
 primitive_tree keyword.Bool = PrimTree primitive.Bool
@@ -114,7 +114,7 @@ definition_meaning i (FlagSet ns) = FlagsTree ns
 abbrev pub use_meaning : List ℕ → UsedItem → NamedDefinition
 use_meaning i u = record {
   key = record { interface = i; name = u.local };
-  meaning = IsUse (Reference (record { interface = u.interface; name = u.name }));
+  meaning = IsUse (Reference (record { interface = use_interface u; name = u.name }));
 }
 
 abbrev pub type_meaning : List ℕ → TypeItem → NamedDefinition

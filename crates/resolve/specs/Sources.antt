@@ -1,6 +1,7 @@
 -- What is declared by parts of a syntax tree that are lent.
 use Rattle.std.specs.Prelude.{ℕ, List, [], map}
 use Rattle.std.specs.Borrow.{Bor}
+use Rattle.wit_syntax.specs.Syntax.{PathTo}
 use Rattle.wit_syntax.specs.View.{function_view, world_entry_view}
 use Rattle.wit_syntax.specs.declared.ast.WorldItem.{WorldItem}
 use Rattle.wit_syntax.specs.declared.ast.World.{World}
@@ -8,7 +9,7 @@ use Rattle.tables.specs.PackageNames.{PackageParts}
 use Rattle.wit_syntax.specs.declared.ast.Func.{Func}
 use Rattle.tables.specs.Package.{Key, ItemMeaning, WorldMeaning}
 use Rattle.resolve.specs.Resolved.{item_meaning}
-use Rattle.resolve.specs.Declarations.{UsedItem, FunctionItem, InterfaceTree, ItemTree, WorldTree, item_tree, full_item, world_tree}
+use Rattle.resolve.specs.Declarations.{UsedItem, FunctionItem, InterfaceTree, ItemTree, WorldTree, item_tree, full_item, world_tree, path_package, path_interface, use_interface}
 use Rattle.resolve.specs.Lent.{declared_type, used_item_of}
 use Rattle.resolve.specs.declared.declared.Declarations.{Declarations}
 
@@ -25,12 +26,12 @@ item_in p i = item_meaning (full_item p (declared_item i))
 abbrev pub world_in : PackageParts → List WorldItem → WorldMeaning
 world_in p is = record { name = []; items = map (item_in p) is }
 
-abbrev pub use_of : List ℕ → List ℕ → UsedItem
-use_of i n = record { interface = i; name = n; local = n }
+abbrev pub use_of : PathTo → List ℕ → UsedItem
+use_of p n = record { «package» = path_package p; interface = path_interface p; name = n; local = n }
 
 -- the used type under the name that it has there
 abbrev pub used_key : UsedItem → Key
-used_key u = record { interface = u.interface; name = u.name }
+used_key u = record { interface = use_interface u; name = u.name }
 
 abbrev pub function_item : Func → FunctionItem
 function_item f = record { name = f.name; function = function_view f.ty }

@@ -34,14 +34,14 @@ has_types rows (item.Function f) = is_typed rows (function_of (slice_get rows f.
 abbrev pub item_stands : Table → ℕ → WorldItem → Bool
 item_stands t k i = is_placed_item t.rows (length t.interfaces) k i.kind && has_types t.rows i.kind
 
--- a world of the first package, at place k
-abbrev pub world_stands : Table → ℕ → World → Bool
-world_stands t k w = w.«package».0 == 0 && list_all (item_stands t k) w.items
+-- a world of the package behind so many others, at place k
+abbrev pub world_stands : ℕ → Table → ℕ → World → Bool
+world_stands own t k w = w.«package».0 == own && list_all (item_stands t k) w.items
 
 -- these worlds, the first of which is at place k
-abbrev pub worlds_stand : Table → ℕ → List World → Bool
-worlds_stand t k [] = true
-worlds_stand t k (w ∷ ws) = world_stands t k w && worlds_stand t (k + 1) ws
+abbrev pub worlds_stand : ℕ → Table → ℕ → List World → Bool
+worlds_stand own t k [] = true
+worlds_stand own t k (w ∷ ws) = world_stands own t k w && worlds_stand own t (k + 1) ws
 
 abbrev pub item_reads : Table → WorldItem → ItemMeaning
 item_reads t i = item_meaning t.interfaces (table_trees t) t.rows i.direction i.kind
@@ -65,12 +65,12 @@ pub record DefinesItems (old new : Table) (k : ℕ) (is : List WorldItem) (ms : 
   pub read : map (item_reads new) is ≡ ms
 
 -- .. of the world at place k
-pub record DefinesWorld (old new : Table) (k : ℕ) (w : World) (m : WorldMeaning) : Type 0 where
+pub record DefinesWorld (old new : Table) (own k : ℕ) (w : World) (m : WorldMeaning) : Type 0 where
   pub adds : AddsFunctions old new (functions_of w)
-  pub stands : world_stands new k w ≡ true
+  pub stands : world_stands own new k w ≡ true
   pub reads : world_reads new w ≡ m
 
-pub record DefinesWorlds (old new : Table) (ws : List World) (ms : List WorldMeaning) : Type 0 where
+pub record DefinesWorlds (old new : Table) (own : ℕ) (ws : List World) (ms : List WorldMeaning) : Type 0 where
   pub adds : AddsFunctions old new (flat_map functions_of ws)
-  pub stand : worlds_stand new 0 ws ≡ true
+  pub stand : worlds_stand own new 0 ws ≡ true
   pub read : map (world_reads new) ws ≡ ms

@@ -1,22 +1,25 @@
 //! The table of a package's definitions.
-ghost use Rattle.std.specs.Prelude.{◌≡◌, ◌<◌, ℕ, [], length, map, All, IfOk, slice_index_or};
+ghost use Rattle.std.specs.Prelude.{◌≡◌, ◌<◌, ℕ, [], length, map, All, IfOk, OnOk, slice_index_or};
 ghost use Rattle.resolve.specs.Declarations.{interface_at, interface_names};
+ghost use Rattle.resolve.specs.Imports.{AreApart, interfaces_of, imports_of};
 ghost use Rattle.resolve.specs.Order.{IsPlacement};
-ghost use Rattle.resolve.specs.Resolves.{interface_uses, type_uses, HasKnownNames, names_in_order};
+ghost use Rattle.resolve.specs.Resolves.{interface_uses, type_uses, HasKnownNamesOf, names_in_order};
 ghost use Rattle.package_form.specs.Scope.{AreDistinct};
 ghost use Rattle.resolve.specs.Sources.{declared_tree};
-ghost use Rattle.resolve.specs.Building.{DefinesPackage, world_functions};
+ghost use Rattle.resolve.specs.Building.{AreImportScopes, DefinesPackage, start_table};
 
 use crate::builder::Builder;
 use crate::declared::Declarations;
 use crate::define::define_interface;
+use crate::imports::{interface_id, place_behind};
+use crate::known::KnownTypes;
 use crate::names::Names;
 use atoms::{KeyedState, Label};
 use std::alloc::{AllocError, Global};
-use tables::{InterfaceId, Sequence};
+use tables::{Resolve, Sequence};
 
 /// The names of interfaces in this order.
-fn ordered_names(
+pub fn ordered_names(
     alloc: Global,
     all: &[Declarations],
     order: &[usize],
@@ -48,43 +51,37 @@ pub fn ordered_index<'a>(
     Names::of(alloc, keyed, names)
 }
 
-/// The id of this place. No memory where an id can't tell it.
-pub fn interface_id(place: usize) -> Result<InterfaceId, AllocError>
-    ensures { IfOk result (λ id. id.0 ≡ place) }
-{
-    match u32::try_from(place) {
-        Ok(place) => Ok(InterfaceId(place)),
-        Err(_) => Err(AllocError),
-    }
-}
-
-/// Defines all interfaces in package order, the types of each in their order.
+/// Defines all interfaces in package order, the types of each in their order, behind the imports, whose scopes these are.
 pub fn define_package(
     alloc: Global,
     keyed: KeyedState,
+    imports: &Resolve,
+    builder: &mut Builder,
+    mut scopes: Vec<KnownTypes>,
     names: &Names,
     all: &[Declarations],
     order: &[usize],
     type_orders: &[Sequence<usize>],
-) -> Result<Builder, AllocError>
+) -> Result<(), AllocError>
+    requires apart { AreApart (interfaces_of imports.now) }
+    requires starts { builder.old ≡ start_table imports.now names.now }
+    requires scopes { AreImportScopes imports.now scopes.items }
     requires names { names.now ≡ names_in_order (map declared_tree all.now) order.now }
     requires placed { IsPlacement (interface_uses (map declared_tree all.now)) order.now }
     requires count { length type_orders.now ≡ length all.now }
     requires types { (k : ℕ) → k < length all.now → IsPlacement (type_uses (interface_at (map declared_tree all.now) k)) (slice_index_or type_orders.now k []) }
-    requires known { All (HasKnownNames (map declared_tree all.now)) (map declared_tree all.now) }
+    requires known { All (HasKnownNamesOf (imports_of imports.now) (map declared_tree all.now)) (map declared_tree all.now) }
     requires distinct { AreDistinct (interface_names (map declared_tree all.now)) }
-    ensures made { IfOk result (DefinesPackage (map declared_tree all.now) order.now type_orders.now) }
-    ensures none { IfOk result (λ b. world_functions b ≡ []) }
+    ensures { OnOk result (DefinesPackage (start_table imports.now names.now) (map declared_tree all.now) order.now type_orders.now builder.new) }
 {
-    let mut builder = Builder::new(alloc, ordered_names(alloc, all, order)?);
-    let mut scopes = Vec::new(alloc);
     for (place, index) in order.iter().enumerate() {
-        let id = interface_id(place)?;
+        let id = interface_id(place_behind(imports, place)?)?;
         let types = type_orders[*index].as_slice();
         let scope = define_interface(
             alloc,
             keyed,
-            &mut builder,
+            builder,
+            imports,
             names,
             &scopes,
             id,
@@ -93,5 +90,5 @@ pub fn define_package(
         )?;
         scopes.push(scope)?;
     }
-    Ok(builder)
+    Ok(())
 }

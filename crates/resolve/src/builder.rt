@@ -1,48 +1,46 @@
 //! The table of definitions while it is made.
 ghost use Rattle.std.specs.Prelude.{◌≡◌, ◌≢◌, ◌<◌, ◌++◌, ◌∷◌, [], length, IfOk};
 ghost use Rattle.std.specs.Bool.{OnTrue, OnFalse};
-ghost use Rattle.tables.specs.Package.{Tree};
+ghost use Rattle.tables.specs.Package.{Tree, interface_names};
 ghost use Rattle.package_form.specs.Entries.{Table};
 ghost use Rattle.resolve.specs.Building.{Lowers, LowersInner, name_at};
 
 use atoms::Label;
 use std::alloc::{AllocError, Global};
 use std::marker::Model;
-use tables::{Definition, InterfaceId, TypeDef, TypeDefKind, TypeId, ValType};
+use tables::{Definition, Resolve, TypeDef, TypeDefKind, TypeId, ValType};
 
-/// The names of the interfaces in package order, and the definitions so far.
+/// The imports and the names of the own interfaces in package order, and the definitions so far.
 #[derive(Drop)]
-pub struct Builder {
-    interfaces: Vec<Label>,
+pub struct Builder<'a> {
+    imports: &'a Resolve,
+    own: &'a [Label],
     rows: Vec<Definition>,
 }
 
-impl Model for Builder {
+impl<'a> Model for Builder<'a> {
+    ghost use Rattle.std.specs.Prelude.{◌++◌, []};
     ghost use Rattle.package_form.specs.Entries.{Table};
-    ghost use Rattle.std.specs.Prelude.{[]};
+    ghost use Rattle.tables.specs.Package.{interface_names};
 
     ghost Value = { Table };
 
-    ghost view = { λ b. record { interfaces = b.interfaces.items; worlds = []; rows = b.rows.items } };
+    ghost view = { λ b. record { interfaces = interface_names b.imports.now ++ b.own.now; worlds = []; rows = b.rows.items } };
 }
 
-impl Builder {
-    /// A table of no definitions.
-    pub fn new(alloc: Global, interfaces: Vec<Label>) -> Self
-        ensures { result ≡ record { interfaces = interfaces.items; worlds = []; rows = [] } }
+impl<'a> Builder<'a> {
+    /// A table of these definitions, those of the imports, which go by their full names.
+    pub fn new(imports: &'a Resolve, own: &'a [Label], rows: Vec<Definition>) -> Self
+        ensures { result ≡ record { interfaces = interface_names imports.now ++ own.now; worlds = []; rows = rows.items } }
     {
-        Builder {
-            interfaces,
-            rows: Vec::new(alloc),
-        }
+        Builder { imports, own, rows }
     }
 
-    /// The names of the interfaces and the definitions.
-    pub fn into_parts(self) -> (Vec<Label>, Vec<Definition>)
-        ensures names { result.0.items ≡ self.interfaces }
-        ensures rows { result.1.items ≡ self.rows }
+    /// The definitions.
+    pub fn into_rows(self) -> Vec<Definition>
+        ensures { result.items ≡ self.entry.rows }
     {
-        (self.interfaces, self.rows)
+        self.rows
     }
 
     /// Puts a definition at the end of the table. No memory, too, where an id can't tell its place.

@@ -2,7 +2,7 @@
 ghost use Rattle.std.specs.Prelude.{◌≡◌, ◌++◌, map, All, OnOk, IfOk};
 ghost use Rattle.atoms.specs.Label.{IsLabel};
 ghost use Rattle.wit_syntax.specs.View.{entry_view, path_view, used_view};
-ghost use Rattle.resolve.specs.Declarations.{interface_tree, interface_name, interface_names, used_item, path_uses, local_name, use_local, type_name};
+ghost use Rattle.resolve.specs.Declarations.{interface_tree, interface_name, interface_names, path_uses, local_name, use_local, type_name};
 ghost use Rattle.resolve.specs.Lent.{declared_type, used_item_of, lent};
 ghost use Rattle.resolve.specs.Sources.{declared_tree};
 
@@ -25,14 +25,14 @@ pub fn local_name(used: &UsedName) -> &Label
 /// Appends names that are used of an interface.
 fn push_used<'a>(
     uses: &mut Vec<UsedType<'a>>,
-    interface: &'a Label,
+    path: &'a Path,
     names: &'a [UsedName],
 ) -> Result<(), AllocError>
-    ensures { OnOk result (map used_item_of uses.new.items ≡ map used_item_of uses.old.items ++ map (used_item interface.now) (map used_view names.now)) }
+    ensures { OnOk result (map used_item_of uses.new.items ≡ map used_item_of uses.old.items ++ path_uses (path_view path.now) (map used_view names.now)) }
 {
     for used in names {
         uses.push(UsedType {
-            interface,
+            path,
             name: &used.name,
             local: local_name(used),
         })?;
@@ -44,10 +44,7 @@ fn push_used<'a>(
 fn push_use<'a>(uses: &mut Vec<UsedType<'a>>, used: &'a Use) -> Result<(), AllocError>
     ensures { OnOk result (map used_item_of uses.new.items ≡ map used_item_of uses.old.items ++ path_uses (path_view used.now.interface) (map used_view used.now.names.items)) }
 {
-    match &used.interface {
-        Path::Local(interface) => push_used(uses, interface, &used.names),
-        Path::Foreign { .. } => Ok(()),
-    }
+    push_used(uses, &used.interface, &used.names)
 }
 
 fn push_locals<'a>(names: &mut Vec<&'a Label>, uses: &[UsedType<'a>]) -> Result<(), AllocError>

@@ -5,12 +5,12 @@ ghost use Rattle.resolve.specs.Lent.{declared_type, used_item_of};
 
 use crate::names::Names;
 use atoms::Label;
-use wit_syntax::{Func, TypeDef};
+use wit_syntax::{Func, Path, TypeDef};
 
-/// One used name: `use interface.{name as local};`
+/// One used name: `use path.{name as local};`
 #[derive(Drop)]
 pub struct UsedType<'a> {
-    pub interface: &'a Label,
+    pub path: &'a Path,
     pub name: &'a Label,
     pub local: &'a Label,
 }

@@ -1,9 +1,10 @@
 //! The definitions of an interface as rows of the table.
-ghost use Rattle.std.specs.Prelude.{◌≡◌, ◌≤◌, ◌++◌, ◌∷◌, [], length, map, All, Contains, IfOk, OnOk};
+ghost use Rattle.std.specs.Prelude.{◌≡◌, ◌++◌, ◌∷◌, [], map, All, Contains, IfOk, OnOk};
 ghost use Rattle.resolve.specs.Declarations.{named_definition, named_function};
 ghost use Rattle.resolve.specs.Resolved.{use_meaning, type_meaning, function_meaning, in_order};
 ghost use Rattle.tables.specs.Package.{Reference};
 ghost use Rattle.resolve.specs.Order.{IsPlacement};
+ghost use Rattle.resolve.specs.Imports.{interfaces_of};
 ghost use Rattle.resolve.specs.Resolves.{type_uses};
 ghost use Rattle.resolve.specs.Lent.{used_item_of, type_item, declared_type};
 ghost use Rattle.resolve.specs.Sources.{declared_tree, used_key, function_item, declared_function};
@@ -16,9 +17,12 @@ use crate::declared::{Declarations, UsedType};
 use crate::known::{KnownTypes, TypeIds};
 use crate::lower::lower_optional;
 use crate::names::Names;
+use crate::paths::interface_place;
 use atoms::{KeyedState, Label};
 use std::alloc::{AllocError, Global};
-use tables::{Definition, Function, InterfaceId, Owner, TypeDef, TypeDefKind, TypeId, TypeName};
+use tables::{
+    Definition, Function, InterfaceId, Owner, Resolve, TypeDef, TypeDefKind, TypeId, TypeName,
+};
 use wit_syntax::Func;
 
 /// Puts a type under a name at the end of the table; the scope then knows it.
@@ -132,16 +136,20 @@ fn define_functions(
 }
 
 /// The type that a used name is in the used interface.
-fn target(builder: &Builder, names: &Names, scopes: &[KnownTypes], used: &UsedType) -> TypeId
-    requires known { CanUse builder.now scopes.now (used_item_of used.now) }
-    requires few { length scopes.now ≤ length builder.now.interfaces }
+fn target(
+    builder: &Builder,
+    imports: &Resolve,
+    names: &Names,
+    scopes: &[KnownTypes],
+    used: &UsedType,
+) -> Result<TypeId, AllocError>
+    requires known { CanUse (interfaces_of imports.now) names.now builder.now scopes.now (used_item_of used.now) }
     requires scoped { All (IsScope builder.now) scopes.now }
-    requires names { names.now ≡ builder.now.interfaces }
     requires placed { ArePlaced scopes.now }
-    ensures { TreeStands builder.now (Id result) (Reference (used_key (used_item_of used.now))) }
+    ensures { IfOk result (λ id. TreeStands builder.now (Id id) (Reference (used_key (used_item_of used.now)))) }
 {
-    match names.place_of(used.interface) {
-        Some(place) => scopes[place].entries.get(used.name),
+    match interface_place(imports, names, used.path)? {
+        Some(place) => Ok(scopes[place].entries.get(used.name)),
         None => unreachable!(),
     }
 }
@@ -150,22 +158,21 @@ fn target(builder: &Builder, names: &Names, scopes: &[KnownTypes], used: &UsedTy
 fn define_uses(
     alloc: Global,
     builder: &mut Builder,
+    imports: &Resolve,
     names: &Names,
     scopes: &[KnownTypes],
     scope: &mut KnownTypes,
     uses: &[UsedType],
 ) -> Result<(), AllocError>
-    requires known { All (CanUse builder.old scopes.now) (map used_item_of uses.now) }
-    requires few { length scopes.now ≤ length builder.old.interfaces }
+    requires known { All (CanUse (interfaces_of imports.now) names.now builder.old scopes.now) (map used_item_of uses.now) }
     requires others { All (IsScope builder.old) scopes.now }
-    requires names { names.now ≡ builder.old.interfaces }
     requires placed { ArePlaced scopes.now }
     requires scoped { IsScope builder.old scope.old }
     ensures { OnOk result (Grows builder.old scope.old builder.new scope.new
         (map (use_meaning (scope_name builder.old scope.old)) (map used_item_of uses.now))) }
 {
     for used in uses {
-        let target = target(builder, names, scopes, used);
+        let target = target(builder, imports, names, scopes, used)?;
         define_use(alloc, builder, scope, used, target)?;
     }
     Ok(())
@@ -176,18 +183,17 @@ pub fn define_interface(
     alloc: Global,
     keyed: KeyedState,
     builder: &mut Builder,
+    imports: &Resolve,
     names: &Names,
     scopes: &[KnownTypes],
     place: InterfaceId,
     interface: &Declarations,
     order: &[usize],
 ) -> Result<KnownTypes, AllocError>
-    requires few { length scopes.now ≤ length builder.old.interfaces }
     requires named { name_at builder.old place.0 ≡ interface.now.name.now }
     requires others { All (IsScope builder.old) scopes.now }
-    requires names { names.now ≡ builder.old.interfaces }
     requires ids { ArePlaced scopes.now }
-    requires uses { All (CanUse builder.old scopes.now) (declared_tree interface.now).uses }
+    requires uses { All (CanUse (interfaces_of imports.now) names.now builder.old scopes.now) (declared_tree interface.now).uses }
     requires placed { IsPlacement (type_uses (declared_tree interface.now)) order.now }
     requires types { TypesKnown (declared_tree interface.now) }
     requires functions { FunctionsKnown (declared_tree interface.now) }
@@ -197,7 +203,15 @@ pub fn define_interface(
         interface: place,
         entries: TypeIds::new(alloc, keyed),
     };
-    define_uses(alloc, builder, names, scopes, &mut scope, &interface.uses)?;
+    define_uses(
+        alloc,
+        builder,
+        imports,
+        names,
+        scopes,
+        &mut scope,
+        &interface.uses,
+    )?;
     define_types(alloc, builder, &mut scope, &interface.types, order)?;
     define_functions(alloc, builder, &scope, &interface.functions)?;
     Ok(scope)

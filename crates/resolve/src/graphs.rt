@@ -1,6 +1,6 @@
 //! Which interfaces use each other, which types of an interface name each other, and their orders.
-ghost use Rattle.std.specs.Prelude.{◌≡◌, ◌++◌, ◌<◌, ◌⊎◌, ℕ, Bool, [], length, map, All, Contains, IfOk, IfErr, OnOk, slice_index_or};
-ghost use Rattle.resolve.specs.Declarations.{InterfaceTree, interface_at, use_interface};
+ghost use Rattle.std.specs.Prelude.{◌≡◌, ◌++◌, ◌<◌, ◌⊎◌, ℕ, Bool, [], length, map, filter_map, All, Contains, IfOk, IfErr, OnOk, slice_index_or};
+ghost use Rattle.resolve.specs.Declarations.{InterfaceTree, interface_at, own_use};
 ghost use Rattle.resolve.specs.Order.{IsPlacement, IsCycle};
 ghost use Rattle.resolve.specs.Resolves.{places, interface_uses, type_uses};
 ghost use Rattle.resolve.specs.Lent.{lent, used_item_of};
@@ -14,6 +14,7 @@ use crate::order::{OrderError, placement};
 use atoms::{KeyedState, Label};
 use std::alloc::{AllocError, Global};
 use tables::{ResolveError, Sequence};
+use wit_syntax::Path;
 
 /// The places of these names, without those that don't stand there.
 fn places(alloc: Global, names: &Names, wanted: &[&Label]) -> Result<Sequence<usize>, AllocError>
@@ -28,11 +29,14 @@ fn places(alloc: Global, names: &Names, wanted: &[&Label]) -> Result<Sequence<us
     Ok(Sequence::new(found))
 }
 
+/// Appends the names of the interfaces of the own package that are used.
 fn push_interfaces<'a>(names: &mut Vec<&'a Label>, uses: &[UsedType<'a>]) -> Result<(), AllocError>
-    ensures { OnOk result (lent names.new.items ≡ lent names.old.items ++ map use_interface (map used_item_of uses.now)) }
+    ensures { OnOk result (lent names.new.items ≡ lent names.old.items ++ filter_map own_use (map used_item_of uses.now)) }
 {
     for used in uses {
-        names.push(used.interface)?;
+        if let Path::Local(interface) = used.path {
+            names.push(interface)?;
+        }
     }
     Ok(())
 }

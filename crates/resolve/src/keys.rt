@@ -3,6 +3,7 @@ use crate::declare::local_name;
 use crate::paths::interface_label;
 use atoms::{KeyedState, Label, NameKey};
 use package_form::FEW;
+use tables::{Definition, Resolve};
 use wit_syntax::{
     Ast, Case, Field, InterfaceItem, Item, PackageId, TypeDefKind, UsedName, WorldItem,
     WorldItemKind,
@@ -100,13 +101,25 @@ fn write_entry(key: &mut NameKey, item: &Item) {
     }
 }
 
-/// Hashers of names, with a key made of all names in the scopes of a tree but for members so few that none stands in
-/// a scope's table.
-pub fn keyed_by_tree(ast: &Ast) -> KeyedState {
+/// Writes the names of the types of imports.
+fn write_imports(key: &mut NameKey, rows: &[Definition]) {
+    for row in rows {
+        if let Definition::Type(definition) = row {
+            if let Some(name) = &definition.name {
+                key.write(name.name.as_bytes());
+            }
+        }
+    }
+}
+
+/// Hashers of names, with a key made of all names in the scopes of a tree and of its imports but for members so few
+/// that none stands in a scope's table.
+pub fn keyed_by_tree(ast: &Ast, imports: &Resolve) -> KeyedState {
     let mut key = NameKey::new();
     write_package(&mut key, &ast.package);
     for item in &ast.items {
         write_entry(&mut key, item);
     }
+    write_imports(&mut key, imports.definitions.as_slice());
     key.state()
 }

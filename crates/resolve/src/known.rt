@@ -1,5 +1,5 @@
 //! The types that an interface's names stand for while its table is made.
-ghost use Rattle.std.specs.Prelude.{◌≡◌, ◌++◌, ◌∷◌, [], map, Contains, OnOk};
+ghost use Rattle.std.specs.Prelude.{◌≡◌, ◌↔◌, ◌++◌, ◌∷◌, [], map, Contains, OnOk, IsTrue};
 
 use atoms::{KeyedState, Label};
 use indexmap::IndexMap;
@@ -43,6 +43,16 @@ impl TypeIds {
         {
             None => Ok(()),
             Some(_) => Err(AllocError),
+        }
+    }
+
+    /// Whether a name stands for a type.
+    pub fn has(&self, name: &Label) -> bool
+        ensures { IsTrue result ↔ Contains (map (λ e. e.name) self.now) name.now }
+    {
+        match self.ids.get(name.as_bytes()) {
+            Some(_) => true,
+            None => false,
         }
     }
 

@@ -14,6 +14,7 @@ mod define;
 mod duplicates;
 mod finish;
 mod graphs;
+mod imports;
 mod keys;
 mod known;
 mod lower;
@@ -27,9 +28,11 @@ mod tree;
 mod unknown;
 mod worlds;
 
+pub use finish::package_name;
+pub use imports::{has_package, is_package};
 pub use tables::{
     Case, Definition, Direction, Field, Function, FunctionId, Interface, InterfaceId, Owner,
     Parameter, Primitive, Resolve, ResolveError, Sequence, TypeDef, TypeDefKind, TypeId, TypeName,
     ValType, World, WorldId, WorldItem, WorldItemKind, laws,
 };
-pub use tree::from_ast;
+pub use tree::{closed_from_ast, from_ast};

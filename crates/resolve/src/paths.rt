@@ -1,25 +1,35 @@
 //! What paths name: interfaces, and other packages.
-ghost use Rattle.std.specs.Prelude.{◌≡◌, [], map, flat_map, All, Contains, OnOk, IfErr, IfSome, IfNone};
+ghost use Rattle.std.specs.Prelude.{◌≡◌, map, flat_map, All, Contains, OnOk, IfOk, IfErr, IfSome, IfNone};
 ghost use Rattle.wit_syntax.specs.View.{path_view, entry_view, world_entry_view, item_view};
 ghost use Rattle.resolve.specs.Declarations.{path_interface, path_packages, entry_packages, world_entry_packages, file_entry_packages};
-ghost use Rattle.resolve.specs.Resolves.{path_place, earlier_packages};
+ghost use Rattle.resolve.specs.Imports.{interfaces_of};
+ghost use Rattle.resolve.specs.Resolves.{path_place};
 ghost use Rattle.resolve.specs.Finished.{header};
-ghost use Rattle.resolve.specs.Knowing.{RefusesPackage};
+ghost use Rattle.resolve.specs.Knowing.{IsLacking, RefusesPackage};
 
 use crate::finish::package_name;
+use crate::imports::{has_package, import_place, place_behind};
 use crate::names::Names;
 use atoms::Label;
-use std::alloc::Global;
-use tables::ResolveError;
+use std::alloc::{AllocError, Global};
+use tables::{PackageName, Resolve, ResolveError};
 use wit_syntax::{InterfaceItem, Item, PackageId, Path, WorldItem, WorldItemKind};
 
-/// The place of the interface that a path names, among these of its own package.
-pub fn interface_place(names: &Names, path: &Path) -> Option<usize>
-    ensures { result ≡ path_place names.now (path_view path.now) }
+/// The place of the interface that a path names: among these of its own package, which stand behind the imports, or
+/// among the imports. No memory where no number can tell it.
+pub fn interface_place(
+    imports: &Resolve,
+    names: &Names,
+    path: &Path,
+) -> Result<Option<usize>, AllocError>
+    ensures { IfOk result (λ o. o ≡ path_place (interfaces_of imports.now) names.now (path_view path.now)) }
 {
     match path {
-        Path::Local(name) => names.place_of(name),
-        Path::Foreign { .. } => None,
+        Path::Local(name) => match names.place_of(name) {
+            Some(place) => Ok(Some(place_behind(imports, place)?)),
+            None => Ok(None),
+        },
+        Path::Foreign { package, interface } => Ok(import_place(imports, package, interface)),
     }
 }
 
@@ -33,81 +43,94 @@ pub fn interface_label(path: &Path) -> &Label
     }
 }
 
-/// The package that a path names, where it is another one.
-fn path_package(path: &Path) -> Option<&PackageId>
-    ensures none { IfNone result (path_packages (path_view path.now) ≡ []) }
-    ensures some { IfSome result (λ p. Contains (path_packages (path_view path.now)) (header p.now)) }
+/// The package that a path names, where none of these has that name.
+fn lacking<'a>(packages: &[PackageName], path: &'a Path) -> Option<&'a PackageId>
+    ensures none { IfNone result (All (Contains packages.now) (path_packages (path_view path.now))) }
+    ensures some { IfSome result (λ p. IsLacking packages.now (path_packages (path_view path.now)) (header p.now)) }
 {
     match path {
         Path::Local(_) => None,
-        Path::Foreign { package, .. } => Some(package),
+        Path::Foreign { package, .. } => {
+            if has_package(packages, package) {
+                None
+            } else {
+                Some(package)
+            }
+        }
     }
 }
 
-fn item_package(item: &InterfaceItem) -> Option<&PackageId>
-    ensures none { IfNone result (entry_packages (entry_view item.now) ≡ []) }
-    ensures some { IfSome result (λ p. Contains (entry_packages (entry_view item.now)) (header p.now)) }
+fn lacking_in_item<'a>(packages: &[PackageName], item: &'a InterfaceItem) -> Option<&'a PackageId>
+    ensures none { IfNone result (All (Contains packages.now) (entry_packages (entry_view item.now))) }
+    ensures some { IfSome result (λ p. IsLacking packages.now (entry_packages (entry_view item.now)) (header p.now)) }
 {
     match item {
-        InterfaceItem::Use(used) => path_package(&used.interface),
+        InterfaceItem::Use(used) => lacking(packages, &used.interface),
         InterfaceItem::TypeDef(_) | InterfaceItem::Func(_) => None,
     }
 }
 
-fn world_item_package(item: &WorldItem) -> Option<&PackageId>
-    ensures none { IfNone result (world_entry_packages (world_entry_view item.now) ≡ []) }
-    ensures some { IfSome result (λ p. Contains (world_entry_packages (world_entry_view item.now)) (header p.now)) }
+fn lacking_in_world_item<'a>(packages: &[PackageName], item: &'a WorldItem) -> Option<&'a PackageId>
+    ensures none { IfNone result (All (Contains packages.now) (world_entry_packages (world_entry_view item.now))) }
+    ensures some { IfSome result (λ p. IsLacking packages.now (world_entry_packages (world_entry_view item.now)) (header p.now)) }
 {
     match &item.kind {
-        WorldItemKind::Interface(path) => path_package(path),
+        WorldItemKind::Interface(path) => lacking(packages, path),
         WorldItemKind::Func(_) => None,
     }
 }
 
-/// The first other package that items of an interface name.
-fn package_in_items(items: &[InterfaceItem]) -> Option<&PackageId>
-    ensures none { IfNone result (flat_map entry_packages (map entry_view items.now) ≡ []) }
-    ensures some { IfSome result (λ p. Contains (flat_map entry_packages (map entry_view items.now)) (header p.now)) }
+/// The first package that items of an interface name and that isn't there.
+fn lacking_in_items<'a>(
+    packages: &[PackageName],
+    items: &'a [InterfaceItem],
+) -> Option<&'a PackageId>
+    ensures none { IfNone result (All (Contains packages.now) (flat_map entry_packages (map entry_view items.now))) }
+    ensures some { IfSome result (λ p. IsLacking packages.now (flat_map entry_packages (map entry_view items.now)) (header p.now)) }
 {
     for item in items {
-        if let Some(package) = item_package(item) {
+        if let Some(package) = lacking_in_item(packages, item) {
             return Some(package);
         }
     }
     None
 }
 
-/// The first other package that items of a world name.
-fn package_in_world(items: &[WorldItem]) -> Option<&PackageId>
-    ensures none { IfNone result (flat_map world_entry_packages (map world_entry_view items.now) ≡ []) }
-    ensures some { IfSome result (λ p. Contains (flat_map world_entry_packages (map world_entry_view items.now)) (header p.now)) }
+/// The first package that items of a world name and that isn't there.
+fn lacking_in_world<'a>(packages: &[PackageName], items: &'a [WorldItem]) -> Option<&'a PackageId>
+    ensures none { IfNone result (All (Contains packages.now) (flat_map world_entry_packages (map world_entry_view items.now))) }
+    ensures some { IfSome result (λ p. IsLacking packages.now (flat_map world_entry_packages (map world_entry_view items.now)) (header p.now)) }
 {
     for item in items {
-        if let Some(package) = world_item_package(item) {
+        if let Some(package) = lacking_in_world_item(packages, item) {
             return Some(package);
         }
     }
     None
 }
 
-/// The first other package that an interface or a world names.
-fn package_in_entry(item: &Item) -> Option<&PackageId>
-    ensures none { IfNone result (file_entry_packages (item_view item.now) ≡ []) }
-    ensures some { IfSome result (λ p. Contains (file_entry_packages (item_view item.now)) (header p.now)) }
+/// The first package that an interface or a world names and that isn't there.
+fn lacking_in_entry<'a>(packages: &[PackageName], item: &'a Item) -> Option<&'a PackageId>
+    ensures none { IfNone result (All (Contains packages.now) (file_entry_packages (item_view item.now))) }
+    ensures some { IfSome result (λ p. IsLacking packages.now (file_entry_packages (item_view item.now)) (header p.now)) }
 {
     match item {
-        Item::Interface(interface) => package_in_items(&interface.items),
-        Item::World(world) => package_in_world(&world.items),
+        Item::Interface(interface) => lacking_in_items(packages, &interface.items),
+        Item::World(world) => lacking_in_world(packages, &world.items),
     }
 }
 
-/// 47 for the first package in the source that isn't there: for the first other one, since a tree stands alone.
-pub fn known_packages(alloc: Global, items: &[Item]) -> Result<(), ResolveError>
-    ensures ok { OnOk result (All (Contains earlier_packages) (flat_map file_entry_packages (map item_view items.now))) }
-    ensures err { IfErr result (RefusesPackage (flat_map file_entry_packages (map item_view items.now))) }
+/// 47 for the first package in the source that isn't one of these.
+pub fn known_packages(
+    alloc: Global,
+    packages: &[PackageName],
+    items: &[Item],
+) -> Result<(), ResolveError>
+    ensures ok { OnOk result (All (Contains packages.now) (flat_map file_entry_packages (map item_view items.now))) }
+    ensures err { IfErr result (RefusesPackage packages.now (flat_map file_entry_packages (map item_view items.now))) }
 {
     for item in items {
-        if let Some(package) = package_in_entry(item) {
+        if let Some(package) = lacking_in_entry(packages, item) {
             return Err(ResolveError::NoPackage(package_name(alloc, package)?));
         }
     }

@@ -3,19 +3,26 @@ ghost use Rattle.std.specs.Prelude.{◌≡◌, map, filter_map, All, IsTrue, IfO
 ghost use Rattle.atoms.specs.Label.{IsLabel};
 ghost use Rattle.wit_syntax.specs.View.{item_view, file_view};
 ghost use Rattle.wit_syntax.specs.FullNames.{has_full_names};
+ghost use Rattle.package_form.specs.Closed.{is_closed};
 ghost use Rattle.package_form.specs.Form.{IsInPackageForm};
 ghost use Rattle.package_form.specs.Naming.{package_scopes};
 ghost use Rattle.package_form.specs.Scope.{AreDistinct};
 ghost use Rattle.resolve.specs.Declarations.{interface_of, interfaces, interface_names, package_named};
-ghost use Rattle.resolve.specs.Resolves.{IsPackageOf, ResolveRefuses, HasNoFaults, AnswersOnly};
+ghost use Rattle.resolve.specs.ImportForms.{IsNamedBehind, AreReachedFrom};
+ghost use Rattle.resolve.specs.Imports.{imports_of};
+ghost use Rattle.resolve.specs.Resolves.{AreImports, IsPackageOf, IsClosedPackageOf, ResolveRefuses, ResolveRefusesOf, HasNoFaults, HasNoFaultsOf, AnswersOnly, AnswersOnlyBehind};
+ghost use Rattle.resolve.specs.Building.{AreImportScopes};
 ghost use Rattle.resolve.specs.Sources.{declared_tree};
 
-use crate::assembly::{define_package, ordered_index};
+use crate::assembly::{define_package, ordered_index, ordered_names};
+use crate::builder::Builder;
 use crate::declared::Declarations;
 use crate::duplicates::distinct_names;
-use crate::finish::{finish, package_name};
+use crate::finish::{copied_parts, finish, package_id, package_name};
 use crate::graphs::{interface_order, type_orders};
+use crate::imports::{import_scopes, no_imports};
 use crate::keys::keyed_by_tree;
+use crate::known::KnownTypes;
 use crate::nested::are_nested;
 use crate::paths::known_packages;
 use crate::unknown::known_names;
@@ -46,13 +53,16 @@ fn declarations<'a>(
     alloc: Global,
     keyed: KeyedState,
     package: &PackageName,
+    imports: &Resolve,
+    scopes: &[KnownTypes],
     ast: &'a Ast,
 ) -> Result<Vec<Declarations<'a>>, ResolveError>
-    requires { «package».now ≡ package_named (file_view ast.now) }
-    ensures faults { IfOk result (λ _. HasNoFaults (file_view ast.now)) }
+    requires named { «package».now ≡ package_named (file_view ast.now) }
+    requires scopes { AreImportScopes imports.now scopes.now }
+    ensures faults { IfOk result (λ _. HasNoFaultsOf (imports_of imports.now) (file_view ast.now)) }
     ensures ok { IfOk result (λ ds. map declared_tree ds.items ≡ interfaces (file_view ast.now)) }
     ensures labels { IfOk result (λ _. All IsLabel (interface_names (interfaces (file_view ast.now)))) }
-    ensures err { IfErr result (ResolveRefuses (file_view ast.now)) }
+    ensures err { IfErr result (ResolveRefusesOf (imports_of imports.now) (file_view ast.now)) }
 {
     if ast.items.is_empty() {
         return Err(ResolveError::EmptyPackage);
@@ -61,27 +71,100 @@ fn declarations<'a>(
         return Err(ResolveError::Limit);
     }
     distinct_names(alloc, keyed, package, &ast.items)?;
-    known_packages(alloc, &ast.items)?;
+    known_packages(alloc, imports.packages.as_slice(), &ast.items)?;
     let all = all_declarations(alloc, keyed, &ast.items)?;
-    known_names(alloc, keyed, &all, &ast.items)?;
+    known_names(alloc, keyed, imports, scopes, &all, &ast.items)?;
     Ok(all)
 }
 
-/// The package of a syntax tree, whose answer `from_ast` weighs.
+/// The closed table of a tree, of these declarations.
+fn defined(
+    alloc: Global,
+    keyed: KeyedState,
+    imports: &Resolve,
+    scopes: Vec<KnownTypes>,
+    package: PackageName,
+    all: &[Declarations],
+    ast: &Ast,
+) -> Result<Resolve, ResolveError>
+    requires imports { AreImports imports.now }
+    requires scopes { AreImportScopes imports.now scopes.items }
+    requires named { «package» ≡ package_named (file_view ast.now) }
+    requires all { map declared_tree all.now ≡ interfaces (file_view ast.now) }
+    requires faults { HasNoFaultsOf (imports_of imports.now) (file_view ast.now) }
+    requires labels { All IsLabel (interface_names (interfaces (file_view ast.now))) }
+    ensures ok { IfOk result (IsClosedPackageOf imports.now (file_view ast.now)) }
+    ensures err { IfErr result (ResolveRefusesOf (imports_of imports.now) (file_view ast.now)) }
+{
+    let order = interface_order(alloc, keyed, all)?;
+    let orders = type_orders(alloc, keyed, all)?;
+    let names = ordered_index(alloc, keyed, all, order.as_slice())?;
+    let labels = ordered_names(alloc, all, order.as_slice())?;
+    let (packages, interfaces, rows) = copied_parts(alloc, imports)?;
+    let own = package_id(packages.len())?;
+    let mut builder = Builder::new(imports, &labels, rows);
+    define_package(
+        alloc,
+        keyed,
+        imports,
+        &mut builder,
+        scopes,
+        &names,
+        all,
+        order.as_slice(),
+        &orders,
+    )?;
+    let worlds = define_worlds(alloc, keyed, &mut builder, imports, &names, own, &ast.items)?;
+    finish(
+        alloc, imports, packages, interfaces, &labels, builder, worlds, package,
+    )
+}
+
+/// The closed table of a tree behind its imports, whose answer `closed_from_ast` weighs.
+fn resolved_behind(alloc: Global, ast: &Ast, imports: &Resolve) -> Result<Resolve, ResolveError>
+    requires { AreImports imports.now }
+    ensures ok { IfOk result (IsClosedPackageOf imports.now (file_view ast.now)) }
+    ensures faults { IfOk result (λ _. HasNoFaultsOf (imports_of imports.now) (file_view ast.now)) }
+    ensures err { IfErr result (ResolveRefusesOf (imports_of imports.now) (file_view ast.now)) }
+{
+    let keyed = keyed_by_tree(ast, imports);
+    let package = package_name(alloc, &ast.package)?;
+    let scopes = import_scopes(alloc, keyed, imports)?;
+    let all = declarations(alloc, keyed, &package, imports, &scopes, ast)?;
+    defined(alloc, keyed, imports, scopes, package, &all, ast)
+}
+
+/// The package of a syntax tree whose paths name interfaces of other packages: its closed table, in which these imports,
+/// their packages, interfaces and definitions, stand first, as they stand in their table, which has no worlds; the
+/// package itself is the last. A path means the import of that name of the package of just that namespace, name and
+/// version, never one of the tree's own package. The own definitions stand in package order, as those of `from_ast`. 43
+/// where the tree has neither interface nor world, 40 where a name stands twice in a scope, 47 where a path names a
+/// package that isn't among the imports', 41 where a name stands for nothing, 42 where interfaces use each other or
+/// types name each other, 45 where the package passes a limit, its imports counted, in this order; 45 also where a type
+/// is nested more than 64 deep or has no members, as in no text; 46 where memory is wanting. Behind imports that stand as
+/// in the table of a package, of other packages than the tree's, the table is closed where each import is reached, and is
+/// in the form that packages have where it is closed; its names differ in each scope where those of the imports do.
+pub fn closed_from_ast(alloc: Global, ast: &Ast, imports: &Resolve) -> Result<Resolve, ResolveError>
+    requires { AreImports imports.now }
+    ensures ok { IfOk result (IsClosedPackageOf imports.now (file_view ast.now)) }
+    ensures faults { IfOk result (λ _. HasNoFaultsOf (imports_of imports.now) (file_view ast.now)) }
+    ensures closed { IfOk result (λ r. IsNamedBehind imports.now (file_view ast.now) → AreReachedFrom imports.now (file_view ast.now) → IsTrue (is_closed r)) }
+    ensures form { IfOk result (λ r. IsNamedBehind imports.now (file_view ast.now) → IsTrue (is_closed r) → IsInPackageForm r) }
+    ensures distinct { IfOk result (λ r. IsNamedBehind imports.now (file_view ast.now) → All AreDistinct (package_scopes imports.now) → All AreDistinct (package_scopes r)) }
+    ensures err { IfErr result (ResolveRefusesOf (imports_of imports.now) (file_view ast.now)) }
+    ensures only { AnswersOnlyBehind imports.now (file_view ast.now) result }
+{
+    resolved_behind(alloc, ast, imports)
+}
+
+/// The package of a syntax tree that stands alone, whose answer `from_ast` weighs.
 fn resolved_package(alloc: Global, ast: &Ast) -> Result<Resolve, ResolveError>
     ensures ok { IfOk result (IsPackageOf (file_view ast.now)) }
     ensures faults { IfOk result (λ _. HasNoFaults (file_view ast.now)) }
     ensures err { IfErr result (ResolveRefuses (file_view ast.now)) }
 {
-    let keyed = keyed_by_tree(ast);
-    let package = package_name(alloc, &ast.package)?;
-    let all = declarations(alloc, keyed, &package, ast)?;
-    let order = interface_order(alloc, keyed, &all)?;
-    let orders = type_orders(alloc, keyed, &all)?;
-    let names = ordered_index(alloc, keyed, &all, order.as_slice())?;
-    let mut builder = define_package(alloc, keyed, &names, &all, order.as_slice(), &orders)?;
-    let worlds = define_worlds(alloc, keyed, &mut builder, &names, &ast.items)?;
-    finish(alloc, builder, worlds, package)
+    let imports = no_imports(alloc);
+    resolved_behind(alloc, ast, &imports)
 }
 
 /// The package of a syntax tree. Its definitions stand in package order, in which each interface comes after

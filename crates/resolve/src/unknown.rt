@@ -1,22 +1,27 @@
 //! 41: each name stands for something. Names are exact in case.
-ghost use Rattle.std.specs.Prelude.{◌≡◌, ◌<◌, All, Contains, IfOk, IfErr, OnOk, IfSome, IfNone, MatchOption, map, filter_map, length};
+ghost use Rattle.std.specs.Prelude.{◌≡◌, ◌↔◌, ◌<◌, All, Contains, IsTrue, IfOk, IfErr, OnOk, IfSome, IfNone, None, Some, map, filter_map, length};
 ghost use Rattle.atoms.specs.Label.{IsLabel};
 ghost use Rattle.wit_syntax.specs.View.{entry_view, path_view, used_view, world_entry_view, item_view};
-ghost use Rattle.resolve.specs.Declarations.{InterfaceTree, used_item, path_uses, item_tree, interface_of, world_of, interface_at, interface_names};
-ghost use Rattle.resolve.specs.Resolves.{IsKnownUse, IsUnknownUse, HasKnownNames, IsKnownItem, IsUnknownItem, IsKnownWorld};
+ghost use Rattle.resolve.specs.Declarations.{InterfaceTree, path_uses, item_tree, interface_of, world_of, interface_at, interface_names};
+ghost use Rattle.resolve.specs.Imports.{imports_of};
+ghost use Rattle.resolve.specs.Resolves.{IsKnownIn, IsKnownUseOf, IsLackingIn, IsUnknownUse, HasKnownNamesOf, IsKnownItemOf, IsUnknownItem, IsKnownWorldOf};
+ghost use Rattle.resolve.specs.Finished.{header};
 ghost use Rattle.resolve.specs.Lent.{lent};
 ghost use Rattle.resolve.specs.Sources.{declared_tree, use_of};
-ghost use Rattle.resolve.specs.Knowing.{KnowsEntry, LacksEntry, LacksUse, LacksAny, LacksItem, KnowsFileEntry, LacksFileEntry, RefusesUnknown};
+ghost use Rattle.resolve.specs.Building.{AreImportScopes};
+ghost use Rattle.resolve.specs.Knowing.{IsThere, KnowsEntry, LacksEntry, LacksUse, LacksAny, LacksItem, KnowsFileEntry, LacksFileEntry, RefusesUnknown};
 
 use crate::declare::interface_names;
 use crate::declared::Declarations;
+use crate::imports::import_place;
+use crate::known::KnownTypes;
 use crate::named::{definition_names, function_names};
 use crate::names::Names;
-use crate::paths::{interface_label, interface_place};
+use crate::paths::interface_label;
 use atoms::{KeyedState, Label};
 use std::alloc::{AllocError, Global};
-use tables::ResolveError;
-use wit_syntax::{InterfaceItem, Item, Path, Use, UsedName, WorldItem, WorldItemKind};
+use tables::{Resolve, ResolveError};
+use wit_syntax::{InterfaceItem, Item, PackageId, Path, UsedName, WorldItem, WorldItemKind};
 
 /// The first of these names that isn't known.
 fn first_unknown<'a>(known: &Names, names: &[&'a Label]) -> Option<&'a Label>
@@ -47,16 +52,17 @@ fn find_interface<'b, 'a>(
     }
 }
 
-/// The interface where it isn't there, or the name where the interface lacks it.
-fn unknown_used<'a>(
+/// The interface of the own package where it isn't there, or the name where the interface lacks it.
+fn unknown_in_own<'a>(
     all: &[Declarations],
+    imports: &Resolve,
     names: &Names,
     interface: &'a Label,
     name: &'a Label,
 ) -> Option<&'a Label>
     requires { names.now ≡ interface_names (map declared_tree all.now) }
-    ensures none { IfNone result (IsKnownUse (map declared_tree all.now) (use_of interface.now name.now)) }
-    ensures some { IfSome result (λ m. IsUnknownUse (map declared_tree all.now) (use_of interface.now name.now) m.now) }
+    ensures none { IfNone result (IsKnownIn (imports_of imports.now) (map declared_tree all.now) None interface.now name.now) }
+    ensures some { IfSome result (λ n. IsLackingIn (imports_of imports.now) (map declared_tree all.now) None interface.now name.now n.now) }
 {
     match find_interface(all, names, interface) {
         None => Some(interface),
@@ -67,50 +73,98 @@ fn unknown_used<'a>(
     }
 }
 
-/// The interface where it isn't there, or the first of these names that it lacks.
-fn unknown_in_names<'a>(
+/// The import of this package where it isn't there, or the name where it lacks it.
+fn unknown_in_import<'a>(
     all: &[Declarations],
-    names: &Names,
+    imports: &Resolve,
+    scopes: &[KnownTypes],
+    package: &PackageId,
     interface: &'a Label,
+    name: &'a Label,
+) -> Option<&'a Label>
+    requires { AreImportScopes imports.now scopes.now }
+    ensures none { IfNone result (IsKnownIn (imports_of imports.now) (map declared_tree all.now) (Some (header «package».now)) interface.now name.now) }
+    ensures some { IfSome result (λ n. IsLackingIn (imports_of imports.now) (map declared_tree all.now) (Some (header «package».now)) interface.now name.now n.now) }
+{
+    match import_place(imports, package, interface) {
+        None => Some(interface),
+        Some(place) => {
+            if scopes[place].entries.has(name) {
+                None
+            } else {
+                Some(name)
+            }
+        }
+    }
+}
+
+/// The interface where it isn't there, or the name where the interface lacks it.
+fn unknown_used<'a>(
+    all: &[Declarations],
+    imports: &Resolve,
+    scopes: &[KnownTypes],
+    names: &Names,
+    path: &'a Path,
+    name: &'a Label,
+) -> Option<&'a Label>
+    requires names { names.now ≡ interface_names (map declared_tree all.now) }
+    requires scopes { AreImportScopes imports.now scopes.now }
+    ensures none { IfNone result (IsKnownUseOf (imports_of imports.now) (map declared_tree all.now) (use_of (path_view path.now) name.now)) }
+    ensures some { IfSome result (λ n. IsUnknownUse (imports_of imports.now) (map declared_tree all.now) (use_of (path_view path.now) name.now) n.now) }
+{
+    match path {
+        Path::Local(interface) => unknown_in_own(all, imports, names, interface, name),
+        Path::Foreign { package, interface } => {
+            unknown_in_import(all, imports, scopes, package, interface, name)
+        }
+    }
+}
+
+/// The interface where it isn't there, or the first of these names that it lacks.
+fn unknown_in_use<'a>(
+    all: &[Declarations],
+    imports: &Resolve,
+    scopes: &[KnownTypes],
+    names: &Names,
+    path: &'a Path,
     used: &'a [UsedName],
 ) -> Option<&'a Label>
-    requires { names.now ≡ interface_names (map declared_tree all.now) }
-    ensures none { IfNone result (All (IsKnownUse (map declared_tree all.now)) (map (used_item interface.now) (map used_view used.now))) }
-    ensures some { IfSome result (λ m. LacksUse (map declared_tree all.now) (map (used_item interface.now) (map used_view used.now)) m.now) }
+    requires names { names.now ≡ interface_names (map declared_tree all.now) }
+    requires scopes { AreImportScopes imports.now scopes.now }
+    ensures none { IfNone result (All (IsKnownUseOf (imports_of imports.now) (map declared_tree all.now)) (path_uses (path_view path.now) (map used_view used.now))) }
+    ensures some { IfSome result (λ n. LacksUse (imports_of imports.now) (map declared_tree all.now) (path_uses (path_view path.now) (map used_view used.now)) n.now) }
 {
     for item in used {
-        if let Some(name) = unknown_used(all, names, interface, &item.name) {
+        if let Some(name) = unknown_used(all, imports, scopes, names, path, &item.name) {
             return Some(name);
         }
     }
     None
 }
 
-/// The same of a use. Of another package's interface nothing is asked here.
-fn unknown_in_use<'a>(all: &[Declarations], names: &Names, used: &'a Use) -> Option<&'a Label>
-    requires { names.now ≡ interface_names (map declared_tree all.now) }
-    ensures none { IfNone result (All (IsKnownUse (map declared_tree all.now)) (path_uses (path_view used.now.interface) (map used_view used.now.names.items))) }
-    ensures some { IfSome result (λ m. LacksUse (map declared_tree all.now) (path_uses (path_view used.now.interface) (map used_view used.now.names.items)) m.now) }
-{
-    match &used.interface {
-        Path::Local(interface) => unknown_in_names(all, names, interface, &used.names),
-        Path::Foreign { .. } => None,
-    }
-}
-
 fn unknown_in_item<'a>(
     alloc: Global,
     all: &[Declarations],
+    imports: &Resolve,
+    scopes: &[KnownTypes],
     names: &Names,
     declared: &Declarations,
     item: &'a InterfaceItem,
 ) -> Result<Option<&'a Label>, AllocError>
-    requires { names.now ≡ interface_names (map declared_tree all.now) }
-    ensures none { IfOk result (λ o. IfNone o (KnowsEntry (map declared_tree all.now) (declared_tree declared.now) (entry_view item.now))) }
-    ensures some { IfOk result (λ o. IfSome o (λ m. LacksEntry (map declared_tree all.now) (declared_tree declared.now) (entry_view item.now) m.now)) }
+    requires names { names.now ≡ interface_names (map declared_tree all.now) }
+    requires scopes { AreImportScopes imports.now scopes.now }
+    ensures none { IfOk result (λ o. IfNone o (KnowsEntry (imports_of imports.now) (map declared_tree all.now) (declared_tree declared.now) (entry_view item.now))) }
+    ensures some { IfOk result (λ o. IfSome o (λ n. LacksEntry (imports_of imports.now) (map declared_tree all.now) (declared_tree declared.now) (entry_view item.now) n.now)) }
 {
     match item {
-        InterfaceItem::Use(used) => Ok(unknown_in_use(all, names, used)),
+        InterfaceItem::Use(used) => Ok(unknown_in_use(
+            all,
+            imports,
+            scopes,
+            names,
+            &used.interface,
+            &used.names,
+        )),
         InterfaceItem::TypeDef(definition) => {
             let named = definition_names(alloc, &definition.kind)?;
             Ok(first_unknown(&declared.names, &named))
@@ -125,37 +179,57 @@ fn unknown_in_item<'a>(
 fn unknown_in_items<'a>(
     alloc: Global,
     all: &[Declarations],
+    imports: &Resolve,
+    scopes: &[KnownTypes],
     names: &Names,
     declared: &Declarations,
     items: &'a [InterfaceItem],
 ) -> Result<Option<&'a Label>, AllocError>
-    requires { names.now ≡ interface_names (map declared_tree all.now) }
-    ensures none { IfOk result (λ o. IfNone o (All (KnowsEntry (map declared_tree all.now) (declared_tree declared.now)) (map entry_view items.now))) }
-    ensures some { IfOk result (λ o. IfSome o (λ m. LacksAny (map declared_tree all.now) (declared_tree declared.now) (map entry_view items.now) m.now)) }
+    requires names { names.now ≡ interface_names (map declared_tree all.now) }
+    requires scopes { AreImportScopes imports.now scopes.now }
+    ensures none { IfOk result (λ o. IfNone o (All (KnowsEntry (imports_of imports.now) (map declared_tree all.now) (declared_tree declared.now)) (map entry_view items.now))) }
+    ensures some { IfOk result (λ o. IfSome o (λ n. LacksAny (imports_of imports.now) (map declared_tree all.now) (declared_tree declared.now) (map entry_view items.now) n.now)) }
 {
     for item in items {
-        if let Some(name) = unknown_in_item(alloc, all, names, declared, item)? {
+        let unknown = unknown_in_item(alloc, all, imports, scopes, names, declared, item)?;
+        if let Some(name) = unknown {
             return Ok(Some(name));
         }
     }
     Ok(None)
 }
 
+/// Whether a path names an interface of its own package, of these names, or an import.
+fn is_there(imports: &Resolve, names: &Names, path: &Path) -> bool
+    ensures { IsTrue result ↔ IsThere (imports_of imports.now) names.now (path_view path.now) }
+{
+    match path {
+        Path::Local(name) => names.place_of(name).is_some(),
+        Path::Foreign { package, interface } => {
+            import_place(imports, package, interface).is_some()
+        }
+    }
+}
+
 /// The interface that an item of a world names where it isn't there, or the first type that it names: a world
 /// declares none.
 fn unknown_in_world_item<'a>(
     alloc: Global,
+    imports: &Resolve,
     names: &Names,
     item: &'a WorldItem,
 ) -> Result<Option<&'a Label>, AllocError>
-    ensures none { IfOk result (λ o. IfNone o (IsKnownItem names.now (item_tree (world_entry_view item.now)))) }
-    ensures some { IfOk result (λ o. IfSome o (λ m. IsUnknownItem names.now (item_tree (world_entry_view item.now)) m.now)) }
+    ensures none { IfOk result (λ o. IfNone o (IsKnownItemOf (imports_of imports.now) names.now (item_tree (world_entry_view item.now)))) }
+    ensures some { IfOk result (λ o. IfSome o (λ n. IsUnknownItem (imports_of imports.now) names.now (item_tree (world_entry_view item.now)) n.now)) }
 {
     match &item.kind {
-        WorldItemKind::Interface(path) => match interface_place(names, path) {
-            Some(_) => Ok(None),
-            None => Ok(Some(interface_label(path))),
-        },
+        WorldItemKind::Interface(path) => {
+            if is_there(imports, names, path) {
+                Ok(None)
+            } else {
+                Ok(Some(interface_label(path)))
+            }
+        }
         WorldItemKind::Func(function) => {
             let named = function_names(alloc, &function.ty)?;
             if named.is_empty() {
@@ -169,14 +243,15 @@ fn unknown_in_world_item<'a>(
 
 fn unknown_in_world<'a>(
     alloc: Global,
+    imports: &Resolve,
     names: &Names,
     items: &'a [WorldItem],
 ) -> Result<Option<&'a Label>, AllocError>
-    ensures none { IfOk result (λ o. IfNone o (All (IsKnownItem names.now) (map item_tree (map world_entry_view items.now)))) }
-    ensures some { IfOk result (λ o. IfSome o (λ m. LacksItem names.now (map item_tree (map world_entry_view items.now)) m.now)) }
+    ensures none { IfOk result (λ o. IfNone o (All (IsKnownItemOf (imports_of imports.now) names.now) (map item_tree (map world_entry_view items.now)))) }
+    ensures some { IfOk result (λ o. IfSome o (λ n. LacksItem (imports_of imports.now) names.now (map item_tree (map world_entry_view items.now)) n.now)) }
 {
     for item in items {
-        if let Some(name) = unknown_in_world_item(alloc, names, item)? {
+        if let Some(name) = unknown_in_world_item(alloc, imports, names, item)? {
             return Ok(Some(name));
         }
     }
@@ -187,40 +262,53 @@ fn unknown_in_world<'a>(
 fn unknown_in_entry<'a>(
     alloc: Global,
     all: &[Declarations],
+    imports: &Resolve,
+    scopes: &[KnownTypes],
     names: &Names,
     place: usize,
     item: &'a Item,
 ) -> Result<Option<&'a Label>, AllocError>
     requires names { names.now ≡ interface_names (map declared_tree all.now) }
+    requires scopes { AreImportScopes imports.now scopes.now }
     requires place { (i : InterfaceTree) → interface_of (item_view item.now) ≡ Some i → (place < length all.now) × (interface_at (map declared_tree all.now) place ≡ i) }
-    ensures none { IfOk result (λ o. IfNone o (KnowsFileEntry (map declared_tree all.now) (item_view item.now))) }
-    ensures some { IfOk result (λ o. IfSome o (λ m. LacksFileEntry (map declared_tree all.now) (item_view item.now) m.now)) }
+    ensures none { IfOk result (λ o. IfNone o (KnowsFileEntry (imports_of imports.now) (map declared_tree all.now) (item_view item.now))) }
+    ensures some { IfOk result (λ o. IfSome o (λ n. LacksFileEntry (imports_of imports.now) (map declared_tree all.now) (item_view item.now) n.now)) }
 {
     match item {
-        Item::Interface(interface) => {
-            unknown_in_items(alloc, all, names, &all[place], &interface.items)
-        }
-        Item::World(world) => unknown_in_world(alloc, names, &world.items),
+        Item::Interface(interface) => unknown_in_items(
+            alloc,
+            all,
+            imports,
+            scopes,
+            names,
+            &all[place],
+            &interface.items,
+        ),
+        Item::World(world) => unknown_in_world(alloc, imports, names, &world.items),
     }
 }
 
-/// 41 for the first name in the source that stands for nothing.
+/// 41 for the first name in the source that stands for nothing, where these are the imports and their scopes.
 pub fn known_names(
     alloc: Global,
     keyed: KeyedState,
+    imports: &Resolve,
+    scopes: &[KnownTypes],
     all: &[Declarations],
     items: &[Item],
 ) -> Result<(), ResolveError>
-    requires { map declared_tree all.now ≡ filter_map interface_of (map item_view items.now) }
-    ensures ok { OnOk result (All (HasKnownNames (map declared_tree all.now)) (map declared_tree all.now)) }
-    ensures worlds { OnOk result (All (IsKnownWorld (interface_names (map declared_tree all.now))) (filter_map world_of (map item_view items.now))) }
+    requires all { map declared_tree all.now ≡ filter_map interface_of (map item_view items.now) }
+    requires scopes { AreImportScopes imports.now scopes.now }
+    ensures ok { OnOk result (All (HasKnownNamesOf (imports_of imports.now) (map declared_tree all.now)) (map declared_tree all.now)) }
+    ensures worlds { OnOk result (All (IsKnownWorldOf (imports_of imports.now) (interface_names (map declared_tree all.now))) (filter_map world_of (map item_view items.now))) }
     ensures labels { OnOk result (All IsLabel (interface_names (map declared_tree all.now))) }
-    ensures err { IfErr result (RefusesUnknown (map declared_tree all.now) (filter_map world_of (map item_view items.now))) }
+    ensures err { IfErr result (RefusesUnknown (imports_of imports.now) (map declared_tree all.now) (filter_map world_of (map item_view items.now))) }
 {
     let names = interface_names(alloc, keyed, all)?;
     let mut place = 0;
     for item in items {
-        if let Some(name) = unknown_in_entry(alloc, all, &names, place, item)? {
+        let unknown = unknown_in_entry(alloc, all, imports, scopes, &names, place, item)?;
+        if let Some(name) = unknown {
             return Err(ResolveError::Unknown(name.copy(alloc)?));
         }
         if let Item::Interface(_) = item {

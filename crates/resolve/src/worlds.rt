@@ -1,18 +1,20 @@
 //! The worlds of a tree: their functions as rows of the table, and their items.
-ghost use Rattle.std.specs.Prelude.{◌≡◌, [], map, filter_map, All, IfOk};
+ghost use Rattle.std.specs.Prelude.{◌≡◌, ◌++◌, [], map, filter_map, All, IfOk};
 ghost use Rattle.wit_syntax.specs.View.{item_view};
 ghost use Rattle.resolve.specs.Declarations.{FunctionOf, world_of, named_function};
 ghost use Rattle.resolve.specs.Resolved.{direction_meaning, item_meaning, world_meaning};
-ghost use Rattle.resolve.specs.Resolves.{IsKnownItem, IsKnownWorld};
+ghost use Rattle.tables.specs.Package.{interface_names as named_imports};
+ghost use Rattle.resolve.specs.Imports.{imports_of};
+ghost use Rattle.resolve.specs.Resolves.{IsKnownItemOf, IsKnownWorldOf};
 ghost use Rattle.resolve.specs.Sources.{function_item, declared_item, declared_world};
 ghost use Rattle.resolve.specs.WorldRows.{DefinesItem, DefinesItems, DefinesWorld, DefinesWorlds};
 ghost use Rattle.wit_syntax.specs.declared.ast.Direction.{Direction as Way};
 ghost use Rattle.tables.specs.declared.tables.WorldItemKind.TheVariants.{Function as FunctionAt};
 
-use crate::assembly::interface_id;
 use crate::bodies::lower_parameters;
 use crate::builder::Builder;
 use crate::duplicates::side_of;
+use crate::imports::interface_id;
 use crate::known::{KnownTypes, TypeIds};
 use crate::lower::lower_optional;
 use crate::names::Names;
@@ -20,8 +22,8 @@ use crate::paths::interface_place;
 use atoms::KeyedState;
 use std::alloc::{AllocError, Global};
 use tables::{
-    Definition, Function, FunctionId, InterfaceId, Owner, PackageId, Sequence, World, WorldId,
-    WorldItem, WorldItemKind,
+    Definition, Function, FunctionId, InterfaceId, Owner, PackageId, Resolve, Sequence, World,
+    WorldId, WorldItem, WorldItemKind,
 };
 use wit_syntax::{Func, Item};
 
@@ -57,23 +59,26 @@ fn define_item(
     alloc: Global,
     keyed: KeyedState,
     builder: &mut Builder,
+    imports: &Resolve,
     names: &Names,
     world: WorldId,
     item: &wit_syntax::WorldItem,
 ) -> Result<WorldItem, AllocError>
-    requires known { IsKnownItem names.now (declared_item item.now) }
-    requires names { names.now ≡ builder.old.interfaces }
+    requires known { IsKnownItemOf (imports_of imports.now) names.now (declared_item item.now) }
+    requires names { builder.old.interfaces ≡ named_imports imports.now ++ names.now }
     ensures { IfOk result (λ i. DefinesItem builder.old builder.new world.0 i (item_meaning (declared_item item.now))) }
 {
     let direction = side_of(item.direction);
     match &item.kind {
-        wit_syntax::WorldItemKind::Interface(path) => match interface_place(names, path) {
-            Some(place) => {
-                let kind = WorldItemKind::Interface(interface_id(place)?);
-                Ok(WorldItem { direction, kind })
+        wit_syntax::WorldItemKind::Interface(path) => {
+            match interface_place(imports, names, path)? {
+                Some(place) => {
+                    let kind = WorldItemKind::Interface(interface_id(place)?);
+                    Ok(WorldItem { direction, kind })
+                }
+                None => unreachable!(),
             }
-            None => unreachable!(),
-        },
+        }
         wit_syntax::WorldItemKind::Func(function) => {
             let id = define_function(alloc, keyed, builder, world, function)?;
             let kind = WorldItemKind::Function(id);
@@ -86,17 +91,19 @@ fn define_items(
     alloc: Global,
     keyed: KeyedState,
     builder: &mut Builder,
+    imports: &Resolve,
     names: &Names,
     world: WorldId,
     items: &[wit_syntax::WorldItem],
 ) -> Result<Vec<WorldItem>, AllocError>
-    requires known { All (IsKnownItem names.now) (map declared_item items.now) }
-    requires names { names.now ≡ builder.old.interfaces }
+    requires known { All (IsKnownItemOf (imports_of imports.now) names.now) (map declared_item items.now) }
+    requires names { builder.old.interfaces ≡ named_imports imports.now ++ names.now }
     ensures { IfOk result (λ is. DefinesItems builder.old builder.new world.0 is.items (map item_meaning (map declared_item items.now))) }
 {
     let mut defined = Vec::new(alloc);
     for item in items {
-        defined.push(define_item(alloc, keyed, builder, names, world, item)?)?;
+        let item = define_item(alloc, keyed, builder, imports, names, world, item)?;
+        defined.push(item)?;
     }
     Ok(defined)
 }
@@ -105,17 +112,19 @@ fn define_world(
     alloc: Global,
     keyed: KeyedState,
     builder: &mut Builder,
+    imports: &Resolve,
     names: &Names,
+    package: PackageId,
     id: WorldId,
     world: &wit_syntax::World,
 ) -> Result<World, AllocError>
-    requires known { IsKnownWorld names.now (declared_world world.now) }
-    requires names { names.now ≡ builder.old.interfaces }
-    ensures { IfOk result (λ w. DefinesWorld builder.old builder.new id.0 w (world_meaning (declared_world world.now))) }
+    requires known { IsKnownWorldOf (imports_of imports.now) names.now (declared_world world.now) }
+    requires names { builder.old.interfaces ≡ named_imports imports.now ++ names.now }
+    ensures { IfOk result (λ w. DefinesWorld builder.old builder.new «package».0 id.0 w (world_meaning (declared_world world.now))) }
 {
-    let items = define_items(alloc, keyed, builder, names, id, &world.items)?;
+    let items = define_items(alloc, keyed, builder, imports, names, id, &world.items)?;
     Ok(World {
-        package: PackageId(0),
+        package,
         name: world.name.copy(alloc)?,
         items: Sequence::new(items),
     })
@@ -131,23 +140,26 @@ fn world_id(place: usize) -> Result<WorldId, AllocError>
     }
 }
 
-/// Defines the worlds of a tree, in source order, their items in source order.
+/// Defines the worlds of a tree, which are of this package, in source order, their items in source order.
 pub fn define_worlds(
     alloc: Global,
     keyed: KeyedState,
     builder: &mut Builder,
+    imports: &Resolve,
     names: &Names,
+    package: PackageId,
     items: &[Item],
 ) -> Result<Vec<World>, AllocError>
-    requires known { All (IsKnownWorld names.now) (filter_map world_of (map item_view items.now)) }
-    requires names { names.now ≡ builder.old.interfaces }
-    ensures { IfOk result (λ ws. DefinesWorlds builder.old builder.new ws.items (map world_meaning (filter_map world_of (map item_view items.now)))) }
+    requires known { All (IsKnownWorldOf (imports_of imports.now) names.now) (filter_map world_of (map item_view items.now)) }
+    requires names { builder.old.interfaces ≡ named_imports imports.now ++ names.now }
+    ensures { IfOk result (λ ws. DefinesWorlds builder.old builder.new «package».0 ws.items (map world_meaning (filter_map world_of (map item_view items.now)))) }
 {
     let mut worlds = Vec::new(alloc);
     for item in items {
         if let Item::World(world) = item {
             let id = world_id(worlds.len())?;
-            worlds.push(define_world(alloc, keyed, builder, names, id, world)?)?;
+            let world = define_world(alloc, keyed, builder, imports, names, package, id, world)?;
+            worlds.push(world)?;
         }
     }
     Ok(worlds)

@@ -31,7 +31,7 @@ shallow r w k d e = let at = get-at r.definitions k (row.Type d) e in (w.each k 
 -- the text of a package is read as a tree that has the package
 pub printed-tree : ((r : Resolve) → IsTextOfPackage r) → ((r : Resolve) → NestsAsText r) → (bytes : List ℕ) (r : Resolve) → IsPrintedAs bytes r → (f : File) × IsRead bytes f × HasPackage f r
 printed-tree texts nests bytes r p =
-    let x = texts r p.writable (nests r p.writable.form (shallow r p.within)) (subst (λ (xs : List ℕ). length xs ≤ limit) p.text p.short) in
+    let x = texts r p.writable p.alone (nests r p.writable.form (shallow r p.within)) (subst (λ (xs : List ℕ). length xs ≤ limit) p.text p.short) in
     (x.0, subst (λ (xs : List ℕ). IsRead xs x.0) (sym p.text) x.1, x.2)
 
 -- which is the one that was read
@@ -76,6 +76,7 @@ printed_as bytes r is utf8 short labels alone form distinct within =
       text = is;
       utf8 = utf8;
       short = short;
-      writable = record { form = x.0; alone = alone; distinct = x.1; labels = labels };
+      writable = record { form = x.0; distinct = x.1; labels = labels };
+      alone = alone;
       within = w;
     })

@@ -78,14 +78,15 @@ pub record IsWrittenAs (bytes : List ℕ) (r : Resolve) : Type 0 where
   pub distinct : All AreDistinct (package_scopes r)
   pub within : AreWithin r
 
--- The bytes are the canonical text of the package, which is UTF-8 and no longer than a text may be; the package has a text, and is within
--- the limits of layout: what `to_text` gives.
+-- The bytes are the canonical text of the package, which is UTF-8 and no longer than a text may be; the package has a text, imports no other, and
+-- is within the limits of layout: what `to_text` gives.
 pub record IsPrintedAs (bytes : List ℕ) (r : Resolve) : Type 0 where
   pub begins : is_binary bytes ≡ false
   pub text : bytes ≡ text_of r
   pub utf8 : IsUtf8 bytes
   pub short : length bytes ≤ limit
   pub writable : IsWritable r
+  pub alone : IsAlone r
   pub within : AreWithin r
 
 -- ---- refusals

@@ -1,5 +1,5 @@
 use Rattle.tables.specs.declared.tables.Definition.TheVariants as row
-use Rattle.package_text.specs.Pieces.{entries_at}
+use Rattle.package_text.specs.Tree.{entries_at}
 use Rattle.package_text.proofs.Standing.{earlier-at}
 use Rattle.package_text.proofs.Formed.{used-at}
 use Rattle.package_text.proofs.Entries.{no-entries, unnamed-entries, type-entries, function-entries, world-entries, pushed, unchanged}

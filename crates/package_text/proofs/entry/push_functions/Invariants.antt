@@ -1,6 +1,6 @@
 use Rattle.std.proofs.Common.{◌≡◌, ◌++◌, map, flat_map, take}
 use Rattle.wit_syntax.specs.View.{entry_view}
-use Rattle.package_text.specs.Pieces.{entries_at}
+use Rattle.package_text.specs.Tree.{entries_at}
 use Rattle.package_text.proofs.entry.push_functions.Given as goal
 
 abbrev pub invariant-loop-id : goal.invariant-loop-id

@@ -1,8 +1,8 @@
-use Rattle.std.proofs.Common.{◌≡◌, [], ◌∷◌, map, sym, ◌∙◌, slice_index_or}
-use Rattle.wit_syntax.specs.Syntax.{Uses, Local}
+use Rattle.std.proofs.Common.{◌≡◌, [], ◌∷◌, map, sym, ◌∙◌}
+use Rattle.wit_syntax.specs.Syntax.{Uses}
 use Rattle.wit_syntax.specs.View.{path_view, used_view}
 use Rattle.wit_print.specs.Unplaced.{nowhere}
-use Rattle.package_text.specs.Tree.{own_names, local_of}
+use Rattle.package_text.specs.Tree.{path_at, local_of}
 use Rattle.package_text.proofs.Entries.{use-written}
 use Rattle.package_text.proofs.entry.use_entry.Goals as goal
 
@@ -12,6 +12,6 @@ returns c =
     let n = c.used_name-name.result.now in
     let l = c.args.local.now in
     let parts : Uses c.nowhere.result (path_view c.in_ok-path_to.field-0) (map used_view c.in_ok-used_as.field-0.items)
-    ≡ Uses nowhere (Local (slice_index_or (own_names r) n.interface.0 [])) (record { name = n.name; local = local_of n.name l } ∷ []) =
+    ≡ Uses nowhere (path_at r n.interface.0) (record { name = n.name; local = local_of n.name l } ∷ []) =
     λ j. Uses (c.nowhere.ensures j) (c.in_ok-path_to.ensures j) (c.in_ok-used_as.ensures j) in
     parts ∙ sym (use-written r c.args.target n l c.used_name-name.ensures.name)

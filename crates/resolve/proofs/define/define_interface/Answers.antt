@@ -4,6 +4,7 @@ use Rattle.wit_syntax.specs.declared.ast.Func.{Func}
 use Rattle.resolve.specs.Declarations.{FunctionItem, used_names, named_function}
 use Rattle.resolve.specs.Lent.{used_item_of, declared_type}
 use Rattle.resolve.specs.Sources.{declared_tree, declared_function}
+use Rattle.resolve.specs.Imports.{interfaces_of}
 use Rattle.resolve.specs.Building.{CanUse, NamesEarlier, scope_names, ordered_names}
 use Rattle.resolve.specs.declared.declared.UsedType.{UsedType}
 use Rattle.resolve.specs.declared.known.KnownTypes.{KnownTypes}
@@ -13,7 +14,7 @@ use Rattle.resolve.proofs.define.define_interface.Goals as goal
 
 pub define_uses-requires-clause-known : goal.define_uses-requires-clause-known
 define_uses-requires-clause-known c =
-    subst (λ (us : List UsedType). All (CanUse c.args.builder.now c.args.scopes.now) (map used_item_of us)) (sym c.deref.ensures.value) c.requires.uses
+    subst (λ (us : List UsedType). All (CanUse (interfaces_of c.args.imports.now) c.args.names.now c.args.builder.now c.args.scopes.now) (map used_item_of us)) (sym c.deref.ensures.value) c.requires.uses
 
 pub define_types-requires-clause-earlier : goal.define_types-requires-clause-earlier
 define_types-requires-clause-earlier c =

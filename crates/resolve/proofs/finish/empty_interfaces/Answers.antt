@@ -1,10 +1,10 @@
 use Rattle.std.proofs.Common.{◌∙◌, refl, [], arith}
-use Rattle.resolve.proofs.Finishing.{interfaces-more}
+use Rattle.resolve.proofs.Closing.{interfaces-more-in}
 use Rattle.resolve.proofs.finish.empty_interfaces.Goals as goal
 
 pub loop-name-preserved : goal.loop-name-preserved
 loop-name-preserved c =
-    let more = interfaces-more [] c.args.names.now c.loop-name.name-index c.name-item.result (omega arith) c.name-item.is in
+    let more = interfaces-more-in c.args.«package».0 [] c.args.first c.args.names.now c.loop-name.name-index c.name-item.result (omega arith) c.name-item.is in
     rw (
       c.in_ok-push.ensures.items,
       c.loop-name.invariant,

@@ -1,4 +1,4 @@
-use Rattle.std.proofs.Common.{◌≡◌, ◌∙◌, ◌+◌, ◌++◌, ◌∷◌, [], List, ℕ, None, true, false, take, ap, sym, arith, Bor}
+use Rattle.std.proofs.Common.{◌≡◌, ◌∙◌, List, ℕ, None, true, false, take, ap, sym, arith, Bor}
 use Rattle.std.specs.Str.{bytes_eq}
 use Rattle.resolve.specs.Lent.{lent, lent_name}
 use Rattle.resolve.specs.Resolves.{place_of}

@@ -10,7 +10,8 @@ use Rattle.package_form.specs.Scope.{AreDistinct}
 use Rattle.package_form.specs.Distinct.{RefusesScopes}
 use Rattle.resolve.specs.Declarations.{InterfaceTree, WorldTree, file_entry_packages, interface_of, world_of, interfaces, worlds, interface_names, package_named}
 use Rattle.resolve.specs.Knowing.{RefusesPackage, RefusesUnknown}
-use Rattle.resolve.specs.Resolves.{earlier_packages, HasKnownNames, IsKnownWorld, interface_fits}
+use Rattle.resolve.specs.Imports.{imports_of}
+use Rattle.resolve.specs.Resolves.{HasKnownNamesOf, IsKnownWorldOf, interface_fits}
 use Rattle.resolve.specs.Scopes.{scopes_in}
 use Rattle.resolve.specs.Sources.{declared_tree}
 use Rattle.resolve.proofs.Trees.{has-entries, refuses-duplicate, refuses-package, refuses-unknown}
@@ -29,8 +30,8 @@ returns-in_err-distinct_names-clause-err c =
     let items = c.args.ast.now.items.items in
     let some : 0 < length items = grind (arith, nat_tests, c.is_empty.ensures, c.if-is_empty.false) in
     let e = c.in_err-distinct_names.field-0.0 in
-    let named = subst (λ (q : PackageParts). RefusesScopes (scopes_in q (map item_view c.deref-2.result.now)) e) c.requires c.in_err-distinct_names.ensures.err in
-    rw (p.1, p.2) (refuses-duplicate f e (has-entries item_view items some) (subst (λ (is : List Item). RefusesScopes (scopes_in (package_named f) (map item_view is)) e) c.deref-2.ensures.value named))
+    let named = subst (λ (q : PackageParts). RefusesScopes (scopes_in q (map item_view c.deref-2.result.now)) e) c.requires.named c.in_err-distinct_names.ensures.err in
+    rw (p.1, p.2) (refuses-duplicate (imports_of c.args.imports.now) f e (has-entries item_view items some) (subst (λ (is : List Item). RefusesScopes (scopes_in (package_named f) (map item_view is)) e) c.deref-2.ensures.value named))
 
 pub returns-in_err-known_packages-clause-err : goal.returns-in_err-known_packages-clause-err
 returns-in_err-known_packages-clause-err c =
@@ -40,12 +41,12 @@ returns-in_err-known_packages-clause-err c =
     let some : 0 < length items = grind (arith, nat_tests, c.is_empty.ensures, c.if-is_empty.false) in
     let e = c.in_err-known_packages.field-0.0 in
     let distinct = subst (λ (is : List Item). All AreDistinct (scopes_in (package_named f) (map item_view is))) c.deref-2.ensures.value
-    (subst (λ (q : PackageParts). All AreDistinct (scopes_in q (map item_view c.deref-2.result.now))) c.requires c.in_ok-distinct_names.ensures.ok) in
-    rw (p.1, p.2) (refuses-package f e (has-entries item_view items some) distinct
-    (subst (λ (is : List Item). RefusesPackage (flat_map file_entry_packages (map item_view is)) e) c.deref-3.ensures.value c.in_err-known_packages.ensures.err))
+    (subst (λ (q : PackageParts). All AreDistinct (scopes_in q (map item_view c.deref-2.result.now))) c.requires.named c.in_ok-distinct_names.ensures.ok) in
+    rw (p.1, p.2) (refuses-package (imports_of c.args.imports.now) f e (has-entries item_view items some) distinct
+    (subst (λ (is : List Item). RefusesPackage c.args.imports.now.packages (flat_map file_entry_packages (map item_view is)) e) c.deref-3.ensures.value (subst (λ (ps : List PackageParts). RefusesPackage ps (flat_map file_entry_packages (map item_view c.deref-3.result.now)) e) c.as_slice.ensures c.in_err-known_packages.ensures.err)))
 
-pub known_names-requires : goal.known_names-requires
-known_names-requires c =
+pub known_names-requires-clause-all : goal.known_names-requires-clause-all
+known_names-requires-clause-all c =
     ap (map declared_tree) c.deref-5.ensures.value ∙ c.in_ok-all.ensures
     ∙ ap (λ (is : List Item). filter_map interface_of (map item_view is)) (c.deref-4.ensures.value ∙ sym c.deref-6.ensures.value)
 
@@ -59,10 +60,10 @@ returns-in_err-known_names-clause-err c =
     let same : map declared_tree c.deref-5.result.now ≡ interfaces f = ap (map declared_tree) c.deref-5.ensures.value ∙ c.in_ok-all.ensures
     ∙ ap (λ (is : List Item). filter_map interface_of (map item_view is)) c.deref-4.ensures.value in
     let distinct = subst (λ (is : List Item). All AreDistinct (scopes_in (package_named f) (map item_view is))) c.deref-2.ensures.value
-    (subst (λ (q : PackageParts). All AreDistinct (scopes_in q (map item_view c.deref-2.result.now))) c.requires c.in_ok-distinct_names.ensures.ok) in
-    let there = subst (λ (is : List Item). All (Contains earlier_packages) (flat_map file_entry_packages (map item_view is))) c.deref-3.ensures.value c.in_ok-known_packages.ensures.ok in
-    rw (p.1, p.2) (refuses-unknown f (map declared_tree c.deref-5.result.now) e same (has-entries item_view items some) distinct there
-    (subst (λ (is : List Item). RefusesUnknown (map declared_tree c.deref-5.result.now) (filter_map world_of (map item_view is)) e) c.deref-6.ensures.value c.in_err-known_names.ensures.err))
+    (subst (λ (q : PackageParts). All AreDistinct (scopes_in q (map item_view c.deref-2.result.now))) c.requires.named c.in_ok-distinct_names.ensures.ok) in
+    let there = subst (λ (is : List Item). All (Contains c.args.imports.now.packages) (flat_map file_entry_packages (map item_view is))) c.deref-3.ensures.value (subst (λ (ps : List PackageParts). All (Contains ps) (flat_map file_entry_packages (map item_view c.deref-3.result.now))) c.as_slice.ensures c.in_ok-known_packages.ensures.ok) in
+    rw (p.1, p.2) (refuses-unknown (imports_of c.args.imports.now) f (map declared_tree c.deref-5.result.now) e same (has-entries item_view items some) distinct there
+    (subst (λ (is : List Item). RefusesUnknown (imports_of c.args.imports.now) (map declared_tree c.deref-5.result.now) (filter_map world_of (map item_view is)) e) c.deref-6.ensures.value c.in_err-known_names.ensures.err))
 
 pub returns-clause-ok : goal.returns-clause-ok
 returns-clause-ok c = c.in_ok-all.ensures ∙ ap (λ (is : List Item). filter_map interface_of (map item_view is)) c.deref-4.ensures.value
@@ -78,12 +79,12 @@ returns-clause-faults c =
     record {
       some = has-entries item_view items some;
       distinct = subst (λ (is : List Item). All AreDistinct (scopes_in (package_named f) (map item_view is))) c.deref-2.ensures.value
-          (subst (λ (q : PackageParts). All AreDistinct (scopes_in q (map item_view c.deref-2.result.now))) c.requires c.in_ok-distinct_names.ensures.ok);
-      packages = subst (λ (is : List Item). All (Contains earlier_packages) (flat_map file_entry_packages (map item_view is))) c.deref-3.ensures.value c.in_ok-known_packages.ensures.ok;
+          (subst (λ (q : PackageParts). All AreDistinct (scopes_in q (map item_view c.deref-2.result.now))) c.requires.named c.in_ok-distinct_names.ensures.ok);
+      packages = subst (λ (is : List Item). All (Contains c.args.imports.now.packages) (flat_map file_entry_packages (map item_view is))) c.deref-3.ensures.value (subst (λ (ps : List PackageParts). All (Contains ps) (flat_map file_entry_packages (map item_view c.deref-3.result.now))) c.as_slice.ensures c.in_ok-known_packages.ensures.ok);
       known = record {
-        in_interfaces = subst (λ (is : List InterfaceTree). All (HasKnownNames is) is) same c.in_ok-known_names.ensures.ok;
-        in_worlds = subst (λ (is : List InterfaceTree). All (IsKnownWorld (interface_names is)) (worlds f)) same
-            (subst (λ (ws : List WorldTree). All (IsKnownWorld (interface_names (map declared_tree c.deref-5.result.now))) ws) there c.in_ok-known_names.ensures.worlds);
+        in_interfaces = subst (λ (is : List InterfaceTree). All (HasKnownNamesOf (imports_of c.args.imports.now) is) is) same c.in_ok-known_names.ensures.ok;
+        in_worlds = subst (λ (is : List InterfaceTree). All (IsKnownWorldOf (imports_of c.args.imports.now) (interface_names is)) (worlds f)) same
+            (subst (λ (ws : List WorldTree). All (IsKnownWorldOf (imports_of c.args.imports.now) (interface_names (map declared_tree c.deref-5.result.now))) ws) there c.in_ok-known_names.ensures.worlds);
       };
     }
 

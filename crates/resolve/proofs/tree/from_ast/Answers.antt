@@ -1,6 +1,5 @@
 use Rattle.wit_syntax.specs.View.{file_view}
-use Rattle.resolve.proofs.TreeForms.{has-form}
-use Rattle.resolve.proofs.PackageScopes.{has-distinct-names}
+use Rattle.resolve.proofs.AloneForms.{has-form, has-distinct-names}
 use Rattle.resolve.proofs.Trees.{ok-both}
 use Rattle.resolve.proofs.Only.{answers-only}
 use Rattle.resolve.proofs.tree.from_ast.Goals as goal

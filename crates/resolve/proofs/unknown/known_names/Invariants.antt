@@ -1,6 +1,7 @@
 use Rattle.std.proofs.Common.{◌≡◌, All, map, take, length}
 use Rattle.std.specs.List.{filter_map}
 use Rattle.wit_syntax.specs.View.{item_view}
+use Rattle.resolve.specs.Imports.{imports_of}
 use Rattle.resolve.specs.Declarations.{interface_of}
 use Rattle.resolve.specs.Knowing.{KnowsFileEntry}
 use Rattle.resolve.specs.Sources.{declared_tree}
@@ -9,5 +10,5 @@ use Rattle.resolve.proofs.unknown.known_names.Given as goal
 abbrev pub invariant-loop-item : goal.invariant-loop-item
 invariant-loop-item l = record {
   place_is : l.place ≡ length (filter_map interface_of (map item_view (take l.item-index l.items)));
-  known : All (KnowsFileEntry (map declared_tree l.all)) (map item_view (take l.item-index l.items));
+  known : All (KnowsFileEntry (imports_of l.imports) (map declared_tree l.all)) (map item_view (take l.item-index l.items));
 }

@@ -1,29 +1,33 @@
-use Rattle.std.proofs.Common.{List, All, IfSome, IfNone, map, sym, subst}
+use Rattle.std.proofs.Common.{List, [], All, map, sym, subst, arith}
 use Rattle.wit_syntax.specs.View.{path_view, used_view}
-use Rattle.wit_syntax.specs.declared.ast.Path.{Path}
 use Rattle.wit_syntax.specs.declared.ast.UsedName.{UsedName}
-use Rattle.resolve.specs.Declarations.{used_item, path_uses}
-use Rattle.resolve.specs.Resolves.{IsKnownUse}
-use Rattle.resolve.specs.Knowing.{LacksUse}
+use Rattle.resolve.specs.Imports.{imports_of}
+use Rattle.resolve.specs.Declarations.{used_item}
+use Rattle.resolve.specs.Resolves.{IsKnownUseOf}
 use Rattle.resolve.specs.Sources.{declared_tree}
-use Rattle.package_form.proofs.Lists.{all-none}
+use Rattle.package_form.proofs.Lists.{map_map-more, all-append, all-cons, all-none, contains-map, contains-at}
+use Rattle.resolve.proofs.Finding.{if-none}
+use Rattle.package_form.proofs.Meeting.{all-taken}
 use Rattle.resolve.proofs.unknown.unknown_in_use.Goals as goal
 
-pub returns-in-Local-clause-none : goal.returns-in-Local-clause-none
-returns-in-Local-clause-none c =
-    let P = IsKnownUse (map declared_tree c.args.all.now) in
-    let r = c.unknown_in_names.result in
-    subst (λ (q : Path). IfNone r (All P (path_uses (path_view q) (map used_view c.args.used.now.names.items)))) (sym c.in-Local.is)
-    (subst (λ (us : List UsedName). IfNone r (All P (map (used_item c.in-Local.interface) (map used_view us)))) c.deref.ensures.value c.unknown_in_names.ensures.none)
+pub returns-in-Some-clause-some : goal.returns-in-Some-clause-some
+returns-in-Some-clause-some c =
+    let x = c.item-item.result in
+    let item = used_item (path_view c.args.path.now) in
+    let there = contains-map item _ _ (contains-map used_view c.args.used.now x (contains-at c.args.used.now c.loop-item.item-index x (omega arith) c.item-item.is)) in
+    (item (used_view x), there, c.in-Some.ensures.some)
 
-pub returns-in-Local-clause-some : goal.returns-in-Local-clause-some
-returns-in-Local-clause-some c =
-    let is = map declared_tree c.args.all.now in
-    let r = c.unknown_in_names.result in
-    subst (λ (q : Path). IfSome r (λ m. LacksUse is (path_uses (path_view q) (map used_view c.args.used.now.names.items)) m.now)) (sym c.in-Local.is)
-    (subst (λ (us : List UsedName). IfSome r (λ m. LacksUse is (map (used_item c.in-Local.interface) (map used_view us)) m.now)) c.deref.ensures.value c.unknown_in_names.ensures.some)
+pub loop-item-preserved : goal.loop-item-preserved
+loop-item-preserved c =
+    let P = IsKnownUseOf (imports_of c.args.imports.now) (map declared_tree c.args.all.now) in
+    let x = c.item-item.result in
+    let item = used_item (path_view c.args.path.now) in
+    let known = if-none c.unknown_used.result _ (λ n e. c.in_default.not-Some n e) c.unknown_used.ensures.none in
+    subst (All P) (sym (map_map-more item used_view c.args.used.now c.loop-item.item-index x (omega arith) c.item-item.is))
+    (all-append P _ _ c.loop-item.invariant (all-cons P (item (used_view x)) [] known (all-none P)))
 
-pub returns-in-Foreign-clause-none : goal.returns-in-Foreign-clause-none
-returns-in-Foreign-clause-none c =
-    let P = IsKnownUse (map declared_tree c.args.all.now) in
-    subst (λ (q : Path). All P (path_uses (path_view q) (map used_view c.args.used.now.names.items))) (sym c.in-Foreign.is) (all-none P)
+pub returns-clause-none : goal.returns-clause-none
+returns-clause-none c =
+    let P = IsKnownUseOf (imports_of c.args.imports.now) (map declared_tree c.args.all.now) in
+    let item = used_item (path_view c.args.path.now) in
+    all-taken (λ (us : List UsedName). All P (map item (map used_view us))) c.args.used.now c.loop-item.item-index (omega arith) c.loop-item.invariant

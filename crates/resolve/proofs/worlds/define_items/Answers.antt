@@ -1,9 +1,10 @@
-use Rattle.std.proofs.Common.{◌∙◌, sym, arith}
+use Rattle.std.proofs.Common.{◌∙◌, arith}
 use Rattle.resolve.specs.Resolved.{item_meaning}
-use Rattle.resolve.specs.Resolves.{IsKnownItem}
+use Rattle.resolve.specs.Resolves.{IsKnownItemOf}
 use Rattle.resolve.specs.Sources.{declared_item}
 use Rattle.package_form.proofs.Lists.{all_map-at, map_map-more}
 use Rattle.resolve.proofs.WorldRows.{items-none, items-more}
+use Rattle.resolve.specs.Imports.{imports_of}
 use Rattle.resolve.proofs.worlds.define_items.Goals as goal
 
 pub loop-item-init : goal.loop-item-init
@@ -11,13 +12,13 @@ loop-item-init c = rw c.new-defined.ensures.items (items-none c.args.builder.now
 
 pub define_item-requires-clause-known : goal.define_item-requires-clause-known
 define_item-requires-clause-known c =
-    all_map-at (IsKnownItem c.args.names.now) declared_item c.args.items.now c.loop-item.item-index c.item-item.result c.requires.known (omega arith) c.item-item.is
+    all_map-at (IsKnownItemOf (imports_of c.args.imports.now) c.args.names.now) declared_item c.args.items.now c.loop-item.item-index c.item-item.result c.requires.known (omega arith) c.item-item.is
 
 pub define_item-requires-clause-names : goal.define_item-requires-clause-names
-define_item-requires-clause-names c = c.requires.names ∙ sym c.loop-item.invariant.adds.front.interfaces
+define_item-requires-clause-names c = c.loop-item.invariant.adds.front.interfaces ∙ c.requires.names
 
 pub loop-item-preserved : goal.loop-item-preserved
 loop-item-preserved c =
     let x = c.item-item.result in
-    let more = items-more c.args.builder.now c.loop-item.builder c.define_item.new.builder c.args.world.0 c.loop-item.defined.items _ c.in_ok-define_item.field-0 _ c.loop-item.invariant c.in_ok-define_item.ensures in
+    let more = items-more c.args.builder.now c.loop-item.builder c.define_item.new.builder c.args.world.0 c.loop-item.defined.items _ c.in_ok-item.item _ c.loop-item.invariant c.in_ok-item.ensures in
     rw (c.in_ok-push.ensures.items, map_map-more item_meaning declared_item c.args.items.now c.loop-item.item-index x (omega arith) c.item-item.is) more

@@ -4,17 +4,18 @@ use Rattle.std.specs.Prelude.{All}
 use Rattle.wit_syntax.specs.View.{world_entry_view}
 use Rattle.resolve.specs.Declarations.{ItemTree, item_tree}
 use Rattle.resolve.specs.Resolved.{item_meaning}
-use Rattle.resolve.specs.Resolves.{IsKnownItem}
+use Rattle.resolve.specs.Resolves.{IsKnownItemOf}
 use Rattle.resolve.specs.Sources.{declared_item}
 use Rattle.resolve.proofs.WorldRows.{world-defined}
+use Rattle.resolve.specs.Imports.{imports_of}
 use Rattle.resolve.proofs.worlds.define_world.Goals as goal
 
 pub define_items-requires-clause-known : goal.define_items-requires-clause-known
 define_items-requires-clause-known c =
-    subst (λ (is : List ItemTree). All (IsKnownItem c.args.names.now) is) (map-map item_tree world_entry_view c.args.world.now.items.items ∙ sym (ap (map declared_item) c.deref.ensures.value)) c.requires.known
+    subst (λ (is : List ItemTree). All (IsKnownItemOf (imports_of c.args.imports.now) c.args.names.now) is) (map-map item_tree world_entry_view c.args.world.now.items.items ∙ sym (ap (map declared_item) c.deref.ensures.value)) c.requires.known
 
 pub returns : goal.returns
 returns c =
     let items = c.args.world.now.items.items in
     let meant = ap (map item_meaning) (ap (map declared_item) c.deref.ensures.value ∙ sym (map-map item_tree world_entry_view items)) in
-    world-defined c.args.builder.now c.define_items.new.builder c.args.id.0 c.in_ok-copy.field-0 c.args.world.now.name c.in_ok-items.items.items c.new.result _ _ c.in_ok-copy.ensures c.new.ensures meant c.in_ok-items.ensures
+    world-defined c.args.«package» c.args.builder.now c.define_items.new.builder c.args.id.0 c.in_ok-copy.field-0 c.args.world.now.name c.in_ok-items.items.items c.new.result _ _ c.in_ok-copy.ensures c.new.ensures meant c.in_ok-items.ensures

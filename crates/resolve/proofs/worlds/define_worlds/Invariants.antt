@@ -7,4 +7,4 @@ use Rattle.resolve.specs.WorldRows.{DefinesWorlds}
 use Rattle.resolve.proofs.worlds.define_worlds.Given as goal
 
 abbrev pub invariant-loop-item : goal.invariant-loop-item
-invariant-loop-item l = DefinesWorlds l.initial.builder l.builder l.worlds.items (map world_meaning (filter_map world_of (map item_view (take l.item-index l.items))))
+invariant-loop-item l = DefinesWorlds l.initial.builder l.builder l.«package».0 l.worlds.items (map world_meaning (filter_map world_of (map item_view (take l.item-index l.items))))

@@ -1,0 +1,39 @@
+use Rattle.std.proofs.Common.{◌≡◌, ◌<◌, ℕ, List, ◌++◌, length, map, get_or, sym, ap, ◌∙◌, arith}
+use Rattle.std.specs.List.{filter}
+use Rattle.std.proofs.lemmas.List.{get_or_default}
+use Rattle.wit_syntax.specs.Syntax.{FileEntry}
+use Rattle.wit_syntax.specs.View.{item_view}
+use Rattle.wit_syntax.specs.declared.ast.Item.{Item}
+use Rattle.tables.specs.PackageNames.{PackageParts}
+use Rattle.package_form.specs.Closed.{own_package}
+use Rattle.package_form.specs.Reached.{is_interface_of}
+use Rattle.package_form.proofs.OwnPackage.{some-package}
+use Rattle.resolve.specs.Imports.{nameless}
+use Rattle.package_text.specs.Tree.{interface_entry, world_entry, own_interfaces, own_parts}
+use Rattle.package_text.proofs.file.tree.Goals as goal
+
+own-parts : (ps qs : List PackageParts) (k : ℕ) (p : PackageParts) → qs ≡ ps → k ≡ own_package qs → k < length qs → p ≡ get_or qs k p → own_parts ps ≡ p
+own-parts ps qs k p e o l is =
+    ap (λ (xs : List PackageParts). get_or xs (own_package xs) nameless) (sym e) ∙ (ap (λ n. get_or qs n nameless) (sym o) ∙ (get_or_default qs k nameless p l ∙ sym is))
+
+pub bounds-packages-own : goal.bounds-packages-own
+bounds-packages-own c =
+    let some = some-package c.args.resolve.now c.requires.closed in omega (arith, some, c.own_package-own.ensures, ap length c.as_slice-packages.ensures)
+
+pub returns : goal.returns
+returns c =
+    let r = c.args.resolve.now in
+    let own = c.own_package-own.ensures ∙ ap own_package c.as_slice-packages.ensures in
+    let some = some-package r c.requires.closed in
+    let within : c.own_package-own.result < length c.as_slice-packages.result.now = omega (arith, some, c.own_package-own.ensures, ap length c.as_slice-packages.ensures) in
+    let p = own-parts r.packages c.as_slice-packages.result.now c.own_package-own.result c.index-packages-own.result c.as_slice-packages.ensures c.own_package-own.ensures within c.index-packages-own.is in
+    let first : map item_view c.push_interfaces.new.items.items ≡ map (interface_entry r) (own_interfaces r) =
+    c.in_ok-push_interfaces.ensures
+    ∙ (ap (λ (xs : List Item). map item_view xs ++ map (interface_entry r) (filter (is_interface_of c.own_package-own.result) r.interfaces)) c.new-items.ensures.items
+    ∙ ap (λ n. map (interface_entry r) (filter (is_interface_of n) r.interfaces)) own) in
+    let entries : map item_view c.push_worlds.new.items.items ≡ map (interface_entry r) (own_interfaces r) ++ map (world_entry r) r.worlds =
+    c.in_ok-push_worlds.ensures ∙ ap (λ (es : List FileEntry). es ++ map (world_entry r) r.worlds) first in
+    let namespace = c.in_ok-package.ensures.namespace ∙ sym (ap (λ (q : PackageParts). q.namespace) p) in
+    let name = c.in_ok-package.ensures.name ∙ sym (ap (λ (q : PackageParts). q.name) p) in
+    let version = c.in_ok-package.ensures.version ∙ sym (ap (λ (q : PackageParts). q.version) p) in
+    λ j. record { namespace = namespace j; name = name j; version = version j; entries = entries j }
