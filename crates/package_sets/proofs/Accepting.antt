@@ -1,11 +1,11 @@
 -- What the worlds of a set with a package more mean, and that the set is accepted as its definition says.
-use Rattle.std.proofs.Common.{◌≡◌, ◌≤◌, ℕ, zero, suc, ◌+◌, true, List, [], ◌∷◌, ◌++◌, length, map, take, drop, slice_get, Option, None, Some, refl, ap, sym, subst, ◌∙◌, arith, true≢false, eqb-true}
+use Rattle.std.proofs.Common.{◌≡◌, ◌≤◌, ℕ, ◌+◌, true, List, [], ◌++◌, length, map, take, drop, slice_get, Option, None, Some, refl, ap, sym, subst, ◌∙◌, arith, true≢false, eqb-true}
 use Rattle.std.specs.List.{list_all}
 use Rattle.std.proofs.lemmas.Bool.{ltb-true, lt-ltb}
 use Rattle.std.proofs.lemmas.List.{map-append, take-append-drop}
 use Rattle.std.proofs.lemmas.Option.{slice_get_within, get_or_from_slice_get}
 use Rattle.package_form.specs.Closed.{own_package, is_closed, is_world_of}
-use Rattle.tables.specs.Tables.{is_below, option_all, definition_below, function_of, is_function_of, is_placed_item, is_placed_world, are_placed_worlds}
+use Rattle.tables.specs.Tables.{is_below, option_all, definition_below, function_of, is_function_of, is_placed_item}
 use Rattle.tables.specs.Names.{full_name_in, world_name}
 use Rattle.tables.specs.Package.{Tree, trees, references, interface_names, worlds, world_meaning, item_meaning, function_item, WithInterface, WorldMeaning, ItemMeaning}
 use Rattle.tables.specs.PackageNames.{PackageParts}
@@ -16,40 +16,25 @@ use Rattle.tables.specs.declared.tables.ValType.{ValType}
 use Rattle.tables.specs.declared.tables.ValType.TheVariants as val
 use Rattle.tables.specs.declared.tables.Definition.{Definition}
 use Rattle.tables.specs.declared.tables.Definition.TheVariants as row
-use Rattle.tables.specs.declared.tables.Interface.{Interface}
 use Rattle.tables.specs.declared.tables.World.{World}
 use Rattle.tables.specs.declared.tables.WorldItemKind.{WorldItemKind}
 use Rattle.tables.specs.declared.tables.WorldItemKind.TheVariants as item
 use Rattle.tables.specs.declared.tables.Resolve.{Resolve}
 use Rattle.package_sets.specs.Moved.{Renaming, put_val, put_row, put_function, put_interface, put_item, put_item_kind, put_world}
-use Rattle.package_sets.specs.Set.{IsPackageByPackage, HasRowsInForm, ArePackageByPackage}
+use Rattle.package_sets.specs.Set.{IsPackageByPackage, HasRowsInForm}
 use Rattle.package_sets.specs.Joining.{own_interfaces}
 use Rattle.package_sets.specs.Joined.{renaming_of, IsJoined, IsPut}
 use Rattle.package_sets.specs.Attached.{IsOwn, IsNew, HasRoom, HasAll, others, IsAttached}
 use Rattle.package_sets.specs.declared.joining.Joined.{Joined}
 use Rattle.package_sets.proofs.Lists.{front-get}
-use Rattle.package_sets.proofs.Kept.{list-at, map-put-as, worlds-grouped-at}
+use Rattle.package_sets.proofs.Kept.{list-at, map-put-as, placed-at, worlds-grouped-at}
 use Rattle.package_sets.proofs.Named.{definition-put}
 use Rattle.package_sets.proofs.Renaming.{AreThere, in_place, row-stays, params-same, result-same, length-references, references-append, trees-stay, trees-there}
 use Rattle.package_sets.proofs.Finding.{imports-of}
-use Rattle.package_sets.proofs.Behind.{rows-there, row-there}
-use Rattle.package_sets.proofs.Parting.{all-stand}
+use Rattle.package_sets.proofs.Behind.{row-there}
+use Rattle.package_sets.proofs.SetForm.{stands-there, set-form}
 use Rattle.package_sets.proofs.Attaching.{map-each, set-package, own-package, names-are}
 use Rattle.package_sets.proofs.Meaning.{all-worlds, have-names, keep-names, set-trees, import-trees, set-trees-are, agree, own-behind-set, own-earlier, own-within, definitions-are}
-
--- at a world's place, its items are of the table
-placed-at : (ds : List Definition) (count w : ℕ) (ws : List World) (k : ℕ) (x : World) → are_placed_worlds ds count w ws ≡ true → slice_get ws k ≡ Some x → is_placed_world ds count (w + k) x ≡ true
-placed-at ds count w [] k x h e = absurd (cc)
-placed-at ds count w (y ∷ ws) zero x h e =
-    let same : y ≡ x = cc in
-    let p = split (is_placed_world ds count w y) (are_placed_worlds ds count (w + 1) ws) h in
-    subst (λ n. is_placed_world ds count n x ≡ true) (omega arith) (subst (λ (z : World). is_placed_world ds count w z ≡ true) same p.0)
-placed-at ds count w (y ∷ ws) (suc k) x h e =
-    let p = split (is_placed_world ds count w y) (are_placed_worlds ds count (w + 1) ws) h in
-    subst (λ n. is_placed_world ds count n x ≡ true) (next w k) (placed-at ds count (w + 1) ws k x p.1 e)
-  where
-    next : (n m : ℕ) → n + 1 + m ≡ n + suc m
-    next n m = omega arith
 
 -- what stands before a place stands before a later one
 below-more : (k n : ℕ) (d : Definition) → k ≤ n → definition_below k d ≡ true → definition_below n d ≡ true
@@ -181,13 +166,9 @@ module _ (s c : Resolve) (j : Joined) (q : IsJoined s c j) (own : PackageParts) 
       rows_are = put.definitions;
     };
     interfaces_are = names-are s c j q own is r put;
-    stands = λ h form. stands-there h form;
+    stands = stands-there s c j q own r put;
     definitions_are = λ h. definitions-are s c j q own is r put h.set_is h.rows h.closed_is;
     worlds_are = λ h. worlds-are h.set_is h.rows h.closed_is;
+    in_form = λ set closed distinct.
+        set-form s c j q own is r put room (new own is) set closed distinct (worlds-are set.rows.stands (record { parted = closed.parted; interfaces = closed.interfaces; items = closed.worlds }) closed.closed);
   }
-    where
-      stands-there : IsPackageByPackage s → HasRowsInForm c → IsPackageByPackage r
-      stands-there h form =
-          subst (λ (ds : List Definition). ArePackageByPackage ds 0 0 r.interfaces 0 r.worlds) (sym put.definitions)
-          (subst (λ (is : List Interface). ArePackageByPackage (rows-there s c j q) 0 0 is 0 r.worlds) (sym put.interfaces)
-          (subst (λ (ws : List World). ArePackageByPackage (rows-there s c j q) 0 0 (s.interfaces ++ map (put_interface to) (own_interfaces c)) 0 ws) (sym put.worlds) (all-stand s c j q h form)))

@@ -31,7 +31,7 @@ map-each f g (x ∷ xs) h = let e = h 0 x refl in let r = map-each f g xs (λ k 
 pub name-get : {A : Type 0} (f : A → List ℕ) (xs : List A) (k : ℕ) (x : A) → slice_get xs k ≡ Some x → get_or (map f xs) k [] ≡ f x
 name-get f xs k x e = get_or_from_slice_get (map f xs) k (f x) [] (map-get f xs k x e)
 
-same-packages : (o p : Option PackageParts) → are_same_packages o p ≡ true → o ≡ p
+pub same-packages : (o p : Option PackageParts) → are_same_packages o p ≡ true → o ≡ p
 same-packages None p h = absurd (true≢false (sym h))
 same-packages (Some x) None h = absurd (true≢false (sym h))
 same-packages (Some x) (Some y) h = ap Some (package-is x y h)

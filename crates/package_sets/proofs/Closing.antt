@@ -27,7 +27,7 @@ use Rattle.package_sets.specs.Places.{kept, place}
 use Rattle.package_sets.specs.Reaches.{is_marked}
 use Rattle.package_sets.specs.Renamed.{renaming}
 use Rattle.package_sets.specs.Moved.{put_val, put_field, put_case, put_parameter, put_kind, put_row, put_function, put_function_id, has_function, put_interface}
-use Rattle.package_sets.specs.Restricted.{IsNeeded}
+use Rattle.package_sets.specs.Part.{IsPart}
 use Rattle.package_sets.specs.declared.moved.Moved.{Moved}
 use Rattle.package_sets.proofs.Keeping.{kept-none, kept-at}
 use Rattle.package_sets.proofs.Kept.{list-at}
@@ -130,11 +130,11 @@ functions-at ds i f h (k, l, e) =
     let q = split (list_all (is_type_id ds) i.types) (list_all (is_function_id ds) i.functions) p.1 in
     list-at (is_function_id ds) i.functions k f q.1 (slice_get-get_or i.functions k f l ∙ ap Some e)
 
-module _ (s : Resolve) (own : ℕ) (to : Moved) (n : IsNeeded s own to) (r : Resolve) (is : r.interfaces ≡ map (put_interface (renaming to)) (kept to.interfaces s.interfaces)) (ds : r.definitions ≡ map (put_row (renaming to)) (kept to.rows s.definitions)) (names : (k : ℕ) (i : Interface) → get_or to.interfaces k false ≡ true → slice_get s.interfaces k ≡ Some i → full_name r (put_interface (renaming to) i) ≡ full_name s i) where
+module _ (s : Resolve) (to : Moved) (n : IsPart s to) (r : Resolve) (is : r.interfaces ≡ map (put_interface (renaming to)) (kept to.interfaces s.interfaces)) (ds : r.definitions ≡ map (put_row (renaming to)) (kept to.rows s.definitions)) (names : (k : ℕ) (i : Interface) → get_or to.interfaces k false ≡ true → slice_get s.interfaces k ≡ Some i → full_name r (put_interface (renaming to) i) ≡ full_name s i) where
   closed-agrees : ClosedAgrees to.rows (closed_types s) (closed_types r)
   closed-agrees = subst (λ (xs : List Definition). ClosedAgrees to.rows (closed_types s) (closed_rows [] xs)) (sym ds)
-      (closed-kept (is_marked n.marks) to to.rows [] [] s.definitions (table.count-rows s own to n) (record { count = sym (place-none to.rows); same = λ t h. absurd (omega arith) })
-      (λ k. ap (λ j. get_or to.rows j false) (omega arith)) (table.rights s own to n))
+      (closed-kept (is_marked n.marks) to to.rows [] [] s.definitions (table.count-rows s to n) (record { count = sym (place-none to.rows); same = λ t h. absurd (omega arith) })
+      (λ k. ap (λ j. get_or to.rows j false) (omega arith)) (table.rights s to n))
 
   -- a function that is kept is there as it was
   at-there : (f : FunctionId) (g : Function) → slice_get s.definitions f.0 ≡ Some (row.Function g) → get_or to.rows f.0 false ≡ true → function_at r (put_function_id (renaming to) f) ≡ Some (put_function (renaming to) g)
@@ -145,7 +145,7 @@ module _ (s : Resolve) (own : ℕ) (to : Moved) (n : IsNeeded s own to) (r : Res
   type-there : (f : FunctionId) (g : Function) → slice_get s.definitions f.0 ≡ Some (row.Function g) → get_or to.rows f.0 false ≡ true → function_type r (put_function_id (renaming to) f) ≡ function_type s f
   type-there f g d k =
       let count : length (closed_types s) ≡ length s.definitions = omega (arith, length-closed_rows [] s.definitions) in
-      let all = table.kept-all s own to n f.0 (length (closed_types s)) (row.Function g) (omega (arith, count, slice_get_within s.definitions f.0 (row.Function g) d)) d k in
+      let all = table.kept-all s to n f.0 (length (closed_types s)) (row.Function g) (omega (arith, count, slice_get_within s.definitions f.0 (row.Function g) d)) d k in
       let p = split (list_all (λ q. is_kept to.rows (length (closed_types s)) q.ty) g.params) (option_all (is_kept to.rows (length (closed_types s))) g.result) all in
       let x = params-closed to (closed_types s) (closed_types r) closed-agrees g p.0 in
       let y = option-closed to (closed_types s) (closed_types r) closed-agrees g.result p.1 in

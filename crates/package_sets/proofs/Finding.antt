@@ -1,5 +1,5 @@
 -- Where the imports of a closed table are found in a set.
-use Rattle.std.proofs.Common.{◌≡◌, ◌<◌, ◌⊎◌, inl, inr, ℕ, zero, suc, ◌+◌, Bool, true, false, not, List, [], ◌∷◌, ◌++◌, length, take, get_or, slice_get, Some, refl, ap, sym, subst, ◌∙◌, arith, true≢false}
+use Rattle.std.proofs.Common.{◌≡◌, ◌<◌, ◌⊎◌, inl, inr, ℕ, zero, suc, ◌+◌, Bool, true, false, List, [], ◌∷◌, ◌++◌, length, take, get_or, slice_get, Some, refl, ap, sym, subst, ◌∙◌, arith, true≢false}
 use Rattle.std.proofs.lemmas.List.{get_or_append_left, length-take, length_push}
 use Rattle.std.proofs.Math.Seq.{get_or-append_seam}
 use Rattle.std.proofs.lemmas.Option.{slice_get_within}
@@ -112,10 +112,6 @@ imports-of set closed j q =
     }
 
 -- ---- the packages that a set has
-
-not-true : (b : Bool) → not b ≡ true → b ≡ false
-not-true true e = absurd (true≢false (sym e))
-not-true false e = refl
 
 pub lacks-first : (set : Resolve) (ps : List PackageParts) (n : ℕ) (p q : PackageParts) → slice_get ps n ≡ Some p → q ≡ p → has_package set p ≡ false → ((k : ℕ) (x : PackageParts) → slice_get (take n ps) k ≡ Some x → has_package set x ≡ true)
     → LacksFirst set ps q

@@ -1,30 +1,24 @@
 -- Rows that stand package by package, with all worlds in the last package, are parted as those of a closed table.
-use Rattle.std.proofs.Common.{◌≡◌, ◌≤◌, ℕ, suc, ◌+◌, true, ◌&&◌, nat_le, nat_lt, List, [], ◌∷◌, length, map, slice_get, Some, refl, ap, arith, eqb-true, eq-eqb}
+use Rattle.std.proofs.Common.{◌≡◌, ◌≤◌, ℕ, suc, ◌+◌, true, ◌&&◌, nat_le, nat_lt, List, [], ◌∷◌, length, map, slice_get, Some, refl, arith, eq-eqb}
 use Rattle.std.specs.List.{list_all}
 use Rattle.std.proofs.lemmas.Bool.{ltb-true, le-leb}
-use Rattle.std.proofs.lemmas.Option.{slice_get_within, get_or_from_slice_get}
 use Rattle.package_form.specs.Ends.{end_of, rows_of, interfaces_end, world_end, world_rows, is_parted}
 use Rattle.package_form.specs.Form.{has_ids, is_local, has_items, is_world_row, are_interfaces, have_items}
-use Rattle.package_form.proofs.Lists.{contains-unmap}
 use Rattle.tables.proofs.Rows.{split, both}
 use Rattle.tables.specs.declared.tables.Definition.{Definition}
 use Rattle.tables.specs.declared.tables.Interface.{Interface}
 use Rattle.tables.specs.declared.tables.World.{World}
 use Rattle.tables.specs.declared.tables.Resolve.{Resolve}
-use Rattle.package_sets.specs.Places.{kept, place}
+use Rattle.package_sets.specs.Places.{kept}
 use Rattle.package_sets.specs.Renamed.{renaming}
 use Rattle.package_sets.specs.Moved.{put_row, put_interface, put_world}
-use Rattle.package_sets.specs.Restricted.{IsNeeded, NamesEarlierPackages}
+use Rattle.package_sets.specs.Part.{IsPart}
 use Rattle.package_sets.specs.Set.{ArePackageByPackage, behind_all, an_interface, a_world, IsSet, HasRowsInForm}
 use Rattle.package_sets.specs.declared.moved.Moved.{Moved}
-use Rattle.package_sets.proofs.Closing.{kept-from}
-use Rattle.package_sets.proofs.Keeping.{place-order}
-use Rattle.package_sets.proofs.Lasting.{last-own}
-use Rattle.package_sets.proofs.Restricting as table
 use Rattle.package_sets.proofs.Standing.{all-stand}
 
 -- no interface is of a later package than a world
-abbrev AreBefore : List Interface → List World → Type 0
+abbrev pub AreBefore : List Interface → List World → Type 0
 AreBefore is ws = (a b : ℕ) (i : Interface) (w : World) → slice_get is a ≡ Some i → slice_get ws b ≡ Some w → i.«package».0 ≤ w.«package».0
 
 record AreInForm (rows : List Definition) (start k : ℕ) (is : List Interface) (j : ℕ) (ws : List World) : Type 0 where
@@ -54,23 +48,9 @@ in-form rows _ _ _ _ _ (a_world start k (i ∷ is) j w ws a later rest) before =
     let m = before 0 0 i w refl refl in
     absurd (omega arith)
 
-module _ (s : Resolve) (own : ℕ) (to : Moved) (n : IsNeeded s own to) where
-  before-there : NamesEarlierPackages s → AreBefore (map (put_interface (renaming to)) (kept to.interfaces s.interfaces)) (map (put_world (renaming to)) (kept to.worlds s.worlds))
-  before-there h a b i w e f =
-      let u = contains-unmap (put_interface (renaming to)) (kept to.interfaces s.interfaces) i (a, slice_get_within _ a i e, get_or_from_slice_get _ a i i e) in
-      let x = kept-from to.interfaces s.interfaces u.0 u.1 in
-      let v = contains-unmap (put_world (renaming to)) (kept to.worlds s.worlds) w (b, slice_get_within _ b w f, get_or_from_slice_get _ b w w f) in
-      let y = kept-from to.worlds s.worlds v.0 v.1 in
-      let needed = table.interface-needed s own to n x.0 u.0 x.1 x.2 in
-      let low : u.0.«package».0 ≤ own = last-own s own to n h u.0.«package».0 (n.packages_are.only u.0.«package».0 needed) in
-      let is : v.0.«package».0 ≡ own = eqb-true v.0.«package».0 own (table.world-own s own to n y.0 v.0 y.1 y.2) in
-      let order = place-order to.packages u.0.«package».0 v.0.«package».0 (omega (arith, low, is)) in
-      let p : place to.packages u.0.«package».0 ≡ i.«package».0 = ap (λ (z : Interface). z.«package».0) u.2 in
-      let q : place to.packages v.0.«package».0 ≡ w.«package».0 = ap (λ (z : World). z.«package».0) v.2 in
-      omega (arith, order, p, q)
-
+module _ (s : Resolve) (to : Moved) (n : IsPart s to) where
   pub rows-in-form : (r : Resolve) → r.interfaces ≡ map (put_interface (renaming to)) (kept to.interfaces s.interfaces) → r.worlds ≡ map (put_world (renaming to)) (kept to.worlds s.worlds)
-      → r.definitions ≡ map (put_row (renaming to)) (kept to.rows s.definitions) → IsSet s → NamesEarlierPackages s → HasRowsInForm r
+      → r.definitions ≡ map (put_row (renaming to)) (kept to.rows s.definitions) → IsSet s → AreBefore (map (put_interface (renaming to)) (kept to.interfaces s.interfaces)) (map (put_world (renaming to)) (kept to.worlds s.worlds)) → HasRowsInForm r
   rows-in-form r is ws ds h e =
-      let f = in-form (map (put_row (renaming to)) (kept to.rows s.definitions)) 0 0 (map (put_interface (renaming to)) (kept to.interfaces s.interfaces)) 0 (map (put_world (renaming to)) (kept to.worlds s.worlds)) (all-stand s own to n h) (before-there e) in
+      let f = in-form (map (put_row (renaming to)) (kept to.rows s.definitions)) 0 0 (map (put_interface (renaming to)) (kept to.interfaces s.interfaces)) 0 (map (put_world (renaming to)) (kept to.worlds s.worlds)) (all-stand s to n h) e in
       record { parted = rw (is, ws, ds) f.parted; interfaces = rw (is, ds) f.interfaces; items = rw (is, ws, ds) f.items }

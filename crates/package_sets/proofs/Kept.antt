@@ -1,12 +1,13 @@
 -- What is true of all elements is true of those that are kept, as they are put elsewhere.
-use Rattle.std.proofs.Common.{◌≡◌, ◌≤◌, ◌<◌, ℕ, zero, suc, Bool, true, false, ◌&&◌, nat_le, nat_lt, List, [], ◌∷◌, get_or, slice_get, map, Some, refl, subst, arith, IsTrue}
+use Rattle.std.proofs.Common.{◌≡◌, ◌≤◌, ◌<◌, ℕ, zero, suc, ◌+◌, Bool, true, false, ◌&&◌, nat_le, nat_lt, List, [], ◌∷◌, get_or, slice_get, map, Some, refl, subst, arith, IsTrue}
 use Rattle.std.specs.Prelude.{filter}
 use Rattle.std.specs.List.{list_all}
 use Rattle.std.proofs.lemmas.Bool.{ltb-true, lt-ltb, leb-true, le-leb}
-use Rattle.tables.specs.Tables.{are_grouped, are_worlds_grouped}
+use Rattle.tables.specs.Tables.{are_grouped, are_worlds_grouped, is_placed_world, are_placed_worlds}
 use Rattle.tables.proofs.Rows.{split, both}
 use Rattle.package_sets.specs.Places.{kept, place}
 use Rattle.package_sets.proofs.Keeping.{place-order}
+use Rattle.tables.specs.declared.tables.Definition.{Definition}
 use Rattle.tables.specs.declared.tables.Interface.{Interface}
 use Rattle.tables.specs.declared.tables.World.{World}
 
@@ -107,3 +108,17 @@ worlds-grouped-at count first (v ∷ ws) zero w h e =
 worlds-grouped-at count first (v ∷ ws) (suc k) w h e =
     let p = split (nat_le first v.«package».0 && nat_lt v.«package».0 count) (are_worlds_grouped count v.«package».0 ws) h in
     worlds-grouped-at count v.«package».0 ws k w p.1 e
+
+-- at a world's place, its items are of the table
+pub placed-at : (ds : List Definition) (count w : ℕ) (ws : List World) (k : ℕ) (x : World) → are_placed_worlds ds count w ws ≡ true → slice_get ws k ≡ Some x → is_placed_world ds count (w + k) x ≡ true
+placed-at ds count w [] k x h e = absurd (cc)
+placed-at ds count w (y ∷ ws) zero x h e =
+    let same : y ≡ x = cc in
+    let p = split (is_placed_world ds count w y) (are_placed_worlds ds count (w + 1) ws) h in
+    subst (λ n. is_placed_world ds count n x ≡ true) (omega arith) (subst (λ (z : World). is_placed_world ds count w z ≡ true) same p.0)
+placed-at ds count w (y ∷ ws) (suc k) x h e =
+    let p = split (is_placed_world ds count w y) (are_placed_worlds ds count (w + 1) ws) h in
+    subst (λ n. is_placed_world ds count n x ≡ true) (next w k) (placed-at ds count (w + 1) ws k x p.1 e)
+  where
+    next : (n m : ℕ) → n + 1 + m ≡ n + suc m
+    next n m = omega arith

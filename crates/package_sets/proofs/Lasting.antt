@@ -8,7 +8,7 @@ use Rattle.tables.specs.declared.tables.Owner.TheVariants as owner
 use Rattle.tables.specs.declared.tables.Interface.{Interface}
 use Rattle.tables.specs.declared.tables.World.{World}
 use Rattle.tables.specs.declared.tables.Resolve.{Resolve}
-use Rattle.package_sets.specs.Reaches.{is_marked, own_marks, is_own_interface, is_own_world, world_owners, owners_in, Reaches, of_package, of_items, of_row}
+use Rattle.package_sets.specs.Reaches.{is_marked, own_marks, is_own_interface, is_own_world, world_owners, owners_in, OfPackage, Reaches, of_start, of_row}
 use Rattle.package_sets.specs.Restricted.{number_or, package_of_owner, NamesEarlierPackages, IsNeeded, IsReachedIn}
 use Rattle.package_sets.specs.declared.moved.Moved.{Moved}
 
@@ -37,12 +37,15 @@ item-of own (w ∷ ws) o c = elim (Contains-append_cases (world_owners own w) (f
         none : Contains [] o → ⊥
         none (k, h, z) = omega arith
 
-reached-before : (s : Resolve) (own : ℕ) → NamesEarlierPackages s → (o : Option Owner) → Reaches s own o → package_of_owner s o ≤ own
-reached-before s own h o (of_package _ e) = own-marked s own o e
-reached-before s own h o (of_items _ c) =
-    let w = item-of own s.worlds o c in
-    let l = h.items w.0 o w.1 w.3 in
-    omega (arith, l, w.2)
+reached-before : (s : Resolve) (own : ℕ) → NamesEarlierPackages s → (o : Option Owner) → Reaches s (OfPackage own) o → package_of_owner s o ≤ own
+reached-before s own h o (of_start _ e) = by e
+  where
+    by : (is_marked (own_marks s own) o ≡ true) ⊎ Contains (flat_map (world_owners own) s.worlds) o → package_of_owner s o ≤ own
+    by (inl q) = own-marked s own o q
+    by (inr c) =
+        let w = item-of own s.worlds o c in
+        let l = h.items w.0 o w.1 w.3 in
+        omega (arith, l, w.2)
 reached-before s own h o (of_row k d _ at r c) =
     let before = reached-before s own h _ r in
     let l = h.rows k d o at c in

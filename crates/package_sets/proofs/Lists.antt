@@ -1,9 +1,11 @@
 -- Lists that grow: what is true of all their elements, and places one behind the other.
-use Rattle.std.proofs.Common.{◌≡◌, ◌≤◌, ◌<◌, ◌⊎◌, inl, inr, ℕ, zero, suc, ◌+◌, ◌-◌, List, [], ◌∷◌, ◌++◌, length, map, take, drop, get_or, slice_get, Bool, true, None, Some, refl, ap, sym, subst, ◌∙◌, arith}
+use Rattle.std.proofs.Common.{◌≡◌, ◌≤◌, ◌<◌, ◌⊎◌, inl, inr, ℕ, zero, suc, ◌+◌, ◌-◌, List, [], ◌∷◌, ◌++◌, length, map, take, drop, get_or, slice_get, Bool, true, None, Some, refl, ap, sym, subst, ◌∙◌, arith, false, not, true≢false}
+use Rattle.std.specs.Prelude.{flat_map, Contains}
 use Rattle.std.specs.List.{list_all}
-use Rattle.std.proofs.lemmas.Option.{slice_get_within, slice_get-get_or}
+use Rattle.std.proofs.lemmas.Option.{slice_get_within, slice_get-get_or, get_or_from_slice_get}
 use Rattle.std.proofs.lemmas.List.{get_or_append_left, get_or-append-add, length-take}
 use Rattle.canonical_abi.proofs.Images.{slice_get-take}
+use Rattle.package_form.proofs.Lists.{contains-here, contains-later, contains-either}
 use Rattle.tables.proofs.Rows.{split, both}
 use Rattle.package_sets.specs.Joining.{places_from, all_places}
 
@@ -44,6 +46,11 @@ pub map-get : {A B : Type 0} (f : A → B) (xs : List A) (k : ℕ) (x : A) → s
 map-get f [] k x e = absurd (cc)
 map-get f (y ∷ xs) zero x e = let same : y ≡ x = cc in ap (λ z. Some (f z)) same
 map-get f (y ∷ xs) (suc k) x e = map-get f xs k x e
+
+pub map-unget : {A B : Type 0} (f : A → B) (xs : List A) (k : ℕ) (y : B) → slice_get (map f xs) k ≡ Some y → (x : A) × (slice_get xs k ≡ Some x) × (f x ≡ y)
+map-unget f [] k y e = absurd (cc)
+map-unget f (x ∷ xs) zero y e = (x, refl, cc)
+map-unget f (x ∷ xs) (suc k) y e = map-unget f xs k y e
 
 pub front-get : {A : Type 0} (xs ys : List A) (k : ℕ) (x : A) → slice_get xs k ≡ Some x → slice_get (xs ++ ys) k ≡ Some x
 front-get [] ys k x e = absurd (cc)
@@ -120,3 +127,27 @@ pub take-mapped : {A B : Type 0} (f : A → B) (m : ℕ) (xs : List A) → take 
 take-mapped f zero xs = refl
 take-mapped f (suc m) [] = refl
 take-mapped f (suc m) (x ∷ xs) = ap (λ ys. f x ∷ ys) (take-mapped f m xs)
+
+-- ---- lists of lists
+
+pub contains-unflat : {A B : Type 0} (f : A → List B) (xs : List A) (y : B) → Contains (flat_map f xs) y → (x : A) × Contains xs x × Contains (f x) y
+contains-unflat f [] y c = absurd (omega (arith, c.1))
+contains-unflat {A = A} f (x ∷ xs) y c = elim (contains-either (f x) (flat_map f xs) y c) [ inl h ↦ (x, contains-here x xs, h) | inr h ↦ later (contains-unflat f xs y h) ]
+  where
+    later : (z : A) × Contains xs z × Contains (f z) y → (z : A) × Contains (x ∷ xs) z × Contains (f z) y
+    later (z, a, b) = (z, contains-later x z xs a, b)
+
+pub get-contains : {A : Type 0} (xs : List A) (k : ℕ) (x : A) → slice_get xs k ≡ Some x → Contains xs x
+get-contains xs k x e = (k, slice_get_within xs k x e, get_or_from_slice_get xs k x x e)
+
+pub contains-get : {A : Type 0} (xs : List A) (x : A) → Contains xs x → (k : ℕ) × (slice_get xs k ≡ Some x)
+contains-get xs x (k, l, e) = (k, slice_get-get_or xs k x l ∙ ap Some e)
+
+pub one-there : {A : Type 0} (xs : List A) (k : ℕ) → k < length xs → (x : A) × (slice_get xs k ≡ Some x)
+one-there [] k h = absurd (omega arith)
+one-there (x ∷ xs) zero h = (x, refl)
+one-there (x ∷ xs) (suc k) h = one-there xs k (omega (arith, h))
+
+pub not-is : (b : Bool) → not b ≡ true → b ≡ false
+not-is true e = absurd (true≢false (sym e))
+not-is false e = refl

@@ -6,8 +6,8 @@ use Rattle.std.proofs.lemmas.Grind.{take_at_read}
 use Rattle.std.proofs.lemmas.Option.{slice_get_within, slice_get-get_or}
 use Rattle.std.proofs.lemmas.List.Elements.{Contains-append_cases, Contains-append_left, Contains-append_right}
 use Rattle.package_sets.specs.Owners.{owners}
-use Rattle.package_sets.specs.Reaches.{Marks, is_marked, owner_at, named_owners, own_marks, owners_in, is_own_interface, is_own_world, world_owners, Reaches, of_package, of_items, of_row, AreReached}
-use Rattle.package_sets.specs.Marking.{unmarked_in, unmarked, Adds, Tells, AddsRow, Passes, AreSound, IsFixedAt}
+use Rattle.package_sets.specs.Reaches.{Marks, is_marked, owner_at, named_owners, own_marks, owners_in, is_own_interface, is_own_world, world_owners, padded, given_marks, Start, OfPackage, OfInterfaces, IsStart, Reaches, of_start, of_row, AreReached}
+use Rattle.package_sets.specs.Marking.{unmarked_in, unmarked, Adds, Tells, AddsRow, Passes, AreSound, IsFixedAt, AreGrown}
 use Rattle.tables.specs.declared.tables.TypeId.{TypeId}
 use Rattle.tables.specs.declared.tables.Owner.{Owner}
 use Rattle.tables.specs.declared.tables.Owner.TheVariants as owner
@@ -171,7 +171,7 @@ marked-none m = record { adds = adds-none m; tells = record { fewer = λ e. absu
 pub record PassesFrom (set : Resolve) (n : ℕ) (old new : Marks) (grew : Bool) : Type 0 where
   pub count : length new.interfaces ≡ length old.interfaces
   pub keeps : (o : Option Owner) → is_marked old o ≡ true → is_marked new o ≡ true
-  pub sound : (own : ℕ) → AreSound set own old → AreSound set own new
+  pub sound : (from : Start) → AreSound set from old → AreSound set from new
   pub tells : Tells old new grew
   pub fixed : grew ≡ false → (k : ℕ) → n ≤ k → IsFixedAt set new k
 
@@ -206,7 +206,7 @@ passes-more set n m j d own a b c t u v within next here item place p q g = reco
     is : own ≡ get_or (owners set.definitions) n None
     is = place ∙ ap (λ k. get_or (owners set.definitions) k None) here
 
-    from : (k : ℕ) → AreSound set k a → (o : Option Owner) → (is_marked b o ≡ true) ⊎ ((is_marked b own ≡ true) × Contains (named_owners (owners set.definitions) d) o) → Reaches set k o
+    from : (k : Start) → AreSound set k a → (o : Option Owner) → (is_marked b o ≡ true) ⊎ ((is_marked b own ≡ true) × Contains (named_owners (owners set.definitions) d) o) → Reaches set k o
     from k s o (inl e) = p.sound k s o e
     from k s o (inr e) = of_row n d o at (p.sound k s _ (subst (λ (x : Option Owner). is_marked b x ≡ true) is e.0)) e.1
 
@@ -241,32 +241,58 @@ passes-none set n m h = record {
 pub passes-all : (set : Resolve) (n : ℕ) (a b : Marks) (t : Bool) → n ≡ 0 → PassesFrom set n a b t → Passes set a b t
 passes-all set n a b t z p = record { count = p.count; keeps = p.keeps; sound = p.sound; fewer = p.tells.fewer; fixed = λ e k. p.fixed e k (omega arith) }
 
--- ---- what a package reaches
+-- ---- what is reached
 
--- all that is its own or among its worlds' items is marked, and nothing but what it reaches
-pub record AreBegun (set : Resolve) (own : ℕ) (m : Marks) : Type 0 where
+-- where reaching starts is marked, and nothing but what is reached
+pub record AreBegun (set : Resolve) (from : Start) (m : Marks) : Type 0 where
   pub count : length m.interfaces ≡ length set.interfaces
-  pub begun : (o : Option Owner) → is_marked (own_marks set own) o ≡ true → is_marked m o ≡ true
-  pub named : (o : Option Owner) → Contains (flat_map (world_owners own) set.worlds) o → is_marked m o ≡ true
-  pub sound : AreSound set own m
+  pub begun : (o : Option Owner) → IsStart set from o → is_marked m o ≡ true
+  pub sound : AreSound set from m
 
-pub are-begun : (set : Resolve) (own : ℕ) (a m : Marks) → a ≡ own_marks set own → Adds (flat_map (world_owners own) set.worlds) a m → AreBegun set own m
-are-begun set own a m e h = record { count = h.count ∙ (ap (λ (x : Marks). length x.interfaces) e ∙ length-map set.interfaces (is_own_interface own)); begun = λ o q. h.keeps o (subst (λ (x : Marks). is_marked x o ≡ true) (sym e) q); named = h.all; sound = λ o q. by o (h.only o q) }
+pub package-begun : (set : Resolve) (own : ℕ) (a m : Marks) → a ≡ own_marks set own → Adds (flat_map (world_owners own) set.worlds) a m → AreBegun set (OfPackage own) m
+package-begun set own a m e h = record { count = h.count ∙ (ap (λ (x : Marks). length x.interfaces) e ∙ length-map set.interfaces (is_own_interface own)); begun = begun; sound = λ o q. by o (h.only o q) }
   where
-    by : (o : Option Owner) → (is_marked a o ≡ true) ⊎ Contains (flat_map (world_owners own) set.worlds) o → Reaches set own o
-    by o (inl q) = of_package o (subst (λ (x : Marks). is_marked x o ≡ true) e q)
-    by o (inr q) = of_items o q
+    begun : (o : Option Owner) → (is_marked (own_marks set own) o ≡ true) ⊎ Contains (flat_map (world_owners own) set.worlds) o → is_marked m o ≡ true
+    begun o (inl q) = h.keeps o (subst (λ (x : Marks). is_marked x o ≡ true) (sym e) q)
+    begun o (inr q) = h.all o q
 
-pub begun-more : (set : Resolve) (own : ℕ) (a b : Marks) (t : Bool) → AreBegun set own a → Passes set a b t → AreBegun set own b
-begun-more set own a b t h p = record { count = p.count ∙ h.count; begun = λ o q. p.keeps o (h.begun o q); named = λ o q. p.keeps o (h.named o q); sound = p.sound own h.sound }
+    by : (o : Option Owner) → (is_marked a o ≡ true) ⊎ Contains (flat_map (world_owners own) set.worlds) o → Reaches set (OfPackage own) o
+    by o (inl q) = of_start o (inl (subst (λ (x : Marks). is_marked x o ≡ true) e q))
+    by o (inr q) = of_start o (inr q)
 
-pub are-reached : (set : Resolve) (own : ℕ) (m : Marks) → AreBegun set own m → ((k : ℕ) → IsFixedAt set m k) → AreReached set own m
-are-reached set own m h fixed = record { count = h.count; sound = h.sound; complete = all }
+pub length-padded : (n : ℕ) (bs : List Bool) → length (padded n bs) ≡ n
+length-padded zero bs = refl
+length-padded (suc n) [] = ap suc (length-padded n [])
+length-padded (suc n) (b ∷ bs) = ap suc (length-padded n bs)
+
+pub interfaces-begun : (set : Resolve) (given : List Bool) (m : Marks) → m ≡ given_marks set given → AreBegun set (OfInterfaces given) m
+interfaces-begun set given m e = record {
+  count = ap (λ (x : Marks). length x.interfaces) e ∙ length-padded (length set.interfaces) given;
+  begun = λ o q. subst (λ (x : Marks). is_marked x o ≡ true) (sym e) q;
+  sound = λ o q. of_start o (subst (λ (x : Marks). is_marked x o ≡ true) e q);
+}
+
+-- what rows name is marked besides, so far
+pub record IsGrowing (set : Resolve) (old new : Marks) : Type 0 where
+  pub count : length new.interfaces ≡ length old.interfaces
+  pub keeps : (o : Option Owner) → is_marked old o ≡ true → is_marked new o ≡ true
+  pub sound : (from : Start) → AreSound set from old → AreSound set from new
+
+pub growing-none : (set : Resolve) (m : Marks) → IsGrowing set m m
+growing-none set m = record { count = refl; keeps = λ o q. q; sound = λ from h. h }
+
+pub growing-more : (set : Resolve) (a b c : Marks) (t : Bool) → IsGrowing set a b → Passes set b c t → IsGrowing set a c
+growing-more set a b c t h p = record { count = p.count ∙ h.count; keeps = λ o q. p.keeps o (h.keeps o q); sound = λ from s. p.sound from (h.sound from s) }
+
+pub growing-all : (set : Resolve) (a b c : Marks) (t : Bool) → IsGrowing set a b → Passes set b c t → t ≡ false → AreGrown set a c
+growing-all set a b c t h p e = record { count = p.count ∙ h.count; keeps = λ o q. p.keeps o (h.keeps o q); sound = λ from s. p.sound from (h.sound from s); fixed = p.fixed e }
+
+pub are-reached : (set : Resolve) (from : Start) (a m : Marks) → AreBegun set from a → AreGrown set a m → AreReached set from m
+are-reached set from a m h g = record { count = g.count ∙ h.count; sound = g.sound from h.sound; complete = all }
   where
-    all : (o : Option Owner) → Reaches set own o → is_marked m o ≡ true
-    all o (of_package _ e) = h.begun o e
-    all o (of_items _ e) = h.named o e
-    all o (of_row k d _ at r e) = fixed k d o at (all _ r) e
+    all : (o : Option Owner) → Reaches set from o → is_marked m o ≡ true
+    all o (of_start _ e) = g.keeps o (h.begun o e)
+    all o (of_row k d _ at r e) = g.fixed k d o at (all _ r) e
 
 -- ---- the worlds of a package
 

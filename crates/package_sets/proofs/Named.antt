@@ -166,6 +166,32 @@ module _ (has : ValType → Bool) where
         | inr q ↦ if-named f.result p.1 t q
       ]
 
+-- what a row refers to it names
+pub referred-named : (d : Definition) (t : TypeId) → Contains (row_references d) t → Contains (names d) t
+referred-named (row.Function f) t c = c
+referred-named (row.Type d) t c = by d.kind refl
+  where
+    here : (k : TypeDefKind) → d.kind ≡ k → Contains (row_references (row.Type (record { name = d.name; kind = k }))) t
+    here k e = subst (λ (x : TypeDefKind). Contains (row_references (row.Type (record { name = d.name; kind = x }))) t) e c
+
+    back : (k : TypeDefKind) → d.kind ≡ k → Contains (names (row.Type (record { name = d.name; kind = k }))) t → Contains (names (row.Type d)) t
+    back k e = subst (λ (x : TypeDefKind). Contains (names (row.Type (record { name = d.name; kind = x }))) t) (sym e)
+
+    none : Contains [] t → ⊥
+    none (k, h, z) = omega arith
+
+    by : (k : TypeDefKind) → d.kind ≡ k → Contains (names (row.Type d)) t
+    by (kind.Use u) e = absurd (none (here (kind.Use u) e))
+    by (kind.Alias v) e = back (kind.Alias v) e (here (kind.Alias v) e)
+    by (kind.List v) e = back (kind.List v) e (here (kind.List v) e)
+    by (kind.Option v) e = back (kind.Option v) e (here (kind.Option v) e)
+    by (kind.Result ok error) e = back (kind.Result ok error) e (here (kind.Result ok error) e)
+    by (kind.Tuple vs) e = back (kind.Tuple vs) e (here (kind.Tuple vs) e)
+    by (kind.Record fs) e = back (kind.Record fs) e (here (kind.Record fs) e)
+    by (kind.Variant cs) e = back (kind.Variant cs) e (here (kind.Variant cs) e)
+    by (kind.Enum ns) e = back (kind.Enum ns) e (here (kind.Enum ns) e)
+    by (kind.Flags ns) e = back (kind.Flags ns) e (here (kind.Flags ns) e)
+
 -- ---- a row keeps its limits
 
 standard-kind : (to : Renaming) (k : TypeDefKind) → is_standard_kind k ≡ true → is_standard_kind (put_kind to k) ≡ true

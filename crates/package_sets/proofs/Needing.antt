@@ -1,38 +1,55 @@
 -- The packages that are needed, one after the other.
 use Rattle.std.proofs.Common.{◌≡◌, ◌≤◌, ◌<◌, ◌⊎◌, inl, inr, ℕ, zero, suc, ◌+◌, Bool, true, false, List, [], ◌∷◌, ◌++◌, length, get_or, set as put, slice_get, Some, refl, ap, sym, subst, ◌∙◌, arith, true≢false}
-use Rattle.std.proofs.lemmas.List.{length-set, length_push}
+use Rattle.std.proofs.lemmas.List.{length-set}
 use Rattle.std.proofs.lemmas.Option.{slice_get_within, slice_get-get_or}
-use Rattle.package_sets.specs.Reaches.{Marks}
+use Rattle.package_sets.specs.Reaches.{Marks, padded}
 use Rattle.package_sets.specs.Restricted.{AreNeeded, IsReachedIn}
-use Rattle.package_sets.proofs.Marking.{set-has, set-keeps}
+use Rattle.package_sets.specs.Imports.{AreNeededBy}
+use Rattle.package_sets.specs.Marking.{AddsNeeded}
+use Rattle.package_sets.proofs.Marking.{set-has, set-keeps, length-padded}
 use Rattle.tables.specs.declared.tables.Interface.{Interface}
 use Rattle.tables.specs.declared.tables.Resolve.{Resolve}
 
--- no marks at all
-pub record AreUnmarked (n : ℕ) (marks : List Bool) : Type 0 where
-  pub count : length marks ≡ n
-  pub none : (k : ℕ) → get_or marks k false ≡ false
+-- ---- so many marks
 
-pub unmarked-none : (marks : List Bool) → marks ≡ [] → AreUnmarked 0 marks
-unmarked-none marks e = rw e record { count = refl; none = λ k. refl }
+padded-suc : (n : ℕ) (bs : List Bool) → padded (suc n) bs ≡ padded n bs ++ get_or bs n false ∷ []
+padded-suc zero [] = refl
+padded-suc zero (b ∷ bs) = refl
+padded-suc (suc n) [] = ap (λ xs. false ∷ xs) (padded-suc n [])
+padded-suc (suc n) (b ∷ bs) = ap (λ xs. b ∷ xs) (padded-suc n bs)
 
-pub unmarked-more : (n : ℕ) (marks next : List Bool) → AreUnmarked n marks → next ≡ marks ++ false ∷ [] → AreUnmarked (n + 1) next
-unmarked-more n marks next a e = rw e record { count = length_push marks false ∙ ap (λ m. m + 1) a.count; none = λ k. more marks k a.none }
-  where
-    more : (bs : List Bool) (k : ℕ) → ((j : ℕ) → get_or bs j false ≡ false) → get_or (bs ++ false ∷ []) k false ≡ false
-    more [] zero h = refl
-    more [] (suc k) h = refl
-    more (b ∷ bs) zero h = h 0
-    more (b ∷ bs) (suc k) h = more bs k (λ j. h (suc j))
+-- one more mark
+pub padded-more : (n m : ℕ) (b : Bool) (bs old new : List Bool) → m ≡ n + 1 → b ≡ get_or bs n false → old ≡ padded n bs → new ≡ old ++ b ∷ [] → new ≡ padded m bs
+padded-more n m b bs old new e is a p =
+    let next : m ≡ suc n = omega (arith, e) in
+    p ∙ (ap (λ xs. xs ++ b ∷ []) a ∙ (ap (λ x. padded n bs ++ x ∷ []) is ∙ (sym (padded-suc n bs) ∙ ap (λ k. padded k bs) (sym next))))
 
--- .. of the first n interfaces
-pub record AreNeededSoFar (s : Resolve) (own : ℕ) (m : Marks) (n : ℕ) (needed : List Bool) : Type 0 where
-  pub count : length needed ≡ length s.packages
-  pub own_one : own < length s.packages → get_or needed own false ≡ true
-  pub others : (i : ℕ) (x : Interface) → i < n → slice_get s.interfaces i ≡ Some x → get_or m.interfaces i true ≡ true → get_or needed x.«package».0 true ≡ true
-  pub only : (k : ℕ) → get_or needed k false ≡ true → (k ≡ own) ⊎ IsReachedIn s m k
+pub padded-none : (n k : ℕ) → get_or (padded n []) k false ≡ false
+padded-none zero k = refl
+padded-none (suc n) zero = refl
+padded-none (suc n) (suc k) = padded-none n k
 
-put-only : (bs : List Bool) (k j : ℕ) → get_or (put bs k true) j false ≡ true → (get_or bs j false ≡ true) ⊎ (j ≡ k)
+padded-get : (n : ℕ) (bs : List Bool) (k : ℕ) → k < n → get_or bs k false ≡ true → get_or (padded n bs) k false ≡ true
+padded-get zero bs k h e = absurd (omega arith)
+padded-get (suc n) [] k h e = absurd (true≢false (sym e))
+padded-get (suc n) (b ∷ bs) zero h e = e
+padded-get (suc n) (b ∷ bs) (suc k) h e = padded-get n bs k (omega (arith, h)) e
+
+padded-only : (n : ℕ) (bs : List Bool) (k : ℕ) → get_or (padded n bs) k false ≡ true → get_or bs k false ≡ true
+padded-only zero bs k e = absurd (true≢false (sym e))
+padded-only (suc n) [] k e = absurd (true≢false (sym (sym (padded-none (suc n) k) ∙ e)))
+padded-only (suc n) (b ∷ bs) zero e = e
+padded-only (suc n) (b ∷ bs) (suc k) e = padded-only n bs k e
+
+-- ---- the packages of the first n interfaces
+
+pub record AddsNeededSoFar (s : Resolve) (m : Marks) (n : ℕ) (old new : List Bool) : Type 0 where
+  pub count : length new ≡ length old
+  pub keeps : (k : ℕ) → get_or old k false ≡ true → get_or new k false ≡ true
+  pub others : (i : ℕ) (x : Interface) → i < n → slice_get s.interfaces i ≡ Some x → get_or m.interfaces i true ≡ true → get_or new x.«package».0 true ≡ true
+  pub only : (k : ℕ) → get_or new k false ≡ true → (get_or old k false ≡ true) ⊎ IsReachedIn s m k
+
+pub put-only : (bs : List Bool) (k j : ℕ) → get_or (put bs k true) j false ≡ true → (get_or bs j false ≡ true) ⊎ (j ≡ k)
 put-only [] k j e = inl e
 put-only (b ∷ bs) zero zero e = inr refl
 put-only (b ∷ bs) zero (suc j) e = inl e
@@ -43,7 +60,7 @@ put-only (b ∷ bs) (suc k) (suc j) e = up (put-only bs k j e)
     up (inl h) = inl h
     up (inr h) = inr (ap suc h)
 
-put-here : (bs : List Bool) (k : ℕ) → k < length bs → get_or (put bs k true) k false ≡ true
+pub put-here : (bs : List Bool) (k : ℕ) → k < length bs → get_or (put bs k true) k false ≡ true
 put-here [] k h = absurd (omega arith)
 put-here (b ∷ bs) zero h = refl
 put-here (b ∷ bs) (suc k) h = put-here bs k (omega arith)
@@ -55,20 +72,15 @@ put-stays (b ∷ bs) zero (suc j) e = e
 put-stays (b ∷ bs) (suc k) zero e = e
 put-stays (b ∷ bs) (suc k) (suc j) e = put-stays bs k j e
 
-pub needed-own : (s : Resolve) (own : ℕ) (m : Marks) (marks next : List Bool) → AreUnmarked (length s.packages) marks → next ≡ put marks own true → AreNeededSoFar s own m 0 next
-needed-own s own m marks next a e = rw e record {
-  count = length-set marks own true ∙ a.count;
-  own_one = λ h. put-here marks own (omega (arith, a.count));
-  others = λ i x h. absurd (omega arith);
-  only = λ k h. elim (put-only marks own k h) [ inl q ↦ absurd (true≢false (sym q ∙ a.none k)) | inr q ↦ inl q ];
-}
+pub adds-needed-none : (s : Resolve) (m : Marks) (marks : List Bool) → AddsNeededSoFar s m 0 marks marks
+adds-needed-none s m marks = record { count = refl; keeps = λ k h. h; others = λ i x h. absurd (omega arith); only = λ k h. inl h }
 
-pub needed-more : (s : Resolve) (own : ℕ) (m : Marks) (n : ℕ) (x : Interface) (marks next : List Bool) → n < length s.interfaces → x ≡ get_or s.interfaces n x
-    → AreNeededSoFar s own m n marks → ((get_or m.interfaces n true ≡ true) × (next ≡ put marks x.«package».0 true)) ⊎ ((get_or m.interfaces n true ≡ false) × (next ≡ marks))
-    → AreNeededSoFar s own m (n + 1) next
-needed-more s own m n x marks next within at a (inl (h, e)) = rw e record {
+pub adds-needed-more : (s : Resolve) (m : Marks) (n : ℕ) (x : Interface) (old marks next : List Bool) → n < length s.interfaces → x ≡ get_or s.interfaces n x
+    → AddsNeededSoFar s m n old marks → ((get_or m.interfaces n true ≡ true) × (next ≡ put marks x.«package».0 true)) ⊎ ((get_or m.interfaces n true ≡ false) × (next ≡ marks))
+    → AddsNeededSoFar s m (n + 1) old next
+adds-needed-more s m n x before marks next within at a (inl (h, e)) = rw e record {
   count = length-set marks x.«package».0 true ∙ a.count;
-  own_one = λ l. put-stays marks x.«package».0 own (a.own_one l);
+  keeps = λ k l. put-stays marks x.«package».0 k (a.keeps k l);
   others = λ i y l f g. old i y (cases i l) f g;
   only = λ k q. elim (put-only marks x.«package».0 k q) [ inl p ↦ a.only k p | inr p ↦ inr (n, x, found, h, sym p) ];
 }
@@ -85,9 +97,9 @@ needed-more s own m n x marks next within at a (inl (h, e)) = rw e record {
         let e : Some y ≡ Some x = sym f ∙ (ap (slice_get s.interfaces) q ∙ found) in
         let same : y ≡ x = cc in
         rw same (set-has marks x.«package».0)
-needed-more s own m n x marks next within at a (inr (h, e)) = rw e record {
+adds-needed-more s m n x before marks next within at a (inr (h, e)) = rw e record {
   count = a.count;
-  own_one = a.own_one;
+  keeps = a.keeps;
   others = λ i y l f g. old i y (cases i l) f g;
   only = a.only;
 }
@@ -99,10 +111,40 @@ needed-more s own m n x marks next within at a (inr (h, e)) = rw e record {
     old i y (inl l) f g = a.others i y l f g
     old i y (inr q) f g = absurd (true≢false (sym g ∙ (ap (λ k. get_or m.interfaces k true) q ∙ h)))
 
-pub needed-all : (s : Resolve) (own : ℕ) (m : Marks) (n : ℕ) (marks : List Bool) → length s.interfaces ≤ n → AreNeededSoFar s own m n marks → AreNeeded s own m marks
-needed-all s own m n marks h a = record {
+pub adds-needed-all : (s : Resolve) (m : Marks) (n : ℕ) (old new : List Bool) → length s.interfaces ≤ n → AddsNeededSoFar s m n old new → AddsNeeded s m old new
+adds-needed-all s m n old new h a = record {
   count = a.count;
-  own_one = a.own_one;
-  others = λ k (i, x, f, g, e). subst (λ j. get_or marks j true ≡ true) e (a.others i x (omega (arith, slice_get_within s.interfaces i x f)) f g);
+  keeps = a.keeps;
+  others = λ k (i, x, f, g, e). subst (λ j. get_or new j true ≡ true) e (a.others i x (omega (arith, slice_get_within s.interfaces i x f)) f g);
   only = a.only;
+}
+
+-- ---- the packages that are needed
+
+pub needed-own : (s : Resolve) (own : ℕ) (m : Marks) (none old new : List Bool) → none ≡ padded (length s.packages) [] → old ≡ put none own true → AddsNeeded s m old new → AreNeeded s own m new
+needed-own s own m none old new e g a = record {
+  count = a.count ∙ count;
+  own_one = λ h. a.keeps own (subst (λ (bs : List Bool). get_or bs own false ≡ true) (sym marked) (put-here (padded (length s.packages) []) own (omega (arith, h, length-padded (length s.packages) []))));
+  others = a.others;
+  only = λ k h. elim (a.only k h) [ inl q ↦ from k q | inr q ↦ inr q ];
+}
+  where
+    marked : old ≡ put (padded (length s.packages) []) own true
+    marked = g ∙ ap (λ bs. put bs own true) e
+
+    count : length old ≡ length s.packages
+    count = ap length marked ∙ (length-set (padded (length s.packages) []) own true ∙ length-padded (length s.packages) [])
+
+    from : (k : ℕ) → get_or old k false ≡ true → (k ≡ own) ⊎ IsReachedIn s m k
+    from k q = elim (put-only (padded (length s.packages) []) own k (subst (λ (bs : List Bool). get_or bs k false ≡ true) marked q)) [
+      | inl p ↦ absurd (true≢false (sym p ∙ padded-none (length s.packages) k))
+      | inr p ↦ inl p
+    ]
+
+pub needed-by : (s : Resolve) (packages : List Bool) (m : Marks) (old new : List Bool) → old ≡ padded (length s.packages) packages → AddsNeeded s m old new → AreNeededBy s packages m new
+needed-by s packages m old new e a = record {
+  count = a.count ∙ (ap length e ∙ length-padded (length s.packages) packages);
+  given = λ k l h. a.keeps k (subst (λ (bs : List Bool). get_or bs k false ≡ true) (sym e) (padded-get (length s.packages) packages k l h));
+  others = a.others;
+  only = λ k h. elim (a.only k h) [ inl q ↦ inl (padded-only (length s.packages) packages k (subst (λ (bs : List Bool). get_or bs k false ≡ true) e q)) | inr q ↦ inr q ];
 }

@@ -92,7 +92,7 @@ block-get rows start end t d a b e =
     let at : start + (t - start) ≡ t = omega arith in
     slice_get-take (end - start) (drop start rows) (t - start) (omega arith) ∙ (slice_get-drop start rows (t - start) ∙ (ap (slice_get rows) at ∙ e))
 
-cut : (n m : ℕ) → (n < m) ⊎ (m ≤ n)
+pub cut : (n m : ℕ) → (n < m) ⊎ (m ≤ n)
 cut n m = grind arith
 
 -- ---- tables in form

@@ -411,7 +411,7 @@ module _ (s c : Resolve) (j : Joined) (q : IsJoined s c j) where
       ids [] = refl
       ids (t ∷ us) = ap (λ xs. to.rows t.0 ∷ xs) (ids us)
 
-  ids-put : (i : Interface) → ids_of (put_interface to i) ≡ map to.rows (ids_of i)
+  pub ids-put : (i : Interface) → ids_of (put_interface to i) ≡ map to.rows (ids_of i)
   ids-put i =
       let us = map (λ (t : TypeId). t.0) i.uses in
       let ts = map (λ (t : TypeId). t.0) i.types in
@@ -614,12 +614,18 @@ module _ (s c : Resolve) (j : Joined) (q : IsJoined s c j) where
       let within = worlds-grouped-at (length s.packages) 0 s.worlds k w s.worlds_grouped (slice_get-get_or s.worlds k w l ∙ ap Some e) in
       both _ _ (lt-ltb w.«package».0 j.«package» (omega (arith, within, q.are_joined.package_is))) (own-later w (k, l, e) is)
 
-  pub all-stand : IsPackageByPackage s → HasRowsInForm c → ArePackageByPackage R 0 0 (s.interfaces ++ map (put_interface to) (own_interfaces c)) 0 (s.worlds ++ map (put_world to) c.worlds)
-  all-stand set form =
+  -- the imports' rows end where they do
+  pub imported-end : HasRowsInForm c → j.imported ≡ interfaces_end 0 (imports c)
+  imported-end form =
+      q.are_joined.imported_is
+      ∙ omega (arith, length-rows s (length c.definitions) 0 (import_count c) c.interfaces c.worlds q.are_joined.places form.parted q.are_joined.found.count)
+
+  -- the rows that are put behind the set's
+  pub own-stand : HasRowsInForm c → ArePackageByPackage R (length s.definitions) (0 + length s.interfaces) (map (put_interface to) (own_interfaces c)) (0 + length s.worlds) (map (put_world to) c.worlds)
+  own-stand form =
       let n = import_count c in
       let end : ℕ = interfaces_end 0 (imports c) in
-      let imported : j.imported ≡ end =
-      q.are_joined.imported_is ∙ omega (arith, length-rows s (length c.definitions) 0 n c.interfaces c.worlds q.are_joined.places form.parted q.are_joined.found.count) in
+      let imported = imported-end form in
       let split-form = interfaces-split c.definitions 0 0 n c.interfaces form.interfaces in
       let first : 0 + n ≡ n = omega arith in
       let tail = interfaces-stand end n (own_interfaces c) (omega (arith, imported)) (omega arith) (omega (arith, length-drop n c.interfaces, before-le (own_package c.packages) c.interfaces))
@@ -628,8 +634,11 @@ module _ (s c : Resolve) (j : Joined) (q : IsJoined s c j) where
       let start : moved end ≡ length s.definitions = omega (arith, imported) in
       let interfaces : length s.interfaces + (n - n) ≡ 0 + length s.interfaces = omega arith in
       let worlds : length s.worlds + 0 ≡ 0 + length s.worlds = omega arith in
-      set-stands s.definitions (map (put_row to) (drop j.imported c.definitions)) 0 0 s.interfaces 0 s.worlds set s.placed (map (put_interface to) (own_interfaces c)) (map (put_world to) c.worlds)
-      (λ w d. own-later w d (own_interfaces c))
-      (subst (λ x. ArePackageByPackage R x (0 + length s.interfaces) (map (put_interface to) (own_interfaces c)) (0 + length s.worlds) (map (put_world to) c.worlds)) start
+      subst (λ x. ArePackageByPackage R x (0 + length s.interfaces) (map (put_interface to) (own_interfaces c)) (0 + length s.worlds) (map (put_world to) c.worlds)) start
       (subst (λ x. ArePackageByPackage R (moved end) x (map (put_interface to) (own_interfaces c)) (0 + length s.worlds) (map (put_world to) c.worlds)) interfaces
-      (subst (λ x. ArePackageByPackage R (moved end) (length s.interfaces + (n - n)) (map (put_interface to) (own_interfaces c)) x (map (put_world to) c.worlds)) worlds tail)))
+      (subst (λ x. ArePackageByPackage R (moved end) (length s.interfaces + (n - n)) (map (put_interface to) (own_interfaces c)) x (map (put_world to) c.worlds)) worlds tail))
+
+  pub all-stand : IsPackageByPackage s → HasRowsInForm c → ArePackageByPackage R 0 0 (s.interfaces ++ map (put_interface to) (own_interfaces c)) 0 (s.worlds ++ map (put_world to) c.worlds)
+  all-stand set form =
+      set-stands s.definitions (map (put_row to) (drop j.imported c.definitions)) 0 0 s.interfaces 0 s.worlds set s.placed (map (put_interface to) (own_interfaces c)) (map (put_world to) c.worlds)
+      (λ w d. own-later w d (own_interfaces c)) (own-stand form)

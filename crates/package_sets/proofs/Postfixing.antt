@@ -1,31 +1,28 @@
 -- Rows in postfix order, of which those of some owners are kept, are in postfix order.
-use Rattle.std.proofs.Common.{◌≡◌, ◌≤◌, ◌<◌, ℕ, zero, suc, ◌+◌, Bool, true, false, not, List, [], ◌∷◌, ◌++◌, length, get_or, slice_get, map, Option, None, Some, refl, ap, sym, subst, ◌∙◌, arith, true≢false, if◌then◌else◌, nat_lt}
-use Rattle.std.specs.Prelude.{flat_map, is_some}
-use Rattle.std.specs.Option.{option_map, option_or}
+use Rattle.std.proofs.Common.{◌≡◌, ◌≤◌, ◌<◌, ℕ, suc, ◌+◌, Bool, true, false, List, [], ◌∷◌, ◌++◌, length, get_or, slice_get, map, Option, None, Some, refl, ap, sym, subst, ◌∙◌, arith, true≢false, if◌then◌else◌, nat_lt}
+use Rattle.std.specs.Prelude.{flat_map}
+use Rattle.std.specs.Option.{option_map}
 use Rattle.std.specs.List.{list_all}
 use Rattle.std.proofs.lemmas.List.{map-append, length_push, length-map, get_or_default}
 use Rattle.std.proofs.Math.ListN.{get_or-map as get_or-mapped}
 use Rattle.std.proofs.lemmas.Bool.{ltb-true}
-use Rattle.std.proofs.lemmas.Option.{slice_get-get_or}
 use Rattle.package_form.specs.Postfix.{is_unnamed, is_unnamed_row, one_if, unnamed, unnamed_if, unnamed_field, unnamed_case, unnamed_parameter, parts, parts_of, aliased, aliased_by, is_inner, inner_row, Leaves, begin, inner, whole, IsPostfix}
 use Rattle.tables.specs.Tables.{option_all, kind_all, definition_all}
 use Rattle.tables.proofs.Rows.{split}
-use Rattle.package_sets.specs.Owners.{owner_of, owners, first_owner}
+use Rattle.package_sets.specs.Owners.{owners}
 use Rattle.package_sets.specs.Reaches.{is_marked}
-use Rattle.package_sets.specs.Restricted.{IsNeeded}
+use Rattle.package_sets.specs.Part.{IsPart}
 use Rattle.package_sets.specs.Places.{kept, place}
 use Rattle.package_sets.specs.Renamed.{renaming}
-use Rattle.package_sets.specs.Moved.{put_val, put_field, put_case, put_parameter, put_kind, put_row}
+use Rattle.package_sets.specs.Moved.{Renaming, put_val, put_field, put_case, put_parameter, put_kind, put_row}
 use Rattle.package_sets.specs.declared.moved.Moved.{Moved}
 use Rattle.package_sets.proofs.Keeping.{kept-none, kept-at}
 use Rattle.package_sets.proofs.Reading.{is_kept}
-use Rattle.package_sets.proofs.Lists.{map-get}
+use Rattle.package_sets.proofs.Lists.{map-get, front-get, none-within}
 use Rattle.package_sets.proofs.Named.{unnamed-same}
+use Rattle.package_sets.proofs.Belonging.{owner-next, unnamed-owner}
 use Rattle.package_sets.proofs.Restricting.{count-rows, kept-all}
-use Rattle.tables.specs.declared.tables.Owner.{Owner}
-use Rattle.tables.specs.declared.tables.Owner.TheVariants as owner
 use Rattle.tables.specs.declared.tables.Resolve.{Resolve}
-use Rattle.tables.specs.declared.tables.TypeName.{TypeName}
 use Rattle.tables.specs.declared.tables.ValType.{ValType}
 use Rattle.tables.specs.declared.tables.ValType.TheVariants as val
 use Rattle.tables.specs.declared.tables.TypeDefKind.{TypeDefKind}
@@ -60,94 +57,78 @@ kept-length (true ∷ bs) (x ∷ xs) h = up _ _ (kept-length bs xs (omega (arith
     up n m e = omega arith
 kept-length (false ∷ bs) (x ∷ xs) h = kept-length bs xs (omega (arith, h))
 
-module _ (to : Moved) (rows : List Definition) where
-  abbrev there : List Definition
-  there = map (put_row (renaming to)) (kept to.rows rows)
-
+-- What rows are made of that are put into another table: the same rows there, where each of the rows without names that they refer to has none there.
+module _ (to : Renaming) (rows there : List Definition) (within : (v : ValType) → Bool) (each : (t : ℕ) → within (val.Id (record { 0 = t })) ≡ true → is_unnamed_row (slice_get there (to.rows t)) ≡ is_unnamed_row (slice_get rows t)) where
   abbrev placed : List ℕ → List ℕ
-  placed ts = map (place to.rows) ts
+  placed ts = map to.rows ts
 
-  unnamed-at : (t : ℕ) → get_or to.rows t false ≡ true → t < length rows → is_unnamed_row (slice_get there (place to.rows t)) ≡ is_unnamed_row (slice_get rows t)
-  unnamed-at t h l = by (slice_get rows t) refl
+  val-parts : (v : ValType) → within v ≡ true → unnamed there (put_val to v) ≡ placed (unnamed rows v)
+  val-parts (val.Primitive p) h = refl
+  val-parts val.String h = refl
+  val-parts (val.Id t) h =
+      ap (λ b. one_if b (to.rows t.0)) (each t.0 h) ∙ moved (is_unnamed_row (slice_get rows t.0))
     where
-      by : (o : Option Definition) → slice_get rows t ≡ o → is_unnamed_row (slice_get there (place to.rows t)) ≡ is_unnamed_row (slice_get rows t)
-      by None e = absurd (none e)
-        where
-          none : slice_get rows t ≡ None → ⊥
-          none z = let d = slice_get-get_or rows t (row.Type (record { name = None; kind = kind.Enum [] })) l in absurd (cc)
-      by (Some d) e =
-          ap is_unnamed_row (map-get (put_row (renaming to)) (kept to.rows rows) (place to.rows t) d (kept-at to.rows rows t d h e))
-          ∙ (unnamed-same (renaming to) d ∙ sym (ap is_unnamed_row e))
+      moved : (b : Bool) → one_if b (to.rows t.0) ≡ placed (one_if b t.0)
+      moved true = refl
+      moved false = refl
 
-  module _ (within : (v : ValType) → Bool) (each : (t : ℕ) → within (val.Id (record { 0 = t })) ≡ true → (get_or to.rows t false ≡ true) × (t < length rows)) where
-    val-parts : (v : ValType) → within v ≡ true → unnamed there (put_val (renaming to) v) ≡ placed (unnamed rows v)
-    val-parts (val.Primitive p) h = refl
-    val-parts val.String h = refl
-    val-parts (val.Id t) h =
-        let p = each t.0 h in
-        ap (λ b. one_if b (place to.rows t.0)) (unnamed-at t.0 p.0 p.1) ∙ moved (is_unnamed_row (slice_get rows t.0))
-      where
-        moved : (b : Bool) → one_if b (place to.rows t.0) ≡ placed (one_if b t.0)
-        moved true = refl
-        moved false = refl
+  if-parts : (v : Option ValType) → option_all within v ≡ true → unnamed_if there (option_map (put_val to) v) ≡ placed (unnamed_if rows v)
+  if-parts None h = refl
+  if-parts (Some v) h = val-parts v h
 
-    if-parts : (v : Option ValType) → option_all within v ≡ true → unnamed_if there (option_map (put_val (renaming to)) v) ≡ placed (unnamed_if rows v)
-    if-parts None h = refl
-    if-parts (Some v) h = val-parts v h
+  list-parts : {A : Type 0} (put : A → A) (f : A → Bool) (of of-there : A → List ℕ) → ((x : A) → f x ≡ true → of-there (put x) ≡ placed (of x)) → (xs : List A) → list_all f xs ≡ true
+      → flat_map of-there (map put xs) ≡ placed (flat_map of xs)
+  list-parts put f of of-there one [] h = refl
+  list-parts put f of of-there one (x ∷ xs) h =
+      let p = split (f x) (list_all f xs) h in
+      let e = one x p.0 in
+      let r = list-parts put f of of-there one xs p.1 in
+      let m = map-append to.rows (of x) (flat_map of xs) in
+      cc
 
-    list-parts : {A : Type 0} (put : A → A) (f : A → Bool) (of of-there : A → List ℕ) → ((x : A) → f x ≡ true → of-there (put x) ≡ placed (of x)) → (xs : List A) → list_all f xs ≡ true
-        → flat_map of-there (map put xs) ≡ placed (flat_map of xs)
-    list-parts put f of of-there one [] h = refl
-    list-parts put f of of-there one (x ∷ xs) h =
-        let p = split (f x) (list_all f xs) h in
-        let e = one x p.0 in
-        let r = list-parts put f of of-there one xs p.1 in
-        let m = map-append (place to.rows) (of x) (flat_map of xs) in
-        cc
+  kind-parts : (k : TypeDefKind) → kind_all within k ≡ true → parts there (put_kind to k) ≡ placed (parts rows k)
+  kind-parts (kind.Use t) h = refl
+  kind-parts (kind.Alias v) h = refl
+  kind-parts (kind.List v) h = val-parts v h
+  kind-parts (kind.Option v) h = val-parts v h
+  kind-parts (kind.Result ok error) h =
+      let p = split (option_all within ok) (option_all within error) h in
+      let x = if-parts ok p.0 in
+      let y = if-parts error p.1 in
+      let m = map-append to.rows (unnamed_if rows ok) (unnamed_if rows error) in
+      cc
+  kind-parts (kind.Tuple vs) h = list-parts (put_val to) within (unnamed rows) (unnamed there) val-parts vs h
+  kind-parts (kind.Record fs) h = list-parts (put_field to) (λ f. within f.ty) (unnamed_field rows) (unnamed_field there) (λ f. val-parts f.ty) fs h
+  kind-parts (kind.Variant cs) h = list-parts (put_case to) (λ c. option_all within c.ty) (unnamed_case rows) (unnamed_case there) (λ c. if-parts c.ty) cs h
+  kind-parts (kind.Enum ns) h = refl
+  kind-parts (kind.Flags ns) h = refl
 
-    kind-parts : (k : TypeDefKind) → kind_all within k ≡ true → parts there (put_kind (renaming to) k) ≡ placed (parts rows k)
-    kind-parts (kind.Use t) h = refl
-    kind-parts (kind.Alias v) h = refl
-    kind-parts (kind.List v) h = val-parts v h
-    kind-parts (kind.Option v) h = val-parts v h
-    kind-parts (kind.Result ok error) h =
-        let p = split (option_all within ok) (option_all within error) h in
-        let x = if-parts ok p.0 in
-        let y = if-parts error p.1 in
-        let m = map-append (place to.rows) (unnamed_if rows ok) (unnamed_if rows error) in
-        cc
-    kind-parts (kind.Tuple vs) h = list-parts (put_val (renaming to)) within (unnamed rows) (unnamed there) val-parts vs h
-    kind-parts (kind.Record fs) h = list-parts (put_field (renaming to)) (λ f. within f.ty) (unnamed_field rows) (unnamed_field there) (λ f. val-parts f.ty) fs h
-    kind-parts (kind.Variant cs) h = list-parts (put_case (renaming to)) (λ c. option_all within c.ty) (unnamed_case rows) (unnamed_case there) (λ c. if-parts c.ty) cs h
-    kind-parts (kind.Enum ns) h = refl
-    kind-parts (kind.Flags ns) h = refl
+  pub row-parts : (d : Definition) → definition_all within d ≡ true → parts_of there (put_row to d) ≡ placed (parts_of rows d)
+  row-parts (row.Type d) h = kind-parts d.kind h
+  row-parts (row.Function f) h =
+      let p = split (list_all (λ q. within q.ty) f.params) (option_all within f.result) h in
+      let x = list-parts (put_parameter to) (λ q. within q.ty) (unnamed_parameter rows) (unnamed_parameter there) (λ q. val-parts q.ty) f.params p.0 in
+      let y = if-parts f.result p.1 in
+      let m = map-append to.rows (flat_map (unnamed_parameter rows) f.params) (unnamed_if rows f.result) in
+      cc
 
-    pub row-parts : (d : Definition) → definition_all within d ≡ true → parts_of there (put_row (renaming to) d) ≡ placed (parts_of rows d)
-    row-parts (row.Type d) h = kind-parts d.kind h
-    row-parts (row.Function f) h =
-        let p = split (list_all (λ q. within q.ty) f.params) (option_all within f.result) h in
-        let x = list-parts (put_parameter (renaming to)) (λ q. within q.ty) (unnamed_parameter rows) (unnamed_parameter there) (λ q. val-parts q.ty) f.params p.0 in
-        let y = if-parts f.result p.1 in
-        let m = map-append (place to.rows) (flat_map (unnamed_parameter rows) f.params) (unnamed_if rows f.result) in
-        cc
+  kind-aliased : (k : TypeDefKind) → kind_all within k ≡ true → aliased there (put_kind to k) ≡ placed (aliased rows k)
+  kind-aliased (kind.Use t) h = refl
+  kind-aliased (kind.Alias v) h = val-parts v h
+  kind-aliased (kind.List v) h = refl
+  kind-aliased (kind.Option v) h = refl
+  kind-aliased (kind.Result ok error) h = refl
+  kind-aliased (kind.Tuple vs) h = refl
+  kind-aliased (kind.Record fs) h = refl
+  kind-aliased (kind.Variant cs) h = refl
+  kind-aliased (kind.Enum ns) h = refl
+  kind-aliased (kind.Flags ns) h = refl
 
-    kind-aliased : (k : TypeDefKind) → kind_all within k ≡ true → aliased there (put_kind (renaming to) k) ≡ placed (aliased rows k)
-    kind-aliased (kind.Use t) h = refl
-    kind-aliased (kind.Alias v) h = val-parts v h
-    kind-aliased (kind.List v) h = refl
-    kind-aliased (kind.Option v) h = refl
-    kind-aliased (kind.Result ok error) h = refl
-    kind-aliased (kind.Tuple vs) h = refl
-    kind-aliased (kind.Record fs) h = refl
-    kind-aliased (kind.Variant cs) h = refl
-    kind-aliased (kind.Enum ns) h = refl
-    kind-aliased (kind.Flags ns) h = refl
+  pub row-aliased : (d : Definition) → definition_all within d ≡ true → aliased_by there (put_row to d) ≡ placed (aliased_by rows d)
+  row-aliased (row.Type d) h = kind-aliased d.kind h
+  row-aliased (row.Function f) h = refl
 
-    pub row-aliased : (d : Definition) → definition_all within d ≡ true → aliased_by there (put_row (renaming to) d) ≡ placed (aliased_by rows d)
-    row-aliased (row.Type d) h = kind-aliased d.kind h
-    row-aliased (row.Function f) h = refl
-
-inner-same : (to : Moved) (k : TypeDefKind) → is_inner (put_kind (renaming to) k) ≡ is_inner k
+pub inner-same : (to : Renaming) (k : TypeDefKind) → is_inner (put_kind to k) ≡ is_inner k
 inner-same to (kind.Use t) = refl
 inner-same to (kind.Alias v) = refl
 inner-same to (kind.List v) = refl
@@ -165,11 +146,6 @@ pub record AreBlocks (to : Moved) (rows : List Definition) : Type 0 where
   pub named : (k : ℕ) (d : Definition) → slice_get rows k ≡ Some d → get_or to.rows k false ≡ true → definition_all (is_kept to.rows k) d ≡ true
   pub together : (k : ℕ) (d : Definition) → slice_get rows k ≡ Some d → is_unnamed d ≡ true → get_or to.rows k true ≡ get_or to.rows (suc k) true
 
-slice-left : {A : Type 0} (xs ys : List A) (k : ℕ) (x : A) → slice_get xs k ≡ Some x → slice_get (xs ++ ys) k ≡ Some x
-slice-left [] ys k x e = absurd (cc)
-slice-left (z ∷ xs) ys zero x e = e
-slice-left (z ∷ xs) ys (suc k) x e = slice-left xs ys k x e
-
 slice-end : {A : Type 0} (xs : List A) (x : A) → slice_get (xs ++ x ∷ []) (length xs) ≡ Some x
 slice-end [] x = refl
 slice-end (z ∷ xs) x = slice-end xs x
@@ -177,8 +153,8 @@ slice-end (z ∷ xs) x = slice-end xs x
 front : (to : Moved) (rows : List Definition) (d : Definition) → AreBlocks to (rows ++ d ∷ []) → AreBlocks to rows
 front to rows d h = record {
   count = omega (arith, h.count, length_push rows d);
-  named = λ k c e. h.named k c (slice-left rows (d ∷ []) k c e);
-  together = λ k c e. h.together k c (slice-left rows (d ∷ []) k c e);
+  named = λ k c e. h.named k c (front-get rows (d ∷ []) k c e);
+  together = λ k c e. h.together k c (front-get rows (d ∷ []) k c e);
 }
 
 none-left : (b : Bool) (to : Moved) → (if b then map (place to.rows) [] else []) ≡ []
@@ -194,8 +170,18 @@ taken-none b ts e = rw e refl
 default-true : (bs : List Bool) (k : ℕ) (b : Bool) → k < length bs → get_or bs k true ≡ b → get_or bs k false ≡ b
 default-true bs k b h e = get_or_default bs k false true h ∙ e
 
-step-each : (to : Moved) (rows : List Definition) (t : ℕ) → is_kept to.rows (length rows) (val.Id (record { 0 = t })) ≡ true → (get_or to.rows t false ≡ true) × (t < length rows)
-step-each to rows t h = let p = split (nat_lt t (length rows)) (get_or to.rows t false) h in (p.1, ltb-true t (length rows) p.0)
+unnamed-at : (to : Moved) (rows : List Definition) (t : ℕ) → is_kept to.rows (length rows) (val.Id (record { 0 = t })) ≡ true
+    → is_unnamed_row (slice_get (map (put_row (renaming to)) (kept to.rows rows)) (place to.rows t)) ≡ is_unnamed_row (slice_get rows t)
+unnamed-at to rows t h = by (slice_get rows t) refl
+  where
+    p : (nat_lt t (length rows) ≡ true) × (get_or to.rows t false ≡ true)
+    p = split (nat_lt t (length rows)) (get_or to.rows t false) h
+
+    by : (o : Option Definition) → slice_get rows t ≡ o → is_unnamed_row (slice_get (map (put_row (renaming to)) (kept to.rows rows)) (place to.rows t)) ≡ is_unnamed_row (slice_get rows t)
+    by None e = absurd (none-within rows t (ltb-true t (length rows) p.0) e)
+    by (Some d) e =
+        ap is_unnamed_row (map-get (put_row (renaming to)) (kept to.rows rows) (place to.rows t) d (kept-at to.rows rows t d p.1 e))
+        ∙ (unnamed-same (renaming to) d ∙ sym (ap is_unnamed_row e))
 
 abbrev left-there : Moved → List Definition → List ℕ → List ℕ
 left-there to rows unused = if get_or to.rows (length rows) true then map (place to.rows) unused else []
@@ -218,11 +204,11 @@ inner-step to rows unused k i h l = by (get_or to.rows (length rows) true) refl
     by true e =
         let here = default-true to.rows (length rows) true within e in
         let all = h.named (length rows) (inner_row k) (slice-end rows (inner_row k)) here in
-        let same = row-parts to rows (is_kept to.rows (length rows)) (step-each to rows) (inner_row k) all in
         let K = map (put_row (renaming to)) (kept to.rows rows) in
+        let same = row-parts (renaming to) rows K (is_kept to.rows (length rows)) (unnamed-at to rows) (inner_row k) all in
         let held : Leaves K (map (place to.rows) unused ++ parts K (put_kind (renaming to) k)) =
         subst (Leaves K) (taken-all _ _ e ∙ (map-append (place to.rows) unused (parts rows k) ∙ ap (λ ts. map (place to.rows) unused ++ ts) (sym same))) l in
-        let made : Leaves (K ++ inner_row (put_kind (renaming to) k) ∷ []) (map (place to.rows) unused ++ length K ∷ []) = inner K (map (place to.rows) unused) (put_kind (renaming to) k) (inner-same to k ∙ i) held in
+        let made : Leaves (K ++ inner_row (put_kind (renaming to) k) ∷ []) (map (place to.rows) unused ++ length K ∷ []) = inner K (map (place to.rows) unused) (put_kind (renaming to) k) (inner-same (renaming to) k ∙ i) held in
         let size : length K ≡ place to.rows (length rows) = length-map (kept to.rows rows) (put_row (renaming to)) ∙ kept-length to.rows rows (omega (arith, within)) in
         let rows-are : K ++ inner_row (put_kind (renaming to) k) ∷ [] ≡ map (put_row (renaming to)) (kept to.rows (rows ++ inner_row k ∷ [])) =
         sym (map-append (put_row (renaming to)) (kept to.rows rows) (inner_row k ∷ [])) ∙ sym (ap (map (put_row (renaming to))) (kept-push to.rows rows (inner_row k) here)) in
@@ -247,9 +233,9 @@ whole-step to rows d u a h l = subst (λ (ts : List ℕ). Leaves (map (put_row (
     by true e =
         let here = default-true to.rows (length rows) true within e in
         let all = h.named (length rows) d (slice-end rows d) here in
-        let same = row-parts to rows (is_kept to.rows (length rows)) (step-each to rows) d all in
-        let none = row-aliased to rows (is_kept to.rows (length rows)) (step-each to rows) d all in
         let K = map (put_row (renaming to)) (kept to.rows rows) in
+        let same = row-parts (renaming to) rows K (is_kept to.rows (length rows)) (unnamed-at to rows) d all in
+        let none = row-aliased (renaming to) rows K (is_kept to.rows (length rows)) (unnamed-at to rows) d all in
         let held : Leaves K (parts_of K (put_row (renaming to) d)) = subst (Leaves K) (taken-all _ _ e ∙ sym same) l in
         let made : Leaves (K ++ put_row (renaming to) d ∷ []) [] = whole K (put_row (renaming to) d) (unnamed-same (renaming to) d ∙ u) (none ∙ ap (map (place to.rows)) a) held in
         subst (λ (ds : List Definition). Leaves ds []) (sym (map-append (put_row (renaming to)) (kept to.rows rows) (d ∷ [])) ∙ sym (ap (map (put_row (renaming to))) (kept-push to.rows rows d here))) made
@@ -270,29 +256,10 @@ postfix-kept to rows h l = subst (Leaves (map (put_row (renaming to)) (kept to.r
 
 -- ---- the blocks of a table
 
-first-none : (os : List (Option Owner)) → first_owner os ≡ get_or os 0 None
-first-none [] = refl
-first-none (o ∷ os) = refl
-
-pub owner-next : (ds : List Definition) (k : ℕ) (d : Definition) → slice_get ds k ≡ Some d → owner_of d ≡ None → get_or (owners ds) k None ≡ get_or (owners ds) (suc k) None
-owner-next [] k d e h = absurd (cc)
-owner-next (c ∷ ds) zero d e h =
-    let same : c ≡ d = cc in
-    ap (λ (o : Option Owner). option_or o (first_owner (owners ds))) (ap owner_of same ∙ h) ∙ first-none (owners ds)
-owner-next (c ∷ ds) (suc k) d e h = owner-next ds k d e h
-
-pub unnamed-owner : (d : Definition) → is_unnamed d ≡ true → owner_of d ≡ None
-unnamed-owner (row.Function f) h = absurd (true≢false (sym h))
-unnamed-owner (row.Type d) h = by d.name refl
-  where
-    by : (n : Option TypeName) → d.name ≡ n → option_map (λ x. owner.Interface x.interface) d.name ≡ None
-    by None e = ap (option_map (λ x. owner.Interface x.interface)) e
-    by (Some n) e = absurd (true≢false (sym (sym (ap (λ (x : Option TypeName). not (is_some x)) e) ∙ h)))
-
-pub blocks : (s : Resolve) (own : ℕ) (to : Moved) → IsNeeded s own to → AreBlocks to s.definitions
-blocks s own to n = record {
-  count = omega (arith, count-rows s own to n);
-  named = λ k d e h. kept-all s own to n k k d (omega arith) e h;
+pub blocks : (s : Resolve) (to : Moved) → IsPart s to → AreBlocks to s.definitions
+blocks s to n = record {
+  count = omega (arith, count-rows s to n);
+  named = λ k d e h. kept-all s to n k k d (omega arith) e h;
   together = λ k d e u. at k ∙ (ap (is_marked n.marks) (owner-next s.definitions k d e (unnamed-owner d u)) ∙ sym (at (suc k)));
 }
   where

@@ -1,7 +1,6 @@
 -- What is kept of a set is a table, and what it tells.
-use Rattle.std.proofs.Common.{◌≡◌, ◌≤◌, ◌<◌, inl, inr, ℕ, zero, suc, ◌+◌, Bool, true, false, ◌&&◌, nat_lt, List, [], ◌∷◌, length, get_or, slice_get, map, Option, None, Some, refl, ap, sym, subst, ◌∙◌, arith, true≢false, IsTrue, eqb-true, eq-eqb}
-use Rattle.std.specs.Prelude.{flat_map, Contains}
-use Rattle.std.specs.Option.{option_or}
+use Rattle.std.proofs.Common.{◌≡◌, ◌≤◌, ◌<◌, inl, inr, ℕ, suc, ◌+◌, Bool, true, false, ◌&&◌, nat_lt, List, [], ◌∷◌, length, get_or, slice_get, map, Option, None, Some, refl, ap, sym, subst, ◌∙◌, arith, true≢false, IsTrue, eqb-true, eq-eqb}
+use Rattle.std.specs.Prelude.{Contains}
 use Rattle.std.specs.List.{list_all}
 use Rattle.std.proofs.lemmas.Bool.{ltb-true, lt-ltb}
 use Rattle.std.proofs.lemmas.List.{get_or-map, get_or_default, length-map}
@@ -28,27 +27,21 @@ use Rattle.tables.specs.declared.tables.WorldItem.{WorldItem}
 use Rattle.tables.specs.declared.tables.WorldItemKind.{WorldItemKind}
 use Rattle.tables.specs.declared.tables.WorldItemKind.TheVariants as item
 use Rattle.tables.specs.declared.tables.Resolve.{Resolve}
-use Rattle.package_sets.specs.Owners.{owner_of, owners, first_owner, names}
+use Rattle.package_sets.specs.Owners.{owner_of, owners, names}
 use Rattle.package_sets.specs.Places.{kept, place}
-use Rattle.package_sets.specs.Reaches.{is_marked, is_own_world, item_owners, owners_in, world_owners, owner_at, of_package, of_items, of_row}
+use Rattle.package_sets.specs.Reaches.{is_marked, item_owners, owners_in, owner_at}
 use Rattle.package_sets.specs.Renamed.{renaming}
 use Rattle.package_sets.specs.Moved.{put_id, put_val, put_owner, put_row, put_function_id, has_type, has_function, put_interface, put_item, put_item_kind, put_world}
-use Rattle.package_sets.specs.Restricted.{IsNeeded}
+use Rattle.package_sets.specs.Part.{of_world, IsPart}
 use Rattle.package_sets.specs.declared.moved.Moved.{Moved}
 use Rattle.package_sets.proofs.Keeping.{kept-at, length-kept, place-before}
 use Rattle.package_sets.proofs.Kept.{list-at, list-kept, list-filter, grouped-kept, worlds-grouped-kept, worlds-grouped-at}
 use Rattle.package_sets.proofs.Named.{definition-all, definition-named, definition-put, standard-put}
 use Rattle.package_sets.proofs.Lists.{map-get}
+use Rattle.package_sets.proofs.Belonging.{owner-some, one-later}
 use Rattle.package_sets.proofs.Owned.{length-owners}
 use Rattle.package_sets.proofs.Placing.{place-none, place-yes, place-no}
 use Rattle.package_sets.proofs.Reading.{is_there, is_kept, AreRight, AllRight, AreMarksFrom, marks-here, marks-next}
-
-pub owner-some : (ds : List Definition) (k : ℕ) (d : Definition) (x : Owner) → slice_get ds k ≡ Some d → owner_of d ≡ Some x → get_or (owners ds) k None ≡ Some x
-owner-some [] k d x h e = absurd (cc)
-owner-some (c ∷ ds) zero d x h e =
-    let same : c ≡ d = cc in
-    ap (λ (o : Option Owner). option_or o (first_owner (owners ds))) (ap owner_of same ∙ e)
-owner-some (c ∷ ds) (suc k) d x h e = owner-some ds k d x h e
 
 all-right : (has : Option Owner → Bool) (bs : List Bool) (n : ℕ) (ds : List Definition) → ((k : ℕ) (d : Definition) → slice_get ds k ≡ Some d → AreRight has bs (n + k) d) → AllRight has bs n ds
 all-right has bs n [] h = tt
@@ -60,10 +53,7 @@ all-right has bs n (d ∷ ds) h = (
     at : (k : ℕ) → n + suc k ≡ n + 1 + k
     at k = omega arith
 
-shift : (k j : ℕ) → k + 1 + j ≡ k + suc j
-shift k j = omega arith
-
-module _ (s : Resolve) (own : ℕ) (to : Moved) (n : IsNeeded s own to) where
+module _ (s : Resolve) (to : Moved) (n : IsPart s to) where
   marked : Option Owner → Bool
   marked = is_marked n.marks
 
@@ -79,9 +69,7 @@ module _ (s : Resolve) (own : ℕ) (to : Moved) (n : IsNeeded s own to) where
   closed k d e h t c =
       let within : k < length s.definitions = slice_get_within s.definitions k d e in
       let earlier : t.0 < k = ltb-true t.0 k (definition-named (is_below k) d (below k d e) t c) in
-      let from = n.are_reached.sound (get_or (owners s.definitions) k None) (sym (mark-at k within) ∙ h) in
-      let there = of_row k d (owner_at (owners s.definitions) t) e from (contains-map (owner_at (owners s.definitions)) (names d) t c) in
-      mark-at t.0 (omega arith) ∙ n.are_reached.complete _ there
+      mark-at t.0 (omega arith) ∙ n.named k d (owner_at (owners s.definitions) t) e (sym (mark-at k within) ∙ h) (contains-map (owner_at (owners s.definitions)) (names d) t c)
 
   there-all : (k : ℕ) (d : Definition) → slice_get s.definitions k ≡ Some d → get_or to.rows k false ≡ true → definition_all (is_there to.rows) d ≡ true
   there-all k d e h = definition-all (is_there to.rows) primitive d (closed k d e h)
@@ -170,47 +158,27 @@ module _ (s : Resolve) (own : ℕ) (to : Moved) (n : IsNeeded s own to) where
 
   -- ---- packages
 
-  marked-false : (k : ℕ) → k < length s.packages → get_or to.packages k true ≡ true → get_or to.packages k false ≡ true
-  marked-false k h e = get_or_default to.packages k false true (omega (arith, n.packages_are.count)) ∙ e
-
   pub interface-within : (k : ℕ) (i : Interface) → slice_get s.interfaces k ≡ Some i → i.«package».0 < length s.packages
   interface-within k i e = grouped-at (length s.packages) 0 s.interfaces k i s.grouped (slice_get_within s.interfaces k i e) (get_or_from_slice_get s.interfaces k i i e)
-
-  pub interface-needed : (k : ℕ) (i : Interface) → get_or to.interfaces k false ≡ true → slice_get s.interfaces k ≡ Some i → get_or to.packages i.«package».0 false ≡ true
-  interface-needed k i h e =
-      let within : k < length s.interfaces = slice_get_within s.interfaces k i e in
-      let count : length n.marks.interfaces ≡ length s.interfaces = n.are_reached.count in
-      let here : get_or n.marks.interfaces k true ≡ true = get_or_default n.marks.interfaces k true false (omega (arith, count)) ∙ (ap (λ (bs : List Bool). get_or bs k false) (sym n.interfaces_are) ∙ h) in
-      marked-false i.«package».0 (interface-within k i e) (n.packages_are.others i.«package».0 (k, i, e, here, refl))
 
   pub world-within : (k : ℕ) (w : World) → slice_get s.worlds k ≡ Some w → w.«package».0 < length s.packages
   world-within k w e = worlds-grouped-at (length s.packages) 0 s.worlds k w s.worlds_grouped e
 
-  pub world-own : (k : ℕ) (w : World) → get_or to.worlds k false ≡ true → slice_get s.worlds k ≡ Some w → is_own_world own w ≡ true
-  world-own k w h e =
-      sym (get_or-map (is_own_world own) s.worlds k w false (slice_get_within s.worlds k w e) ∙ ap (is_own_world own) (get_or_from_slice_get s.worlds k w w e))
-      ∙ (ap (λ (bs : List Bool). get_or bs k false) (sym n.worlds_are) ∙ h)
-
-  pub world-needed : (k : ℕ) (w : World) → get_or to.worlds k false ≡ true → slice_get s.worlds k ≡ Some w → get_or to.packages w.«package».0 false ≡ true
-  world-needed k w h e =
-      let same : w.«package».0 ≡ own = eqb-true w.«package».0 own (world-own k w h e) in
-      rw same (n.packages_are.own_one (omega (arith, world-within k w e)))
-
   count-packages : length (kept to.packages s.packages) ≡ place to.packages (length to.packages)
-  count-packages = length-kept to.packages s.packages (sym n.packages_are.count)
+  count-packages = length-kept to.packages s.packages (sym n.count_packages)
 
   package-there : (p : ℕ) → p < length s.packages → get_or to.packages p false ≡ true → place to.packages p < length (kept to.packages s.packages)
-  package-there p h e = omega (arith, count-packages, place-before to.packages p (length to.packages) (omega (arith, n.packages_are.count)) e)
+  package-there p h e = omega (arith, count-packages, place-before to.packages p (length to.packages) (omega (arith, n.count_packages)) e)
 
   pub grouped : IsTrue (are_grouped (length (kept to.packages s.packages)) 0 (map (put_interface (renaming to)) (kept to.interfaces s.interfaces)))
   grouped = subst (λ m. IsTrue (are_grouped (length (kept to.packages s.packages)) m (map (put_interface (renaming to)) (kept to.interfaces s.interfaces)))) (place-none to.packages)
       (grouped-kept (put_interface (renaming to)) to.packages (length (kept to.packages s.packages)) to.interfaces s.interfaces (length s.packages) 0 (λ i. refl)
-      (λ k i h e. package-there i.«package».0 (interface-within k i e) (interface-needed k i h e)) s.grouped)
+      (λ k i h e. package-there i.«package».0 (interface-within k i e) (n.interfaces_needed k i h e)) s.grouped)
 
   pub worlds-grouped : IsTrue (are_worlds_grouped (length (kept to.packages s.packages)) 0 (map (put_world (renaming to)) (kept to.worlds s.worlds)))
   worlds-grouped = subst (λ m. IsTrue (are_worlds_grouped (length (kept to.packages s.packages)) m (map (put_world (renaming to)) (kept to.worlds s.worlds)))) (place-none to.packages)
       (worlds-grouped-kept (put_world (renaming to)) to.packages (length (kept to.packages s.packages)) to.worlds s.worlds (length s.packages) 0 (λ w. refl)
-      (λ k w h e. package-there w.«package».0 (world-within k w e) (world-needed k w h e)) s.worlds_grouped)
+      (λ k w h e. package-there w.«package».0 (world-within k w e) (n.worlds_needed k w h e)) s.worlds_grouped)
 
   -- ---- rows name earlier rows
 
@@ -229,13 +197,13 @@ module _ (s : Resolve) (own : ℕ) (to : Moved) (n : IsNeeded s own to) where
       let here = marks-here to.rows k true bs m in
       let this : slice_get s.definitions k ≡ Some d = ap (slice_get s.definitions) (omega arith) ∙ at 0 d refl in
       let next : place to.rows k + 1 ≡ place to.rows (k + 1) = sym (place-yes to.rows k here) ∙ ap (place to.rows) (omega arith) in
-      let rest = earlier-from bs (k + 1) ds (marks-next to.rows k (k + 1) true bs refl m) (λ j c e. ap (slice_get s.definitions) (shift k j) ∙ at (suc j) c e) in
+      let rest = earlier-from bs (k + 1) ds (marks-next to.rows k (k + 1) true bs refl m) (λ j c e. ap (slice_get s.definitions) (one-later k j) ∙ at (suc j) c e) in
       both _ _ (definition-put (renaming to) (is_kept to.rows k) (is_below (place to.rows k)) (below-there k) d (kept-all k k d (omega arith) this here))
       (subst (λ x. are_earlier x (map (put_row (renaming to)) (kept bs ds)) ≡ true) (sym next) rest)
   earlier-from (false ∷ bs) k (d ∷ ds) m at =
       let here = marks-here to.rows k false bs m in
       let next : place to.rows (k + 1) ≡ place to.rows k = ap (place to.rows) (omega arith) ∙ place-no to.rows k here in
-      let rest = earlier-from bs (k + 1) ds (marks-next to.rows k (k + 1) false bs refl m) (λ j c e. ap (slice_get s.definitions) (shift k j) ∙ at (suc j) c e) in
+      let rest = earlier-from bs (k + 1) ds (marks-next to.rows k (k + 1) false bs refl m) (λ j c e. ap (slice_get s.definitions) (one-later k j) ∙ at (suc j) c e) in
       subst (λ x. are_earlier x (map (put_row (renaming to)) (kept bs ds)) ≡ true) next rest
 
   pub earlier : are_earlier 0 rows-there ≡ true
@@ -245,10 +213,7 @@ module _ (s : Resolve) (own : ℕ) (to : Moved) (n : IsNeeded s own to) where
   -- ---- worlds
 
   world-marked : (k : ℕ) (w : World) (o : ℕ) → get_or to.worlds k false ≡ true → slice_get s.worlds k ≡ Some w → o ≡ k → is_marked n.marks (Some (owner.World (record { 0 = o }))) ≡ true
-  world-marked k w o h e q =
-      n.are_reached.complete (Some (owner.World (record { 0 = o })))
-      (of_package (Some (owner.World (record { 0 = o })))
-      (get_or-map (is_own_world own) s.worlds o w true (omega (arith, slice_get_within s.worlds k w e)) ∙ (ap (is_own_world own) (ap (λ j. get_or s.worlds j w) q ∙ get_or_from_slice_get s.worlds k w w e) ∙ world-own k w h e)))
+  world-marked k w o h e q = subst (λ m. is_marked n.marks (of_world m) ≡ true) (sym q) (n.worlds_marked k (slice_get_within s.worlds k w e) h)
 
   -- the function of an item of a world that is kept
   pub item-function : (k : ℕ) (w : World) (f : FunctionId) (g : Function) → get_or to.worlds k false ≡ true → slice_get s.worlds k ≡ Some w → slice_get s.definitions f.0 ≡ Some (row.Function g)
@@ -265,23 +230,15 @@ module _ (s : Resolve) (own : ℕ) (to : Moved) (n : IsNeeded s own to) where
   pub item-interface : (k : ℕ) (w : World) (i : WorldItem) (j : InterfaceId) → get_or to.worlds k false ≡ true → slice_get s.worlds k ≡ Some w → Contains w.items i → i.kind ≡ item.Interface j
       → is_marked n.marks (Some (owner.Interface j)) ≡ true
   item-interface k w i j h e c q =
-      n.are_reached.complete (Some (owner.Interface j)) (of_items (Some (owner.Interface j)) (contains-flat (world_owners own) s.worlds w (Some (owner.Interface j)) (got s.worlds k w e) (own-items (world-own k w h e))))
-    where
-      got : {A : Type 0} (xs : List A) (m : ℕ) (x : A) → slice_get xs m ≡ Some x → Contains xs x
-      got xs m x z = (m, slice_get_within xs m x z, get_or_from_slice_get xs m x x z)
-
-      among : Contains (flat_map owners_in w.items) (Some (owner.Interface j))
-      among = contains-flat owners_in w.items i (Some (owner.Interface j)) c (subst (λ (x : WorldItemKind). Contains (item_owners x) (Some (owner.Interface j))) (sym q) (0, omega arith, refl))
-
-      own-items : is_own_world own w ≡ true → Contains (world_owners own w) (Some (owner.Interface j))
-      own-items z = rw z among
+      n.items_marked k w (Some (owner.Interface j)) h e
+      (contains-flat owners_in w.items i (Some (owner.Interface j)) c (subst (λ (x : WorldItemKind). Contains (item_owners x) (Some (owner.Interface j))) (sym q) (0, omega arith, refl)))
 
   pub count-interfaces : length to.interfaces ≡ length s.interfaces
-  count-interfaces = ap length n.interfaces_are ∙ n.are_reached.count
+  count-interfaces = ap length n.interfaces_are ∙ n.count
 
   -- where an interface that is marked and there stands
   pub interface-there : (j : ℕ) → j < length s.interfaces → is_marked n.marks (Some (owner.Interface (record { 0 = j }))) ≡ true → get_or to.interfaces j false ≡ true
-  interface-there j h e = ap (λ (bs : List Bool). get_or bs j false) n.interfaces_are ∙ (get_or_default n.marks.interfaces j false true (omega (arith, n.are_reached.count)) ∙ e)
+  interface-there j h e = ap (λ (bs : List Bool). get_or bs j false) n.interfaces_are ∙ (get_or_default n.marks.interfaces j false true (omega (arith, n.count)) ∙ e)
 
   length-interfaces : length (map (put_interface (renaming to)) (kept to.interfaces s.interfaces)) ≡ place to.interfaces (length to.interfaces)
   length-interfaces = length-map (kept to.interfaces s.interfaces) (put_interface (renaming to)) ∙ length-kept to.interfaces s.interfaces (sym count-interfaces)
@@ -330,14 +287,14 @@ module _ (s : Resolve) (own : ℕ) (to : Moved) (n : IsNeeded s own to) where
       let this : slice_get s.worlds k ≡ Some w = ap (slice_get s.worlds) (omega arith) ∙ at 0 w refl in
       let next : place to.worlds k + 1 ≡ place to.worlds (k + 1) = sym (place-yes to.worlds k here) ∙ ap (place to.worlds) (omega arith) in
       let q = split (is_placed_world s.definitions (length s.interfaces) k w) (are_placed_worlds s.definitions (length s.interfaces) (k + 1) ws) p in
-      let rest = worlds-placed-from bs (k + 1) ws (marks-next to.worlds k (k + 1) true bs refl m) (λ j c e. ap (slice_get s.worlds) (shift k j) ∙ at (suc j) c e) q.1 in
+      let rest = worlds-placed-from bs (k + 1) ws (marks-next to.worlds k (k + 1) true bs refl m) (λ j c e. ap (slice_get s.worlds) (one-later k j) ∙ at (suc j) c e) q.1 in
       both _ _ (items-placed k w here this q.0)
       (subst (λ x. are_placed_worlds rows-there (length (map (put_interface (renaming to)) (kept to.interfaces s.interfaces))) x (map (put_world (renaming to)) (kept bs ws)) ≡ true) (sym next) rest)
   worlds-placed-from (false ∷ bs) k (w ∷ ws) m at p =
       let here = marks-here to.worlds k false bs m in
       let next : place to.worlds (k + 1) ≡ place to.worlds k = ap (place to.worlds) (omega arith) ∙ place-no to.worlds k here in
       let q = split (is_placed_world s.definitions (length s.interfaces) k w) (are_placed_worlds s.definitions (length s.interfaces) (k + 1) ws) p in
-      let rest = worlds-placed-from bs (k + 1) ws (marks-next to.worlds k (k + 1) false bs refl m) (λ j c e. ap (slice_get s.worlds) (shift k j) ∙ at (suc j) c e) q.1 in
+      let rest = worlds-placed-from bs (k + 1) ws (marks-next to.worlds k (k + 1) false bs refl m) (λ j c e. ap (slice_get s.worlds) (one-later k j) ∙ at (suc j) c e) q.1 in
       subst (λ x. are_placed_worlds rows-there (length (map (put_interface (renaming to)) (kept to.interfaces s.interfaces))) x (map (put_world (renaming to)) (kept bs ws)) ≡ true) next rest
 
   pub worlds-placed : are_placed_worlds rows-there (length (map (put_interface (renaming to)) (kept to.interfaces s.interfaces))) 0 (map (put_world (renaming to)) (kept to.worlds s.worlds)) ≡ true

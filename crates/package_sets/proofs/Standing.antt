@@ -1,5 +1,5 @@
 -- A set's rows stand package by package, and so do those that are kept.
-use Rattle.std.proofs.Common.{◌≡◌, ◌≤◌, ◌<◌, ◌⊎◌, inl, inr, ℕ, zero, suc, ◌+◌, ◌-◌, Bool, true, false, not, ◌&&◌, List, [], ◌∷◌, ◌++◌, length, take, drop, get_or, slice_get, map, Option, None, Some, refl, ap, sym, subst, ◌∙◌, arith, true≢false, eqb-true, eq-eqb, nat_lt, IsTrue}
+use Rattle.std.proofs.Common.{◌≡◌, ◌≤◌, ◌<◌, ℕ, zero, suc, ◌+◌, ◌-◌, Bool, true, false, not, ◌&&◌, List, [], ◌∷◌, ◌++◌, length, take, drop, get_or, slice_get, map, Option, None, Some, refl, ap, sym, subst, ◌∙◌, arith, true≢false, eqb-true, eq-eqb, nat_lt, IsTrue}
 use Rattle.std.specs.Prelude.{filter, flat_map, Contains, is_some}
 use Rattle.std.specs.Option.{option_map}
 use Rattle.std.specs.List.{list_all}
@@ -8,8 +8,7 @@ use Rattle.std.proofs.lemmas.Bool.{ltb-true, lt-ltb}
 use Rattle.std.proofs.lemmas.List.{map-append, length-map, length-take, length-drop, get_or_default}
 use Rattle.std.proofs.lemmas.Slice.Eq.{bytes_eq-Decides}
 use Rattle.std.proofs.lemmas.Option.{slice_get_within, slice_get-get_or}
-use Rattle.std.proofs.lemmas.List.Elements.{Contains-append_cases, Contains-append_left, Contains-append_right}
-use Rattle.canonical_abi.proofs.Images.{slice_get-drop, slice_get-take}
+use Rattle.std.proofs.lemmas.List.Elements.{Contains-append_left, Contains-append_right}
 use Rattle.package_form.specs.Ids.{places_where, is_use, is_owned_by}
 use Rattle.package_form.specs.Ends.{behind_types, behind_functions, behind_items, behind_item, end_of, rows_of, world_end, world_rows}
 use Rattle.package_form.specs.References.{row_references}
@@ -17,7 +16,6 @@ use Rattle.package_form.specs.Form.{is_named, ids_of, is_own_name, is_own_type, 
 use Rattle.tables.specs.Tables.{type_of, is_owner_world}
 use Rattle.tables.proofs.Rows.{split, both}
 use Rattle.tables.specs.declared.tables.TypeId.{TypeId}
-use Rattle.tables.specs.declared.tables.WorldId.{WorldId}
 use Rattle.tables.specs.declared.tables.FunctionId.{FunctionId}
 use Rattle.tables.specs.declared.tables.TypeDefKind.{TypeDefKind}
 use Rattle.tables.specs.declared.tables.TypeDefKind.TheVariants as kind
@@ -32,32 +30,31 @@ use Rattle.tables.specs.declared.tables.WorldItem.{WorldItem}
 use Rattle.tables.specs.declared.tables.WorldItemKind.{WorldItemKind}
 use Rattle.tables.specs.declared.tables.WorldItemKind.TheVariants as item
 use Rattle.tables.specs.declared.tables.Resolve.{Resolve}
-use Rattle.package_sets.specs.Owners.{owner_of, owners, names}
+use Rattle.package_sets.specs.Owners.{owner_of, names}
 use Rattle.package_sets.specs.Places.{kept, place}
-use Rattle.package_sets.specs.Reaches.{is_marked, own_marks, is_own_world, item_owners, owners_in, named_owners, Reaches, of_package, of_items, of_row}
+use Rattle.package_sets.specs.Reaches.{is_marked}
 use Rattle.package_sets.specs.Renamed.{renaming}
 use Rattle.package_sets.specs.Moved.{put_id, put_function_id, put_kind, put_name, put_owner, put_row, has_type, has_function, put_package_id, put_interface, put_item, put_item_kind, put_world}
-use Rattle.package_sets.specs.Restricted.{IsNeeded}
+use Rattle.package_sets.specs.Part.{IsPart}
 use Rattle.package_sets.specs.Set.{AreRowsOf, AreRowsOfWorld, ArePackageByPackage, behind_all, an_interface, a_world, AreWorldsApart, IsSet}
 use Rattle.package_sets.specs.declared.moved.Moved.{Moved}
-use Rattle.package_sets.proofs.Blocks.{AreAll, place-all, place-left, block-there, places-there, places-in, end-is-id, end-is-function}
+use Rattle.package_sets.proofs.Blocks.{AreAll, place-all, place-left, block-there, places-there, places-in}
 use Rattle.package_sets.proofs.Kept.{list-at, list-kept}
 use Rattle.package_form.proofs.Lists.{contains-map}
-use Rattle.package_sets.proofs.Lasting.{item-of}
 use Rattle.package_sets.proofs.Keeping.{kept-none, kept-at, place-before, place-order}
 use Rattle.package_sets.proofs.Placing.{place-none, place-yes, place-no}
 use Rattle.package_sets.proofs.Reading.{AreMarksFrom, marks-here, marks-next}
-use Rattle.package_sets.proofs.Postfixing.{kept-length, owner-next, unnamed-owner}
+use Rattle.package_sets.proofs.Postfixing.{kept-length}
 use Rattle.package_sets.proofs.Lists.{map-get, drop-map, take-mapped}
-use Rattle.package_sets.proofs.Named.{row-references-put, named-same}
-use Rattle.package_sets.proofs.Restricting.{owner-some}
+use Rattle.package_sets.proofs.Named.{row-references-put, named-same, referred-named}
+use Rattle.package_sets.proofs.Belonging.{owner-some, one-more, one-later, none-plus, plus-none, block-row, interface-owner, world-owner}
 use Rattle.package_sets.proofs.Restricting as table
 
-filter-all : {A : Type 0} (p : A → Bool) (xs : List A) → list_all p xs ≡ true → filter p xs ≡ xs
+pub filter-all : {A : Type 0} (p : A → Bool) (xs : List A) → list_all p xs ≡ true → filter p xs ≡ xs
 filter-all p [] h = refl
 filter-all p (x ∷ xs) h = let q = split (p x) (list_all p xs) h in let r = filter-all p xs q.1 in rw q.0 (ap (λ ys. x ∷ ys) r)
 
-all-from : {A : Type 0} (p : A → Bool) (xs : List A) → ((x : A) → Contains xs x → p x ≡ true) → list_all p xs ≡ true
+pub all-from : {A : Type 0} (p : A → Bool) (xs : List A) → ((x : A) → Contains xs x → p x ≡ true) → list_all p xs ≡ true
 all-from p [] h = refl
 all-from p (x ∷ xs) h = both _ _ (h x (0, omega arith, refl)) (all-from p xs (λ y c. h y (Contains-append_right (x ∷ []) xs y c)))
 
@@ -71,118 +68,6 @@ list-put-all put f g [] one h = refl
 list-put-all put f g (x ∷ xs) one h =
     let p = split (f x) (list_all f xs) h in
     both _ _ (one x (0, omega arith, refl) p.0) (list-put-all put f g xs (λ y c q. one y (Contains-append_right (x ∷ []) xs y c) q) p.1)
-
--- what a row refers to it names
-referred-named : (d : Definition) (t : TypeId) → Contains (row_references d) t → Contains (names d) t
-referred-named (row.Function f) t c = c
-referred-named (row.Type d) t c = by d.kind refl
-  where
-    here : (k : TypeDefKind) → d.kind ≡ k → Contains (row_references (row.Type (record { name = d.name; kind = k }))) t
-    here k e = subst (λ (x : TypeDefKind). Contains (row_references (row.Type (record { name = d.name; kind = x }))) t) e c
-
-    back : (k : TypeDefKind) → d.kind ≡ k → Contains (names (row.Type (record { name = d.name; kind = k }))) t → Contains (names (row.Type d)) t
-    back k e = subst (λ (x : TypeDefKind). Contains (names (row.Type (record { name = d.name; kind = x }))) t) (sym e)
-
-    none : Contains [] t → ⊥
-    none (k, h, z) = omega arith
-
-    by : (k : TypeDefKind) → d.kind ≡ k → Contains (names (row.Type d)) t
-    by (kind.Use u) e = absurd (none (here (kind.Use u) e))
-    by (kind.Alias v) e = back (kind.Alias v) e (here (kind.Alias v) e)
-    by (kind.List v) e = back (kind.List v) e (here (kind.List v) e)
-    by (kind.Option v) e = back (kind.Option v) e (here (kind.Option v) e)
-    by (kind.Result ok error) e = back (kind.Result ok error) e (here (kind.Result ok error) e)
-    by (kind.Tuple vs) e = back (kind.Tuple vs) e (here (kind.Tuple vs) e)
-    by (kind.Record fs) e = back (kind.Record fs) e (here (kind.Record fs) e)
-    by (kind.Variant cs) e = back (kind.Variant cs) e (here (kind.Variant cs) e)
-    by (kind.Enum ns) e = back (kind.Enum ns) e (here (kind.Enum ns) e)
-    by (kind.Flags ns) e = back (kind.Flags ns) e (here (kind.Flags ns) e)
-
--- ---- the owner of a run of rows that ends in one with a name
-
-one-more : (x : ℕ) → suc x ≡ x + 1
-one-more x = omega arith
-
-one-later : (x m : ℕ) → x + 1 + m ≡ x + suc m
-one-later x m = omega arith
-
-none-plus : (x : ℕ) → 0 + x ≡ x
-none-plus x = omega arith
-
-plus-none : (x : ℕ) → x + 0 ≡ x
-plus-none x = omega arith
-
-owner-run : (ds : List Definition) (o : Owner) (x m : ℕ) → ((j : ℕ) (d : Definition) → j ≤ m → slice_get ds (x + j) ≡ Some d → (owner_of d ≡ Some o) ⊎ (owner_of d ≡ None)) → x + m < length ds
-    → (d : Definition) → slice_get ds (x + m) ≡ Some d → owner_of d ≡ Some o → get_or (owners ds) x None ≡ Some o
-owner-run ds o x zero each within d e h = owner-some ds x d o (ap (slice_get ds) (sym (plus-none x)) ∙ e) h
-owner-run ds o x (suc m) each within d e h =
-    let index : (j : ℕ) → suc x + j ≡ x + suc j = λ j. omega arith in
-    let rest = owner-run ds o (suc x) m (λ j c l f. each (suc j) c (omega (arith, l)) (ap (slice_get ds) (sym (index j)) ∙ f)) (omega arith) d (ap (slice_get ds) (index m) ∙ e) h in
-    let here : slice_get ds x ≡ Some (get_or ds x d) = slice_get-get_or ds x d (omega arith) in
-    let at : slice_get ds (x + 0) ≡ Some (get_or ds x d) = ap (slice_get ds) (plus-none x) ∙ here in
-    elim (each 0 (get_or ds x d) (omega arith) at) [ inl q ↦ owner-some ds x (get_or ds x d) o here q | inr q ↦ owner-next ds x (get_or ds x d) here q ∙ rest ]
-
--- a row of a block of a table
-block-row : (ds : List Definition) (start end j : ℕ) (d : Definition) → slice_get (take (end - start) (drop start ds)) j ≡ Some d → slice_get ds (start + j) ≡ Some d
-block-row ds start end j d e =
-    let l : j < length (take (end - start) (drop start ds)) = slice_get_within _ j d e in
-    let m : j < end - start = omega (arith, l, length-take (end - start) (drop start ds)) in
-    sym (slice_get-drop start ds j) ∙ (sym (slice_get-take (end - start) (drop start ds) j m) ∙ e)
-
-row-block : (ds : List Definition) (start end j : ℕ) (d : Definition) → j < end - start → slice_get ds (start + j) ≡ Some d → slice_get (take (end - start) (drop start ds)) j ≡ Some d
-row-block ds start end j d l e = slice_get-take (end - start) (drop start ds) j l ∙ (slice_get-drop start ds j ∙ e)
-
--- rows of an interface are its own, or without a name
-local-owned : (rows : List Definition) (k : ℕ) (d : Definition) → is_local rows k d ≡ true → (owner_of d ≡ Some (owner.Interface (record { 0 = k }))) ⊎ (owner_of d ≡ None)
-local-owned rows k (row.Type d) h = by d.name refl (split (is_own_name k d.name) (uses_earlier rows k d.kind) (split (is_owned rows k (row.Type d)) (list_all (is_own rows k) (row_references (row.Type d))) h).0).0
-  where
-    by : (n : Option TypeName) → d.name ≡ n → is_own_name k d.name ≡ true → (owner_of (row.Type d) ≡ Some (owner.Interface (record { 0 = k }))) ⊎ (owner_of (row.Type d) ≡ None)
-    by None e q = inr (ap (option_map (λ x. owner.Interface x.interface)) e)
-    by (Some n) e q =
-        let own : n.interface.0 ≡ k = eqb-true n.interface.0 k (sym (ap (is_own_name k) e) ∙ q) in
-        inl (ap (option_map (λ x. owner.Interface x.interface)) e ∙ ap (λ (j : ℕ). Some (owner.Interface (record { 0 = j }))) own)
-local-owned rows k (row.Function f) h = by f.owner refl (split (is_owned rows k (row.Function f)) (list_all (is_own rows k) (row_references (row.Function f))) h).0
-  where
-    by : (o : Owner) → f.owner ≡ o → is_owned_by k f.owner ≡ true → (owner_of (row.Function f) ≡ Some (owner.Interface (record { 0 = k }))) ⊎ (owner_of (row.Function f) ≡ None)
-    by (owner.World w) e q = absurd (true≢false (sym q ∙ ap (is_owned_by k) e))
-    by (owner.Interface i) e q =
-        let own : i.0 ≡ k = eqb-true i.0 k (sym (ap (is_owned_by k) e) ∙ q) in
-        inl (ap Some e ∙ ap (λ (j : ℕ). Some (owner.Interface (record { 0 = j }))) own)
-
-world-owned : (rows : List Definition) (k : ℕ) (d : Definition) → is_world_row rows k d ≡ true → (owner_of d ≡ Some (owner.World (record { 0 = k }))) ⊎ (owner_of d ≡ None)
-world-owned rows k (row.Type d) h = inr (unnamed-owner (row.Type d) (split (is_of_world k (row.Type d)) (list_all (is_nameless rows) (row_references (row.Type d))) h).0)
-world-owned rows k (row.Function f) h = by f.owner refl (split (is_of_world k (row.Function f)) (list_all (is_nameless rows) (row_references (row.Function f))) h).0
-  where
-    by : (o : Owner) → f.owner ≡ o → is_owner_world k f.owner ≡ true → (owner_of (row.Function f) ≡ Some (owner.World (record { 0 = k }))) ⊎ (owner_of (row.Function f) ≡ None)
-    by (owner.Interface i) e q = absurd (true≢false (sym q ∙ ap (is_owner_world k) e))
-    by (owner.World w) e q =
-        let own : w.0 ≡ k = eqb-true w.0 k (sym (ap (is_owner_world k) e) ∙ q) in
-        inl (ap Some e ∙ ap (λ (j : ℕ). Some (owner.World (record { 0 = j }))) own)
-
--- a row with a name that may have this owner has it
-named-owned : (d : Definition) (o : Owner) → is_named d ≡ true → (owner_of d ≡ Some o) ⊎ (owner_of d ≡ None) → owner_of d ≡ Some o
-named-owned d o h (inl e) = e
-named-owned (row.Function f) o h (inr e) = absurd (cc)
-named-owned (row.Type d) o h (inr e) = by d.name refl e
-  where
-    by : (n : Option TypeName) → d.name ≡ n → option_map (λ x. owner.Interface x.interface) d.name ≡ None → owner_of (row.Type d) ≡ Some o
-    by None q z = absurd (true≢false (sym h ∙ ap (λ (n : Option TypeName). not (not (is_some n))) q))
-    by (Some n) q z = absurd (some-not (sym (ap (option_map (λ x. owner.Interface x.interface)) q) ∙ z))
-      where
-        some-not : {A : Type 0} {y : A} → Some y ≡ None → ⊥
-        some-not w = cc
-
--- every row of a block has this owner, where each has it or no name, and the last has a name
-block-owner : (ds : List Definition) (o : Owner) (start end : ℕ) → ((j : ℕ) (d : Definition) → slice_get (take (end - start) (drop start ds)) j ≡ Some d → (owner_of d ≡ Some o) ⊎ (owner_of d ≡ None))
-    → end ≤ length ds → (last : ℕ) (d : Definition) → start + last + 1 ≡ end → slice_get ds (start + last) ≡ Some d → owner_of d ≡ Some o
-    → (x : ℕ) → x < end - start → get_or (owners ds) (start + x) None ≡ Some o
-block-owner ds o start end each within last d at e h x l =
-    let whole : start + x + (last - x) ≡ start + last = omega arith in
-    owner-run ds o (start + x) (last - x)
-    (λ j c k f. each (x + j) c (row-block ds start end (x + j) c (omega arith) (ap (slice_get ds) (regroup j) ∙ f))) (omega arith) d (ap (slice_get ds) whole ∙ e) h
-  where
-    regroup : (j : ℕ) → start + (x + j) ≡ start + x + j
-    regroup j = omega arith
 
 -- ---- ends and ids, put elsewhere
 
@@ -216,11 +101,11 @@ module _ (to : Moved) where
       let p = item-end start i.kind (flat_map function_at is) h in
       ap (λ m. behind_items m (map (put_item (renaming to)) is)) p.0 ∙ items-end (behind_item start i.kind) is p.1
 
-  list-ids : (ts : List TypeId) → map (λ t. t.0) (map (put_id (renaming to)) ts) ≡ map (place to.rows) (map (λ t. t.0) ts)
+  pub list-ids : (ts : List TypeId) → map (λ t. t.0) (map (put_id (renaming to)) ts) ≡ map (place to.rows) (map (λ t. t.0) ts)
   list-ids [] = refl
   list-ids (t ∷ ts) = ap (λ xs. place to.rows t.0 ∷ xs) (list-ids ts)
 
-  list-function-ids : (ts : List FunctionId) → map (λ t. t.0) (map (put_function_id (renaming to)) ts) ≡ map (place to.rows) (map (λ t. t.0) ts)
+  pub list-function-ids : (ts : List FunctionId) → map (λ t. t.0) (map (put_function_id (renaming to)) ts) ≡ map (place to.rows) (map (λ t. t.0) ts)
   list-function-ids [] = refl
   list-function-ids (t ∷ ts) = ap (λ xs. place to.rows t.0 ∷ xs) (list-function-ids ts)
 
@@ -233,50 +118,16 @@ module _ (to : Moved) where
       by (item.Interface j) r = r
       by (item.Function f) r = ap (λ xs. place to.rows f.0 ∷ xs) r
 
-module _ (s : Resolve) (own : ℕ) (to : Moved) (n : IsNeeded s own to) where
+module _ (s : Resolve) (to : Moved) (n : IsPart s to) where
   abbrev there : List Definition
   there = map (put_row (renaming to)) (kept to.rows s.definitions)
 
-  -- the last row of an interface has a name
-  interface-owner : (start k : ℕ) (i : Interface) → AreRowsOf s.definitions start k i → (x : ℕ) → x < end_of start i - start → get_or (owners s.definitions) (start + x) None ≡ Some (owner.Interface (record { 0 = k }))
-  interface-owner start k i a x l = by (end-is-id start i)
-    where
-      each : (j : ℕ) (d : Definition) → slice_get (rows_of s.definitions start i) j ≡ Some d → (owner_of d ≡ Some (owner.Interface (record { 0 = k }))) ⊎ (owner_of d ≡ None)
-      each j d e = local-owned s.definitions k d (list-at (is_local s.definitions k) (rows_of s.definitions start i) j d a.local e)
-
-      ids : ids_of i ≡ places_where is_named start (rows_of s.definitions start i)
-      ids = (bytes_eq-Decides (ids_of i) (places_where is_named start (rows_of s.definitions start i))).0
-          (split (bytes_eq (ids_of i) (places_where is_named start (rows_of s.definitions start i))) (list_all (is_use_at s.definitions) i.uses && list_all (λ t. not (is_use_at s.definitions t)) i.types) a.ids).0
-
-      by : (end_of start i ≡ start) ⊎ ((y : ℕ) × Contains (ids_of i) y × (end_of start i ≡ y + 1)) → get_or (owners s.definitions) (start + x) None ≡ Some (owner.Interface (record { 0 = k }))
-      by (inl e) = absurd (omega arith)
-      by (inr (y, c, e)) =
-          let p = places-in is_named start (rows_of s.definitions start i) y (subst (λ (ys : List ℕ). Contains ys y) ids c) in
-          let at = block-row s.definitions start (end_of start i) p.0 p.1 p.3 in
-          block-owner s.definitions (owner.Interface (record { 0 = k })) start (end_of start i) each a.ends p.0 p.1 (omega (arith, p.2, e)) at (named-owned p.1 _ p.4 (each p.0 p.1 p.3)) x l
-
-  world-owner : (start k : ℕ) (w : World) → AreRowsOfWorld s.definitions start k w → (x : ℕ) → x < world_end start w - start → get_or (owners s.definitions) (start + x) None ≡ Some (owner.World (record { 0 = k }))
-  world-owner start k w a x l = by (end-is-function start w.items)
-    where
-      each : (j : ℕ) (d : Definition) → slice_get (world_rows s.definitions start w) j ≡ Some d → (owner_of d ≡ Some (owner.World (record { 0 = k }))) ⊎ (owner_of d ≡ None)
-      each j d e = world-owned s.definitions k d (list-at (is_world_row s.definitions k) (world_rows s.definitions start w) j d a.local e)
-
-      ids : places_where is_named start (world_rows s.definitions start w) ≡ functions_of w
-      ids = (bytes_eq-Decides (places_where is_named start (world_rows s.definitions start w)) (functions_of w)).0 a.items
-
-      by : (world_end start w ≡ start) ⊎ ((y : ℕ) × Contains (functions_of w) y × (world_end start w ≡ y + 1)) → get_or (owners s.definitions) (start + x) None ≡ Some (owner.World (record { 0 = k }))
-      by (inl e) = absurd (omega arith)
-      by (inr (y, c, e)) =
-          let p = places-in is_named start (world_rows s.definitions start w) y (subst (λ (ys : List ℕ). Contains ys y) (sym ids) c) in
-          let at = block-row s.definitions start (world_end start w) p.0 p.1 p.3 in
-          block-owner s.definitions (owner.World (record { 0 = k })) start (world_end start w) each a.ends p.0 p.1 (omega (arith, p.2, e)) at (named-owned p.1 _ p.4 (each p.0 p.1 p.3)) x l
-
   -- all rows of an interface are kept, or none
-  interface-marks : (start k : ℕ) (i : Interface) (b : Bool) → AreRowsOf s.definitions start k i → is_marked n.marks (Some (owner.Interface (record { 0 = k }))) ≡ b → AreAll b to.rows start (end_of start i - start)
-  interface-marks start k i b a h = record { each = λ x l. table.mark-at s own to n (start + x) (omega (arith, l, a.ends, a.begins)) ∙ (ap (is_marked n.marks) (interface-owner start k i a x l) ∙ h) }
+  pub interface-marks : (start k : ℕ) (i : Interface) (b : Bool) → AreRowsOf s.definitions start k i → is_marked n.marks (Some (owner.Interface (record { 0 = k }))) ≡ b → AreAll b to.rows start (end_of start i - start)
+  interface-marks start k i b a h = record { each = λ x l. table.mark-at s to n (start + x) (omega (arith, l, a.ends, a.begins)) ∙ (ap (is_marked n.marks) (interface-owner s.definitions start k i a x l) ∙ h) }
 
-  world-marks : (start k : ℕ) (w : World) (b : Bool) → AreRowsOfWorld s.definitions start k w → is_marked n.marks (Some (owner.World (record { 0 = k }))) ≡ b → AreAll b to.rows start (world_end start w - start)
-  world-marks start k w b a h = record { each = λ x l. table.mark-at s own to n (start + x) (omega (arith, l, a.ends, a.begins)) ∙ (ap (is_marked n.marks) (world-owner start k w a x l) ∙ h) }
+  pub world-marks : (start k : ℕ) (w : World) (b : Bool) → AreRowsOfWorld s.definitions start k w → is_marked n.marks (Some (owner.World (record { 0 = k }))) ≡ b → AreAll b to.rows start (world_end start w - start)
+  world-marks start k w b a h = record { each = λ x l. table.mark-at s to n (start + x) (omega (arith, l, a.ends, a.begins)) ∙ (ap (is_marked n.marks) (world-owner s.definitions start k w a x l) ∙ h) }
 
   -- the rows of a block that is kept
   block-put : (start end : ℕ) → start ≤ end → AreAll true to.rows start (end - start)
@@ -316,14 +167,14 @@ module _ (s : Resolve) (own : ℕ) (to : Moved) (n : IsNeeded s own to) where
               let before : y.interface.0 < k = ltb-true y.interface.0 k z in
               let owned : owner_of (row.Type x) ≡ Some (owner.Interface y.interface) = ap (option_map (λ v. owner.Interface v.interface)) f in
               let marked : is_marked n.marks (Some (owner.Interface y.interface)) ≡ true =
-              sym (ap (is_marked n.marks) (owner-some s.definitions t.0 (row.Type x) (owner.Interface y.interface) d owned)) ∙ (sym (table.mark-at s own to n t.0 (slice_get_within s.definitions t.0 (row.Type x) d)) ∙ e) in
-              lt-ltb _ _ (place-before to.interfaces y.interface.0 k before (table.interface-there s own to n y.interface.0 (omega arith) marked))
+              sym (ap (is_marked n.marks) (owner-some s.definitions t.0 (row.Type x) (owner.Interface y.interface) d owned)) ∙ (sym (table.mark-at s to n t.0 (slice_get_within s.definitions t.0 (row.Type x) d)) ∙ e) in
+              lt-ltb _ _ (place-before to.interfaces y.interface.0 k before (table.interface-there s to n y.interface.0 (omega arith) marked))
 
   local-there : (x k : ℕ) (d : Definition) → k < length s.interfaces → slice_get s.definitions x ≡ Some d → get_or to.rows x false ≡ true → is_local s.definitions k d ≡ true → is_local there (place to.interfaces k) (put_row (renaming to) d) ≡ true
   local-there x k d within at e h =
       let p = split (is_owned s.definitions k d) (list_all (is_own s.definitions k) (row_references d)) h in
       both _ _ (owned d at p.0) (rw (row-references-put (renaming to) d) (list-put-all (put_id (renaming to)) (is_own s.definitions k) (is_own there (place to.interfaces k)) (row_references d)
-      (λ t c o. own-there k t o (table.closed s own to n x d at e t (referred-named d t c))) p.1))
+      (λ t c o. own-there k t o (table.closed s to n x d at e t (referred-named d t c))) p.1))
     where
       owned : (c : Definition) → slice_get s.definitions x ≡ Some c → is_owned s.definitions k c ≡ true → is_owned there (place to.interfaces k) (put_row (renaming to) c) ≡ true
       owned (row.Function f) q r = by f.owner r
@@ -342,7 +193,7 @@ module _ (s : Resolve) (own : ℕ) (to : Moved) (n : IsNeeded s own to) where
           uses : (m : TypeDefKind) → c.kind ≡ m → uses_earlier s.definitions k m ≡ true → uses_earlier there (place to.interfaces k) (put_kind (renaming to) m) ≡ true
           uses (kind.Use t) f y =
               earlier-there k t within y
-              (table.closed s own to n x (row.Type c) q e t (subst (λ (v : TypeDefKind). Contains (names (row.Type (record { name = c.name; kind = v }))) t) (sym f) (0, omega arith, refl)))
+              (table.closed s to n x (row.Type c) q e t (subst (λ (v : TypeDefKind). Contains (names (row.Type (record { name = c.name; kind = v }))) t) (sym f) (0, omega arith, refl)))
           uses (kind.Alias v) f y = refl
           uses (kind.List v) f y = refl
           uses (kind.Option v) f y = refl
@@ -382,13 +233,13 @@ module _ (s : Resolve) (own : ℕ) (to : Moved) (n : IsNeeded s own to) where
           ∙ (rows-same d ∙ sym (ap (λ (o : Option Definition). is_use_type (type_of o)) z))
 
   count-there : length there ≡ place to.rows (length s.definitions)
-  count-there = length-map (kept to.rows s.definitions) (put_row (renaming to)) ∙ kept-length to.rows s.definitions (omega (arith, table.count-rows s own to n))
+  count-there = length-map (kept to.rows s.definitions) (put_row (renaming to)) ∙ kept-length to.rows s.definitions (omega (arith, table.count-rows s to n))
 
   block-length : (start end : ℕ) → start ≤ end → end ≤ length s.definitions → length (take (end - start) (drop start s.definitions)) ≡ end - start
   block-length start end l m = omega (arith, length-take (end - start) (drop start s.definitions), length-drop start s.definitions)
 
   -- each id of an interface whose rows are kept is kept
-  id-kept : (start k : ℕ) (i : Interface) → AreRowsOf s.definitions start k i → AreAll true to.rows start (end_of start i - start) → (x : ℕ) → Contains (ids_of i) x → (get_or to.rows x false ≡ true) × (x < length s.definitions)
+  pub id-kept : (start k : ℕ) (i : Interface) → AreRowsOf s.definitions start k i → AreAll true to.rows start (end_of start i - start) → (x : ℕ) → Contains (ids_of i) x → (get_or to.rows x false ≡ true) × (x < length s.definitions)
   id-kept start k i a m x c =
       let ids = (bytes_eq-Decides (ids_of i) (places_where is_named start (rows_of s.definitions start i))).0
       (split (bytes_eq (ids_of i) (places_where is_named start (rows_of s.definitions start i))) (list_all (is_use_at s.definitions) i.uses && list_all (λ t. not (is_use_at s.definitions t)) i.types) a.ids).0 in
@@ -405,7 +256,7 @@ module _ (s : Resolve) (own : ℕ) (to : Moved) (n : IsNeeded s own to) where
     functions = map (put_function_id (renaming to)) i.functions;
   }
 
-  interface-step : (start k : ℕ) (i : Interface) → k < length s.interfaces → AreRowsOf s.definitions start k i → AreAll true to.rows start (end_of start i - start)
+  pub interface-step : (start k : ℕ) (i : Interface) → k < length s.interfaces → AreRowsOf s.definitions start k i → AreAll true to.rows start (end_of start i - start)
       → AreRowsOf there (place to.rows start) (place to.interfaces k) (put_interface (renaming to) i) × (end_of (place to.rows start) (put_interface (renaming to) i) ≡ place to.rows (end_of start i))
   interface-step start k i within a m = (subst (λ (x : Interface). AreRowsOf there (place to.rows start) (place to.interfaces k) x) (sym is-plain) rows-are, ap (end_of (place to.rows start)) is-plain ∙ ends-same)
     where
@@ -503,7 +354,7 @@ module _ (s : Resolve) (own : ℕ) (to : Moved) (n : IsNeeded s own to) where
   world-row-there x k d at e h =
       let p = split (is_of_world k d) (list_all (is_nameless s.definitions) (row_references d)) h in
       both _ _ (owned d p.0) (rw (row-references-put (renaming to) d) (list-put-all (put_id (renaming to)) (is_nameless s.definitions) (is_nameless there) (row_references d)
-      (λ t c o. nameless-there t o (table.closed s own to n x d at e t (referred-named d t c))) p.1))
+      (λ t c o. nameless-there t o (table.closed s to n x d at e t (referred-named d t c))) p.1))
     where
       named : (m : Option TypeName) → not (is_some m) ≡ true → not (is_some (option_map (put_name (renaming to)) m)) ≡ true
       named None z = refl
@@ -563,39 +414,19 @@ module _ (s : Resolve) (own : ℕ) (to : Moved) (n : IsNeeded s own to) where
 
   -- ---- the worlds that are kept are those whose rows are
 
-  world-reached : AreWorldsApart s → (o : Option Owner) → Reaches s own o → (w : WorldId) → o ≡ Some (owner.World w) → is_marked (own_marks s own) (Some (owner.World w)) ≡ true
-  world-reached h o (of_package _ e) w q = ap (is_marked (own_marks s own)) (sym q) ∙ e
-  world-reached h o (of_items _ c) w q =
-      let p = item-of own s.worlds o c in
-      absurd (no-world p.0.items (subst (λ (x : Option Owner). Contains (flat_map owners_in p.0.items) x) q p.3))
-    where
-      no-item : (k : WorldItemKind) → Contains (item_owners k) (Some (owner.World w)) → ⊥
-      no-item (item.Function f) (k, l, e) = omega arith
-      no-item (item.Interface i) (zero, l, e) = cc
-      no-item (item.Interface i) (suc k, l, e) = omega arith
-
-      no-world : (is : List WorldItem) → Contains (flat_map owners_in is) (Some (owner.World w)) → ⊥
-      no-world [] (k, l, e) = omega arith
-      no-world (i ∷ is) d = elim (Contains-append_cases (owners_in i) (flat_map owners_in is) (Some (owner.World w)) d) [ inl z ↦ no-item i.kind z | inr z ↦ no-world is z ]
-  world-reached h o (of_row k d _ at r c) w q =
-      world-reached h _ r w (h k d w at (subst (λ (x : Option Owner). Contains (named_owners (owners s.definitions) d) x) q c))
-
-  world-mark : AreWorldsApart s → (j : ℕ) → j < length s.worlds → is_marked n.marks (Some (owner.World (record { 0 = j }))) ≡ get_or to.worlds j false
+  pub world-mark : AreWorldsApart s → (j : ℕ) → j < length s.worlds → is_marked n.marks (Some (owner.World (record { 0 = j }))) ≡ get_or to.worlds j false
   world-mark h j l = by (get_or to.worlds j false) refl
     where
-      same : get_or to.worlds j false ≡ is_marked (own_marks s own) (Some (owner.World (record { 0 = j })))
-      same = ap (λ (bs : List Bool). get_or bs j false) n.worlds_are ∙ get_or_default (map (is_own_world own) s.worlds) j false true (omega (arith, l, length-map s.worlds (is_own_world own)))
-
       by : (b : Bool) → get_or to.worlds j false ≡ b → is_marked n.marks (Some (owner.World (record { 0 = j }))) ≡ b
-      by true e = n.are_reached.complete (Some (owner.World (record { 0 = j }))) (of_package (Some (owner.World (record { 0 = j }))) (sym same ∙ e))
+      by true e = n.worlds_marked j l e
       by false e = none (is_marked n.marks (Some (owner.World (record { 0 = j })))) refl
         where
           none : (c : Bool) → is_marked n.marks (Some (owner.World (record { 0 = j }))) ≡ c → is_marked n.marks (Some (owner.World (record { 0 = j }))) ≡ false
           none false z = z
-          none true z = absurd (true≢false (sym (world-reached h (Some (owner.World (record { 0 = j }))) (n.are_reached.sound (Some (owner.World (record { 0 = j }))) z) (record { 0 = j }) refl) ∙ (sym same ∙ e)))
+          none true z = absurd (true≢false (sym (n.worlds_kept h j l z) ∙ e))
 
-  interface-mark : (k : ℕ) → k < length s.interfaces → is_marked n.marks (Some (owner.Interface (record { 0 = k }))) ≡ get_or to.interfaces k false
-  interface-mark k l = get_or_default n.marks.interfaces k true false (omega (arith, l, n.are_reached.count)) ∙ ap (λ (bs : List Bool). get_or bs k false) (sym n.interfaces_are)
+  pub interface-mark : (k : ℕ) → k < length s.interfaces → is_marked n.marks (Some (owner.Interface (record { 0 = k }))) ≡ get_or to.interfaces k false
+  interface-mark k l = get_or_default n.marks.interfaces k true false (omega (arith, l, n.count)) ∙ ap (λ (bs : List Bool). get_or bs k false) (sym n.interfaces_are)
 
   later-kept : (p : ℕ) (bs : List Bool) (is : List Interface) → get_or to.packages p false ≡ true → list_all (λ i. nat_lt p i.«package».0) is ≡ true
       → list_all (λ i. nat_lt (place to.packages p) i.«package».0) (map (put_interface (renaming to)) (kept bs is)) ≡ true
@@ -642,7 +473,7 @@ module _ (s : Resolve) (own : ℕ) (to : Moved) (n : IsNeeded s own to) where
       let r = stands-there apart (world_end start w) k is (j + 1) ws rest bs ms u v cs (marks-next to.worlds j (j + 1) true cs refl ns) (omega (arith, x)) (omega (arith, y))
       (λ m c e. ap (slice_get s.worlds) (one-later j m) ∙ at (suc m) c e) in
       a_world (place to.rows start) (place to.interfaces k) (map (put_interface (renaming to)) (kept bs is)) (place to.worlds j) (put_world (renaming to) w) (map (put_world (renaming to)) (kept cs ws)) step.0
-      (later-kept w.«package».0 bs is (table.world-needed s own to n j w here this) later)
+      (later-kept w.«package».0 bs is (n.worlds_needed j w here this) later)
       (subst (λ e. ArePackageByPackage there e (place to.interfaces k) (map (put_interface (renaming to)) (kept bs is)) (place to.worlds j + 1) (map (put_world (renaming to)) (kept cs ws))) (sym step.1)
       (subst (λ e. ArePackageByPackage there (place to.rows (world_end start w)) (place to.interfaces k) (map (put_interface (renaming to)) (kept bs is)) e (map (put_world (renaming to)) (kept cs ws))) (sym next) r))
   stands-there apart _ _ _ _ _ (a_world start k is j w ws a later rest) bs ms u v (false ∷ cs) ns x y at =
@@ -659,8 +490,8 @@ module _ (s : Resolve) (own : ℕ) (to : Moved) (n : IsNeeded s own to) where
 
   pub all-stand : IsSet s → ArePackageByPackage there 0 0 (map (put_interface (renaming to)) (kept to.interfaces s.interfaces)) 0 (map (put_world (renaming to)) (kept to.worlds s.worlds))
   all-stand h =
-      let r = stands-there h.apart 0 0 s.interfaces 0 s.worlds h.stands to.interfaces (λ k. ap (λ m. get_or to.interfaces m false) (none-plus k)) (omega arith) (table.count-interfaces s own to n)
-      to.worlds (λ k. ap (λ m. get_or to.worlds m false) (none-plus k)) (omega arith) (ap length n.worlds_are ∙ length-map s.worlds (is_own_world own)) (λ m w e. ap (slice_get s.worlds) (none-plus m) ∙ e) in
+      let r = stands-there h.apart 0 0 s.interfaces 0 s.worlds h.stands to.interfaces (λ k. ap (λ m. get_or to.interfaces m false) (none-plus k)) (omega arith) (table.count-interfaces s to n)
+      to.worlds (λ k. ap (λ m. get_or to.worlds m false) (none-plus k)) (omega arith) n.count_worlds (λ m w e. ap (slice_get s.worlds) (none-plus m) ∙ e) in
       subst (λ x. ArePackageByPackage there x 0 (map (put_interface (renaming to)) (kept to.interfaces s.interfaces)) 0 (map (put_world (renaming to)) (kept to.worlds s.worlds))) (place-none to.rows)
       (subst (λ x. ArePackageByPackage there (place to.rows 0) x (map (put_interface (renaming to)) (kept to.interfaces s.interfaces)) 0 (map (put_world (renaming to)) (kept to.worlds s.worlds))) (place-none to.interfaces)
       (subst (λ x. ArePackageByPackage there (place to.rows 0) (place to.interfaces 0) (map (put_interface (renaming to)) (kept to.interfaces s.interfaces)) x (map (put_world (renaming to)) (kept to.worlds s.worlds))) (place-none to.worlds) r))

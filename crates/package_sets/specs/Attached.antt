@@ -1,10 +1,14 @@
 -- A set with one package more: the closed table of a package, behind the packages of the set.
-use Rattle.std.specs.Prelude.{◌≡◌, ◌≤◌, ◌<◌, ◌==◌, ℕ, Bool, true, false, List, [], ◌∷◌, ◌++◌, map, take, length, slice_get, Option, None, Some}
+use Rattle.std.specs.Prelude.{◌≡◌, ◌≤◌, ◌<◌, ◌==◌, ℕ, Bool, true, false, List, [], ◌∷◌, ◌++◌, map, take, length, slice_get, Option, None, Some, All}
 use Rattle.std.specs.List.{list_any}
 use Rattle.package_form.specs.Closed.{own_package, is_same_package, is_closed}
 use Rattle.package_sets.specs.Restricted.{definitions_where, package_of_owner}
 use Rattle.package_sets.specs.Joining.{own_interfaces, HasImports}
 use Rattle.package_sets.specs.Set.{IsPackageByPackage, HasRowsInForm}
+use Rattle.package_sets.specs.SetForm.{IsInSetForm}
+use Rattle.package_form.specs.Form.{IsInPackageForm}
+use Rattle.package_form.specs.Scope.{AreDistinct}
+use Rattle.package_form.specs.Naming.{package_scopes}
 use Rattle.tables.specs.PackageNames.{PackageParts}
 use Rattle.tables.specs.Names.{full_name}
 use Rattle.tables.specs.Package.{interface_names, definitions, worlds, NamedDefinition}
@@ -105,3 +109,5 @@ pub record IsAttached (set closed r : Resolve) (id : ℕ) : Type 0 where
   pub stands : IsPackageByPackage set → HasRowsInForm closed → IsPackageByPackage r
   pub definitions_are : AreInForm set closed → definitions r ≡ definitions set ++ own_definitions closed
   pub worlds_are : AreInForm set closed → worlds r ≡ worlds set ++ worlds closed
+  -- where the closed table is in form, and its names differ in each scope, the set stays in form
+  pub in_form : IsInSetForm set → IsInPackageForm closed → All AreDistinct (package_scopes closed) → IsInSetForm r

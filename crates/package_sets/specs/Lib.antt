@@ -1,11 +1,15 @@
 pub mod Attached
+pub mod Imports
 pub mod Joined
 pub mod Joining
 pub mod Marking
 pub mod Moved
 pub mod Owners
+pub mod Part
 pub mod Places
 pub mod Reaches
 pub mod Renamed
 pub mod Restricted
 pub mod Set
+pub mod SetForm
+pub mod SetScopes

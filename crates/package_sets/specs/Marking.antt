@@ -1,7 +1,8 @@
--- How the marks of what a package reaches are found: what a step marks besides.
+-- How the marks of what is reached are found: what a step marks besides.
 use Rattle.std.specs.Prelude.{◌≡◌, ℕ, ◌+◌, ◌<◌, ◌⊎◌, Bool, true, false, List, [], ◌∷◌, length, slice_get, slice_index_or, Option, None, Some, Contains}
 use Rattle.package_sets.specs.Owners.{owners}
-use Rattle.package_sets.specs.Reaches.{Marks, is_marked, named_owners, Reaches}
+use Rattle.package_sets.specs.Reaches.{Marks, is_marked, named_owners, Start, Reaches}
+use Rattle.package_sets.specs.Restricted.{IsReachedIn}
 use Rattle.tables.specs.declared.tables.Owner.{Owner}
 use Rattle.tables.specs.declared.tables.Definition.{Definition}
 use Rattle.tables.specs.declared.tables.Resolve.{Resolve}
@@ -34,8 +35,8 @@ pub record AddsRow (os : List (Option Owner)) (own : Option Owner) (d : Definiti
   pub all : is_marked old own ≡ true → (o : Option Owner) → Contains (named_owners os d) o → is_marked new o ≡ true
   pub tells : Tells old new grew
 
-abbrev pub AreSound : Resolve → ℕ → Marks → Type 0
-AreSound set own m = (o : Option Owner) → is_marked m o ≡ true → Reaches set own o
+abbrev pub AreSound : Resolve → Start → Marks → Type 0
+AreSound set from m = (o : Option Owner) → is_marked m o ≡ true → Reaches set from o
 
 -- the row at place k names nothing that isn't marked, where it is marked
 abbrev pub IsFixedAt : Resolve → Marks → ℕ → Type 0
@@ -46,6 +47,20 @@ IsFixedAt set m k = (d : Definition) (o : Option Owner) → slice_get set.defini
 pub record Passes (set : Resolve) (old new : Marks) (grew : Bool) : Type 0 where
   pub count : length new.interfaces ≡ length old.interfaces
   pub keeps : (o : Option Owner) → is_marked old o ≡ true → is_marked new o ≡ true
-  pub sound : (own : ℕ) → AreSound set own old → AreSound set own new
+  pub sound : (from : Start) → AreSound set from old → AreSound set from new
   pub fewer : grew ≡ true → unmarked new < unmarked old
   pub fixed : grew ≡ false → (k : ℕ) → IsFixedAt set new k
+
+-- all that rows name is marked besides, of what is marked itself
+pub record AreGrown (set : Resolve) (old new : Marks) : Type 0 where
+  pub count : length new.interfaces ≡ length old.interfaces
+  pub keeps : (o : Option Owner) → is_marked old o ≡ true → is_marked new o ≡ true
+  pub sound : (from : Start) → AreSound set from old → AreSound set from new
+  pub fixed : (k : ℕ) → IsFixedAt set new k
+
+-- the packages of the interfaces that are reached are marked besides
+pub record AddsNeeded (set : Resolve) (m : Marks) (old new : List Bool) : Type 0 where
+  pub count : length new ≡ length old
+  pub keeps : (k : ℕ) → slice_index_or old k false ≡ true → slice_index_or new k false ≡ true
+  pub others : (k : ℕ) → IsReachedIn set m k → slice_index_or new k true ≡ true
+  pub only : (k : ℕ) → slice_index_or new k false ≡ true → (slice_index_or old k false ≡ true) ⊎ IsReachedIn set m k

@@ -1,5 +1,6 @@
--- What a package of a set reaches: its own interfaces and worlds, and the interfaces whose types they name, directly or by others.
-use Rattle.std.specs.Prelude.{◌≡◌, ℕ, ◌==◌, Bool, true, List, [], ◌∷◌, map, flat_map, length, slice_get, slice_index_or, Option, None, Some, Contains, if◌then◌else◌}
+-- What is reached in a set: by a package, its own interfaces and worlds, and the interfaces whose types they name, directly or by others; by
+-- interfaces, those whose types they name so.
+use Rattle.std.specs.Prelude.{◌≡◌, ◌⊎◌, ℕ, zero, suc, ◌==◌, Bool, true, false, List, [], ◌∷◌, map, flat_map, length, slice_get, slice_index_or, Option, None, Some, Contains, if◌then◌else◌}
 use Rattle.package_sets.specs.Owners.{owners, names}
 use Rattle.tables.specs.declared.tables.TypeId.{TypeId}
 use Rattle.tables.specs.declared.tables.Owner.{Owner}
@@ -52,16 +53,33 @@ owner_at os t = slice_index_or os t.0 None
 abbrev pub named_owners : List (Option Owner) → Definition → List (Option Owner)
 named_owners os d = map (owner_at os) (names d)
 
--- What the package `own` of a set reaches: what is its own, the interfaces that the items of its worlds name, and whatever a row names that is
--- of what it reaches.
-pub data Reaches (set : Resolve) (own : ℕ) : Option Owner → Type 0 where
-  of_package : (o : Option Owner) → is_marked (own_marks set own) o ≡ true → Reaches set own o
-  of_items : (o : Option Owner) → Contains (flat_map (world_owners own) set.worlds) o → Reaches set own o
-  of_row : (k : ℕ) (d : Definition) (o : Option Owner) → slice_get set.definitions k ≡ Some d
-      → Reaches set own (slice_index_or (owners set.definitions) k None) → Contains (named_owners (owners set.definitions) d) o → Reaches set own o
+-- the interfaces with these marks, and no world; one that has no mark isn't given
+abbrev pub padded : ℕ → List Bool → List Bool
+padded zero bs = []
+padded (suc n) [] = false ∷ padded n []
+padded (suc n) (b ∷ bs) = b ∷ padded n bs
 
--- the marks of just what the package reaches
-pub record AreReached (set : Resolve) (own : ℕ) (m : Marks) : Type 0 where
+abbrev pub given_marks : Resolve → List Bool → Marks
+given_marks set given = record { interfaces = padded (length set.interfaces) given; worlds = padded (length set.worlds) [] }
+
+-- where reaching starts: at a package, or at the interfaces with these marks
+pub data Start : Type 0 where
+  OfPackage : ℕ → Start
+  OfInterfaces : List Bool → Start
+
+-- Of a package, what is its own and the interfaces that the items of its worlds name.
+abbrev pub IsStart : Resolve → Start → Option Owner → Type 0
+IsStart set (OfPackage own) o = (is_marked (own_marks set own) o ≡ true) ⊎ Contains (flat_map (world_owners own) set.worlds) o
+IsStart set (OfInterfaces given) o = is_marked (given_marks set given) o ≡ true
+
+-- What is reached in a set: where reaching starts, and whatever a row names that is of what is reached.
+pub data Reaches (set : Resolve) (from : Start) : Option Owner → Type 0 where
+  of_start : (o : Option Owner) → IsStart set from o → Reaches set from o
+  of_row : (k : ℕ) (d : Definition) (o : Option Owner) → slice_get set.definitions k ≡ Some d
+      → Reaches set from (slice_index_or (owners set.definitions) k None) → Contains (named_owners (owners set.definitions) d) o → Reaches set from o
+
+-- the marks of just what is reached
+pub record AreReached (set : Resolve) (from : Start) (m : Marks) : Type 0 where
   pub count : length m.interfaces ≡ length set.interfaces
-  pub sound : (o : Option Owner) → is_marked m o ≡ true → Reaches set own o
-  pub complete : (o : Option Owner) → Reaches set own o → is_marked m o ≡ true
+  pub sound : (o : Option Owner) → is_marked m o ≡ true → Reaches set from o
+  pub complete : (o : Option Owner) → Reaches set from o → is_marked m o ≡ true

@@ -5,7 +5,7 @@ use Rattle.package_sets.specs.Owners.{owner_of, owners}
 use Rattle.package_sets.specs.Places.{kept}
 use Rattle.package_sets.specs.declared.moved.Moved.{Moved}
 use Rattle.package_sets.specs.Set.{IsSet, HasRowsInForm}
-use Rattle.package_sets.specs.Reaches.{Marks, is_marked, is_own_world, owners_in, named_owners, AreReached}
+use Rattle.package_sets.specs.Reaches.{Marks, is_marked, is_own_world, owners_in, named_owners, OfPackage, AreReached}
 use Rattle.tables.specs.Package.{Tree, NamedDefinition, reference, definition_of, interface_names, definitions, worlds}
 use Rattle.package_form.specs.Postfix.{IsPostfix}
 use Rattle.tables.specs.Closed.{function_type}
@@ -58,7 +58,7 @@ pub record NamesEarlierPackages (set : Resolve) : Type 0 where
 -- what is kept of the set: what the package reaches
 pub record IsNeeded (set : Resolve) (own : ℕ) (to : Moved) : Type 0 where
   pub marks : Marks
-  pub are_reached : AreReached set own marks
+  pub are_reached : AreReached set (OfPackage own) marks
   pub packages_are : AreNeeded set own marks to.packages
   pub interfaces_are : to.interfaces ≡ marks.interfaces
   pub worlds_are : to.worlds ≡ map (is_own_world own) set.worlds
@@ -68,7 +68,7 @@ pub record IsNeeded (set : Resolve) (own : ℕ) (to : Moved) : Type 0 where
 pub record IsRestricted (set : Resolve) (own : ℕ) (r : Resolve) : Type 0 where
   pub marks : Marks
   pub needed : List Bool
-  pub are_reached : AreReached set own marks
+  pub are_reached : AreReached set (OfPackage own) marks
   pub are_needed : AreNeeded set own marks needed
   pub packages_are : r.packages ≡ kept needed set.packages
   pub interfaces_are : interface_names r ≡ kept marks.interfaces (interface_names set)

@@ -16,7 +16,7 @@ use std::alloc::{AllocError, Global};
 use tables::{Definition, Interface, PackageId, PackageName, Resolve};
 
 /// The packages that a set may have.
-const MOST_PACKAGES: usize = 64;
+pub const MOST_PACKAGES: usize = 64;
 
 /// Whether a row stands at this place of the set, as it is there.
 fn is_row_at(

@@ -1,8 +1,8 @@
-//! What a package of a set reaches.
-ghost use Rattle.std.specs.Prelude.{◌≡◌, ◌∷◌, [], not, IfOk, OnOk, map, flat_map, slice_set, slice_index_or, true, None, Some};
+//! What a package of a set reaches, and what some of its interfaces do.
+ghost use Rattle.std.specs.Prelude.{◌≡◌, ◌∷◌, [], not, IfOk, OnOk, map, flat_map, slice_set, slice_index_or, true, false, None, Some};
 ghost use Rattle.package_sets.specs.Owners.{owners as owners_of};
-ghost use Rattle.package_sets.specs.Reaches.{is_marked, is_own_interface, is_own_world, own_marks, item_owners, owners_in, world_owners, named_owners, AreReached};
-ghost use Rattle.package_sets.specs.Marking.{Adds, Tells, AddsRow, Passes};
+ghost use Rattle.package_sets.specs.Reaches.{is_marked, is_own_interface, is_own_world, own_marks, item_owners, owners_in, world_owners, named_owners, padded, given_marks, OfPackage, OfInterfaces, AreReached};
+ghost use Rattle.package_sets.specs.Marking.{Adds, Tells, AddsRow, Passes, AreGrown};
 
 use crate::owners::{names, owner_at};
 use std::alloc::{AllocError, Global};
@@ -62,7 +62,37 @@ pub fn mark(marks: &mut Vec<bool>, place: u32) -> bool
     is_new
 }
 
+fn mark_at(marks: &[bool], place: usize) -> bool
+    ensures { result ≡ slice_index_or marks.now place false }
+{
+    match marks.get(place) {
+        Some(mark) => *mark,
+        None => false,
+    }
+}
+
+/// So many marks: those that are given, and then none.
+pub fn padded(alloc: Global, given: &[bool], count: usize) -> Result<Vec<bool>, AllocError>
+    ensures { IfOk result (λ marks. marks.items ≡ padded count given.now) }
+{
+    let mut marks = Vec::new(alloc);
+    for place in 0..count {
+        marks.push(mark_at(given, place))?;
+    }
+    Ok(marks)
+}
+
 impl Reached {
+    /// The interfaces with these marks.
+    fn given(alloc: Global, set: &Resolve, interfaces: &[bool]) -> Result<Reached, AllocError>
+        ensures { IfOk result (λ m. m ≡ given_marks set.now interfaces.now) }
+    {
+        Ok(Reached {
+            interfaces: padded(alloc, interfaces, set.interfaces.len())?,
+            worlds: padded(alloc, &[], set.worlds.len())?,
+        })
+    }
+
     /// The interfaces and the worlds of a package.
     fn own(alloc: Global, set: &Resolve, id: PackageId) -> Result<Reached, AllocError>
         ensures { IfOk result (λ m. m ≡ own_marks set.now id.0) }
@@ -212,6 +242,24 @@ impl Reached {
         Ok(grew)
     }
 
+    /// .. with all that rows name of what is marked.
+    fn grown(
+        self,
+        alloc: Global,
+        set: &Resolve,
+        owners: &[Option<Owner>],
+    ) -> Result<Reached, AllocError>
+        requires { owners.now ≡ owners_of set.now.definitions }
+        ensures { IfOk result (AreGrown set.now self) }
+    {
+        let mut reached = self;
+        loop {
+            if !reached.pass(alloc, set, owners)? {
+                return Ok(reached);
+            }
+        }
+    }
+
     /// What a package reaches.
     pub fn of(
         alloc: Global,
@@ -220,14 +268,26 @@ impl Reached {
         id: PackageId,
     ) -> Result<Reached, AllocError>
         requires { owners.now ≡ owners_of set.now.definitions }
-        ensures { IfOk result (AreReached set.now id.0) }
+        ensures { IfOk result (AreReached set.now (OfPackage id.0)) }
     {
         let mut reached = Reached::own(alloc, set, id)?;
         reached.add_worlds(set.worlds.as_slice(), id);
-        loop {
-            if !reached.pass(alloc, set, owners)? {
-                return Ok(reached);
-            }
-        }
+        let grown = reached.grown(alloc, set, owners)?;
+        Ok(grown)
+    }
+
+    /// What the interfaces with these marks reach.
+    pub fn from_marks(
+        alloc: Global,
+        set: &Resolve,
+        owners: &[Option<Owner>],
+        interfaces: &[bool],
+    ) -> Result<Reached, AllocError>
+        requires { owners.now ≡ owners_of set.now.definitions }
+        ensures { IfOk result (AreReached set.now (OfInterfaces interfaces.now)) }
+    {
+        let marked = Reached::given(alloc, set, interfaces)?;
+        let grown = marked.grown(alloc, set, owners)?;
+        Ok(grown)
     }
 }

@@ -1,15 +1,15 @@
 //! The table of one package of a set.
-ghost use Rattle.std.specs.Prelude.{◌≡◌, IfOk, IfErr, map};
+ghost use Rattle.std.specs.Prelude.{◌≡◌, IfOk, IfErr};
 ghost use Rattle.tables.specs.declared.error.ResolveError.TheVariants.{NoMemory};
-ghost use Rattle.package_sets.specs.Reaches.{is_marked};
 ghost use Rattle.package_sets.specs.Restricted.{AreNeeded, IsNeeded, IsRestricted};
 
-use crate::moved::{Moved, moved_kept};
+use crate::moved::Moved;
 use crate::owners::owners;
+use crate::part::{add_needed, reached_rows};
 use crate::places::Places;
-use crate::reached::{Reached, mark, own_worlds};
+use crate::reached::{Reached, mark, own_worlds, padded};
 use std::alloc::{AllocError, Global};
-use tables::{Owner, PackageId, Resolve, ResolveError};
+use tables::{PackageId, Resolve, ResolveError};
 
 /// The packages that are needed: a package's own, and each that has an interface which is reached.
 fn needed(
@@ -20,31 +20,9 @@ fn needed(
 ) -> Result<Vec<bool>, AllocError>
     ensures { IfOk result (λ marks. AreNeeded set.now id.0 reached.now marks.items) }
 {
-    let mut marks = Vec::new(alloc);
-    for _package in set.packages.as_slice() {
-        marks.push(false)?;
-    }
+    let mut marks = padded(alloc, &[], set.packages.len())?;
     mark(&mut marks, id.0);
-    for (place, interface) in set.interfaces.as_slice().iter().enumerate() {
-        if reached.has_interface(place) {
-            mark(&mut marks, interface.package.0);
-        }
-    }
-    Ok(marks)
-}
-
-/// Whether each row is of what is reached.
-fn reached_rows(
-    alloc: Global,
-    owners: &[Option<Owner>],
-    reached: &Reached,
-) -> Result<Vec<bool>, AllocError>
-    ensures { IfOk result (λ marks. marks.items ≡ map (is_marked reached.now) owners.now) }
-{
-    let mut marks = Vec::new(alloc);
-    for owner in owners {
-        marks.push(reached.has(*owner))?;
-    }
+    add_needed(set, reached, &mut marks);
     Ok(marks)
 }
 
@@ -75,10 +53,6 @@ pub fn restricted(alloc: Global, set: &Resolve, id: PackageId) -> Result<Resolve
     ensures err { IfErr result (λ e. e ≡ NoMemory) }
 {
     let to = Moved::of(alloc, set, id)?;
-    Ok(Resolve {
-        packages: moved_kept(alloc, &set.packages, &to.packages, &to)?,
-        interfaces: moved_kept(alloc, &set.interfaces, &to.interfaces, &to)?,
-        worlds: moved_kept(alloc, &set.worlds, &to.worlds, &to)?,
-        definitions: moved_kept(alloc, &set.definitions, &to.rows, &to)?,
-    })
+    let table = to.table(alloc, set)?;
+    Ok(table)
 }
