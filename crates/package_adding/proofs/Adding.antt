@@ -1,0 +1,97 @@
+-- The closed table of a file over a set: it is in form, and is put behind the set unless memory is wanting.
+use Rattle.std.proofs.Common.{◌≡◌, ◌+◌, false, true≢false, IsTrue, List, [], ◌∷◌, Some, Result, Ok, Err, IfOk, IfErr, length, slice_get, ap, sym, subst, ◌∙◌, arith, All, length-append}
+use Rattle.std.proofs.Math.Logic.{∥∥₁_elim, ∥∥₁_map}
+use Rattle.package_form.specs.Closed.{own_package, is_closed}
+use Rattle.package_form.specs.Form.{IsInPackageForm}
+use Rattle.package_form.specs.Laws.{IsLabelled}
+use Rattle.package_form.specs.Naming.{package_scopes}
+use Rattle.package_form.specs.Scope.{AreDistinct}
+use Rattle.package_form.proofs.Lists.{contains-unmap}
+use Rattle.package_sets.specs.Attached.{HasRoom, has_package, IsRefused}
+use Rattle.package_sets.specs.Imports.{BeginsWith}
+use Rattle.package_sets.specs.SetForm.{IsInSetForm}
+use Rattle.package_sets.specs.declared.error.AttachError.{AttachError}
+use Rattle.package_sets.specs.declared.error.AttachError.TheVariants as attach
+use Rattle.package_sets.proofs.Lists.{behind-get}
+use Rattle.resolve.specs.Declarations.{package_named}
+use Rattle.resolve.specs.ImportForms.{IsNamedBehind, AreReachedFrom}
+use Rattle.resolve.specs.Imports.{imports_of}
+use Rattle.resolve.specs.Resolves.{in_package, HasNoFaultsOf}
+use Rattle.tables.specs.PackageNames.{PackageParts}
+use Rattle.tables.specs.declared.error.ResolveError.{ResolveError}
+use Rattle.tables.specs.declared.error.ResolveError.TheVariants as cause
+use Rattle.tables.specs.declared.tables.Interface.{Interface}
+use Rattle.tables.specs.declared.tables.Resolve.{Resolve}
+use Rattle.wit_syntax.specs.FullNames.{has_full_names}
+use Rattle.wit_syntax.specs.Syntax.{File}
+use Rattle.package_adding.specs.Added.{AreImportsFrom, IsOfTree, IsNewName, IsRefusedTree, CauseStands, TreeNotAdded}
+use Rattle.package_adding.specs.declared.error.AddError.TheVariants.{Attach}
+use Rattle.package_adding.proofs.Importing.{named-behind, reached-from}
+
+pub ok-three : {T E : Type 0} (r : Result T E) (P Q R S : T → Type 0) → ((x : T) → P x → Q x → R x → S x) → IfOk r P → IfOk r Q → IfOk r R → IfOk r S
+ok-three (Ok x) P Q R S f g h k = f x g h k
+ok-three (Err e) P Q R S f g h k = tt
+
+pub ok-map : {T E : Type 0} (r : Result T E) (P Q : T → Type 0) → ((x : T) → P x → Q x) → IfOk r P → IfOk r Q
+ok-map (Ok x) P Q f h = f x h
+ok-map (Err e) P Q f h = tt
+
+pub err-map : {T E : Type 0} (r : Result T E) (P Q : E → Type 0) → ((e : E) → P e → Q e) → IfErr r P → IfErr r Q
+err-map (Ok x) P Q f h = tt
+err-map (Err e) P Q f h = f e h
+
+pub cause-stands : (f : File) (s : Resolve) (e : ResolveError) → IsRefusedTree f s e → CauseStands f s e
+cause-stands f s cause.EmptyPackage h = h
+cause-stands f s cause.NotThisShape h = h
+cause-stands f s (cause.Duplicate n) h = h
+cause-stands f s (cause.NoPackage p) h = h
+cause-stands f s (cause.Unknown n) h = h
+cause-stands f s cause.Cycle h = h
+cause-stands f s cause.Limit h = h
+cause-stands f s cause.NoMemory h = tt
+
+-- ---- behind the imports
+
+module _ (f : File) (s r : Resolve) (from : AreImportsFrom f s r) (form : ∥ IsInSetForm s ∥₁) (labels : All IsLabelled r.interfaces) (names : IsTrue (has_full_names f)) (new : IsNewName f s) where
+  pub in-form : All IsLabelled s.interfaces → HasRoom s → (closed : Resolve) → HasNoFaultsOf (imports_of r) f → (IsNamedBehind r f → AreReachedFrom r f → IsTrue (is_closed closed))
+      → (IsNamedBehind r f → IsTrue (is_closed closed) → IsInPackageForm closed) → ∥ IsInPackageForm closed ∥₁
+  in-form set-labels room closed faults g h =
+      ∥∥₁_map form (λ t.
+      let b = named-behind s from.packages from.interfaces r from.are f t labels names new in
+      h b (g b (reached-from s from.packages from.interfaces r from.are f t labels set-labels from.named faults room)))
+
+  pub distinct-scopes : (closed : Resolve) → (IsNamedBehind r f → All AreDistinct (package_scopes r) → All AreDistinct (package_scopes closed)) → ∥ All AreDistinct (package_scopes closed) ∥₁
+  distinct-scopes closed h =
+      ∥∥₁_map form (λ t. h (named-behind s from.packages from.interfaces r from.are f t labels names new) (from.are.scopes t.rows t.postfix t.scopes))
+
+-- ---- behind the set
+
+module _ (f : File) (s closed : Resolve) (t : IsOfTree f s closed) where
+  begins : BeginsWith t.imports closed
+  begins = record {
+    own = package_named f;
+    interfaces = _;
+    rows = t.resolved.rows.0;
+    packages_are = t.resolved.packages;
+    interfaces_are = t.resolved.own.1;
+    rows_are = t.resolved.rows.1;
+    of_last = λ i c. let x = contains-unmap (in_package (length t.imports.packages)) _ i c in sym (ap (λ (z : Interface). z.«package».0) x.2);
+  }
+
+  own-is : (p : PackageParts) → slice_get closed.packages (own_package closed.packages) ≡ Some p → p ≡ package_named f
+  own-is p h =
+      let ps = t.imports.packages in
+      let last : own_package closed.packages ≡ length ps + 0 = omega (arith, ap length t.resolved.packages, length-append ps (package_named f ∷ [])) in
+      let there = sym h ∙ ap (slice_get closed.packages) last ∙ ap (λ (qs : List PackageParts). slice_get qs (length ps + 0)) t.resolved.packages ∙ behind-get ps (package_named f ∷ []) 0 in
+      cc (there)
+
+  pub not-put : ∥ IsInSetForm s ∥₁ → IsNewName f s → (e : AttachError) → IsRefused s closed e → TreeNotAdded f s (Attach e)
+  not-put form new attach.SetLimit h = h
+  not-put form new attach.NoMemory h = h
+  not-put form new (attach.SamePackage p) h = absurd (true≢false (sym h.1.stands ∙ subst (λ (q : PackageParts). has_package s q ≡ false) (sym (own-is p h.1.own)) new))
+  not-put form new (attach.NoPackage p) h =
+      let none : IsProp ⊥ = hlevel in
+      ∥∥₁_elim form none (λ g. true≢false (sym ((t.from.are.found g.rows g.apart closed begins).have h.2.place p h.2.stands) ∙ h.2.lacks))
+  not-put form new attach.NotThisShape h =
+      let none : IsProp ⊥ = hlevel in
+      ∥∥₁_elim form none (λ g. h.3 (t.from.are.found g.rows g.apart closed begins).fits)

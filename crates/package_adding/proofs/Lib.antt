@@ -1,0 +1,4 @@
+pub mod Adding
+pub mod Importing
+pub mod Naming
+pub mod Refusals

@@ -1,0 +1,87 @@
+-- What a set is with a package more, and why one is not added: a package may use interfaces of those before it (WIT.md, "Package Names", "Item:
+-- `use`"; Binary.md, "Import and Export Definitions").
+use Rattle.std.specs.Prelude.{◌≡◌, ℕ, Bool, true, false, List, [], All}
+use Rattle.ctype_bin.specs.declared.component.RawComponent.{RawComponent}
+use Rattle.package_form.specs.Naming.{package_scopes}
+use Rattle.package_form.specs.Scope.{AreDistinct}
+use Rattle.package_sets.specs.Attached.{HasRoom, has_package, IsAttached, IsRefused}
+use Rattle.package_sets.specs.declared.error.AttachError.TheVariants as attach
+use Rattle.tables.specs.declared.tables.Resolve.{Resolve}
+use Rattle.package_sets.specs.Imports.{IsImportsOf}
+use Rattle.resolve.specs.Declarations.{package_named}
+use Rattle.resolve.specs.Imports.{imports_of}
+use Rattle.resolve.specs.Resolves.{HasEntries, HasNoFaultsOf, IsClosedPackageOf, ResolveRefusesOf}
+use Rattle.tables.specs.declared.error.ResolveError.{ResolveError}
+use Rattle.tables.specs.declared.error.ResolveError.TheVariants as cause
+use Rattle.wit_syntax.specs.Syntax.{File}
+use Rattle.wit_component.specs.FromComponent.{ClosedComponentRefuses}
+use Rattle.wit_component.specs.ToComponent.{ComponentStands}
+use Rattle.package_adding.specs.Named.{AreNamed}
+use Rattle.package_adding.specs.declared.error.AddError.{AddError}
+use Rattle.package_adding.specs.declared.error.AddError.TheVariants as error
+
+-- the component stands for this closed table, whose names differ in each scope
+pub record IsOfComponent (raw : RawComponent) (closed : Resolve) : Type 0 where
+  pub stands : ∥ ComponentStands raw closed ∥₁
+  pub distinct : All AreDistinct (package_scopes closed)
+
+-- the set with the component's package behind it
+pub record AddsComponent (raw : RawComponent) (set r : Resolve) (id : ℕ) : Type 0 where
+  pub closed : Resolve
+  pub component : IsOfComponent raw closed
+  pub attached : IsAttached set closed r id
+
+-- why the component's package is not added: 49 comes before all, then what is wrong with the component alone, then what is wrong with it in this set
+abbrev pub ComponentNotAdded : RawComponent → Resolve → AddError → Type 0
+ComponentNotAdded raw set (error.Attach attach.SetLimit) = ¬ HasRoom set
+ComponentNotAdded raw set (error.Attach e) = (closed : Resolve) × IsOfComponent raw closed × IsRefused set closed e
+ComponentNotAdded raw set (error.Resolve e) = HasRoom set × ClosedComponentRefuses raw e
+
+-- ---- of a tree
+
+-- the imports of a file: the packages and the interfaces of the set that its paths name, with what these reach
+pub record AreImportsFrom (f : File) (set imports : Resolve) : Type 0 where
+  pub packages : List Bool
+  pub interfaces : List Bool
+  pub named : AreNamed f set packages interfaces
+  pub are : IsImportsOf set packages interfaces imports
+
+-- the closed table of the file behind its imports
+pub record IsOfTree (f : File) (set closed : Resolve) : Type 0 where
+  pub imports : Resolve
+  pub from : AreImportsFrom f set imports
+  pub faults : HasNoFaultsOf (imports_of imports) f
+  pub resolved : IsClosedPackageOf imports f closed
+
+-- the set with the file's package behind it
+pub record AddsTree (f : File) (set r : Resolve) (id : ℕ) : Type 0 where
+  pub closed : Resolve
+  pub tree : IsOfTree f set closed
+  pub attached : IsAttached set closed r id
+
+abbrev pub IsNewName : File → Resolve → Type 0
+IsNewName f set = has_package set (package_named f) ≡ false
+
+abbrev pub HasName : File → Resolve → Type 0
+HasName f set = has_package set (package_named f) ≡ true
+
+-- the file is refused behind its imports
+pub record IsRefusedTree (f : File) (set : Resolve) (e : ResolveError) : Type 0 where
+  pub imports : Resolve
+  pub from : AreImportsFrom f set imports
+  pub refused : ResolveRefusesOf (imports_of imports) f e
+
+abbrev pub CauseStands : File → Resolve → ResolveError → Type 0
+CauseStands f set cause.NoMemory = Unit {0}
+CauseStands f set e = IsRefusedTree f set e
+
+-- Why the file's package is not added: 49, then 43, then 48, then what is wrong with it behind its imports. 46 can come at any time, but not before 49.
+abbrev pub TreeNotAdded : File → Resolve → AddError → Type 0
+TreeNotAdded f set (error.Attach attach.SetLimit) = ¬ HasRoom set
+TreeNotAdded f set (error.Attach (attach.SamePackage p)) = HasRoom set × HasEntries f × (p ≡ package_named f) × HasName f set
+TreeNotAdded f set (error.Attach attach.NoMemory) = HasRoom set
+TreeNotAdded f set (error.Attach (attach.NoPackage p)) = ⊥
+TreeNotAdded f set (error.Attach attach.NotThisShape) = ⊥
+TreeNotAdded f set (error.Resolve cause.EmptyPackage) = HasRoom set × (f.entries ≡ [])
+TreeNotAdded f set (error.Resolve cause.NoMemory) = HasRoom set
+TreeNotAdded f set (error.Resolve e) = HasRoom set × HasEntries f × IsNewName f set × IsRefusedTree f set e

@@ -1,0 +1,16 @@
+//! Sets of packages that use each other, made package by package.
+//!
+//! A `PackageSet` begins with none, and `add_raw` puts the package of a component behind those that are there, whose interfaces it may
+//! import, as `add_ast` does with that of a syntax tree. Where it is refused, the set stays as it was. `AddsComponent` and `AddsTree` in
+//! `specs/Added.antt` say what is added. It stands on `package_sets` (sets as tables), `wit_component` (components), `resolve` (trees) and
+//! `tables`.
+#![tactic(auto)]
+
+mod error;
+mod named;
+mod set;
+mod tree;
+
+pub use error::AddError;
+pub use package_sets::AttachError;
+pub use set::PackageSet;

@@ -1,0 +1,134 @@
+//! Sets of packages.
+ghost use Rattle.std.specs.Prelude.{◌≡◌, ◌⊎◌, All, IsTrue, IfOk, IfErr, OnOk, OnErr};
+ghost use Rattle.package_form.specs.Form.{IsInPackageForm};
+ghost use Rattle.package_form.specs.Naming.{package_scopes};
+ghost use Rattle.package_form.specs.Scope.{AreDistinct};
+ghost use Rattle.package_sets.specs.Attached.{HasRoom, IsAttached, IsRefused};
+ghost use Rattle.package_sets.specs.SetForm.{IsEmpty, IsInSetForm};
+ghost use Rattle.package_sets.specs.declared.error.AttachError.TheVariants.{SetLimit, NoMemory, SamePackage};
+ghost use Rattle.package_adding.specs.Added.{AddsComponent, ComponentNotAdded, AddsTree, IsNewName, HasName, TreeNotAdded};
+ghost use Rattle.resolve.specs.Declarations.{package_named};
+ghost use Rattle.wit_syntax.specs.FullNames.{has_full_names};
+ghost use Rattle.wit_syntax.specs.View.{file_view};
+
+use crate::error::AddError;
+use crate::tree::{closed_over, has_entries};
+use ctype_bin::RawComponent;
+use package_sets::laws::is_set_of_none;
+use package_sets::{AttachError, MOST_PACKAGES, attached};
+use resolve::{has_package, package_name};
+use std::alloc::Global;
+use tables::{PackageId, Resolve, Sequence};
+use wit_component::closed_from_raw;
+use wit_syntax::Ast;
+
+/// Packages that use each other, as one table: each behind those that it uses, at most 64.
+#[derive(Debug, Drop)]
+pub struct PackageSet {
+    resolve: Resolve,
+    ghost form: { ∥ IsInSetForm resolve ∥₁ },
+}
+
+/// A table of nothing.
+fn no_table(alloc: Global) -> Resolve
+    ensures empty { IsEmpty result }
+    ensures form { ∥ IsInSetForm result ∥₁ }
+{
+    let resolve = Resolve {
+        packages: Sequence::new(Vec::new(alloc)),
+        interfaces: Sequence::new(Vec::new(alloc)),
+        worlds: Sequence::new(Vec::new(alloc)),
+        definitions: Sequence::new(Vec::new(alloc)),
+    };
+    is_set_of_none(&resolve);
+    resolve
+}
+
+impl PackageSet {
+    /// A set of no package. Takes no memory.
+    pub fn new(alloc: Global) -> PackageSet
+        ensures { IsEmpty result.resolve }
+    {
+        PackageSet {
+            resolve: no_table(alloc),
+        }
+    }
+
+    /// The table of all packages, one behind the other.
+    pub fn resolve(&self) -> &Resolve
+        ensures { result.now ≡ self.now.resolve }
+    {
+        &self.resolve
+    }
+
+    /// That there is room for a package more.
+    fn has_room(&self) -> Result<(), AttachError>
+        ensures ok { OnOk result (HasRoom self.now.resolve) }
+        ensures err { IfErr result (λ e. (e ≡ SetLimit) × (¬ HasRoom self.now.resolve)) }
+    {
+        if self.resolve.packages.len() < MOST_PACKAGES {
+            Ok(())
+        } else {
+            Err(AttachError::SetLimit)
+        }
+    }
+
+    /// Puts the own part of a closed table behind the set.
+    fn attach(&mut self, alloc: Global, closed: &Resolve) -> Result<PackageId, AttachError>
+        requires form { ∥ IsInPackageForm closed.now ∥₁ }
+        requires distinct { ∥ All AreDistinct (package_scopes closed.now) ∥₁ }
+        ensures ok { IfOk result (λ id. IsAttached self.old.resolve closed.now self.new.resolve id.0) }
+        ensures err { IfErr result (IsRefused self.old.resolve closed.now) }
+        ensures same { OnErr result (self.new ≡ self.old) }
+    {
+        let (resolve, id) = attached(alloc, &self.resolve, closed)?;
+        self.resolve = resolve;
+        Ok(id)
+    }
+
+    /// Adds the package of a raw component behind the others, and answers its id. The interfaces that the component imports are
+    /// those of earlier packages. 49 where there are 64 packages; then 43, 44 and 40 as `closed_from_raw` tests them; then 48 where there
+    /// is a package of this name, 47 for the first package that it imports from and that isn't there, and 44 where an interface that it
+    /// imports isn't there or differs from the earlier package's; 46 where memory is wanting. The set is as it was then. (Binary.md)
+    pub fn add_raw(&mut self, alloc: Global, raw: &RawComponent) -> Result<PackageId, AddError>
+        ensures ok { IfOk result (λ id. AddsComponent raw.now self.old.resolve self.new.resolve id.0) }
+        ensures err { IfErr result (ComponentNotAdded raw.now self.old.resolve) }
+        ensures same { OnErr result (self.new ≡ self.old) }
+    {
+        self.has_room()?;
+        let closed = closed_from_raw(alloc, raw)?;
+        let id = self.attach(alloc, &closed)?;
+        Ok(id)
+    }
+
+    /// That the set has no package of the tree's name. 48 where it has one.
+    fn lacks_package(&self, alloc: Global, ast: &Ast) -> Result<(), AttachError>
+        ensures ok { OnOk result (IsNewName (file_view ast.now) self.now.resolve) }
+        ensures err { IfErr result (λ e. (e ≡ NoMemory) ⊎ ((e ≡ SamePackage (package_named (file_view ast.now))) × HasName (file_view ast.now) self.now.resolve)) }
+    {
+        if has_package(self.resolve.packages.as_slice(), &ast.package) {
+            let name = package_name(alloc, &ast.package)?;
+            return Err(AttachError::SamePackage(name));
+        }
+        Ok(())
+    }
+
+    /// Adds the package of a syntax tree behind the others, and answers its id. What its paths name of other packages are interfaces of
+    /// earlier packages of just that namespace, name and version. 49 where there are 64 packages, 43 where the tree has neither interface
+    /// nor world, 48 where there is a package of its name; then 40, 47, 41, 42 and 45 as `closed_from_ast` tests them over the interfaces
+    /// that the paths name, with what these reach; 46 where memory is wanting. 47 also where a use of a package names no type, as in no text,
+    /// and nothing else is used of it. The set is as it was then. (WIT.md)
+    pub fn add_ast(&mut self, alloc: Global, ast: &Ast) -> Result<PackageId, AddError>
+        requires names { IsTrue (has_full_names (file_view ast.now)) }
+        ensures ok { IfOk result (λ id. AddsTree (file_view ast.now) self.old.resolve self.new.resolve id.0) }
+        ensures err { IfErr result (TreeNotAdded (file_view ast.now) self.old.resolve) }
+        ensures same { OnErr result (self.new ≡ self.old) }
+    {
+        self.has_room()?;
+        has_entries(ast)?;
+        self.lacks_package(alloc, ast)?;
+        let closed = closed_over(alloc, &self.resolve, ast)?;
+        let id = self.attach(alloc, &closed)?;
+        Ok(id)
+    }
+}

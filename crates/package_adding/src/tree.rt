@@ -1,0 +1,68 @@
+//! The closed table of a tree over the packages of a set.
+ghost use Rattle.std.specs.Prelude.{◌≡◌, [], All, IsTrue, IfOk, OnOk, IfErr};
+ghost use Rattle.wit_syntax.specs.View.{file_view};
+ghost use Rattle.wit_syntax.specs.FullNames.{has_full_names};
+ghost use Rattle.package_form.specs.Form.{IsInPackageForm};
+ghost use Rattle.package_form.specs.Laws.{IsLabelled};
+ghost use Rattle.package_form.specs.Naming.{package_scopes};
+ghost use Rattle.package_form.specs.Scope.{AreDistinct};
+ghost use Rattle.resolve.specs.Resolves.{HasEntries};
+ghost use Rattle.tables.specs.declared.error.ResolveError.TheVariants.{EmptyPackage};
+ghost use Rattle.package_sets.specs.Attached.{HasRoom};
+ghost use Rattle.package_sets.specs.SetForm.{IsInSetForm};
+ghost use Rattle.package_adding.specs.Added.{AreImportsFrom, IsOfTree, IsNewName, CauseStands};
+
+use crate::named::named_by_paths;
+use package_sets::imports;
+use resolve::closed_from_ast;
+use std::alloc::{AllocError, Global};
+use tables::{Interface, Resolve, ResolveError};
+use wit_syntax::Ast;
+
+/// That a tree has an interface or a world. 43 where it has neither.
+pub fn has_entries(ast: &Ast) -> Result<(), ResolveError>
+    ensures ok { OnOk result (HasEntries (file_view ast.now)) }
+    ensures err { IfErr result (λ e. (e ≡ EmptyPackage) × ((file_view ast.now).entries ≡ [])) }
+{
+    if ast.items.is_empty() {
+        Err(ResolveError::EmptyPackage)
+    } else {
+        Ok(())
+    }
+}
+
+/// The names of interfaces are labels.
+fn are_labelled(interfaces: &[Interface])
+    ensures { All IsLabelled interfaces.now }
+{
+    for interface in interfaces {
+        let _ = interface.name.as_bytes();
+    }
+}
+
+/// The interfaces of a set that the paths of a tree name, with what these reach.
+fn imports_from(alloc: Global, set: &Resolve, ast: &Ast) -> Result<Resolve, AllocError>
+    ensures from { IfOk result (AreImportsFrom (file_view ast.now) set.now) }
+    ensures labels { IfOk result (λ r. All IsLabelled r.interfaces) }
+{
+    let named = named_by_paths(alloc, set, ast)?;
+    let imports = imports(alloc, set, &named.packages, &named.interfaces)?;
+    are_labelled(imports.interfaces.as_slice());
+    Ok(imports)
+}
+
+/// The closed table of a tree over the packages of a set.
+pub fn closed_over(alloc: Global, set: &Resolve, ast: &Ast) -> Result<Resolve, ResolveError>
+    requires form { ∥ IsInSetForm set.now ∥₁ }
+    requires room { HasRoom set.now }
+    requires names { IsTrue (has_full_names (file_view ast.now)) }
+    requires new { IsNewName (file_view ast.now) set.now }
+    ensures ok { IfOk result (IsOfTree (file_view ast.now) set.now) }
+    ensures form { IfOk result (λ r. ∥ IsInPackageForm r ∥₁) }
+    ensures distinct { IfOk result (λ r. ∥ All AreDistinct (package_scopes r) ∥₁) }
+    ensures err { IfErr result (CauseStands (file_view ast.now) set.now) }
+{
+    are_labelled(set.interfaces.as_slice());
+    let imports = imports_from(alloc, set, ast)?;
+    closed_from_ast(alloc, ast, &imports)
+}
