@@ -1,5 +1,5 @@
 -- The closed table of a file over a set: it is in form, and is put behind the set unless memory is wanting.
-use Rattle.std.proofs.Common.{◌≡◌, ◌+◌, false, true≢false, IsTrue, List, [], ◌∷◌, Some, Result, Ok, Err, IfOk, IfErr, length, slice_get, ap, sym, subst, ◌∙◌, arith, All, length-append}
+use Rattle.std.proofs.Common.{◌≡◌, ◌+◌, false, true≢false, IsTrue, List, [], ◌∷◌, Some, Result, Ok, Err, IfOk, length, slice_get, ap, sym, subst, ◌∙◌, arith, All, length-append}
 use Rattle.std.proofs.Math.Logic.{∥∥₁_elim, ∥∥₁_map}
 use Rattle.package_form.specs.Closed.{own_package, is_closed}
 use Rattle.package_form.specs.Form.{IsInPackageForm}
@@ -31,14 +31,6 @@ use Rattle.package_adding.proofs.Importing.{named-behind, reached-from}
 pub ok-three : {T E : Type 0} (r : Result T E) (P Q R S : T → Type 0) → ((x : T) → P x → Q x → R x → S x) → IfOk r P → IfOk r Q → IfOk r R → IfOk r S
 ok-three (Ok x) P Q R S f g h k = f x g h k
 ok-three (Err e) P Q R S f g h k = tt
-
-pub ok-map : {T E : Type 0} (r : Result T E) (P Q : T → Type 0) → ((x : T) → P x → Q x) → IfOk r P → IfOk r Q
-ok-map (Ok x) P Q f h = f x h
-ok-map (Err e) P Q f h = tt
-
-pub err-map : {T E : Type 0} (r : Result T E) (P Q : E → Type 0) → ((e : E) → P e → Q e) → IfErr r P → IfErr r Q
-err-map (Ok x) P Q f h = tt
-err-map (Err e) P Q f h = f e h
 
 pub cause-stands : (f : File) (s : Resolve) (e : ResolveError) → IsRefusedTree f s e → CauseStands f s e
 cause-stands f s cause.EmptyPackage h = h

@@ -1,5 +1,5 @@
 -- Imports from a set: what a file may be read behind.
-use Rattle.std.proofs.Common.{◌≡◌, ◌<◌, ◌≤◌, ◌+◌, ◌==◌, ◌⊎◌, inl, inr, ℕ, zero, suc, Bool, true, false, nat_le, true≢false, IsTrue, List, [], ◌∷◌, Option, None, Some, length, get_or, slice_get, refl, ap, sym, subst, ◌∙◌, arith, All, Contains}
+use Rattle.std.proofs.Common.{◌≡◌, ◌<◌, ◌+◌, ◌==◌, ◌⊎◌, inl, inr, ℕ, zero, suc, Bool, true, false, nat_le, true≢false, IsTrue, List, [], ◌∷◌, Option, None, Some, length, get_or, slice_get, refl, ap, sym, subst, ◌∙◌, arith, All, Contains}
 use Rattle.std.specs.List.{list_all}
 use Rattle.std.proofs.Math.Bool.{Bool-set}
 use Rattle.std.proofs.Math.Logic.{∥∥₁_elim}
@@ -17,11 +17,10 @@ use Rattle.package_form.proofs.Postfix.{used-postfix, postfix-used}
 use Rattle.package_sets.specs.Attached.{HasRoom, has_package}
 use Rattle.package_sets.specs.Imports.{IsOfInterfaces, IsImportsOf}
 use Rattle.package_sets.specs.Owners.{owner_of}
-use Rattle.package_sets.specs.Places.{kept}
-use Rattle.package_sets.specs.Reaches.{padded}
 use Rattle.package_sets.specs.Restricted.{IsReachedIn}
 use Rattle.package_sets.specs.SetForm.{HasNamesApart, IsInSetForm}
 use Rattle.package_sets.proofs.Closing.{kept-from}
+use Rattle.package_sets.proofs.ImportPackages.{kept-fewer}
 use Rattle.package_sets.proofs.Lists.{map-unget, get-contains}
 use Rattle.resolve.specs.Declarations.{interfaces, worlds, package_named}
 use Rattle.resolve.specs.ImportForms.{NamesImport, IsNamedBehind, AreReachedFrom}
@@ -52,25 +51,10 @@ all-by : {A : Type 0} (p : A → Bool) (xs : List A) → ((k : ℕ) (x : A) → 
 all-by p [] h = refl
 all-by p (x ∷ xs) h = both (p x) (list_all p xs) (h 0 x refl) (all-by p xs (λ k y e. h (suc k) y e))
 
-kept-few : {A : Type 0} (bs : List Bool) (xs : List A) → length (kept bs xs) ≤ length xs
-kept-few [] xs = omega arith
-kept-few (b ∷ bs) [] = omega arith
-kept-few (true ∷ bs) (x ∷ xs) = omega (arith, kept-few bs xs)
-kept-few (false ∷ bs) (x ∷ xs) = omega (arith, kept-few bs xs)
-
 marked-anyway : (bs : List Bool) (k : ℕ) → get_or bs k false ≡ true → get_or bs k true ≡ true
 marked-anyway [] k h = refl
 marked-anyway (b ∷ bs) zero h = h
 marked-anyway (b ∷ bs) (suc k) h = marked-anyway bs k h
-
-marked-there : (bs : List Bool) (k : ℕ) → k < length bs → get_or bs k true ≡ true → get_or bs k false ≡ true
-marked-there [] k l h = absurd (omega (arith, l))
-marked-there (b ∷ bs) zero l h = h
-marked-there (b ∷ bs) (suc k) l h = marked-there bs k (omega (arith, l)) h
-
-padded-same : (bs : List Bool) → padded (length bs) bs ≡ bs
-padded-same [] = refl
-padded-same (b ∷ bs) = ap (λ (cs : List Bool). b ∷ cs) (padded-same bs)
 
 -- ---- rows of interfaces
 
@@ -207,7 +191,7 @@ module _ (s : Resolve) (packages interfaces : List Bool) (r : Resolve) (n : IsIm
 
         pub reached-from : HasRoom s → AreReachedFrom r f
         reached-from room = record {
-          few = omega (arith, room, ap length n.packages_are, kept-few n.needed s.packages);
+          few = omega (arith, room, ap length n.packages_are, kept-fewer n.needed s.packages);
           apart = (split (nat_le (length r.packages) 64) (are_apart r.packages) (n.packages_of_set form.packages)).1;
           each = n.each_package reached-in;
           reached = reached;

@@ -53,7 +53,7 @@ kept-apart (true ∷ bs) (p ∷ ps) h =
     let a = split (not (list_any (is_same_package p) ps)) (are_apart ps) h in
     both (not (list_any (is_same_package p) (kept bs ps))) (are_apart (kept bs ps)) (ap not (kept-any (is_same_package p) bs ps (not-is (list_any (is_same_package p) ps) a.0))) (kept-apart bs ps a.1)
 
-kept-fewer : {A : Type 0} (bs : List Bool) (xs : List A) → length (kept bs xs) ≤ length xs
+pub kept-fewer : {A : Type 0} (bs : List Bool) (xs : List A) → length (kept bs xs) ≤ length xs
 kept-fewer [] xs = omega arith
 kept-fewer (b ∷ bs) [] = omega arith
 kept-fewer (true ∷ bs) (x ∷ xs) = omega (arith, kept-fewer bs xs)

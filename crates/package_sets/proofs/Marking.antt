@@ -278,15 +278,6 @@ pub record IsGrowing (set : Resolve) (old new : Marks) : Type 0 where
   pub keeps : (o : Option Owner) → is_marked old o ≡ true → is_marked new o ≡ true
   pub sound : (from : Start) → AreSound set from old → AreSound set from new
 
-pub growing-none : (set : Resolve) (m : Marks) → IsGrowing set m m
-growing-none set m = record { count = refl; keeps = λ o q. q; sound = λ from h. h }
-
-pub growing-more : (set : Resolve) (a b c : Marks) (t : Bool) → IsGrowing set a b → Passes set b c t → IsGrowing set a c
-growing-more set a b c t h p = record { count = p.count ∙ h.count; keeps = λ o q. p.keeps o (h.keeps o q); sound = λ from s. p.sound from (h.sound from s) }
-
-pub growing-all : (set : Resolve) (a b c : Marks) (t : Bool) → IsGrowing set a b → Passes set b c t → t ≡ false → AreGrown set a c
-growing-all set a b c t h p e = record { count = p.count ∙ h.count; keeps = λ o q. p.keeps o (h.keeps o q); sound = λ from s. p.sound from (h.sound from s); fixed = p.fixed e }
-
 pub are-reached : (set : Resolve) (from : Start) (a m : Marks) → AreBegun set from a → AreGrown set a m → AreReached set from m
 are-reached set from a m h g = record { count = g.count ∙ h.count; sound = g.sound from h.sound; complete = all }
   where

@@ -72,9 +72,6 @@ put-stays (b ∷ bs) zero (suc j) e = e
 put-stays (b ∷ bs) (suc k) zero e = e
 put-stays (b ∷ bs) (suc k) (suc j) e = put-stays bs k j e
 
-pub adds-needed-none : (s : Resolve) (m : Marks) (marks : List Bool) → AddsNeededSoFar s m 0 marks marks
-adds-needed-none s m marks = record { count = refl; keeps = λ k h. h; others = λ i x h. absurd (omega arith); only = λ k h. inl h }
-
 pub adds-needed-more : (s : Resolve) (m : Marks) (n : ℕ) (x : Interface) (old marks next : List Bool) → n < length s.interfaces → x ≡ get_or s.interfaces n x
     → AddsNeededSoFar s m n old marks → ((get_or m.interfaces n true ≡ true) × (next ≡ put marks x.«package».0 true)) ⊎ ((get_or m.interfaces n true ≡ false) × (next ≡ marks))
     → AddsNeededSoFar s m (n + 1) old next

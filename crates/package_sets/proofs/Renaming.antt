@@ -266,9 +266,6 @@ pub row-stays : (d : Definition) → put_row in_place d ≡ d
 row-stays (row.Type d) = ap row.Type (type-stays d)
 row-stays (row.Function f) = ap row.Function (function-stays f)
 
-pub rows-stay : (ds : List Definition) → map (put_row in_place) ds ≡ ds
-rows-stay ds = map-same (put_row in_place) row-stays ds
-
 -- ---- the trees of rows that others follow
 
 pub length-references : (ns : List (List ℕ)) (ts : List Tree) (ds : List Definition) → length (references ns ts ds) ≡ length ts + length ds

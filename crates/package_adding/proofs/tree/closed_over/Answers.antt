@@ -4,7 +4,8 @@ use Rattle.package_form.specs.Laws.{IsLabelled}
 use Rattle.resolve.proofs.Trees.{ok-both}
 use Rattle.tables.specs.declared.tables.Interface.{Interface}
 use Rattle.wit_syntax.specs.View.{file_view}
-use Rattle.package_adding.proofs.Adding.{ok-three, ok-map, err-map, cause-stands, in-form, distinct-scopes}
+use Rattle.resolve.proofs.Trees.{ok-map, err-map}
+use Rattle.package_adding.proofs.Adding.{ok-three, cause-stands, in-form, distinct-scopes}
 use Rattle.package_adding.proofs.Importing.{are-imports}
 use Rattle.package_adding.proofs.tree.closed_over.Goals as goal
 
