@@ -22,15 +22,15 @@ use Rattle.tables.specs.declared.tables.WorldItemKind.TheVariants as item
 use Rattle.tables.specs.declared.tables.Resolve.{Resolve}
 use Rattle.package_sets.specs.Moved.{Renaming, put_val, put_row, put_function, put_interface, put_item, put_item_kind, put_world}
 use Rattle.package_sets.specs.Set.{IsPackageByPackage, HasRowsInForm}
-use Rattle.package_sets.specs.Joining.{own_interfaces}
+use Rattle.package_sets.specs.Joining.{imports, own_interfaces, joined, HasImports}
 use Rattle.package_sets.specs.Joined.{renaming_of, IsJoined, IsPut}
-use Rattle.package_sets.specs.Attached.{IsOwn, IsNew, HasRoom, HasAll, others, IsAttached}
+use Rattle.package_sets.specs.Attached.{IsOwn, IsNew, HasRoom, HasAll, others, IsOwnBehind, IsAttached}
 use Rattle.package_sets.specs.declared.joining.Joined.{Joined}
 use Rattle.package_sets.proofs.Lists.{front-get}
 use Rattle.package_sets.proofs.Kept.{list-at, map-put-as, placed-at, worlds-grouped-at}
 use Rattle.package_sets.proofs.Named.{definition-put}
 use Rattle.package_sets.proofs.Renaming.{AreThere, in_place, row-stays, params-same, result-same, length-references, references-append, trees-stay, trees-there}
-use Rattle.package_sets.proofs.Finding.{imports-of}
+use Rattle.package_sets.proofs.Finding.{found-same, renaming-is, imports-of}
 use Rattle.package_sets.proofs.Behind.{row-there}
 use Rattle.package_sets.proofs.SetForm.{stands-there, set-form}
 use Rattle.package_sets.proofs.Attaching.{map-each, set-package, own-package, names-are}
@@ -149,6 +149,20 @@ module _ (s c : Resolve) (j : Joined) (q : IsJoined s c j) (own : PackageParts) 
         ∙ (ap (λ ws. ws ++ map told (map (put_world to) c.worlds)) (map-each told (λ w. world_meaning (interface_names s) (trees s) s.definitions (world_name s w) w) s.worlds set-world)
         ∙ ap (λ ws. worlds s ++ ws) (map-put-as (put_world to) (λ w. world_meaning (interface_names c) (trees c) c.definitions (world_name c w) w) told c.worlds own-world)))
 
+  -- what is put there is the closed table's own, at the places of its imports
+  own-put : IsOwnBehind s c q.are_joined.places r
+  own-put =
+      let is = renaming-is s c j q.are_joined in record {
+        interfaces = put.interfaces ∙ ap (λ (p : Renaming). s.interfaces ++ map (put_interface p) (own_interfaces c)) is;
+        worlds = put.worlds ∙ ap (λ (p : Renaming). s.worlds ++ map (put_world p) c.worlds) is;
+        rows = put.definitions
+            ∙ (ap (λ (p : Renaming). s.definitions ++ map (put_row p) (drop j.imported c.definitions)) is
+            ∙ ap (λ (n : ℕ). s.definitions ++ map (put_row (joined s c q.are_joined.places)) (drop n c.definitions)) q.are_joined.imported_is);
+      }
+
+  own-there : (h : HasImports s c) → IsOwnBehind s c h.places r
+  own-there h = subst (λ (ps : List ℕ). IsOwnBehind s c ps r) (found-same s c (imports c) q.are_joined.places h.places q.are_joined.found h.found) own-put
+
   pub attaches : HasRoom s → IsNew s c → HasAll s (others c) → IsAttached s c r j.«package»
   attaches room new have = record {
     room = room;
@@ -165,6 +179,7 @@ module _ (s c : Resolve) (j : Joined) (q : IsJoined s c j) (own : PackageParts) 
       worlds_are = put.worlds;
       rows_are = put.definitions;
     };
+    own_behind = own-there (imports-of s c j q);
     interfaces_are = names-are s c j q own is r put;
     stands = stands-there s c j q own r put;
     definitions_are = λ h. definitions-are s c j q own is r put h.set_is h.rows h.closed_is;

@@ -1,14 +1,14 @@
 -- A closed table that begins with what interfaces of a set reach has its imports in the set.
-use Rattle.std.proofs.Common.{◌≡◌, ◌<◌, inl, inr, ℕ, zero, suc, ◌+◌, ◌-◌, Bool, true, false, ◌||◌, List, [], ◌∷◌, ◌++◌, length, map, take, get_or, slice_get, Option, None, Some, refl, ap, sym, subst, ◌∙◌, arith, eqb-true, eq-eqb, nat_lt}
+use Rattle.std.proofs.Common.{◌≡◌, ◌<◌, inl, inr, ℕ, zero, suc, ◌+◌, Bool, true, false, ◌||◌, List, [], ◌∷◌, ◌++◌, length, map, take, get_or, slice_get, Option, None, Some, refl, ap, sym, subst, ◌∙◌, arith, eqb-true, nat_lt}
 use Rattle.std.specs.Prelude.{Contains}
 use Rattle.std.specs.List.{list_any}
 use Rattle.std.specs.Str.{bytes_eq}
 use Rattle.std.proofs.lemmas.Bool.{ltb-true}
-use Rattle.std.proofs.lemmas.List.{length-map, length-append}
+use Rattle.std.proofs.lemmas.List.{length-map}
 use Rattle.std.proofs.lemmas.List.Elements.{Contains-append_left, Contains-append_right}
 use Rattle.std.proofs.lemmas.Option.{slice_get_within}
 use Rattle.std.proofs.lemmas.Slice.Eq.{bytes_eq-Decides}
-use Rattle.package_form.specs.Closed.{own_package, is_same_package}
+use Rattle.package_form.specs.Closed.{is_same_package}
 use Rattle.package_form.specs.Ends.{end_of, interfaces_end, are_worlds_parted}
 use Rattle.package_form.specs.Form.{ids_of}
 use Rattle.package_form.proofs.Lists.{contains-map, get-front}
@@ -26,17 +26,18 @@ use Rattle.tables.specs.declared.tables.World.{World}
 use Rattle.tables.specs.declared.tables.Resolve.{Resolve}
 use Rattle.package_sets.specs.Owners.{owner_of, owners}
 use Rattle.package_sets.specs.Places.{kept, place}
-use Rattle.package_sets.specs.Reaches.{is_own_interface, is_marked}
+use Rattle.package_sets.specs.Reaches.{is_marked}
 use Rattle.package_sets.specs.Renamed.{renaming}
 use Rattle.package_sets.specs.Moved.{Renaming, put_row, put_interface}
 use Rattle.package_sets.specs.Part.{IsPart, IsTableOf}
 use Rattle.package_sets.specs.Imports.{BeginsWith}
-use Rattle.package_sets.specs.Joining.{before_own, import_count, imports, IsFirst, are_same_packages, has_name_of, AreFound, import_rows, row_places, joined, AreRowsThere, HasIds, AreIdsThere, HasImports}
+use Rattle.package_sets.specs.Joining.{IsFirst, are_same_packages, has_name_of, AreFound, import_rows, row_places, joined, AreRowsThere, HasIds, AreIdsThere, HasImports}
 use Rattle.package_sets.specs.Attached.{others, HasAll, Fits}
 use Rattle.package_sets.specs.Set.{AreRowsOf, ArePackageByPackage, behind_all, an_interface, a_world, IsSet, HasRowsInForm}
 use Rattle.package_sets.specs.SetForm.{HasNamesApart}
 use Rattle.package_sets.specs.declared.moved.Moved.{Moved}
 use Rattle.package_sets.proofs.Lists.{map-unget, front-place, one-there, behind-get}
+use Rattle.package_sets.proofs.Beginning.{own-is, begins-packages, begins-imports, begins-rows}
 use Rattle.package_sets.proofs.Keeping.{kept-at}
 use Rattle.package_sets.proofs.Owning.{length-rows, parted-worlds}
 use Rattle.package_sets.proofs.Attaching.{same-packages}
@@ -49,10 +50,6 @@ use Rattle.package_sets.proofs.MarkedPlaces.{marked_places, marked-at, length-ma
 
 -- ---- lists
 
-take-front : {A : Type 0} (xs ys : List A) → take (length xs) (xs ++ ys) ≡ xs
-take-front [] ys = refl
-take-front (x ∷ xs) ys = ap (λ zs. x ∷ zs) (take-front xs ys)
-
 any-here : {A : Type 0} (f : A → Bool) (xs : List A) (k : ℕ) (x : A) → slice_get xs k ≡ Some x → f x ≡ true → list_any f xs ≡ true
 any-here f [] k x e h = absurd (cc)
 any-here f (y ∷ xs) zero x e h = let same : y ≡ x = cc in ap (λ (b : Bool). b || list_any f xs) (ap f same ∙ h)
@@ -61,15 +58,6 @@ any-here f (y ∷ xs) (suc k) x e h = by (f y) refl (any-here f xs k x e h)
     by : (b : Bool) → f y ≡ b → list_any f xs ≡ true → list_any f (y ∷ xs) ≡ true
     by true q r = ap (λ (b : Bool). b || list_any f xs) q
     by false q r = ap (λ (b : Bool). b || list_any f xs) q ∙ r
-
-before-append : (own : ℕ) (is xs : List Interface) → ((k : ℕ) (i : Interface) → slice_get is k ≡ Some i → is_own_interface own i ≡ false) → ((i : Interface) → Contains xs i → is_own_interface own i ≡ true)
-    → before_own own (is ++ xs) ≡ length is
-before-append own [] [] f g = refl
-before-append own [] (x ∷ xs) f g = rw (g x (0, omega arith, refl)) refl
-before-append own (i ∷ is) xs f g = rw (f 0 i refl) (more (before_own own (is ++ xs)) (length is) (before-append own is xs (λ k x e. f (suc k) x e) g))
-  where
-    more : (n m : ℕ) → n ≡ m → 1 + n ≡ suc m
-    more n m e = omega arith
 
 -- where an interface's rows are
 record HasRowsAt (rows : List Definition) (k : ℕ) (i : Interface) : Type 0 where
@@ -100,30 +88,6 @@ ids-kept s to n set k i e h x d = (ids-within s to n set k i e h x d).0
 
 module _ (s : Resolve) (to : Moved) (n : IsPart s to) (set : IsSet s) (apart : HasNamesApart s) (none : (k : ℕ) → get_or to.worlds k false ≡ true → ⊥) (r : Resolve) (t : IsTableOf s to r) (no-worlds : r.worlds ≡ []) (form : HasRowsInForm r) (c : Resolve) (b : BeginsWith r c) where
   -- ---- the imports
-
-  own-is : own_package c.packages ≡ length r.packages
-  own-is = ap own_package b.packages_are ∙ less (length r.packages) (length (r.packages ++ b.own ∷ [])) (length-append r.packages (b.own ∷ []))
-    where
-      less : (n m : ℕ) → m ≡ n + 1 → m - 1 ≡ n
-      less n m e = omega arith
-
-  count-is : import_count c ≡ length r.interfaces
-  count-is =
-      ap (λ (is : List Interface). before_own (own_package c.packages) is) b.interfaces_are
-      ∙ before-append (own_package c.packages) r.interfaces b.interfaces other own
-    where
-      no-own : (x : Bool) (k : ℕ) (i : Interface) → is_own_interface (own_package c.packages) i ≡ x → i.«package».0 < length r.packages → is_own_interface (own_package c.packages) i ≡ false
-      no-own false k i e l = e
-      no-own true k i e l = absurd (omega (arith, own-is, eqb-true i.«package».0 (own_package c.packages) e))
-
-      other : (k : ℕ) (i : Interface) → slice_get r.interfaces k ≡ Some i → is_own_interface (own_package c.packages) i ≡ false
-      other k i e = no-own (is_own_interface (own_package c.packages) i) k i refl (interface-in r k i e)
-
-      own : (i : Interface) → Contains b.interfaces i → is_own_interface (own_package c.packages) i ≡ true
-      own i d = eq-eqb i.«package».0 (own_package c.packages) (b.of_last i d ∙ sym own-is)
-
-  imports-are : imports c ≡ r.interfaces
-  imports-are = ap (λ (is : List Interface). take (import_count c) is) b.interfaces_are ∙ (ap (λ k. take k (r.interfaces ++ b.interfaces)) count-is ∙ take-front r.interfaces b.interfaces)
 
   abbrev places : List ℕ
   places = marked_places 0 to.interfaces
@@ -204,7 +168,7 @@ module _ (s : Resolve) (to : Moved) (n : IsPart s to) (set : IsSet s) (apart : H
   J = joined s c places
 
   rows-are : import_rows s c places ≡ row_places s 0 r.interfaces places
-  rows-are = ap (λ (is : List Interface). row_places s 0 is places) imports-are
+  rows-are = ap (λ (is : List Interface). row_places s 0 is places) (begins-imports r c b)
 
   take-all : {A : Type 0} (xs : List A) → take (length xs) xs ≡ xs
   take-all [] = refl
@@ -224,7 +188,7 @@ module _ (s : Resolve) (to : Moved) (n : IsPart s to) (set : IsSet s) (apart : H
           (subst (λ (ws : List World). are_worlds_parted (length r.definitions) (interfaces_end 0 r.interfaces) ws ≡ true) no-worlds (parted-worlds (length r.definitions) 0 r.interfaces r.worlds form.parted))
 
   imported-are : take (length (import_rows s c places)) c.definitions ≡ r.definitions
-  imported-are = ap (λ k. take k c.definitions) length-is ∙ (ap (take (length r.definitions)) b.rows_are ∙ take-front r.definitions b.rows)
+  imported-are = ap (λ k. take k c.definitions) length-is ∙ begins-rows r c b
 
   place-within : (u : ℕ) (d : Definition) → slice_get s.definitions u ≡ Some d → get_or to.rows u false ≡ true → place to.rows u < length r.definitions
   place-within u d e h =
@@ -328,21 +292,20 @@ module _ (s : Resolve) (to : Moved) (n : IsPart s to) (set : IsSet s) (apart : H
   has-imports : HasImports s c
   has-imports = record {
     places = places;
-    found = subst (λ (is : List Interface). AreFound s c is places) (sym imports-are) found-are;
+    found = subst (λ (is : List Interface). AreFound s c is places) (sym (begins-imports r c b)) found-are;
     rows = subst (λ (ds : List Definition). AreRowsThere s J ds) (sym imported-are) rows-there;
-    ids = subst (λ (is : List Interface). AreIdsThere s J is) (sym imports-are) ids-there;
+    ids = subst (λ (is : List Interface). AreIdsThere s J is) (sym (begins-imports r c b)) ids-there;
   }
 
   pub has-all : HasAll s (others c)
   has-all k p e =
-      let others-are : others c ≡ r.packages = ap (λ m. take m c.packages) own-is ∙ (ap (take (length r.packages)) b.packages_are ∙ take-front r.packages (b.own ∷ [])) in
-      let w = was-kept to.packages s.packages k p (ap (λ (ps : List PackageParts). slice_get ps k) (sym t.packages) ∙ (ap (λ (ps : List PackageParts). slice_get ps k) (sym others-are) ∙ e)) in
+      let w = was-kept to.packages s.packages k p (ap (λ (ps : List PackageParts). slice_get ps k) (sym t.packages) ∙ (ap (λ (ps : List PackageParts). slice_get ps k) (sym (begins-packages r c b)) ∙ e)) in
       any-here (is_same_package p) s.packages w.from p w.stood (same-itself p)
 
   pub fits-there : Fits s c
   fits-there = record {
     own = b.own;
-    own_is = ap (slice_get c.packages) own-is
+    own_is = ap (slice_get c.packages) (own-is r c b)
         ∙ (ap (λ (ps : List PackageParts). slice_get ps (length r.packages)) b.packages_are ∙ (ap (slice_get (r.packages ++ b.own ∷ [])) (sym (plus-none (length r.packages))) ∙ behind-get r.packages (b.own ∷ []) 0));
     imports = has-imports;
   }

@@ -17,7 +17,7 @@ use Rattle.package_sets.specs.Places.{kept, place}
 use Rattle.package_sets.specs.Renamed.{renaming}
 use Rattle.package_sets.specs.Moved.{put_interface, put_world}
 use Rattle.package_sets.specs.Part.{IsTableOf}
-use Rattle.package_sets.specs.Imports.{IsImported, IsOfInterfaces, IsImportsOf}
+use Rattle.package_sets.specs.Imports.{IsImported, imported, IsOfInterfaces, IsImportsOf}
 use Rattle.package_sets.specs.Set.{IsSet, HasRowsInForm}
 use Rattle.package_sets.specs.SetForm.{HasNamesApart}
 use Rattle.tables.specs.PackageNames.{PackageParts}
@@ -56,6 +56,9 @@ module _ (s : Resolve) (packages interfaces : List Bool) (to : Moved) (n : IsImp
       let v = contains-unmap (put_world (renaming to)) (kept to.worlds s.worlds) w (b, slice_get_within _ b w f, get_or_from_slice_get _ b w w f) in
       let k = kept-from to.worlds s.worlds v.0 v.1 in
       absurd (no-world s packages interfaces to n k.0 k.1)
+
+  is-imported : to ≡ imported s n.marks to.packages
+  is-imported = λ j. record { packages = to.packages; interfaces = n.interfaces_are j; worlds = n.worlds_are j; rows = n.rows_are j }
 
   module _ (r : Resolve) (t : IsTableOf s to r) where
     worlds-none : r.worlds ≡ []
@@ -121,6 +124,7 @@ module _ (s : Resolve) (packages interfaces : List Bool) (to : Moved) (n : IsImp
           interfaces_are = interfaces-same s to p r t.packages t.interfaces t.worlds t.definitions;
           definitions_are = definitions-same s to p r t.packages t.interfaces t.worlds t.definitions;
           worlds_are = worlds-none;
+          table = subst (λ (m : Moved). IsTableOf s m r) is-imported t;
           in_form = form;
           owned = owned;
           apart = names-apart;

@@ -2,6 +2,7 @@ pub mod Accepting
 pub mod Apart
 pub mod Appending
 pub mod Attaching
+pub mod Beginning
 pub mod Behind
 pub mod Belonging
 pub mod Blocks
@@ -24,6 +25,7 @@ pub mod Named
 pub mod NamesApart
 pub mod Needed
 pub mod Needing
+pub mod One
 pub mod Ordering
 pub mod Owned
 pub mod Owning
@@ -36,6 +38,7 @@ pub mod Reading
 pub mod Renaming
 pub mod Restricting
 pub mod Roundtrip
+pub mod SameTables
 pub mod Scopes
 pub mod SetForm
 pub mod SetScopes

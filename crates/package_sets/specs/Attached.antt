@@ -1,9 +1,10 @@
 -- A set with one package more: the closed table of a package, behind the packages of the set.
-use Rattle.std.specs.Prelude.{◌≡◌, ◌≤◌, ◌<◌, ◌==◌, ℕ, Bool, true, false, List, [], ◌∷◌, ◌++◌, map, take, length, slice_get, Option, None, Some, All}
+use Rattle.std.specs.Prelude.{◌≡◌, ◌≤◌, ◌<◌, ◌==◌, ℕ, Bool, true, false, List, [], ◌∷◌, ◌++◌, map, take, drop, length, slice_get, Option, None, Some, All}
 use Rattle.std.specs.List.{list_any}
 use Rattle.package_form.specs.Closed.{own_package, is_same_package, is_closed}
 use Rattle.package_sets.specs.Restricted.{definitions_where, package_of_owner}
-use Rattle.package_sets.specs.Joining.{own_interfaces, HasImports}
+use Rattle.package_sets.specs.Moved.{put_interface, put_world, put_row}
+use Rattle.package_sets.specs.Joining.{own_interfaces, import_rows, joined, HasImports}
 use Rattle.package_sets.specs.Set.{IsPackageByPackage, HasRowsInForm}
 use Rattle.package_sets.specs.SetForm.{IsInSetForm}
 use Rattle.package_form.specs.Form.{IsInPackageForm}
@@ -39,6 +40,12 @@ pub record IsBehind (set r : Resolve) : Type 0 where
   pub interfaces_are : r.interfaces ≡ set.interfaces ++ interfaces
   pub worlds_are : r.worlds ≡ set.worlds ++ worlds
   pub rows_are : r.definitions ≡ set.definitions ++ rows
+
+-- .. which is the closed table's own, where its imports stand at these places of the set
+pub record IsOwnBehind (set closed : Resolve) (places : List ℕ) (r : Resolve) : Type 0 where
+  pub interfaces : r.interfaces ≡ set.interfaces ++ map (put_interface (joined set closed places)) (own_interfaces closed)
+  pub worlds : r.worlds ≡ set.worlds ++ map (put_world (joined set closed places)) closed.worlds
+  pub rows : r.definitions ≡ set.definitions ++ map (put_row (joined set closed places)) (drop (length (import_rows set closed places)) closed.definitions)
 
 -- ---- what is refused: 49 first, then 48, 47 and 44
 
@@ -105,6 +112,7 @@ pub record IsAttached (set closed r : Resolve) (id : ℕ) : Type 0 where
   pub packages_are : r.packages ≡ set.packages ++ fits.own ∷ []
   pub id_is : id ≡ length set.packages
   pub behind : IsBehind set r
+  pub own_behind : IsOwnBehind set closed fits.imports.places r
   pub interfaces_are : interface_names r ≡ interface_names set ++ own_interface_names closed
   pub stands : IsPackageByPackage set → HasRowsInForm closed → IsPackageByPackage r
   pub definitions_are : AreInForm set closed → definitions r ≡ definitions set ++ own_definitions closed

@@ -8,6 +8,7 @@ use Rattle.package_sets.specs.Set.{IsSet, HasRowsInForm}
 use Rattle.package_sets.specs.SetForm.{HasNamesApart}
 use Rattle.package_sets.specs.SetScopes.{HasDistinctScopes}
 use Rattle.package_sets.specs.Attached.{others, HasAll, Fits}
+use Rattle.package_sets.specs.Part.{IsTableOf}
 use Rattle.tables.specs.PackageNames.{PackageParts}
 use Rattle.tables.specs.declared.tables.Interface.{Interface}
 use Rattle.package_sets.specs.declared.moved.Moved.{Moved}
@@ -38,6 +39,15 @@ pub record IsImported (set : Resolve) (packages interfaces : List Bool) (to : Mo
   pub interfaces_are : to.interfaces ≡ marks.interfaces
   pub worlds_are : to.worlds ≡ padded (length set.worlds) []
   pub rows_are : to.rows ≡ map (is_marked marks) (owners set.definitions)
+
+-- .. with these marks of what is reached, and of the packages that are needed
+abbrev pub imported : Resolve → Marks → List Bool → Moved
+imported set m needed = record {
+  packages = needed;
+  interfaces = m.interfaces;
+  worlds = padded (length set.worlds) [];
+  rows = map (is_marked m) (owners set.definitions);
+}
 
 -- no name, or one of so many interfaces
 abbrev pub IsOfInterfaces : ℕ → Option Owner → Type 0
@@ -72,6 +82,7 @@ pub record IsImportsOf (set : Resolve) (packages interfaces : List Bool) (r : Re
   pub interfaces_are : interface_names r ≡ kept marks.interfaces (interface_names set)
   pub definitions_are : definitions r ≡ reached_definitions set marks
   pub worlds_are : r.worlds ≡ []
+  pub table : IsTableOf set (imported set marks needed) r
   -- the rows of a set's package stand as those of a package in form
   pub in_form : IsSet set → HasRowsInForm r
   -- each row is without a name, or of one of its interfaces

@@ -4,6 +4,7 @@ pub mod Joined
 pub mod Joining
 pub mod Marking
 pub mod Moved
+pub mod One
 pub mod Owners
 pub mod Part
 pub mod Places

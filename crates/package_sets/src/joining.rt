@@ -81,7 +81,7 @@ impl Placed for Joined {
 }
 
 /// Whether the names of two packages are one.
-fn is_same_package(a: &PackageName, b: &PackageName) -> bool
+pub fn is_same_package(a: &PackageName, b: &PackageName) -> bool
     ensures { result ≡ is_same_package a.now b.now }
 {
     a.namespace.as_bytes() == b.namespace.as_bytes()

@@ -18,9 +18,10 @@ mod part;
 mod places;
 mod reached;
 mod restriction;
-mod same;
+pub mod same;
 
 pub use attachment::{MOST_PACKAGES, attached};
 pub use error::AttachError;
 pub use importing::imports;
+pub use joining::{imports as imported_interfaces, is_same_package};
 pub use restriction::restricted;

@@ -1,10 +1,11 @@
 //! Whether parts of tables are the same.
 ghost use Rattle.std.specs.Prelude.{◌≡◌, Decides};
 
+use crate::joining::is_same_package;
 use atoms::Label;
 use tables::{
-    Case, Definition, Field, Function, FunctionId, Parameter, Sequence, TypeDef, TypeDefKind,
-    TypeId, TypeName, ValType,
+    Case, Definition, Field, Function, FunctionId, Interface, PackageName, Parameter, Sequence,
+    TypeDef, TypeDefKind, TypeId, TypeName, ValType,
 };
 
 /// What can be told from others.
@@ -16,20 +17,26 @@ pub trait Same: Sized {
         ensures { Decides result (self.now ≡ other.now) };
 }
 
-/// Whether two lists have the same elements.
-pub fn are_same<T: Same>(some: &Sequence<T>, others: &Sequence<T>) -> bool
+/// Whether two slices have the same elements.
+pub fn are_same_items<T: Same>(some: &[T], others: &[T]) -> bool
     ensures { Decides result (some.now ≡ others.now) }
 {
     if some.len() != others.len() {
         return false;
     }
-    let others = others.as_slice();
-    for (place, item) in some.as_slice().iter().enumerate() {
+    for (place, item) in some.iter().enumerate() {
         if !item.is_same(&others[place]) {
             return false;
         }
     }
     true
+}
+
+/// Whether two lists have the same elements.
+pub fn are_same<T: Same>(some: &Sequence<T>, others: &Sequence<T>) -> bool
+    ensures { Decides result (some.now ≡ others.now) }
+{
+    are_same_items(some.as_slice(), others.as_slice())
 }
 
 fn are_same_optional<T: Same>(a: &Option<T>, b: &Option<T>) -> bool
@@ -132,5 +139,21 @@ impl Same for Definition {
             (Definition::Function(a), Definition::Function(b)) => a.is_same(b),
             _ => false,
         }
+    }
+}
+
+impl Same for Interface {
+    fn is_same(&self, other: &Self) -> bool {
+        self.package.0 == other.package.0
+            && self.name.is_same(&other.name)
+            && are_same(&self.uses, &other.uses)
+            && are_same(&self.types, &other.types)
+            && are_same(&self.functions, &other.functions)
+    }
+}
+
+impl Same for PackageName {
+    fn is_same(&self, other: &Self) -> bool {
+        is_same_package(self, other)
     }
 }

@@ -1,5 +1,5 @@
 //! The package of a syntax tree.
-ghost use Rattle.std.specs.Prelude.{◌≡◌, map, filter_map, All, IsTrue, IfOk, IfErr};
+ghost use Rattle.std.specs.Prelude.{◌≡◌, true, map, filter_map, All, IsTrue, IfOk, IfErr, OnOk};
 ghost use Rattle.atoms.specs.Label.{IsLabel};
 ghost use Rattle.wit_syntax.specs.View.{item_view, file_view};
 ghost use Rattle.wit_syntax.specs.FullNames.{has_full_names};
@@ -10,7 +10,7 @@ ghost use Rattle.package_form.specs.Scope.{AreDistinct};
 ghost use Rattle.resolve.specs.Declarations.{interface_of, interfaces, interface_names, package_named};
 ghost use Rattle.resolve.specs.ImportForms.{IsNamedBehind, AreReachedFrom};
 ghost use Rattle.resolve.specs.Imports.{imports_of};
-ghost use Rattle.resolve.specs.Resolves.{AreImports, IsPackageOf, IsClosedPackageOf, ResolveRefuses, ResolveRefusesOf, HasNoFaults, HasNoFaultsOf, AnswersOnly, AnswersOnlyBehind};
+ghost use Rattle.resolve.specs.Resolves.{AreImports, IsPackageOf, IsClosedPackageOf, ResolveRefuses, ResolveRefusesOf, HasNoFaults, HasNoFaultsOf, AnswersOnly, AnswersOnlyBehind, file_fits};
 ghost use Rattle.resolve.specs.Building.{AreImportScopes};
 ghost use Rattle.resolve.specs.Sources.{declared_tree};
 
@@ -62,6 +62,7 @@ fn declarations<'a>(
     ensures faults { IfOk result (λ _. HasNoFaultsOf (imports_of imports.now) (file_view ast.now)) }
     ensures ok { IfOk result (λ ds. map declared_tree ds.items ≡ interfaces (file_view ast.now)) }
     ensures labels { IfOk result (λ _. All IsLabel (interface_names (interfaces (file_view ast.now)))) }
+    ensures fits { OnOk result (file_fits (file_view ast.now) ≡ true) }
     ensures err { IfErr result (ResolveRefusesOf (imports_of imports.now) (file_view ast.now)) }
 {
     if ast.items.is_empty() {
@@ -125,6 +126,7 @@ fn resolved_behind(alloc: Global, ast: &Ast, imports: &Resolve) -> Result<Resolv
     requires { AreImports imports.now }
     ensures ok { IfOk result (IsClosedPackageOf imports.now (file_view ast.now)) }
     ensures faults { IfOk result (λ _. HasNoFaultsOf (imports_of imports.now) (file_view ast.now)) }
+    ensures fits { OnOk result (file_fits (file_view ast.now) ≡ true) }
     ensures err { IfErr result (ResolveRefusesOf (imports_of imports.now) (file_view ast.now)) }
 {
     let keyed = keyed_by_tree(ast, imports);
@@ -148,6 +150,7 @@ pub fn closed_from_ast(alloc: Global, ast: &Ast, imports: &Resolve) -> Result<Re
     requires { AreImports imports.now }
     ensures ok { IfOk result (IsClosedPackageOf imports.now (file_view ast.now)) }
     ensures faults { IfOk result (λ _. HasNoFaultsOf (imports_of imports.now) (file_view ast.now)) }
+    ensures fits { OnOk result (file_fits (file_view ast.now) ≡ true) }
     ensures closed { IfOk result (λ r. IsNamedBehind imports.now (file_view ast.now) → AreReachedFrom imports.now (file_view ast.now) → IsTrue (is_closed r)) }
     ensures form { IfOk result (λ r. IsNamedBehind imports.now (file_view ast.now) → IsTrue (is_closed r) → IsInPackageForm r) }
     ensures distinct { IfOk result (λ r. IsNamedBehind imports.now (file_view ast.now) → All AreDistinct (package_scopes imports.now) → All AreDistinct (package_scopes r)) }

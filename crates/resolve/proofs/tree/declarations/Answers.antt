@@ -94,3 +94,7 @@ returns-clause-labels c =
     let same : map declared_tree c.deref-5.result.now ≡ interfaces f = ap (map declared_tree) c.deref-5.ensures.value ∙ c.in_ok-all.ensures
     ∙ ap (λ (is : List Item). filter_map interface_of (map item_view is)) c.deref-4.ensures.value in
     subst (λ (is : List InterfaceTree). All IsLabel (interface_names is)) same c.in_ok-known_names.ensures.labels
+
+pub returns-clause-fits : goal.returns-clause-fits
+returns-clause-fits c =
+    ap (λ (is : List Item). list_all interface_fits (map item_view is)) (sym c.deref.ensures.value) ∙ sym c.are_nested.ensures ∙ c.if-not-are_nested.false

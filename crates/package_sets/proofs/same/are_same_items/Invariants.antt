@@ -1,5 +1,5 @@
 use Rattle.std.proofs.Common.{◌≡◌, take}
-use Rattle.package_sets.proofs.same.are_same.Given as goal
+use Rattle.package_sets.proofs.same.are_same_items.Given as goal
 
 abbrev pub invariant-loop-place : goal.invariant-loop-place
 invariant-loop-place g l = take l.place l.some ≡ take l.place l.others

@@ -1,0 +1,5 @@
+use Rattle.package_sets.proofs.One.{attached-one}
+use Rattle.package_sets.proofs.laws.attaches_one.Goals as goal
+
+pub returns : goal.returns
+returns c = attached-one

@@ -1,0 +1,5 @@
+use Rattle.package_sets.proofs.One.{imports-one}
+use Rattle.package_sets.proofs.laws.imports_one.Goals as goal
+
+pub returns : goal.returns
+returns c = imports-one

@@ -1,0 +1,14 @@
+-- What is attached to a set, and what is imported from one, is one table.
+use Rattle.std.specs.Prelude.{◌≡◌, ℕ, Bool, List}
+use Rattle.package_sets.specs.Attached.{IsAttached}
+use Rattle.package_sets.specs.Imports.{IsImportsOf}
+use Rattle.tables.specs.Same.{IsSamePackage}
+use Rattle.tables.specs.declared.tables.Resolve.{Resolve}
+
+-- with a closed table behind it a set is one table, in which the package has one place
+abbrev pub AttachesOne : Resolve → Resolve → Type 0
+AttachesOne set closed = (r s : Resolve) (i j : ℕ) → IsAttached set closed r i → IsAttached set closed s j → IsSamePackage r s × (i ≡ j)
+
+-- the packages and the interfaces with these marks have one table of imports
+abbrev pub ImportsOne : Resolve → List Bool → List Bool → Type 0
+ImportsOne set packages interfaces = (r s : Resolve) → IsImportsOf set packages interfaces r → IsImportsOf set packages interfaces s → IsSamePackage r s
