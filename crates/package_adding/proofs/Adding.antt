@@ -1,14 +1,12 @@
 -- The closed table of a file over a set: it is in form, and is put behind the set unless memory is wanting.
-use Rattle.std.proofs.Common.{◌≡◌, ◌+◌, false, true≢false, IsTrue, List, [], ◌∷◌, Some, Result, Ok, Err, IfOk, length, slice_get, ap, sym, subst, ◌∙◌, arith, All, length-append}
+use Rattle.std.proofs.Common.{◌≡◌, ◌+◌, false, true≢false, IsTrue, List, [], ◌∷◌, Some, length, slice_get, ap, sym, subst, ◌∙◌, arith, All, length-append}
 use Rattle.std.proofs.Math.Logic.{∥∥₁_elim, ∥∥₁_map}
 use Rattle.package_form.specs.Closed.{own_package, is_closed}
 use Rattle.package_form.specs.Form.{IsInPackageForm}
 use Rattle.package_form.specs.Laws.{IsLabelled}
 use Rattle.package_form.specs.Naming.{package_scopes}
 use Rattle.package_form.specs.Scope.{AreDistinct}
-use Rattle.package_form.proofs.Lists.{contains-unmap}
 use Rattle.package_sets.specs.Attached.{HasRoom, has_package, IsRefused}
-use Rattle.package_sets.specs.Imports.{BeginsWith}
 use Rattle.package_sets.specs.SetForm.{IsInSetForm}
 use Rattle.package_sets.specs.declared.error.AttachError.{AttachError}
 use Rattle.package_sets.specs.declared.error.AttachError.TheVariants as attach
@@ -16,21 +14,17 @@ use Rattle.package_sets.proofs.Lists.{behind-get}
 use Rattle.resolve.specs.Declarations.{package_named}
 use Rattle.resolve.specs.ImportForms.{IsNamedBehind, AreReachedFrom}
 use Rattle.resolve.specs.Imports.{imports_of}
-use Rattle.resolve.specs.Resolves.{in_package, HasNoFaultsOf}
+use Rattle.resolve.specs.Resolves.{HasNoFaultsOf}
 use Rattle.tables.specs.PackageNames.{PackageParts}
 use Rattle.tables.specs.declared.error.ResolveError.{ResolveError}
 use Rattle.tables.specs.declared.error.ResolveError.TheVariants as cause
-use Rattle.tables.specs.declared.tables.Interface.{Interface}
 use Rattle.tables.specs.declared.tables.Resolve.{Resolve}
 use Rattle.wit_syntax.specs.FullNames.{has_full_names}
 use Rattle.wit_syntax.specs.Syntax.{File}
 use Rattle.package_adding.specs.Added.{AreImportsFrom, IsOfTree, IsNewName, IsRefusedTree, CauseStands, TreeNotAdded}
 use Rattle.package_adding.specs.declared.error.AddError.TheVariants.{Attach}
 use Rattle.package_adding.proofs.Importing.{named-behind, reached-from}
-
-pub ok-three : {T E : Type 0} (r : Result T E) (P Q R S : T → Type 0) → ((x : T) → P x → Q x → R x → S x) → IfOk r P → IfOk r Q → IfOk r R → IfOk r S
-ok-three (Ok x) P Q R S f g h k = f x g h k
-ok-three (Err e) P Q R S f g h k = tt
+use Rattle.package_adding.proofs.TreeBeginning.{begins-with}
 
 pub cause-stands : (f : File) (s : Resolve) (e : ResolveError) → IsRefusedTree f s e → CauseStands f s e
 cause-stands f s cause.EmptyPackage h = h
@@ -59,17 +53,6 @@ module _ (f : File) (s r : Resolve) (from : AreImportsFrom f s r) (form : ∥ Is
 -- ---- behind the set
 
 module _ (f : File) (s closed : Resolve) (t : IsOfTree f s closed) where
-  begins : BeginsWith t.imports closed
-  begins = record {
-    own = package_named f;
-    interfaces = _;
-    rows = t.resolved.rows.0;
-    packages_are = t.resolved.packages;
-    interfaces_are = t.resolved.own.1;
-    rows_are = t.resolved.rows.1;
-    of_last = λ i c. let x = contains-unmap (in_package (length t.imports.packages)) _ i c in sym (ap (λ (z : Interface). z.«package».0) x.2);
-  }
-
   own-is : (p : PackageParts) → slice_get closed.packages (own_package closed.packages) ≡ Some p → p ≡ package_named f
   own-is p h =
       let ps = t.imports.packages in
@@ -83,7 +66,7 @@ module _ (f : File) (s closed : Resolve) (t : IsOfTree f s closed) where
   not-put form new (attach.SamePackage p) h = absurd (true≢false (sym h.1.stands ∙ subst (λ (q : PackageParts). has_package s q ≡ false) (sym (own-is p h.1.own)) new))
   not-put form new (attach.NoPackage p) h =
       let none : IsProp ⊥ = hlevel in
-      ∥∥₁_elim form none (λ g. true≢false (sym ((t.from.are.found g.rows g.apart closed begins).have h.2.place p h.2.stands) ∙ h.2.lacks))
+      ∥∥₁_elim form none (λ g. true≢false (sym ((t.from.are.found g.rows g.apart closed (begins-with t.imports f closed t.resolved)).have h.2.place p h.2.stands) ∙ h.2.lacks))
   not-put form new attach.NotThisShape h =
       let none : IsProp ⊥ = hlevel in
-      ∥∥₁_elim form none (λ g. h.3 (t.from.are.found g.rows g.apart closed begins).fits)
+      ∥∥₁_elim form none (λ g. h.3 (t.from.are.found g.rows g.apart closed (begins-with t.imports f closed t.resolved)).fits)

@@ -73,7 +73,7 @@ row-owned n (row.Function f) h = by f.owner h
 -- ---- an interface that a file without faults names is among its imports
 
 module _ (m : Imports) (f : File) (faults : HasNoFaultsOf m f) where
-  named-there : (q : PackageParts) (i : List ℕ) → NamesInterface f q i → HasImport m q i
+  pub named-there : (q : PackageParts) (i : List ℕ) → NamesInterface f q i → HasImport m q i
   named-there q i (inl (j, c, (u, d, e, g))) =
       let known = all-contained (HasKnownNamesOf m (interfaces f)) (interfaces f) j faults.known.in_interfaces c in
       let h : IsKnownIn m (interfaces f) (Some q) u.interface u.name =

@@ -1,4 +1,11 @@
 pub mod Adding
+pub mod BehindImports
+pub mod ImportTables
 pub mod Importing
+pub mod Marks
 pub mod Naming
+pub mod Only
+pub mod OwnRows
 pub mod Refusals
+pub mod SameNames
+pub mod TreeBeginning

@@ -4,7 +4,8 @@ use Rattle.std.specs.Prelude.{◌≡◌, ℕ, Bool, true, false, List, [], All}
 use Rattle.ctype_bin.specs.declared.component.RawComponent.{RawComponent}
 use Rattle.package_form.specs.Naming.{package_scopes}
 use Rattle.package_form.specs.Scope.{AreDistinct}
-use Rattle.package_sets.specs.Attached.{HasRoom, has_package, IsAttached, IsRefused}
+use Rattle.package_sets.specs.Attached.{HasRoom, has_package, others, HasAll, IsNew, Fits, IsAttached, IsRefused}
+use Rattle.package_sets.specs.declared.error.AttachError.{AttachError}
 use Rattle.package_sets.specs.declared.error.AttachError.TheVariants as attach
 use Rattle.tables.specs.declared.tables.Resolve.{Resolve}
 use Rattle.package_sets.specs.Imports.{IsImportsOf}
@@ -16,6 +17,7 @@ use Rattle.tables.specs.declared.error.ResolveError.TheVariants as cause
 use Rattle.wit_syntax.specs.Syntax.{File}
 use Rattle.wit_component.specs.FromComponent.{ClosedComponentRefuses}
 use Rattle.wit_component.specs.ToComponent.{ComponentStands}
+use Rattle.package_adding.specs.BehindImports.{IsBehindImports}
 use Rattle.package_adding.specs.Named.{AreNamed}
 use Rattle.package_adding.specs.declared.error.AddError.{AddError}
 use Rattle.package_adding.specs.declared.error.AddError.TheVariants as error
@@ -25,16 +27,21 @@ pub record IsOfComponent (raw : RawComponent) (closed : Resolve) : Type 0 where
   pub stands : ∥ ComponentStands raw closed ∥₁
   pub distinct : All AreDistinct (package_scopes closed)
 
--- the set with the component's package behind it
-pub record AddsComponent (raw : RawComponent) (set r : Resolve) (id : ℕ) : Type 0 where
-  pub closed : Resolve
+-- the set with the component's package behind it, which is this closed table, whose imports are just those of the set
+pub record AddsComponent (raw : RawComponent) (set closed r : Resolve) (id : ℕ) : Type 0 where
   pub component : IsOfComponent raw closed
+  pub behind : IsBehindImports set closed
   pub attached : IsAttached set closed r id
+
+-- when a component's closed table is refused behind the set: as any other, and 44 also where its imports aren't just those of the set, in its order
+abbrev pub IsRefusedBehind : Resolve → Resolve → AttachError → Type 0
+IsRefusedBehind set closed attach.NotThisShape = HasRoom set × IsNew set closed × HasAll set (others closed) × (Fits set closed → IsBehindImports set closed → ⊥)
+IsRefusedBehind set closed e = IsRefused set closed e
 
 -- why the component's package is not added: 49 comes before all, then what is wrong with the component alone, then what is wrong with it in this set
 abbrev pub ComponentNotAdded : RawComponent → Resolve → AddError → Type 0
 ComponentNotAdded raw set (error.Attach attach.SetLimit) = ¬ HasRoom set
-ComponentNotAdded raw set (error.Attach e) = (closed : Resolve) × IsOfComponent raw closed × IsRefused set closed e
+ComponentNotAdded raw set (error.Attach e) = (closed : Resolve) × IsOfComponent raw closed × IsRefusedBehind set closed e
 ComponentNotAdded raw set (error.Resolve e) = HasRoom set × ClosedComponentRefuses raw e
 
 -- ---- of a tree
@@ -53,9 +60,8 @@ pub record IsOfTree (f : File) (set closed : Resolve) : Type 0 where
   pub faults : HasNoFaultsOf (imports_of imports) f
   pub resolved : IsClosedPackageOf imports f closed
 
--- the set with the file's package behind it
-pub record AddsTree (f : File) (set r : Resolve) (id : ℕ) : Type 0 where
-  pub closed : Resolve
+-- the set with the file's package behind it, which is this closed table
+pub record AddsTree (f : File) (set closed r : Resolve) (id : ℕ) : Type 0 where
   pub tree : IsOfTree f set closed
   pub attached : IsAttached set closed r id
 
@@ -85,3 +91,11 @@ TreeNotAdded f set (error.Attach attach.NotThisShape) = ⊥
 TreeNotAdded f set (error.Resolve cause.EmptyPackage) = HasRoom set × (f.entries ≡ [])
 TreeNotAdded f set (error.Resolve cause.NoMemory) = HasRoom set
 TreeNotAdded f set (error.Resolve e) = HasRoom set × HasEntries f × IsNewName f set × IsRefusedTree f set e
+
+-- ---- want of memory
+
+abbrev pub IsWantOfMemory : AddError → Type 0
+IsWantOfMemory (error.Resolve cause.NoMemory) = Unit {0}
+IsWantOfMemory (error.Resolve e) = ⊥
+IsWantOfMemory (error.Attach attach.NoMemory) = Unit {0}
+IsWantOfMemory (error.Attach e) = ⊥

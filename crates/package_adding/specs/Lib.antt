@@ -1,2 +1,5 @@
 pub mod Added
+pub mod BehindImports
 pub mod Named
+pub mod NamedIn
+pub mod Written

@@ -21,13 +21,17 @@ NamesInterface f q i = UsesImport f q i ⊎ HasImportItem f q i
 abbrev pub NamesPackage : File → PackageParts → Type 0
 NamesPackage f q = (i : List ℕ) × NamesInterface f q i
 
--- These are marks of just the packages and of just the interfaces of the set that the file names.
-pub record AreNamed (f : File) (set : Resolve) (packages interfaces : List Bool) : Type 0 where
+-- These are marks of just the interfaces of the set that are named, and of just the packages of which any interface is, whether they have it or not.
+pub record AreMarksOf (names : PackageParts → List ℕ → Type 0) (set : Resolve) (packages interfaces : List Bool) : Type 0 where
   pub each_package : length packages ≡ length set.packages
   pub each_interface : length interfaces ≡ length set.interfaces
-  pub packages_are : (k : ℕ) (q : PackageParts) → slice_get set.packages k ≡ Some q → (slice_index_or packages k false ≡ true) ↔ NamesPackage f q
+  pub packages_are : (k : ℕ) (q : PackageParts) → slice_get set.packages k ≡ Some q → (slice_index_or packages k false ≡ true) ↔ ((i : List ℕ) × names q i)
   pub interfaces_are : (k : ℕ) (i : Interface) (q : PackageParts) → slice_get set.interfaces k ≡ Some i → slice_get set.packages i.«package».0 ≡ Some q
-      → (slice_index_or interfaces k false ≡ true) ↔ NamesInterface f q i.name
+      → (slice_index_or interfaces k false ≡ true) ↔ names q i.name
+
+-- .. of what the file names
+abbrev pub AreNamed : File → Resolve → List Bool → List Bool → Type 0
+AreNamed f set packages interfaces = AreMarksOf (NamesInterface f) set packages interfaces
 
 -- ---- as tests: of one interface, or of any of the package
 

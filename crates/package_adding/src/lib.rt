@@ -7,9 +7,11 @@
 #![tactic(auto)]
 
 mod error;
+mod imported;
 mod named;
 mod set;
 mod tree;
+mod written;
 
 pub use error::AddError;
 pub use package_sets::AttachError;

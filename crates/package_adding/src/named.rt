@@ -18,7 +18,7 @@ pub struct Named {
 }
 
 /// Whether this is the name that is looked for, or none is.
-fn is_wanted(wanted: Option<&Label>, name: &Label) -> bool
+pub fn is_wanted(wanted: Option<&Label>, name: &Label) -> bool
     ensures { result ≡ is_wanted (wanted_name wanted.entry) name.now }
 {
     match wanted {

@@ -1,25 +1,34 @@
 //! Sets of packages.
-ghost use Rattle.std.specs.Prelude.{◌≡◌, ◌⊎◌, All, IsTrue, IfOk, IfErr, OnOk, OnErr};
+ghost use Rattle.std.specs.Prelude.{◌≡◌, ◌⊎◌, ℕ, true, All, IsTrue, IfOk, IfErr, OnOk, OnErr, MatchResult};
+ghost use Rattle.ctype_bin.specs.FileView.{file_view as component_view};
+ghost use Rattle.ctype_format.specs.File.{file};
 ghost use Rattle.package_form.specs.Form.{IsInPackageForm};
 ghost use Rattle.package_form.specs.Naming.{package_scopes};
 ghost use Rattle.package_form.specs.Scope.{AreDistinct};
 ghost use Rattle.package_sets.specs.Attached.{HasRoom, IsAttached, IsRefused};
 ghost use Rattle.package_sets.specs.SetForm.{IsEmpty, IsInSetForm};
 ghost use Rattle.package_sets.specs.declared.error.AttachError.TheVariants.{SetLimit, NoMemory, SamePackage};
-ghost use Rattle.package_adding.specs.Added.{AddsComponent, ComponentNotAdded, AddsTree, IsNewName, HasName, TreeNotAdded};
+ghost use Rattle.package_adding.specs.Added.{AddsComponent, ComponentNotAdded, IsRefusedBehind, AddsTree, IsNewName, HasName, TreeNotAdded, IsWantOfMemory};
+ghost use Rattle.package_adding.specs.BehindImports.{IsBehindImports};
+ghost use Rattle.package_text.specs.Writable.{IsWritable};
+ghost use Rattle.resolve.specs.Resolves.{file_fits};
+ghost use Rattle.tables.specs.Same.{IsSamePackage};
+ghost use Rattle.tables.specs.declared.tables.Resolve.{Resolve};
 ghost use Rattle.resolve.specs.Declarations.{package_named};
 ghost use Rattle.wit_syntax.specs.FullNames.{has_full_names};
 ghost use Rattle.wit_syntax.specs.View.{file_view};
 
 use crate::error::AddError;
+use crate::imported::is_behind_imports;
 use crate::tree::{closed_over, has_entries};
 use ctype_bin::RawComponent;
-use package_sets::laws::is_set_of_none;
+use package_sets::laws::{attaches_one, is_set_of_none};
 use package_sets::{AttachError, MOST_PACKAGES, attached};
+use package_text::names_are_labels;
 use resolve::{has_package, package_name};
 use std::alloc::Global;
 use tables::{PackageId, Resolve, Sequence};
-use wit_component::closed_from_raw;
+use wit_component::{closed_from_raw, closed_from_spelled};
 use wit_syntax::Ast;
 
 /// Packages that use each other, as one table: each behind those that it uses, at most 64.
@@ -61,8 +70,8 @@ impl PackageSet {
         &self.resolve
     }
 
-    /// That there is room for a package more.
-    fn has_room(&self) -> Result<(), AttachError>
+    /// That there is room for a package more. 49 where there are 64.
+    pub fn has_room(&self) -> Result<(), AttachError>
         ensures ok { OnOk result (HasRoom self.now.resolve) }
         ensures err { IfErr result (λ e. (e ≡ SetLimit) × (¬ HasRoom self.now.resolve)) }
     {
@@ -86,19 +95,65 @@ impl PackageSet {
         Ok(id)
     }
 
+    /// Puts the own part of a component's closed table behind the set. 44 also where its imports aren't just those of the set, in its order.
+    fn attach_component(
+        &mut self,
+        alloc: Global,
+        closed: &Resolve,
+    ) -> Result<PackageId, AttachError>
+        requires form { ∥ IsInPackageForm closed.now ∥₁ }
+        requires distinct { ∥ All AreDistinct (package_scopes closed.now) ∥₁ }
+        ensures ok { IfOk result (λ id. IsAttached self.old.resolve closed.now self.new.resolve id.0) }
+        ensures behind { OnOk result (IsBehindImports self.old.resolve closed.now) }
+        ensures err { IfErr result (IsRefusedBehind self.old.resolve closed.now) }
+        ensures same { OnErr result (self.new ≡ self.old) }
+    {
+        let (resolve, id) = attached(alloc, &self.resolve, closed)?;
+        if !is_behind_imports(alloc, &self.resolve, closed)? {
+            return Err(AttachError::NotThisShape);
+        }
+        self.resolve = resolve;
+        Ok(id)
+    }
+
     /// Adds the package of a raw component behind the others, and answers its id. The interfaces that the component imports are
     /// those of earlier packages. 49 where there are 64 packages; then 43, 44 and 40 as `closed_from_raw` tests them; then 48 where there
     /// is a package of this name, 47 for the first package that it imports from and that isn't there, and 44 where an interface that it
-    /// imports isn't there or differs from the earlier package's; 46 where memory is wanting. The set is as it was then. (Binary.md)
+    /// imports isn't there or differs from the earlier package's, or where its imports stand in another order than the set's; 46 where memory
+    /// is wanting. The set is as it was then. (Binary.md)
     pub fn add_raw(&mut self, alloc: Global, raw: &RawComponent) -> Result<PackageId, AddError>
-        ensures ok { IfOk result (λ id. AddsComponent raw.now self.old.resolve self.new.resolve id.0) }
+        ensures ok { IfOk result (λ id. (closed : Resolve) × AddsComponent raw.now self.old.resolve closed self.new.resolve id.0) }
         ensures err { IfErr result (ComponentNotAdded raw.now self.old.resolve) }
         ensures same { OnErr result (self.new ≡ self.old) }
     {
         self.has_room()?;
         let closed = closed_from_raw(alloc, raw)?;
-        let id = self.attach(alloc, &closed)?;
+        let id = self.attach_component(alloc, &closed)?;
         Ok(id)
+    }
+
+    /// Adds the package of a component that these bytes spell, as `add_raw` does, which has to write the component first; and answers its
+    /// closed table too.
+    pub fn add_spelled(
+        &mut self,
+        alloc: Global,
+        raw: &RawComponent,
+        bytes: &[u8],
+    ) -> Result<(PackageId, Resolve), AddError>
+        requires spelled { ∥ file.spells bytes.now (component_view raw.now) ∥₁ }
+        requires room { HasRoom self.old.resolve }
+        ensures ok { IfOk result (λ x. AddsComponent raw.now self.old.resolve x.1 self.new.resolve x.0.0) }
+        ensures writable { IfOk result (λ x. ∥ IsWritable x.1 ∥₁) }
+        ensures only { (closed r : Resolve) (id : ℕ) → AddsComponent raw.now self.old.resolve closed r id
+            → MatchResult result (λ x. IsSamePackage x.1 closed × IsSamePackage self.new.resolve r) IsWantOfMemory }
+        ensures err { IfErr result (ComponentNotAdded raw.now self.old.resolve) }
+        ensures same { OnErr result (self.new ≡ self.old) }
+    {
+        attaches_one();
+        let closed = closed_from_spelled(alloc, raw, bytes)?;
+        names_are_labels(&closed);
+        let id = self.attach_component(alloc, &closed)?;
+        Ok((id, closed))
     }
 
     /// That the set has no package of the tree's name. 48 where it has one.
@@ -120,15 +175,33 @@ impl PackageSet {
     /// and nothing else is used of it. The set is as it was then. (WIT.md)
     pub fn add_ast(&mut self, alloc: Global, ast: &Ast) -> Result<PackageId, AddError>
         requires names { IsTrue (has_full_names (file_view ast.now)) }
-        ensures ok { IfOk result (λ id. AddsTree (file_view ast.now) self.old.resolve self.new.resolve id.0) }
+        ensures ok { IfOk result (λ id. (closed : Resolve) × AddsTree (file_view ast.now) self.old.resolve closed self.new.resolve id.0) }
         ensures err { IfErr result (TreeNotAdded (file_view ast.now) self.old.resolve) }
         ensures same { OnErr result (self.new ≡ self.old) }
     {
         self.has_room()?;
+        let (id, _) = self.add_tree(alloc, ast)?;
+        Ok(id)
+    }
+
+    /// Adds the package of a syntax tree as `add_ast` does, and answers its closed table too.
+    pub fn add_tree(&mut self, alloc: Global, ast: &Ast) -> Result<(PackageId, Resolve), AddError>
+        requires names { IsTrue (has_full_names (file_view ast.now)) }
+        requires room { HasRoom self.old.resolve }
+        ensures ok { IfOk result (λ x. AddsTree (file_view ast.now) self.old.resolve x.1 self.new.resolve x.0.0) }
+        ensures writable { IfOk result (λ x. ∥ IsWritable x.1 ∥₁) }
+        ensures fits { OnOk result (file_fits (file_view ast.now) ≡ true) }
+        ensures behind { IfOk result (λ x. IsBehindImports self.old.resolve x.1) }
+        ensures only { (closed r : Resolve) (id : ℕ) → AddsTree (file_view ast.now) self.old.resolve closed r id → ∥ IsWritable closed ∥₁ → file_fits (file_view ast.now) ≡ true
+            → MatchResult result (λ x. IsSamePackage x.1 closed × IsSamePackage self.new.resolve r) IsWantOfMemory }
+        ensures err { IfErr result (TreeNotAdded (file_view ast.now) self.old.resolve) }
+        ensures same { OnErr result (self.new ≡ self.old) }
+    {
+        attaches_one();
         has_entries(ast)?;
         self.lacks_package(alloc, ast)?;
         let closed = closed_over(alloc, &self.resolve, ast)?;
         let id = self.attach(alloc, &closed)?;
-        Ok(id)
+        Ok((id, closed))
     }
 }

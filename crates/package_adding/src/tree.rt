@@ -1,19 +1,27 @@
 //! The closed table of a tree over the packages of a set.
-ghost use Rattle.std.specs.Prelude.{◌≡◌, [], All, IsTrue, IfOk, OnOk, IfErr};
+ghost use Rattle.std.specs.Prelude.{◌≡◌, true, [], All, IsTrue, IfOk, OnOk, IfErr, MatchResult};
+ghost use Rattle.atoms.specs.Label.{IsLabel};
 ghost use Rattle.wit_syntax.specs.View.{file_view};
 ghost use Rattle.wit_syntax.specs.FullNames.{has_full_names};
 ghost use Rattle.package_form.specs.Form.{IsInPackageForm};
 ghost use Rattle.package_form.specs.Laws.{IsLabelled};
 ghost use Rattle.package_form.specs.Naming.{package_scopes};
 ghost use Rattle.package_form.specs.Scope.{AreDistinct};
-ghost use Rattle.resolve.specs.Resolves.{HasEntries};
-ghost use Rattle.tables.specs.declared.error.ResolveError.TheVariants.{EmptyPackage};
+ghost use Rattle.package_adding.specs.BehindImports.{IsBehindImports};
+ghost use Rattle.package_text.specs.Writable.{IsWritable, package_labels};
+ghost use Rattle.resolve.specs.Resolves.{HasEntries, file_fits};
+ghost use Rattle.tables.specs.declared.error.ResolveError.TheVariants.{EmptyPackage, NoMemory};
 ghost use Rattle.package_sets.specs.Attached.{HasRoom};
 ghost use Rattle.package_sets.specs.SetForm.{IsInSetForm};
 ghost use Rattle.package_adding.specs.Added.{AreImportsFrom, IsOfTree, IsNewName, CauseStands};
+ghost use Rattle.tables.specs.Same.{IsSamePackage};
+ghost use Rattle.tables.specs.declared.tables.Resolve.{Resolve};
 
 use crate::named::named_by_paths;
 use package_sets::imports;
+use package_sets::laws::imports_one;
+use package_text::laws::tree_has_one_closed_table;
+use package_text::names_are_labels;
 use resolve::closed_from_ast;
 use std::alloc::{AllocError, Global};
 use tables::{Interface, Resolve, ResolveError};
@@ -60,9 +68,18 @@ pub fn closed_over(alloc: Global, set: &Resolve, ast: &Ast) -> Result<Resolve, R
     ensures ok { IfOk result (IsOfTree (file_view ast.now) set.now) }
     ensures form { IfOk result (λ r. ∥ IsInPackageForm r ∥₁) }
     ensures distinct { IfOk result (λ r. ∥ All AreDistinct (package_scopes r) ∥₁) }
+    ensures labels { IfOk result (λ r. All IsLabel (package_labels r)) }
+    ensures fits { OnOk result (file_fits (file_view ast.now) ≡ true) }
+    ensures behind { IfOk result (IsBehindImports set.now) }
+    ensures only { (p : Resolve) → IsOfTree (file_view ast.now) set.now p → ∥ IsWritable p ∥₁ → file_fits (file_view ast.now) ≡ true
+        → MatchResult result (λ r. IsSamePackage r p) (λ e. e ≡ NoMemory) }
     ensures err { IfErr result (CauseStands (file_view ast.now) set.now) }
 {
+    imports_one();
+    tree_has_one_closed_table();
     are_labelled(set.interfaces.as_slice());
     let imports = imports_from(alloc, set, ast)?;
-    closed_from_ast(alloc, ast, &imports)
+    let closed = closed_from_ast(alloc, ast, &imports)?;
+    names_are_labels(&closed);
+    Ok(closed)
 }

@@ -2,12 +2,10 @@
 
 use ctype_bin::{decode, encode};
 use package_adding::{AddError, PackageSet};
-use package_sets::restricted;
 use std::alloc::Global;
 use std::process::Abort;
 use std::test::Fail;
 use tables::PackageId;
-use wit_component::to_raw;
 use wit_text::{parse, texts_have_full_names};
 
 const USED: &str = "package d:e@1.0.0; interface y { type t = u16; }";
@@ -98,8 +96,7 @@ fn set_of(alloc: Global, text: &str) -> Result<PackageSet, Fail> {
 
 /// The binary of a package of the set.
 fn binary(alloc: Global, set: &PackageSet, id: u32) -> Result<Vec<u8>, Fail> {
-    let closed = restricted(alloc, set.resolve(), PackageId(id))?;
-    let raw = to_raw(alloc, &closed)?;
+    let raw = set.to_raw(alloc, PackageId(id))?;
     let mut bytes = Vec::new(alloc);
     encode(alloc, &raw, &mut bytes)?;
     Ok(bytes)
@@ -142,6 +139,31 @@ fn a_package_is_added_from_its_binary(rt: HostRuntime) -> Result<(), Fail> {
     let mut set = set_of(alloc, USED)?;
     assert_line(&rt, add_binary(alloc, &mut set, &BINARY)?.as_str(), "1");
     assert!(rt; binary(alloc, &set, 1)?.as_slice() == BINARY.as_slice());
+    Ok(())
+}
+
+/// The canonical text of a package of the set, behind a word.
+fn printed(alloc: Global, set: &PackageSet, id: u32) -> Result<String, Fail> {
+    let mut text = String::from_str(alloc, "> ")?;
+    set.print(alloc, PackageId(id), &mut text)?;
+    Ok(text)
+}
+
+#[test]
+fn packages_are_printed_by_their_ids(rt: HostRuntime) -> Result<(), Fail> {
+    let alloc = rt.alloc();
+    let mut set = set_of(alloc, USED)?;
+    add_text(alloc, &mut set, USING)?;
+    assert_line(
+        &rt,
+        printed(alloc, &set, 0)?.as_str(),
+        "> package d:e@1.0.0;\n\ninterface y {\n  type t = u16;\n}\n",
+    );
+    assert_line(
+        &rt,
+        printed(alloc, &set, 1)?.as_str(),
+        "> package a:b;\n\ninterface x {\n  use d:e/y@1.0.0.{t};\n  f: func(p: t) -> t;\n}\n",
+    );
     Ok(())
 }
 

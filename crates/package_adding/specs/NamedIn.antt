@@ -1,0 +1,36 @@
+-- What a closed table names of other packages: an own row uses a type of an interface, or an interface is an item of a world (WIT.md, "Item: `use`",
+-- "Item: `world`").
+use Rattle.std.specs.Prelude.{◌≡◌, ◌<◌, ℕ, Bool, List, ◌++◌, drop, flat_map, slice_get, Some, Contains}
+use Rattle.package_form.specs.Closed.{own_package}
+use Rattle.package_form.specs.Ends.{interfaces_end}
+use Rattle.package_form.specs.Reached.{reached_by_row, reached_by_world}
+use Rattle.package_sets.specs.Joining.{imports}
+use Rattle.tables.specs.PackageNames.{PackageParts}
+use Rattle.tables.specs.declared.tables.Definition.{Definition}
+use Rattle.tables.specs.declared.tables.Interface.{Interface}
+use Rattle.tables.specs.declared.tables.Resolve.{Resolve}
+use Rattle.package_adding.specs.Named.{AreMarksOf}
+
+-- the rows behind those of the imports
+abbrev pub own_rows : Resolve → List Definition
+own_rows closed = drop (interfaces_end 0 (imports closed)) closed.definitions
+
+-- the places of the interfaces that these and the worlds reach
+abbrev pub own_reached : Resolve → List ℕ
+own_reached closed = flat_map (reached_by_row closed.definitions) (own_rows closed) ++ flat_map reached_by_world closed.worlds
+
+-- the interface at place k is the one of this name of package q, which isn't the own one
+pub record IsImportAt (closed : Resolve) (q : PackageParts) (i : List ℕ) (k : ℕ) : Type 0 where
+  pub interface : Interface
+  pub at : slice_get closed.interfaces k ≡ Some interface
+  pub of : slice_get closed.packages interface.«package».0 ≡ Some q
+  pub other : interface.«package».0 < own_package closed.packages
+  pub named : interface.name ≡ i
+
+-- the closed table names the interface of this name of package q
+abbrev pub NamesIn : Resolve → PackageParts → List ℕ → Type 0
+NamesIn closed q i = (k : ℕ) × Contains (own_reached closed) k × IsImportAt closed q i k
+
+-- marks of what it names
+abbrev pub AreNamedIn : Resolve → Resolve → List Bool → List Bool → Type 0
+AreNamedIn closed set packages interfaces = AreMarksOf (NamesIn closed) set packages interfaces
