@@ -10,7 +10,7 @@ use std::alloc::Global;
 use std::process::Abort;
 use std::test::Fail;
 use tables::{FunctionId, ValType};
-use witcall::{Answer, Held, Package, Session, Step};
+use witcall::{Answer, Held, Package, Session, Step, takes_steps};
 
 type Speaks<'a> = Session<'a, FirstFit, Bump, Speaking>;
 
@@ -136,7 +136,7 @@ fn answers_of(
 ) -> Result<Vec<Answer>, Fail> {
     let mut session = session(alloc, package, len)?;
     let mut answers = Vec::new(alloc);
-    assert!(rt; package.takes_steps(steps));
+    assert!(rt; takes_steps(package, steps));
     session.run(alloc, steps, &mut answers)?;
     Ok(answers)
 }
@@ -202,7 +202,7 @@ fn answers_twice(
 ) -> Result<Vec<Answer>, Fail> {
     let mut session = session(alloc, package, 64)?;
     let mut answers = Vec::new(alloc);
-    assert!(rt; package.takes_steps(steps));
+    assert!(rt; takes_steps(package, steps));
     session.run(alloc, steps, &mut answers)?;
     session.run(alloc, steps, &mut answers)?;
     Ok(answers)

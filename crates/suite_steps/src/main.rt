@@ -13,7 +13,7 @@ use echo::Echo;
 use memory::FirstFit;
 use reading::{Line, read_line};
 use std::alloc::Global;
-use witcall::{Answer, Package, Session, Step, open};
+use witcall::{Answer, Package, Session, Step, open, takes_steps};
 
 /// The package of all lists. Each function has one parameter.
 const PACKAGE: &str = "package a:b;
@@ -44,7 +44,7 @@ fn answers_of(
     callee: FirstFit,
     steps: &[Step],
 ) -> anyhow::Result<Vec<Answer>> {
-    if !package.takes_steps(steps) {
+    if !takes_steps(package, steps) {
         return Err(anyhow::anyhow!("no steps of the package"));
     }
     let mut session = Session::new(package, caller, callee, Echo);

@@ -3,6 +3,7 @@
 use canonical_abi::{Fault, Step, Trap, TrapKind};
 use layout::LayoutError;
 use memory::MemoryError;
+use package_sets::AttachError;
 use resolve::ResolveError;
 use std::alloc::{AllocError, AllocFailed};
 use thiserror::Error;
@@ -66,6 +67,7 @@ impl From<OpenError> for Ended {
         match error {
             OpenError::Text(error) => refused(matches!(error, TextError::NoMemory), 35),
             OpenError::Resolve(error) => refused(matches!(error, ResolveError::NoMemory), 46),
+            OpenError::Attach(error) => refused(matches!(error, AttachError::NoMemory), 46),
             OpenError::Layout(error) => refused(matches!(error, LayoutError::NoMemory), 52),
             OpenError::NoMemory => Ended::Wanting(66),
             _ => Ended::Refused,

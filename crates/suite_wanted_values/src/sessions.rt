@@ -7,7 +7,7 @@ use crate::package::{INTERFACE, REPLY, function, package, parameter, value};
 use adapter::BoxedBody;
 use memory::{Bump, FirstFit, Space};
 use std::alloc::Global;
-use witcall::{Answer, Package, Reply, Session, Step, Val};
+use witcall::{Answer, Package, Reply, Session, Step, Val, takes_steps};
 
 type Replies<'a> = Session<'a, Space, Space, BoxedBody>;
 
@@ -86,7 +86,7 @@ fn ran(alloc: Global, package: &Package, session: &mut Replies<'_>) -> Result<St
     requires { session.old.package.now ≡ «package».now }
 {
     let steps = steps(alloc, package)?;
-    if !package.takes_steps(steps.as_slice()) {
+    if !takes_steps(package, steps.as_slice()) {
         return Err(Ended::Refused);
     }
     let mut answers = Vec::new(alloc);

@@ -3,6 +3,7 @@
 use atoms::{AtomError, ReadUpToError};
 use ctype_bin::BinError;
 use layout::LayoutError;
+use package_sets::AttachError;
 use resolve::ResolveError;
 use std::alloc::{AllocError, AllocFailed};
 use thiserror::Error;
@@ -98,6 +99,7 @@ impl From<OpenError> for Ended {
             OpenError::Text(error) => Ended::from(error),
             OpenError::Binary(error) => Ended::from(error),
             OpenError::Resolve(error) => Ended::from(error),
+            OpenError::Attach(error) => refused(matches!(error, AttachError::NoMemory), 46),
             OpenError::Layout(error) => Ended::from(error),
             OpenError::NoMemory => Ended::Wanting(66),
             OpenError::Read(_) | OpenError::NotUtf8(_) => Ended::Refused,

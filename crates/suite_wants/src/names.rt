@@ -71,7 +71,7 @@ fn index(alloc: Global) -> Result<String, Ended> {
 /// What the words of a command line ask for.
 fn words(alloc: Global) -> Result<String, Ended> {
     let mut words = Vec::new(alloc);
-    for word in ["witcall", "call", "file", "a:b/c", "f", "[7]", "[8]"] {
+    for word in "witcall call --with other file a:b/c f [7] [8]".split(' ') {
         words.push(String::from_str(alloc, word)?)?;
     }
     let command = command(alloc, words.as_slice())?;

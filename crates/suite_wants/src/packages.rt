@@ -1,15 +1,23 @@
 //! Calls of packages.
 
 use crate::ended::Ended;
-use crate::texts::{SMALLEST, TEXT};
+use crate::texts::{SMALLEST, TEXT, USED, USING, USING_BINARY};
 use std::alloc::Global;
-use witcall::{Package, open};
+use witcall::{Package, open, open_set};
 
 /// What a call answers.
 pub fn answer_of(alloc: Global, call: &str) -> Result<String, Ended> {
     match call {
         "of a text" => told(alloc, &open(alloc, TEXT.as_bytes())?),
         "of a binary" => told(alloc, &open(alloc, &SMALLEST)?),
+        "of a set" => told(
+            alloc,
+            &open_set(alloc, &[USED.as_bytes(), USING.as_bytes()])?,
+        ),
+        "of a set with a binary" => told(
+            alloc,
+            &open_set(alloc, &[USED.as_bytes(), &USING_BINARY])?,
+        ),
         "copy" => copied(alloc),
         "binary" => binary(alloc),
         "text" => text(alloc),

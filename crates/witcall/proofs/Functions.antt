@@ -17,7 +17,6 @@ use Rattle.tables.specs.declared.tables.FunctionId.{FunctionId}
 use Rattle.tables.specs.declared.tables.Parameter.{Parameter}
 use Rattle.tables.specs.declared.tables.Resolve.{Resolve}
 use Rattle.tables.specs.declared.tables.ValType.{ValType}
-use Rattle.tables.specs.declared.tables.ValType.TheVariants as val
 use Rattle.lift_lower.specs.Crossing.{fields_of_types}
 use Rattle.lift_lower.specs.Members.{AreTypesOf}
 use Rattle.lift_lower.specs.Scalars.{AreScalar}

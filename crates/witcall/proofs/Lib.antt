@@ -1,10 +1,8 @@
-pub mod Binaries
 pub mod Functions
+pub mod Inputs
 pub mod Made
-pub mod Packages
 pub mod PlacedValues
 pub mod Prepared
-pub mod PrintedTexts
 pub mod Printing
 pub mod Promised
 pub mod ReadBack

@@ -1,7 +1,6 @@
 pub mod Calling
 pub mod Json
 pub mod Laws
-pub mod Opening
 pub mod Replying
 pub mod Running
 pub mod Session

@@ -14,7 +14,6 @@ ghost use Rattle.witcall.specs.Calling.{IsOutputOf, Prints, RunCallRefuses, Call
 
 use crate::json::{arguments_from_json, to_json};
 use crate::output::write_bytes;
-use crate::package::Package;
 use crate::refused::Refused;
 use crate::session::Session;
 use crate::signature::{function_named, result_type};
@@ -22,6 +21,7 @@ use adapter::{BoxedBody, Export};
 use atoms::Sink;
 use lift_lower::Val;
 use memory::{FirstFit, Guest, MemoryError, Space};
+use opening::Package;
 use resolve::FunctionId;
 use std::alloc::{AllocError, Global};
 

@@ -13,9 +13,9 @@ ghost use Rattle.witcall.specs.Signature.{signature_of};
 ghost use Rattle.witcall.specs.Json.{IsTextOf, IsTextOfNone, IsTextOfOnly, IsCompactTextOf, IsArrayTextOf, RefusesArray};
 
 use crate::laws::has_labels_apart;
-use crate::package::Package;
 use adapter::parameter_types;
 use lift_lower::Val;
+use opening::Package;
 use resolve::{FunctionId, ValType};
 use serde_json::Value as Json;
 use std::alloc::{AllocError, AllocFailed, Global};

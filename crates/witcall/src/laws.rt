@@ -10,10 +10,10 @@ ghost use Rattle.value_json.specs.Apart.{HasApartLabels};
 ghost use Rattle.value_json.specs.Json.{HasDistinctLabels};
 ghost use Rattle.witcall.specs.Laws.{PlacesHeld, StepsKeepHeld, StepsReadPlaced, StepsTellCallee};
 
-use crate::package::Package;
 use crate::session::Session;
 use adapter::Body;
 use canonical_abi::Guest;
+use opening::Package;
 use package_form::laws::{closes_by_names, names_one_function};
 use value_json::labels_are_apart;
 

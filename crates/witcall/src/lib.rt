@@ -1,20 +1,17 @@
 //! Packages, typed calls and JSON: the library of the program.
 //!
-//! `open` reads a package from its text or its binary, and `Package::to_binary` and `Package::to_text` write it. `Session` carries typed
+//! `open` reads a package from its text or its binary, `open_set` one that uses others, and `Package::to_binary` and `Package::to_text` write it. `Session` carries typed
 //! calls between two components, `run_call` makes one call whose arguments and result are JSON, `run` does what needs a
 //! file alone, and `report` tells why something was refused. It stands on all layers below and shows their types;
 //! `Session::call` carries the promise of a call.
 #![tactic(auto)]
 
-mod binary;
 mod calling;
 mod json;
 pub mod laws;
 mod line;
 mod output;
-mod package;
 mod placing;
-mod printed;
 mod reading;
 mod refused;
 mod reply;
@@ -22,7 +19,6 @@ mod running;
 mod session;
 mod signature;
 mod steps;
-mod text;
 mod typing;
 
 // What a host needs beside them, under one name.
@@ -35,11 +31,11 @@ pub use json::{JsonError, from_json, to_json};
 pub use layout::Layouts;
 pub use lift_lower::{Flats, Val, str_at};
 pub use memory::{Bump, FirstFit, MemoryError, Scripted, Space};
-pub use package::{OpenError, Package, open};
+pub use opening::{MAX_INPUT, OpenError, Package, open, open_set};
 pub use reading::read_all;
 pub use refused::{Refused, report};
 pub use reply::Reply;
 pub use resolve::{FunctionId, InterfaceId, Resolve, TypeId, ValType};
-pub use running::run;
+pub use running::{run, run_set};
 pub use session::Session;
-pub use steps::{Answer, Held, Step};
+pub use steps::{Answer, Held, Step, takes_steps};

@@ -11,10 +11,10 @@ ghost use Rattle.lift_lower.specs.Val.{value_of};
 ghost use Rattle.witcall.specs.Session.{IsReady, IsNotReady};
 ghost use Rattle.witcall.specs.Steps.{placed_answer};
 
-use crate::package::Package;
 use crate::steps::Held;
 use canonical_abi::{Fault, Flat, Guest, Step, Trap, TrapKind};
 use lift_lower::{Flats, Types, Val, ask_area, lower_arguments, store};
+use opening::Package;
 use resolve::{FunctionId, ValType};
 
 /// The core values that a call is given. The last is the address of the return area, where there is one.

@@ -4,8 +4,8 @@ ghost use Rattle.std.specs.Prelude.{◌≡◌, ℕ, true, false, Err, OnOk, IfOk
 ghost use Rattle.atoms.specs.Streams.{ReadsUpTo, ConsumesMany};
 ghost use Rattle.witcall.specs.Running.{IsReadFault};
 
-use crate::package::{MAX_INPUT, OpenError};
 use atoms::{ReadUpToError, Source, read_up_to};
+use opening::{MAX_INPUT, OpenError};
 use std::alloc::Global;
 
 /// All the bytes of a reader, or the first 1,048,577 where there are more, however they are cut. Where a

@@ -5,11 +5,11 @@ ghost use Rattle.witcall.specs.Status.{status_of};
 
 use crate::json::JsonError;
 use crate::line::Line;
-use crate::package::OpenError;
 use atoms::Sink;
 use canonical_abi::{Fault, Trap};
 use ctype_bin::BinError;
 use memory::MemoryError;
+use opening::OpenError;
 use std::alloc::AllocError;
 use std::fmt::Write;
 use thiserror::Error;

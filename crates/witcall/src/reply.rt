@@ -11,7 +11,6 @@ ghost use Rattle.tables.specs.Closed.{IsFunction, function_at, function_type};
 ghost use Rattle.witcall.specs.Signature.{signature_of};
 
 use crate::json::values_from_json;
-use crate::package::Package;
 use crate::refused::Refused;
 use crate::signature::{function_named, result_type};
 use crate::typing::have_types;
@@ -19,6 +18,7 @@ use adapter::{Export, Stopped, parameter_types};
 use canonical_abi::Flat;
 use lift_lower::{Flats, Val, lift_params, lift_scalars, lower_answer};
 use memory::Space;
+use opening::Package;
 use resolve::{FunctionId, ValType};
 use std::alloc::Global;
 

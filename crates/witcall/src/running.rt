@@ -1,17 +1,18 @@
 //! What is made of a whole input, and written.
 
-ghost use Rattle.std.specs.Prelude.{◌≡◌, ◌≢◌, ◌≤◌, ℕ, List, true, false, length, take, Err, IfOk, IfErr, OnOk, IsErrOf};
+ghost use Rattle.std.specs.Prelude.{◌≡◌, ◌≢◌, ◌≤◌, ◌⊎◌, ◌∷◌, ◌++◌, [], ℕ, List, true, false, length, take, Err, IfOk, IfErr, OnOk, IsErrOf};
 ghost use Rattle.std.specs.Io.KnownBytes.{Appends, Keeps};
 ghost use Rattle.atoms.specs.Streams.{ConsumesMany};
-ghost use Rattle.witcall.specs.Running.{IsMadeOf, Makes, MakingRefuses, RunRefuses};
+ghost use Rattle.opening.specs.Sets.{all_bytes, IsOpenedBehind, OpenSetRefuses};
+ghost use Rattle.witcall.specs.Running.{all_items, IsMadeOf, Makes, MakesBehind, MakingRefuses, RunRefuses, RunSetRefuses};
 
 use crate::output::write_bytes;
-use crate::package::{OpenError, Package, open};
 use crate::reading::read_all;
 use crate::refused::Refused;
 use atoms::{Sink, Source};
+use opening::{OpenError, Package, open, open_set};
 use overview::{laid_out, shown};
-use std::alloc::Global;
+use std::alloc::{AllocError, Global};
 use words::asked::Job;
 
 /// What a job makes of a package, whole.
@@ -52,5 +53,59 @@ pub fn run<R: Source, W: Sink>(
     let package = open(alloc, bytes.as_slice())?;
     let output = made(alloc, job, &package)?;
     write_bytes(writer, output.as_slice())?;
+    Ok(())
+}
+
+/// The bytes of packages, the last behind the earlier ones.
+fn all_inputs<'a>(
+    alloc: Global,
+    earlier: &'a [Vec<u8>],
+    last: &'a [u8],
+) -> Result<Vec<&'a [u8]>, AllocError>
+    ensures { IfOk result (λ inputs. all_bytes inputs.items ≡ all_items earlier.now ++ last.now ∷ []) }
+{
+    let mut inputs = Vec::new(alloc);
+    for bytes in earlier {
+        inputs.push(bytes.as_slice())?;
+    }
+    inputs.push(last)?;
+    Ok(inputs)
+}
+
+/// Opens a package behind these.
+fn opened_behind(alloc: Global, earlier: &[Vec<u8>], last: &[u8]) -> Result<Package, OpenError>
+    ensures ok { IfOk result (λ p. IsOpenedBehind (all_items earlier.now) last.now p.resolve) }
+    ensures err { IfErr result (λ e. (e ≡ OpenError.NoMemory) ⊎ OpenSetRefuses (all_items earlier.now) last.now e) }
+{
+    let inputs = all_inputs(alloc, earlier, last)?;
+    open_set(alloc, inputs.as_slice())
+}
+
+/// Does a job as `run`, with a package that may use interfaces of these, the earlier ones, each of which may use those before it. What is wrong
+/// with one of them comes before all that is wrong with the package, but that its bytes are read first.
+pub fn run_set<R: Source, W: Sink>(
+    alloc: Global,
+    job: Job,
+    earlier: &[Vec<u8>],
+    reader: &mut R,
+    writer: &mut W,
+) -> Result<(), Refused>
+    requires reader { R.has_failed reader.old ≡ false }
+    requires writer { W.has_failed writer.old ≡ false }
+    ensures ok { OnOk result ((output : List ℕ) × MakesBehind (all_items earlier.now) (R.remaining reader.old) job output
+        × Appends (W.contents writer.old) (W.contents writer.new) output) }
+    ensures begun { IsErrOf result Refused.Write → (output : List ℕ) × (count : ℕ) × MakesBehind (all_items earlier.now) (R.remaining reader.old) job output
+        × (count ≤ length output) × Appends (W.contents writer.old) (W.contents writer.new) (take count output) }
+    ensures err { IfErr result (RunSetRefuses (all_items earlier.now) (R.remaining reader.old) job) }
+    ensures memory { result ≡ Err (Refused.Open OpenError.NoMemory) → R.has_failed reader.new ≡ false }
+    ensures failed { (n : ℕ) → result ≡ Err (Refused.Open (OpenError.Read n)) →
+        ((R.has_failed reader.new ≡ true) × ConsumesMany (R.remaining reader.old) (R.remaining reader.new) n) }
+    ensures broken { IsErrOf result Refused.Write → W.has_failed writer.new ≡ true }
+    ensures unwritten { IfErr result (λ e. e ≢ Refused.Write → Keeps (W.contents writer.old) (W.contents writer.new)) }
+{
+    let last = read_all(alloc, reader)?;
+    let package = opened_behind(alloc, earlier, last.as_slice())?;
+    let whole = made(alloc, job, &package)?;
+    write_bytes(writer, whole.as_slice())?;
     Ok(())
 }

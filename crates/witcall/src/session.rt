@@ -20,12 +20,12 @@ ghost use Rattle.tables.specs.declared.tables.Resolve.{Resolve};
 ghost use Rattle.witcall.specs.Session.{typed_answer};
 ghost use Rattle.witcall.specs.Steps.{IsKnownAnswer, IsStep, Runs, answer_of, held_of, placed_answer, read_answer, step_of};
 
-use crate::package::Package;
 use crate::placing::{place_call, place_value};
 use crate::steps::{Answer, Held, Step, held_by};
 use adapter::{Body, Link};
 use canonical_abi::{Fault, Guest, NotTaken};
 use lift_lower::{Val, load, take_result};
+use opening::Package;
 use resolve::{FunctionId, ValType};
 use std::alloc::{AllocError, Global};
 

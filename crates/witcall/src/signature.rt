@@ -9,8 +9,8 @@ ghost use Rattle.tables.specs.Names.{IsNamed};
 ghost use Rattle.tables.specs.Standard.{IsTypeOf};
 ghost use Rattle.witcall.specs.Signature.{signature_of, IsMissing};
 
-use crate::package::Package;
 use crate::refused::Refused;
+use opening::Package;
 use resolve::{FunctionId, Resolve, ValType};
 
 /// The function of a name: 63 where there is none.

@@ -6,9 +6,9 @@ ghost use Rattle.canonical_abi.specs.Session.{placed_by};
 ghost use Rattle.tables.specs.Standard.{IsTypeOf};
 ghost use Rattle.witcall.specs.Steps.{IsKnownAnswer, IsStep, answer_of, held_of};
 
-use crate::package::Package;
 use canonical_abi::{Fault, NotTaken};
 use lift_lower::Val;
+use opening::Package;
 use resolve::{FunctionId, Resolve, ValType};
 
 /// A value that stands in the caller: its type and its address.
@@ -55,29 +55,27 @@ pub(crate) fn held_by(resolve: &Resolve, answers: &[Answer], number: usize) -> O
     }
 }
 
-impl Package {
-    /// Whether a session can take these steps, each of them: what `Session::run` asks for.
-    pub fn takes_steps(&self, steps: &[Step]) -> bool
-        ensures { IsTrue result ↔ All (IsStep self.now.resolve) steps.now }
-    {
-        for step in steps {
-            if !self.takes_step(step) {
-                return false;
-            }
+/// Whether a session of the package can take these steps, each of them: what `Session::run` asks for.
+pub fn takes_steps(package: &Package, steps: &[Step]) -> bool
+    ensures { IsTrue result ↔ All (IsStep «package».now.resolve) steps.now }
+{
+    for step in steps {
+        if !takes_step(package, step) {
+            return false;
         }
-        true
     }
+    true
+}
 
-    /// Whether a call is of a function, with arguments of its types, and what is to be placed is of its type.
-    fn takes_step(&self, step: &Step) -> bool
-        ensures { IsTrue result ↔ IsStep self.now.resolve step.now }
-    {
-        match step {
-            Step::Call(func, arguments) => {
-                self.is_function(*func) && self.takes(*func, arguments.as_slice())
-            }
-            Step::Place(ty, value) => self.is_type(*ty) && self.is_of(*ty, value),
-            Step::Read(_) | Step::Release(_, _) => true,
+/// Whether a call is of a function, with arguments of its types, and what is to be placed is of its type.
+fn takes_step(package: &Package, step: &Step) -> bool
+    ensures { IsTrue result ↔ IsStep «package».now.resolve step.now }
+{
+    match step {
+        Step::Call(func, arguments) => {
+            package.is_function(*func) && package.takes(*func, arguments.as_slice())
         }
+        Step::Place(ty, value) => package.is_type(*ty) && package.is_of(*ty, value),
+        Step::Read(_) | Step::Release(_, _) => true,
     }
 }

@@ -11,9 +11,9 @@ use Rattle.host_calls.specs.Status.{status_of, refused, no_memory}
 use Rattle.host_calls.specs.declared.error.CallError.{CallError}
 use Rattle.host_calls.specs.declared.error.CallError.TheVariants as error
 use Rattle.host_calls.specs.declared.status.Status.{Status}
-use Rattle.witcall.specs.Opening.{IsOpened, OpenRefuses}
-use Rattle.witcall.specs.declared.package.OpenError.{OpenError}
-use Rattle.witcall.specs.declared.package.Package.{Package}
+use Rattle.opening.specs.Opening.{IsOpened, OpenRefuses}
+use Rattle.opening.specs.declared.package.OpenError.{OpenError}
+use Rattle.opening.specs.declared.package.Package.{Package}
 use Rattle.witcall_c.specs.Refusals.{open_number}
 use Rattle.witcall_c.specs.declared.held.Held.{Held}
 

@@ -1,9 +1,10 @@
 //! The number of a refusal of a package.
 ghost use Rattle.std.specs.Prelude.{◌≡◌};
-ghost use Rattle.witcall_c.specs.Refusals.{text_number, fault_number, binary_number, resolve_number, layout_number, open_number};
+ghost use Rattle.witcall_c.specs.Refusals.{text_number, fault_number, binary_number, resolve_number, attach_number, layout_number, open_number};
 
 use ctype_format::{BinError, Fault};
 use layout::LayoutError;
+use package_sets::AttachError;
 use tables::ResolveError;
 use wit_tokens::TextError;
 use witcall::OpenError;
@@ -76,6 +77,19 @@ fn layout_number(error: &LayoutError) -> u32
     }
 }
 
+/// .. of a package behind others.
+fn attach_number(error: &AttachError) -> u32
+    ensures { result ≡ attach_number error.now }
+{
+    match error {
+        AttachError::NotThisShape => 44,
+        AttachError::NoMemory => 46,
+        AttachError::NoPackage(_) => 47,
+        AttachError::SamePackage(_) => 48,
+        AttachError::SetLimit => 49,
+    }
+}
+
 /// The number of a refusal, as its line has it.
 pub fn open_number(error: &OpenError) -> u32
     ensures { result ≡ open_number error.now }
@@ -85,6 +99,7 @@ pub fn open_number(error: &OpenError) -> u32
         OpenError::Text(error) => text_number(error),
         OpenError::Binary(error) => binary_number(error),
         OpenError::Resolve(error) => resolve_number(error),
+        OpenError::Attach(error) => attach_number(error),
         OpenError::Layout(error) => layout_number(error),
         OpenError::NotUtf8(_) => 60,
         OpenError::NoMemory => 66,

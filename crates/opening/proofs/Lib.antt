@@ -1,0 +1,7 @@
+pub mod Behind
+pub mod Binaries
+pub mod Members
+pub mod Packages
+pub mod PrintedTexts
+pub mod Reopened
+pub mod Sets

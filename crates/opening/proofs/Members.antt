@@ -1,0 +1,166 @@
+-- One package behind a set: what a text and a binary add.
+use Rattle.std.proofs.Common.{◌≡◌, ◌<◌, ◌∙◌, ◌⊎◌, inl, inr, Bool, true, false, ℕ, List, length, Ok, refl, sym, subst, arith}
+use Rattle.std.proofs.Math.Logic.{∥∥₁_map}
+use Rattle.std.specs.Prelude.{MatchBool}
+use Rattle.std.specs.Str.{IsUtf8}
+use Rattle.ctype_bin.specs.FileView.{file_view}
+use Rattle.ctype_bin.specs.declared.component.RawComponent.{RawComponent}
+use Rattle.ctype_format.specs.File.{decoded}
+use Rattle.ctype_format.specs.Raw.{File as Component}
+use Rattle.package_adding.specs.Added as adding
+use Rattle.package_adding.specs.Added.{AddsComponent, ComponentNotAdded, AddsTree, TreeNotAdded}
+use Rattle.package_adding.specs.BehindImports.{IsBehindImports}
+use Rattle.package_adding.specs.declared.error.AddError.{AddError}
+use Rattle.package_adding.specs.declared.error.AddError.TheVariants as add
+use Rattle.package_sets.specs.Attached.{HasRoom}
+use Rattle.package_sets.specs.declared.error.AttachError.TheVariants as attach
+use Rattle.package_text.specs.Writable.{IsWritable}
+use Rattle.resolve.specs.Resolves.{file_fits}
+use Rattle.tables.specs.declared.error.ResolveError.TheVariants as cause
+use Rattle.tables.specs.declared.tables.Resolve.{Resolve}
+use Rattle.wit_syntax.specs.Syntax.{File}
+use Rattle.wit_text.specs.Reading.{IsRead, Faulty}
+use Rattle.wit_tokens.specs.Lexing.{limit}
+use Rattle.wit_tokens.specs.declared.error.TextError.{TextError}
+use Rattle.wit_tokens.specs.declared.error.TextError.TheVariants as text_error
+use Rattle.opening.specs.Opening.{is_binary, open_error, IsUtf8Behind36, IsNoText, IsNoBinary, IsWantOfMemory}
+use Rattle.opening.specs.Sets.{IsOfTextBehind, IsOfClosedBinary, AddsMember, MemberRefuses, TextNotAdded, BinaryNotAdded}
+use Rattle.opening.specs.declared.package.OpenError.{OpenError}
+use Rattle.opening.specs.declared.package.OpenError.TheVariants as error
+
+-- ---- by what the bytes begin with
+
+module _ (bytes : List ℕ) (A B : Type 0) where
+  pub of-binary : is_binary bytes ≡ true → MatchBool (is_binary bytes) A B → A
+  of-binary e m = subst (λ (b : Bool). MatchBool b A B) e m
+
+  pub of-text : is_binary bytes ≡ false → MatchBool (is_binary bytes) A B → B
+  of-text e m = subst (λ (b : Bool). MatchBool b A B) e m
+
+  pub as-binary : is_binary bytes ≡ true → A → MatchBool (is_binary bytes) A B
+  as-binary e x = subst (λ (b : Bool). MatchBool b A B) (sym e) x
+
+  pub as-text : is_binary bytes ≡ false → B → MatchBool (is_binary bytes) A B
+  as-text e x = subst (λ (b : Bool). MatchBool b A B) (sym e) x
+
+-- ---- texts
+
+module _ (set : Resolve) (bytes : List ℕ) (text : is_binary bytes ≡ false) where
+  pub adds-text : (f : File) (closed r : Resolve) (id : ℕ) → IsUtf8 bytes → IsRead bytes f → file_fits f ≡ true → AddsTree f set closed r id → ∥ IsWritable closed ∥₁ → IsBehindImports set closed → AddsMember set bytes closed r
+  adds-text f closed r id utf8 read fits h writable behind = record {
+    member = as-text bytes (IsOfClosedBinary bytes closed) (IsOfTextBehind set bytes closed) text (record { utf8 = utf8; file = f; read = read; fits = fits; tree = h.tree });
+    writable = writable;
+    behind = behind;
+    id = id;
+    attached = h.attached;
+  }
+
+  pub of-member : (closed r : Resolve) → AddsMember set bytes closed r → IsOfTextBehind set bytes closed
+  of-member closed r h = of-text bytes (IsOfClosedBinary bytes closed) (IsOfTextBehind set bytes closed) text h.member
+
+  -- the tree that was read adds it
+  pub tree-added : (closed r : Resolve) (h : AddsMember set bytes closed r) (g : File) → g ≡ (of-member closed r h).file → AddsTree g set closed r h.id × (file_fits g ≡ true)
+  tree-added closed r h g same =
+      let t = of-member closed r h in (
+        subst (λ (f : File). AddsTree f set closed r h.id) (sym same) (record { tree = t.tree; attached = h.attached }),
+        subst (λ (f : File). file_fits f ≡ true) (sym same) t.fits,
+      )
+
+  pub text-refuses : HasRoom set → (f : File) → IsUtf8 bytes → IsRead bytes f → (e : AddError) → TreeNotAdded f set e → MemberRefuses set bytes (open_error e)
+  text-refuses room f utf8 read e h = by e h
+    where
+      told : (e : AddError) → TreeNotAdded f set e → MatchBool (is_binary bytes) (BinaryNotAdded set bytes e) (TextNotAdded set bytes e)
+      told e h = as-text bytes (BinaryNotAdded set bytes e) (TextNotAdded set bytes e) text (utf8, f, read, h)
+
+      by : (e : AddError) → TreeNotAdded f set e → MemberRefuses set bytes (open_error e)
+      by (add.Resolve e) h = (room, told (add.Resolve e) h)
+      by (add.Attach attach.SetLimit) h = h
+      by (add.Attach attach.NoMemory) h = (room, told (add.Attach attach.NoMemory) h)
+      by (add.Attach attach.NotThisShape) h = (room, told (add.Attach attach.NotThisShape) h)
+      by (add.Attach (attach.NoPackage p)) h = (room, told (add.Attach (attach.NoPackage p)) h)
+      by (add.Attach (attach.SamePackage p)) h = (room, told (add.Attach (attach.SamePackage p)) h)
+
+  -- what is no text is not added
+  pub no-text : HasRoom set → (e : OpenError) → IsNoText bytes e → MemberRefuses set bytes e
+  no-text room (error.Text e) h = (room, as-text bytes (IsNoBinary bytes (error.Text e)) (IsNoText bytes (error.Text e)) text h)
+  no-text room (error.NotUtf8 place) h = (room, as-text bytes (IsNoBinary bytes (error.NotUtf8 place)) (IsNoText bytes (error.NotUtf8 place)) text h)
+  no-text room (error.Binary e) h = absurd h
+  no-text room (error.Resolve e) h = absurd h
+  no-text room (error.Layout e) h = absurd h
+  no-text room (error.Attach e) h = absurd h
+  no-text room (error.Read place) h = absurd h
+  no-text room error.NoMemory h = absurd h
+
+  pub not-read : HasRoom set → IsUtf8 bytes → (e : TextError) → Faulty bytes e → MemberRefuses set bytes (error.Text e)
+  not-read room utf8 e h = no-text room (error.Text e) (utf8-behind e, h)
+    where
+      utf8-behind : (e : TextError) → IsUtf8Behind36 bytes e
+      utf8-behind text_error.Limit = tt
+      utf8-behind text_error.NoMemory = utf8
+      utf8-behind (text_error.BadChar s) = utf8
+      utf8-behind (text_error.OpenComment s) = utf8
+      utf8-behind (text_error.Expected x s) = utf8
+      utf8-behind (text_error.Unsupported x s) = utf8
+      utf8-behind (text_error.Depth s) = utf8
+
+  -- a text that is added is neither too long nor other than UTF-8
+  pub not-long : (closed r : Resolve) → AddsMember set bytes closed r → (limit < length bytes) ⊎ (IsUtf8 bytes → ⊥) → ⊥
+  not-long closed r h (inl l) = absurd (omega (arith, l, (of-member closed r h).read.short))
+  not-long closed r h (inr n) = n (of-member closed r h).utf8
+
+-- ---- binaries
+
+same-view : (f g : Component) (bytes : List ℕ) → decoded bytes ≡ Ok f → decoded bytes ≡ Ok g → f ≡ g
+same-view f g bytes a b = cc
+
+module _ (set : Resolve) (bytes : List ℕ) (binary : is_binary bytes ≡ true) (raw : RawComponent) (spelt : decoded bytes ≡ Ok (file_view raw)) where
+  pub adds-binary : (closed r : Resolve) (id : ℕ) → AddsComponent raw set closed r id → ∥ IsWritable closed ∥₁ → AddsMember set bytes closed r
+  adds-binary closed r id h writable = record {
+    member = as-binary bytes (IsOfClosedBinary bytes closed) (IsOfTextBehind set bytes closed) binary (record { raw = raw; spelt = spelt; component = h.component });
+    writable = writable;
+    behind = h.behind;
+    id = id;
+    attached = h.attached;
+  }
+
+  -- the component that was decoded adds it
+  pub component-added : (closed r : Resolve) (h : AddsMember set bytes closed r) → AddsComponent raw set closed r h.id
+  component-added closed r h =
+      let t = of-binary bytes (IsOfClosedBinary bytes closed) (IsOfTextBehind set bytes closed) binary h.member in
+      let same : file_view raw ≡ file_view t.raw = same-view (file_view raw) (file_view t.raw) bytes spelt t.spelt in
+      record {
+        component = record { stands = ∥∥₁_map t.component.stands (λ s. record { component = same ∙ s.component; form = s.form; labels = s.labels; world_labels = s.world_labels }); distinct = t.component.distinct };
+        behind = h.behind;
+        attached = h.attached;
+      }
+
+  pub binary-refuses : HasRoom set → (e : AddError) → ComponentNotAdded raw set e → MemberRefuses set bytes (open_error e)
+  binary-refuses room e h = by e h
+    where
+      told : (e : AddError) → ComponentNotAdded raw set e → MatchBool (is_binary bytes) (BinaryNotAdded set bytes e) (TextNotAdded set bytes e)
+      told e h = as-binary bytes (BinaryNotAdded set bytes e) (TextNotAdded set bytes e) binary (raw, spelt, h)
+
+      by : (e : AddError) → ComponentNotAdded raw set e → MemberRefuses set bytes (open_error e)
+      by (add.Resolve e) h = (room, told (add.Resolve e) h)
+      by (add.Attach attach.SetLimit) h = h
+      by (add.Attach attach.NoMemory) h = (room, told (add.Attach attach.NoMemory) h)
+      by (add.Attach attach.NotThisShape) h = (room, told (add.Attach attach.NotThisShape) h)
+      by (add.Attach (attach.NoPackage p)) h = (room, told (add.Attach (attach.NoPackage p)) h)
+      by (add.Attach (attach.SamePackage p)) h = (room, told (add.Attach (attach.SamePackage p)) h)
+
+-- ---- want of memory
+
+pub wants : (e : AddError) → adding.IsWantOfMemory e → IsWantOfMemory (open_error e)
+wants (add.Resolve cause.NoMemory) h = refl
+wants (add.Resolve cause.EmptyPackage) h = absurd h
+wants (add.Resolve cause.NotThisShape) h = absurd h
+wants (add.Resolve cause.Cycle) h = absurd h
+wants (add.Resolve cause.Limit) h = absurd h
+wants (add.Resolve (cause.Duplicate n)) h = absurd h
+wants (add.Resolve (cause.Unknown n)) h = absurd h
+wants (add.Resolve (cause.NoPackage p)) h = absurd h
+wants (add.Attach attach.NoMemory) h = refl
+wants (add.Attach attach.NotThisShape) h = absurd h
+wants (add.Attach attach.SetLimit) h = absurd h
+wants (add.Attach (attach.NoPackage p)) h = absurd h
+wants (add.Attach (attach.SamePackage p)) h = absurd h

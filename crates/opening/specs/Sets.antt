@@ -1,0 +1,128 @@
+-- Which bytes are opened as packages that use each other, and why others are refused: WIT.md, "Package Names", "Item: `use`"; Binary.md, "Import
+-- and Export Definitions".
+use Rattle.std.specs.Prelude.{◌≡◌, ◌-◌, ℕ, true, MatchBool, List, [], ◌∷◌, ◌++◌, map, take, length, slice_index_or, Ok}
+use Rattle.std.specs.Borrow.{Bor}
+use Rattle.std.specs.Str.{IsUtf8}
+use Rattle.ctype_bin.specs.FileView.{file_view}
+use Rattle.ctype_bin.specs.declared.component.RawComponent.{RawComponent}
+use Rattle.ctype_format.specs.File.{decoded}
+use Rattle.layout.specs.Layout.{AreWithin, RefusesFirst}
+use Rattle.package_adding.specs.Added.{IsOfComponent, ComponentNotAdded, IsOfTree, TreeNotAdded}
+use Rattle.package_adding.specs.BehindImports.{IsBehindImports}
+use Rattle.package_adding.specs.declared.error.AddError.{AddError}
+use Rattle.package_adding.specs.declared.error.AddError.TheVariants as add
+use Rattle.package_sets.specs.Attached.{HasRoom, IsAttached}
+use Rattle.package_sets.specs.SetForm.{IsEmpty}
+use Rattle.package_sets.specs.declared.error.AttachError.TheVariants as attach
+use Rattle.package_text.specs.Writable.{IsWritable}
+use Rattle.resolve.specs.Resolves.{file_fits}
+use Rattle.tables.specs.declared.tables.Resolve.{Resolve}
+use Rattle.wit_syntax.specs.Syntax.{File}
+use Rattle.wit_text.specs.Reading.{IsRead}
+use Rattle.opening.specs.Opening.{is_binary, IsNoText, IsNoBinary}
+use Rattle.opening.specs.declared.package.OpenError.{OpenError}
+use Rattle.opening.specs.declared.package.OpenError.TheVariants as error
+
+-- ---- lists of inputs
+
+abbrev pub all_bytes : List (Bor (List ℕ)) → List (List ℕ)
+all_bytes inputs = map (λ b. b.now) inputs
+
+-- all but the last, and the last
+abbrev pub earlier_of : List (List ℕ) → List (List ℕ)
+earlier_of inputs = take (length inputs - 1) inputs
+
+abbrev pub last_of : List (List ℕ) → List ℕ
+last_of inputs = slice_index_or inputs (length inputs - 1) []
+
+-- ---- one package behind a set
+
+-- the bytes are a text that is read, and this is the closed table of its package behind the set
+pub record IsOfTextBehind (set : Resolve) (bytes : List ℕ) (closed : Resolve) : Type 0 where
+  pub utf8 : IsUtf8 bytes
+  pub file : File
+  pub read : IsRead bytes file
+  pub fits : file_fits file ≡ true
+  pub tree : IsOfTree file set closed
+
+-- the bytes spell a component that stands for the package of this closed table, whose names differ in each scope
+pub record IsOfClosedBinary (bytes : List ℕ) (closed : Resolve) : Type 0 where
+  pub raw : RawComponent
+  pub spelt : decoded bytes ≡ Ok (file_view raw)
+  pub component : IsOfComponent raw closed
+
+abbrev pub IsMember : Resolve → List ℕ → Resolve → Type 0
+IsMember set bytes closed = MatchBool (is_binary bytes) (IsOfClosedBinary bytes closed) (IsOfTextBehind set bytes closed)
+
+-- the set with the bytes' package behind it, whose closed table this is: its imports are just those of the set that its own part names, with what
+-- these reach
+pub record AddsMember (set : Resolve) (bytes : List ℕ) (closed r : Resolve) : Type 0 where
+  pub member : IsMember set bytes closed
+  pub writable : ∥ IsWritable closed ∥₁
+  pub behind : IsBehindImports set closed
+  pub id : ℕ
+  pub attached : IsAttached set closed r id
+
+-- why a text's package is not added, and why a binary's is not
+abbrev pub TextNotAdded : Resolve → List ℕ → AddError → Type 0
+TextNotAdded set bytes e = IsUtf8 bytes × (f : File) × IsRead bytes f × TreeNotAdded f set e
+
+abbrev pub BinaryNotAdded : Resolve → List ℕ → AddError → Type 0
+BinaryNotAdded set bytes e = (raw : RawComponent) × (decoded bytes ≡ Ok (file_view raw)) × ComponentNotAdded raw set e
+
+abbrev pub NotAdded : Resolve → List ℕ → AddError → Type 0
+NotAdded set bytes e = MatchBool (is_binary bytes) (BinaryNotAdded set bytes e) (TextNotAdded set bytes e)
+
+abbrev pub IsNothing : List ℕ → OpenError → Type 0
+IsNothing bytes e = MatchBool (is_binary bytes) (IsNoBinary bytes e) (IsNoText bytes e)
+
+-- 49 comes before all, then what is wrong with the bytes alone, then what is wrong with the package in this set
+abbrev pub MemberRefuses : Resolve → List ℕ → OpenError → Type 0
+MemberRefuses set bytes (error.Attach attach.SetLimit) = ¬ HasRoom set
+MemberRefuses set bytes (error.Attach e) = HasRoom set × NotAdded set bytes (add.Attach e)
+MemberRefuses set bytes (error.Resolve e) = HasRoom set × NotAdded set bytes (add.Resolve e)
+MemberRefuses set bytes e = HasRoom set × IsNothing bytes e
+
+-- ---- sets
+
+-- the set with these packages behind it, one behind the other: each a text or a binary that uses those before it
+abbrev pub AddsMembers : Resolve → List (List ℕ) → Resolve → Type 0
+AddsMembers set [] r = set ≡ r
+AddsMembers set (bytes ∷ rest) r = (closed next : Resolve) × AddsMember set bytes closed next × AddsMembers next rest r
+
+-- the set of these packages
+pub record IsSetOf (inputs : List (List ℕ)) (r : Resolve) : Type 0 where
+  pub none : Resolve
+  pub empty : IsEmpty none
+  pub adds : AddsMembers none inputs r
+
+-- the last package's closed table, behind the set of those before it
+pub record IsLastOf (earlier : List (List ℕ)) (last : List ℕ) (closed : Resolve) : Type 0 where
+  pub set : Resolve
+  pub made : IsSetOf earlier set
+  pub all : Resolve
+  pub adds : AddsMember set last closed all
+
+-- .. and it is within the limits of layout
+pub record IsOpenedBehind (earlier : List (List ℕ)) (last : List ℕ) (closed : Resolve) : Type 0 where
+  pub last_is : IsLastOf earlier last closed
+  pub within : AreWithin closed
+
+-- the last of these packages, behind all others
+abbrev pub IsOpenedSet : List (List ℕ) → Resolve → Type 0
+IsOpenedSet inputs closed = IsOpenedBehind (earlier_of inputs) (last_of inputs) closed
+
+-- the first of these packages that isn't added
+pub record FirstRefused (inputs : List (List ℕ)) (e : OpenError) : Type 0 where
+  pub earlier : List (List ℕ)
+  pub bytes : List ℕ
+  pub rest : List (List ℕ)
+  pub inputs_are : inputs ≡ earlier ++ bytes ∷ rest
+  pub set : Resolve
+  pub made : IsSetOf earlier set
+  pub refuses : MemberRefuses set bytes e
+
+-- why they are not opened: the layouts of the last package come behind all
+abbrev pub OpenSetRefuses : List (List ℕ) → List ℕ → OpenError → Type 0
+OpenSetRefuses earlier last (error.Layout e) = (r : Resolve) × IsLastOf earlier last r × RefusesFirst e r
+OpenSetRefuses earlier last e = FirstRefused (earlier ++ last ∷ []) e
