@@ -51,6 +51,8 @@ WORDS = {
         "tables laid out": [*OPENED, PLAIN],
         "package of a text": OPENED,
         "package of a binary": [21, 46, 52],
+        "package of a set": OPENED,
+        "package of a set with a binary": [*OPENED, 21],
         "package copy": [*OPENED, PLAIN],
         "package binary": [*OPENED, 21],
         "package text": OPENED,
@@ -58,6 +60,7 @@ WORDS = {
         "job bin": [*OPENED, 66, 21],
         "job text": [*OPENED, 66],
         "job layout": [*OPENED, 66],
+        "job of a set": [*OPENED, 66],
     },
     "suite_wanted_values": {
         "memory bump": [54],
@@ -80,6 +83,7 @@ WORDS = {
         "call run": [*OPENED, 54, 66, STOPPED],
     },
 }
+WITH = [word for name in ("clocks", "random", "cli") for word in ("--with", f"examples/wasi/{name}.wit")]
 ORDER = ["examples/orders.wit", "demo:orders/desk", "place"]
 ITEMS = '[[{"item":"tea","count":2}],["rush"],{"card":"4711"}]'
 RECEIPT = '[{"ok":{"number":12,"total":[1,50]}}]'
@@ -89,6 +93,7 @@ COMMANDS = [
     (["bin", "examples/orders.wit"], [*OPENED, 66, 21]),
     (["text", "examples/orders.wit"], [*OPENED, 66]),
     (["layout", "examples/orders.wit"], [*OPENED, 66]),
+    (["bin", *WITH, "examples/wasi/app.wit"], [*OPENED, 66, 21]),
     (["call", "examples/c.wit", "a:b/c", "f", "[7]", "[8]"], [*OPENED, 54, 66]),
     (["call", *ORDER, ITEMS, RECEIPT], [*OPENED, 54, 66, STOPPED]),
 ]

@@ -1,10 +1,13 @@
 //! The program: its words, its files and its streams. All else stands in the library.
 #![tactic(auto)]
 
+ghost use Rattle.std.specs.Prelude.{◌≡◌, IfOk, length};
+
 use atoms::Watched;
+use std::alloc::{AllocError, Global};
 use std::process::ExitCode;
 use std::{env, fs, io};
-use witcall::{Refused, Reply, open, read_all, report, run, run_call};
+use witcall::{Refused, Reply, open_set, read_all, report, run_call, run_set};
 use words::asked::{Command, Job};
 use words::{WordsError, command};
 
@@ -22,8 +25,14 @@ fn main(rt: HostRuntime) -> ExitCode {
 fn execute(rt: &HostRuntime) -> Result<(), Refused> {
     let words = words(rt)?;
     match command(rt.alloc(), words.as_slice())? {
-        Command::Convert(job, file) => convert(rt, job, file.as_str()),
+        Command::Convert { job, earlier, file } => convert(
+            rt,
+            job,
+            earlier.as_slice(),
+            file.as_str(),
+        ),
         Command::Call {
+            earlier,
             file,
             interface,
             function,
@@ -31,6 +40,7 @@ fn execute(rt: &HostRuntime) -> Result<(), Refused> {
             reply,
         } => call(
             rt,
+            earlier.as_slice(),
             file.as_str(),
             interface.as_str(),
             function.as_str(),
@@ -40,16 +50,18 @@ fn execute(rt: &HostRuntime) -> Result<(), Refused> {
     }
 }
 
-/// Does a job with the bytes of a file.
-fn convert(rt: &HostRuntime, job: Job, path: &str) -> Result<(), Refused> {
-    let mut input = Watched::new(opened(rt, path)?);
+/// Does a job with the bytes of a file, once the earlier packages' files are read.
+fn convert(rt: &HostRuntime, job: Job, earlier: &[String], file: &str) -> Result<(), Refused> {
+    let earlier = read_each(rt, earlier)?;
+    let mut input = Watched::new(opened(rt, file)?);
     let mut output = Watched::new(rt.stdout());
-    run(rt.alloc(), job, &mut input, &mut output)
+    run_set(rt.alloc(), job, earlier.as_slice(), &mut input, &mut output)
 }
 
-/// Calls a function of the package in a file, whose body answers the reply.
+/// Calls a function of the set that the packages in the files are, whose body answers the reply.
 fn call(
     rt: &HostRuntime,
+    earlier: &[String],
     file: &str,
     interface: &str,
     function: &str,
@@ -57,8 +69,10 @@ fn call(
     reply: &str,
 ) -> Result<(), Refused> {
     let alloc = rt.alloc();
-    let bytes = read(rt, file)?;
-    let package = open(alloc, bytes.as_slice())?;
+    let mut files = read_each(rt, earlier)?;
+    files.push(read(rt, file)?).map_err(AllocError::from)?;
+    let inputs = lent(alloc, files.as_slice())?;
+    let package = open_set(alloc, inputs.as_slice())?;
     let body = Reply::of(alloc, &package, interface, function, reply)?;
     let body = Box::new(alloc, body).map_err(|_| Refused::NoMemory)?;
     let mut output = Watched::new(rt.stdout());
@@ -83,6 +97,24 @@ fn words(rt: &HostRuntime) -> Result<Vec<String>, Refused> {
             WordsError::Usage
         })),
     }
+}
+
+/// The bytes of each file, in their order.
+fn read_each(rt: &HostRuntime, paths: &[String]) -> Result<Vec<Vec<u8>>, Refused> {
+    let mut files = Vec::new(rt.alloc());
+    for path in paths {
+        files
+            .push(read(rt, path.as_str())?)
+            .map_err(AllocError::from)?;
+    }
+    Ok(files)
+}
+
+/// The bytes of each, lent.
+fn lent(alloc: Global, files: &[Vec<u8>]) -> Result<Vec<&[u8]>, AllocError>
+    ensures { IfOk result (λ inputs. length inputs.items ≡ length files.now) }
+{
+    files.iter().map(|file| file.as_slice()).collect(alloc)
 }
 
 /// The bytes of a file, or more than the limit of them.

@@ -1,10 +1,10 @@
-//! Tells how inputs are answered, a line each: `text WIT` and `binary HEX` are opened, and `call FUNC; ARGS; REPLY` calls a function
-//! `f` of this type with these arguments, whose body answers the reply. Its stored run are the examples of docs/ERRORS.md.
+//! Tells how inputs are answered, a line each: `text WIT`, `set WIT && WIT ..` and `binary HEX` are opened, and `call FUNC; ARGS; REPLY` calls a
+//! function `f` of this type with these arguments, whose body answers the reply. Its stored run are the examples of docs/ERRORS.md.
 #![tactic(auto)]
 
 use atoms::Watched;
 use std::alloc::Global;
-use witcall::{Refused, Reply, open, report, run_call};
+use witcall::{OpenError, Package, Refused, Reply, open, open_set, report, run_call};
 
 /// The program's line for a refusal, with its status.
 fn line_of(alloc: Global, refused: &Refused) -> anyhow::Result<String> {
@@ -14,12 +14,24 @@ fn line_of(alloc: Global, refused: &Refused) -> anyhow::Result<String> {
     Ok(format!(in alloc; "{} ({status})", line.as_str().trim_end())?)
 }
 
-/// How opening an input is answered.
-fn opened(alloc: Global, bytes: &[u8]) -> anyhow::Result<String> {
-    match open(alloc, bytes) {
+/// How opening an input or a set is answered.
+fn opened(alloc: Global, answer: Result<Package, OpenError>) -> anyhow::Result<String> {
+    match answer {
         Ok(_package) => Ok(String::from_str(alloc, "opened")?),
         Err(error) => line_of(alloc, &Refused::from(error)),
     }
+}
+
+/// How opening a set of texts is answered.
+fn set_opened(alloc: Global, texts: &str) -> anyhow::Result<String> {
+    let mut inputs = Vec::new(alloc);
+    for text in texts.split(" && ") {
+        inputs.push(text.as_bytes())?;
+    }
+    if inputs.is_empty() {
+        return Err(anyhow::anyhow!("no text"));
+    }
+    opened(alloc, open_set(alloc, inputs.as_slice()))
 }
 
 /// What a call writes.
@@ -50,13 +62,14 @@ fn called(alloc: Global, words: &str) -> anyhow::Result<String> {
 /// How a line is answered.
 fn answer_of(alloc: Global, line: &str) -> anyhow::Result<String> {
     match line.split_once(' ') {
-        Some(("text", text)) => opened(alloc, text.as_bytes()),
+        Some(("text", text)) => opened(alloc, open(alloc, text.as_bytes())),
+        Some(("set", texts)) => set_opened(alloc, texts),
         Some(("binary", hex)) => {
             let bytes = hex::decode(alloc, hex)?;
-            opened(alloc, bytes.as_slice())
+            opened(alloc, open(alloc, bytes.as_slice()))
         }
         Some(("call", words)) => called(alloc, words),
-        _ => Err(anyhow::anyhow!("no text, binary or call: {line}")),
+        _ => Err(anyhow::anyhow!("no text, set, binary or call: {line}")),
     }
 }
 

@@ -1,6 +1,7 @@
 -- What a command line asks for, by its command's name and the words that were found for it.
 use Rattle.std.specs.Prelude.{◌≡◌, ◌⊎◌, ℕ, true, List, Some, is_some, codes, string_bytes}
 use Rattle.clap.specs.Words.{first_value}
+use Rattle.words.specs.Earlier.{texts_of}
 use Rattle.clap.specs.declared.parser.matches.Found.{Found}
 use Rattle.words.specs.declared.asked.Job.{Job}
 use Rattle.words.specs.declared.asked.Job.TheVariants.{Show, Bin, Text, Layout}
@@ -19,8 +20,8 @@ job_name Layout = codes "layout"
 
 -- the command of this name, each of its parts the word of its own name
 abbrev pub IsAsked : List ℕ → Found → Command → Type 0
-IsAsked name found (Convert job file) = (name ≡ job_name job) × IsWord found (codes "file") (string_bytes file)
-IsAsked name found (Call file interface function arguments reply) =
+IsAsked name found (Convert job earlier file) = (name ≡ job_name job) × IsWord found (codes "file") (string_bytes file)
+IsAsked name found (Call earlier file interface function arguments reply) =
     (name ≡ codes "call") × IsWord found (codes "file") (string_bytes file)
     × IsWord found (codes "interface") (string_bytes interface) × IsWord found (codes "function") (string_bytes function)
     × IsWord found (codes "arguments") (string_bytes arguments) × IsWord found (codes "reply") (string_bytes reply)
@@ -35,3 +36,8 @@ IsCommand name found =
     ((job : Job) × (name ≡ job_name job) × HasWord found (codes "file"))
     ⊎ ((name ≡ codes "call") × HasWord found (codes "file") × HasWord found (codes "interface") × HasWord found (codes "function")
     × HasWord found (codes "arguments") × HasWord found (codes "reply"))
+
+-- the files of the packages that the last one may use
+abbrev pub earlier_of : Command → List (List ℕ)
+earlier_of (Convert job earlier file) = texts_of earlier.items
+earlier_of (Call earlier file interface function arguments reply) = texts_of earlier.items

@@ -13,12 +13,18 @@ pub enum Job {
     Layout,
 }
 
-/// What the words ask for; a file is named by its path.
+/// What the words ask for. A file is named by its path, and `earlier` has those of the packages that
+/// the file's own may use, in their order.
 #[derive(Debug, PartialEq, Eq, Drop)]
 pub enum Command {
-    Convert(Job, String),
+    Convert {
+        job: Job,
+        earlier: Vec<String>,
+        file: String,
+    },
     /// One call of a function, with the arguments and the reply in JSON.
     Call {
+        earlier: Vec<String>,
         file: String,
         interface: String,
         function: String,

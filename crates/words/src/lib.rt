@@ -5,6 +5,7 @@
 #![tactic(auto)]
 
 pub mod asked;
+mod earlier;
 mod parsing;
 
 pub use parsing::{WordsError, command};

@@ -1,10 +1,12 @@
 //! Words by way of `clap`.
 
-ghost use Rattle.std.specs.Prelude.{◌≡◌, IfOk, IfErr, string_bytes};
+ghost use Rattle.std.specs.Prelude.{◌≡◌, IfOk, IfErr, drop, string_bytes};
 ghost use Rattle.clap.specs.Words.{found_of};
-ghost use Rattle.words.specs.Asked.{IsAsked, IsWord, IsCommand, HasWord};
+ghost use Rattle.words.specs.Asked.{IsAsked, IsWord, IsCommand, HasWord, earlier_of};
+ghost use Rattle.words.specs.Earlier.{with_files, texts_of};
 
 use crate::asked::{Command, Job};
+use crate::earlier::parted;
 use clap::error::ErrorKind;
 use clap::{Arg, ArgAction, ArgMatches};
 use std::alloc::{AllocError, Global};
@@ -34,12 +36,17 @@ impl From<AllocError> for WordsError {
     }
 }
 
-/// Reads the program's words, the first of which is its own name. Words that `clap` refuses are
-/// `Usage`: a missing or an extra word, an unknown command, an option, `--help`.
-pub fn command(alloc: Global, words: &[String]) -> Result<Command, WordsError> {
+/// Reads the program's words, the first of which is its own name and the second its command. The
+/// earlier packages' files stand behind these in pairs `--with FILE`; `clap` reads the other words.
+/// Words that it refuses are `Usage`: a missing or an extra word, an unknown command, an option,
+/// `--help`.
+pub fn command(alloc: Global, words: &[String]) -> Result<Command, WordsError>
+    ensures { IfOk result (λ asked. earlier_of asked ≡ with_files (drop 2 (texts_of words.now))) }
+{
+    let (earlier, others) = parted(alloc, words)?;
     let parser = parser(alloc)?;
-    match parser.try_get_matches_from(words) {
-        Ok(matches) => command_of(alloc, &matches),
+    match parser.try_get_matches_from(others.as_slice()) {
+        Ok(matches) => command_of(alloc, &matches, earlier),
         Err(error) => {
             if error.kind() == ErrorKind::OutOfMemory {
                 Err(WordsError::NoMemory)
@@ -75,16 +82,28 @@ fn with_subcommand<'a>(
     parser.subcommand(command)
 }
 
-fn command_of(alloc: Global, matches: &ArgMatches<'_>) -> Result<Command, WordsError> {
+fn command_of(
+    alloc: Global,
+    matches: &ArgMatches<'_>,
+    earlier: Vec<String>,
+) -> Result<Command, WordsError>
+    ensures { IfOk result (λ asked. earlier_of asked ≡ texts_of earlier.items) }
+{
     match matches.subcommand() {
-        Some((name, words)) => asked(alloc, name, words),
+        Some((name, words)) => asked(alloc, name, words, earlier),
         None => Err(WordsError::Usage),
     }
 }
 
-/// The command of a name, with the words that were found for it.
-fn asked(alloc: Global, name: &str, words: &ArgMatches<'_>) -> Result<Command, WordsError>
+/// The command of a name, with the words that were found for it and the earlier packages' files.
+fn asked(
+    alloc: Global,
+    name: &str,
+    words: &ArgMatches<'_>,
+    earlier: Vec<String>,
+) -> Result<Command, WordsError>
     ensures ok { IfOk result (IsAsked name.now (found_of words.now)) }
+    ensures earlier { IfOk result (λ asked. earlier_of asked ≡ texts_of earlier.items) }
     ensures answered { IfErr result (λ e. IsCommand name.now (found_of words.now) → e ≡ WordsError.NoMemory) }
 {
     let job = match name {
@@ -94,6 +113,7 @@ fn asked(alloc: Global, name: &str, words: &ArgMatches<'_>) -> Result<Command, W
         "layout" => Job::Layout,
         "call" => {
             return Ok(Command::Call {
+                earlier,
                 file: word(alloc, words, "file")?,
                 interface: word(alloc, words, "interface")?,
                 function: word(alloc, words, "function")?,
@@ -103,7 +123,11 @@ fn asked(alloc: Global, name: &str, words: &ArgMatches<'_>) -> Result<Command, W
         }
         _ => return Err(WordsError::Usage),
     };
-    Ok(Command::Convert(job, word(alloc, words, "file")?))
+    Ok(Command::Convert {
+        job,
+        earlier,
+        file: word(alloc, words, "file")?,
+    })
 }
 
 /// The word of a name, copied.

@@ -1,0 +1,49 @@
+//! The earlier packages' files, which stand right behind the command as pairs `--with FILE`.
+
+ghost use Rattle.std.specs.Prelude.{◌≡◌, ◌++◌, IfOk, OnOk, drop};
+ghost use Rattle.words.specs.Earlier.{with_files, behind_files, other_words, texts_of, lent_texts};
+
+use std::alloc::{AllocError, Global};
+
+/// The files that the front of the words names in pairs, and the words behind these.
+pub fn files_in_front(
+    alloc: Global,
+    words: &[String],
+) -> Result<(Vec<String>, &[String]), AllocError>
+    ensures files { IfOk result (λ parts. texts_of parts.0.items ≡ with_files (texts_of words.now)) }
+    ensures behind { IfOk result (λ parts. texts_of parts.1.now ≡ behind_files (texts_of words.now)) }
+{
+    let mut files = Vec::new(alloc);
+    let mut behind = words;
+    while let [option, file, after @ ..] = behind {
+        if option.as_str() != "--with" {
+            break;
+        }
+        files.push(file.clone()?)?;
+        behind = after;
+    }
+    Ok((files, behind))
+}
+
+/// Adds the words behind the others.
+fn push_words<'a>(others: &mut Vec<&'a str>, words: &'a [String]) -> Result<(), AllocError>
+    ensures { OnOk result (lent_texts others.new.items ≡ lent_texts others.old.items ++ texts_of words.now) }
+{
+    for word in words {
+        others.push(word.as_str())?;
+    }
+    Ok(())
+}
+
+/// The earlier packages' files, and the words without the pairs that name them.
+pub fn parted(alloc: Global, words: &[String]) -> Result<(Vec<String>, Vec<&str>), AllocError>
+    ensures files { IfOk result (λ parts. texts_of parts.0.items ≡ with_files (drop 2 (texts_of words.now))) }
+    ensures others { IfOk result (λ parts. lent_texts parts.1.items ≡ other_words (texts_of words.now)) }
+{
+    let (front, behind) = words.split_at(words.len().min(2));
+    let (files, behind) = files_in_front(alloc, behind)?;
+    let mut others = Vec::new(alloc);
+    push_words(&mut others, front)?;
+    push_words(&mut others, behind)?;
+    Ok((files, others))
+}
