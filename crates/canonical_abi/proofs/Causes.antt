@@ -16,6 +16,7 @@ use Rattle.canonical_abi.specs.declared.trap.TrapKind.{TrapKind}
 use Rattle.canonical_abi.specs.declared.trap.TrapKind.TheVariants as trap
 use Rattle.canonical_abi.specs.declared.trap.Step.{Step}
 use Rattle.canonical_abi.specs.declared.trap.Step.TheVariants as step
+use Rattle.canonical_abi.proofs.Stopped.{breaks-either}
 use Rattle.canonical_abi.proofs.Until.{address-denotes-fault, params-denote-fault, result-denotes-fault}
 
 -- ---- the faults of values
@@ -122,12 +123,12 @@ module _ (parties : Parties) (order : Order) (f : FunctionType) where
   of-call flats old step.LiftArgs k ways new (inl e, none) = rw e.1 tt
   of-call flats old step.LiftArgs k ways new (inr (inl e), none) = of-address max_flat_params f.params old.caller.bytes (argument_flats f flats) k e.1
   of-call flats old step.LiftArgs k ways new (inr (inr e), none) = of-denoting max_flat_params f.params old.caller.bytes (argument_flats f flats) k (params-denote-fault max_flat_params f.params old.caller.bytes (argument_flats f flats) k e.1 e.2)
-  of-call flats old step.LowerArgs k ways new (e, none) = of-breaking parties.callee_allocates old.callee new.callee e.1 k e.3
+  of-call flats old step.LowerArgs k ways new (e, none) = of-breaking parties.callee_allocates old.callee new.callee e.1 k (breaks-either order parties.callee_allocates old.callee e.1 k new.callee e.3)
   of-call flats old step.Body k ways new e = (e.3, (_, _, _, _, _, e.5.run))
   of-call flats old step.LiftResult k ways new (answer, answered, before, inl e) = of-address max_flat_results (result_fields f.result) answered.callee.bytes answer k e.0
   of-call flats old step.LiftResult k ways new (answer, answered, before, inr e) = of-denoting max_flat_results (result_fields f.result) answered.callee.bytes answer k (result-denotes-fault max_flat_results (result_fields f.result) answered.callee.bytes answer (area_of f flats) k e.1 e.2)
   of-call flats old step.LowerResult k ways new (answer, answered, before, inl e) = inl (of-block answered.caller.bytes (area_of f flats) (align (record_type (result_fields f.result))) (size (record_type (result_fields f.result))) k e.1.1)
-  of-call flats old step.LowerResult k ways new (answer, answered, before, inr e) = inr (of-breaking parties.caller_allocates answered.caller new.caller e.1 k e.3)
+  of-call flats old step.LowerResult k ways new (answer, answered, before, inr e) = inr (of-breaking parties.caller_allocates answered.caller new.caller e.1 k (breaks-either order parties.caller_allocates answered.caller e.1 k new.caller e.3))
   of-call flats old step.Post k ways new e = (e.3, (_, _, _, _, _, e.5.run))
   of-call flats old step.Place k ways new e = elim e [ ]
   of-call flats old step.Take k ways new e = elim e [ ]

@@ -1,13 +1,13 @@
 -- How many nodes a beginning of a script visits: at most as many for each byte of its place and of the blocks that it was granted, or for each of
 -- its core values, as types are nested.
-use Rattle.std.proofs.Common.{◌≡◌, ◌⊎◌, inl, inr, ℕ, zero, suc, ◌+◌, ◌*◌, ◌≤◌, max, true, false, List, [], ◌∷◌, ◌++◌, length, drop, fold, Option, Some, None, Result, Ok, Err, refl, sym, ap, ◌∙◌, subst, append-nil, length-append, arith}
+use Rattle.std.proofs.Common.{◌≡◌, ◌⊎◌, inl, inr, ℕ, zero, suc, ◌+◌, ◌*◌, ◌≤◌, max, true, false, List, [], ◌∷◌, ◌++◌, length, drop, fold, Result, Ok, Err, refl, sym, ap, ◌∙◌, subst, append-nil, length-append, arith}
 use Rattle.std.specs.Int.{w32, next_multiple_of}
 use Rattle.std.proofs.lemmas.Nat.{mul-le}
 use Rattle.std.proofs.lemmas.Bool.{leb-true}
 use Rattle.canonical_abi.specs.Types.{ClosedType, IsStandard, AreStandardFields, AreStandardCases, prim_type, string_type, list_type, record_type, variant_type, flags_type, Fields, no_field, field, Cases, no_case, plain_case, case_with, depth, fields_depth, cases_depth, FunctionType, result_fields}
 use Rattle.canonical_abi.specs.Values.{Value}
 use Rattle.canonical_abi.specs.Layout.{align, size, end_from, field_extents, payload_extents, payload_place, flat_kinds, field_kinds, payload_kinds, join, fits_flat, max_flat_params, max_flat_results}
-use Rattle.canonical_abi.specs.Reading.{number_at, case_number, low_bits, number_of}
+use Rattle.canonical_abi.specs.Reading.{number_at, case_number, low_bits}
 use Rattle.canonical_abi.specs.Memory.{Holds}
 use Rattle.canonical_abi.specs.Storing.{Stores, EachStores, FieldsStore, CaseStores}
 use Rattle.canonical_abi.specs.Lowering.{Lowers, FieldsLower, CaseLowers, PassesParams, PassesResult}

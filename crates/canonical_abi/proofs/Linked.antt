@@ -24,7 +24,7 @@ use Rattle.canonical_abi.proofs.Runs.{aligned-first}
 use Rattle.canonical_abi.proofs.Own.{Confined, InFields, confined-more, confined-front, stores-confined, fields-aligned}
 use Rattle.canonical_abi.proofs.Crossed.{Nowhere, passes-confined, passes-aligned, fields-lower-confined, fields-lower-aligned, lowered-is-denoted}
 use Rattle.canonical_abi.proofs.Results.{result-is-held}
-use Rattle.canonical_abi.proofs.Stopped.{confined-left, aligned-left, fields-until-confined, fields-until-aligned, fields-lower-until-confined, fields-lower-until-aligned}
+use Rattle.canonical_abi.proofs.Stopped.{confined-left, aligned-left, made-leaves, breaks-either, fields-until-confined, fields-until-aligned, fields-lower-until-confined, fields-lower-until-aligned}
 use Rattle.canonical_abi.proofs.Until.{address-denotes-fault, params-denote-fault, result-denotes-fault}
 use Rattle.canonical_abi.proofs.Fine.{Fine, fine-none, fine-from, keeps-outside, broken, trace-limited, small}
 
@@ -125,13 +125,13 @@ module _ (parties : Parties) (caller_releases callee_releases : Release) (order 
   result-faulty answer answered new k done (inr (tested, es, until, part, begun, callee, body)) =
       let front = granted-part order (InArea results area) done es part
       (until-result-aligned results answered.callee.bytes answer area k es until) (until-result-confined results answered.callee.bytes answer area k es until) in
-      (begun.0, record { aligned = aligned-left done begun.0 begun.1 front.0; confined = confined-left (InArea results area) done begun.0 begun.1 front.1; leads = begun.2 })
+      (begun.0, record { aligned = aligned-left done begun.0 (made-leaves order done begun.0 begun.1) front.0; confined = confined-left (InArea results area) done begun.0 (made-leaves order done begun.0 begun.1) front.1; leads = begun.2 })
 
   result-fails : (answer : List Flat) (answered new : World) (k : TrapKind) (done : List Event) → ResultFails parties order f flats answered answer k done new → Went answered new × ((k ≡ trap.Full) ⊎ ReturnAreaFaulty f flats answered.caller k)
   result-fails answer answered new k done (inl (stands, faulty, none, is)) = (went-same answered new (ap (λ w. w.caller) is), inr faulty)
   result-fails answer answered new k done (inr (stands, es, script, breaks, is_done, callee, body)) =
       let made = broken parties.caller_allocates caller_releases honest.caller (InArea results area) answered.caller es k new.caller
-      (script-aligned results answered.callee.bytes answer area es script) (script-confined results answered.callee.bytes answer area es script) breaks in
+      (script-aligned results answered.callee.bytes answer area es script) (script-confined results answered.callee.bytes answer area es script) (breaks-either order parties.caller_allocates answered.caller es k new.caller breaks) in
       ((made.0, made.1), inl made.2)
 
   traps-went : (old : World) (s : Step) (k : TrapKind) (ways : Ways) (new : World) → Traps parties order f flats old s k ways new → Went old new
@@ -183,14 +183,14 @@ module _ (parties : Parties) (caller_releases callee_releases : Release) (order 
   faulty-waits old k done new (inr (inr (kinds, es, until, part, begun, caller, same))) =
       let whole = until-params-fine f.params _ _ k es until in
       let front = granted-part order Nowhere done es part whole.0 whole.1 in
-      (begun.0, record { aligned = aligned-left done begun.0 begun.1 front.0; confined = confined-left Nowhere done begun.0 begun.1 front.1; leads = begun.2 }, same)
+      (begun.0, record { aligned = aligned-left done begun.0 (made-leaves order done begun.0 begun.1) front.0; confined = confined-left Nowhere done begun.0 (made-leaves order done begun.0 begun.1) front.1; leads = begun.2 }, same)
 
   pub traps-wait : (old : World) (s : Step) (k : TrapKind) (ways : Ways) (new : World) → Traps parties order f flats old s k ways new → IsBeforeBody s → Waits old new
   traps-wait old step.Place k ways new t b = absurd t
   traps-wait old step.LiftArgs k ways new t b = faulty-waits old k ways.there new t.0
   traps-wait old step.LowerArgs k ways new ((kinds, es, script, breaks, is_done, caller, body), none) b =
       let whole = script-params-fine f.params _ _ es script in
-      let made = broken parties.callee_allocates callee_releases honest.callee Nowhere old.callee es k new.callee whole.0 whole.1 breaks in
+      let made = broken parties.callee_allocates callee_releases honest.callee Nowhere old.callee es k new.callee whole.0 whole.1 (breaks-either order parties.callee_allocates old.callee es k new.callee breaks) in
       (made.0, made.1, body)
   traps-wait old step.Body k ways new t b = absurd b
   traps-wait old step.LiftResult k ways new t b = absurd b
@@ -211,12 +211,12 @@ module _ (parties : Parties) (caller_releases callee_releases : Release) (order 
   fails-ran answer answered k done new (inl (stands, faulty, none, is)) = (ap (λ w. w.callee) is, ap (λ w. w.body) is)
   fails-ran answer answered k done new (inr (stands, es, script, breaks, is_done, callee, body)) = (callee, body)
 
-  answer-denotes-fault : (answer : List Flat) (answered : World) (k : TrapKind) (done : List Event) (new : World) → ResultFaulty parties order f flats answered answer k done new → DenotesFault max_flat_results results answered.callee.bytes answer k
+  pub answer-denotes-fault : (answer : List Flat) (answered : World) (k : TrapKind) (done : List Event) (new : World) → ResultFaulty parties order f flats answered answer k done new → DenotesFault max_flat_results results answered.callee.bytes answer k
   answer-denotes-fault answer answered k done new (inl (faulty, none, is)) = address-denotes-fault max_flat_results results answered.callee.bytes answer k faulty
   answer-denotes-fault answer answered k done new (inr (tested, es, until, part, begun, callee, body)) =
       result-denotes-fault max_flat_results results answered.callee.bytes answer area k es until
 
-  argument-fault : (old : World) (k : TrapKind) (done : List Event) (new : World) → ArgumentsFaulty parties order f flats old k done new → IsArgumentFault f flats old.caller k
+  pub argument-fault : (old : World) (k : TrapKind) (done : List Event) (new : World) → ArgumentsFaulty parties order f flats old k done new → IsArgumentFault f flats old.caller k
   argument-fault old k done new (inl (kinds, is_k, none, is)) = inl (kinds, is_k)
   argument-fault old k done new (inr (inl (kinds, faulty, none, is))) = inr (kinds, address-denotes-fault max_flat_params f.params _ _ k faulty)
   argument-fault old k done new (inr (inr (kinds, es, until, part, begun, caller, same))) = inr (kinds, params-denote-fault max_flat_params f.params _ _ k es until)
@@ -300,7 +300,7 @@ module _ (parties : Parties) (caller_releases callee_releases : Release) (order 
     traps-own step.LiftArgs k ways new t = argument-fault old k ways.there new t.0
     traps-own step.LowerArgs k ways new ((kinds, es, script, breaks, is_done, caller, body), none) =
         let whole = script-params-fine f.params _ _ es script in
-        (broken parties.callee_allocates callee_releases honest.callee Nowhere old.callee es k new.callee whole.0 whole.1 breaks).2
+        (broken parties.callee_allocates callee_releases honest.callee Nowhere old.callee es k new.callee whole.0 whole.1 (breaks-either order parties.callee_allocates old.callee es k new.callee breaks)).2
     traps-own step.Body k ways new t = t.3
     traps-own step.LiftResult k ways new (answer, answered, a, faulty) =
         (a.values, a.enters.denoted, (answer, answered, answered-found answer ways.there answered a, answer-denotes-fault answer answered k ways.back new faulty, faulty-ran answer answered k ways.back new faulty))

@@ -1,26 +1,24 @@
 -- Values tell what two ways into one memory leave there; and what a way that broke off leaves is what its events tell.
-use Rattle.std.proofs.Common.{◌≡◌, ◌⊎◌, inl, inr, ℕ, ◌+◌, ◌-◌, ◌<◌, ◌≤◌, List, [], ◌∷◌, ◌++◌, length, take, drop, Option, Some, refl, sym, ap, ◌∙◌, subst, arith}
+use Rattle.std.proofs.Common.{◌≡◌, ◌⊎◌, inl, inr, ℕ, ◌+◌, ◌-◌, ◌<◌, ◌≤◌, List, [], ◌∷◌, ◌++◌, length, drop, Option, Some, refl, sym, ap, ◌∙◌, subst, arith}
 use Rattle.std.specs.Prelude.{slice_get, slice_range}
 use Rattle.std.proofs.lemmas.Bool.{cases_lt}
 use Rattle.std.proofs.lemmas.Option.{slice_get_within}
 use Rattle.canonical_abi.specs.Types.{FunctionType, result_fields}
-use Rattle.canonical_abi.specs.Values.{Value}
 use Rattle.canonical_abi.specs.Layout.{max_flat_params, max_flat_results}
 use Rattle.canonical_abi.specs.Guest.{Memory, Allocation, Release, IsGrant, IsHonest, IsWithin, IsOutside, overwrite}
 use Rattle.canonical_abi.specs.Trace.{Grant, Event, node, grant, write, TraceLeads, LeavesOutWrites, RequestFails}
 use Rattle.canonical_abi.specs.Stands.{AreAligned}
-use Rattle.canonical_abi.specs.Lowering.{PassesParams, PassesResult}
-use Rattle.canonical_abi.specs.Call.{Run, PostRun, Parties, World, Ways, exact, Enters, Returns, Answered, ArgumentsFaulty, ArgumentsFail, ResultFaulty, ResultFails, Traps, argument_flats, area_of}
+use Rattle.canonical_abi.specs.Lowering.{PassesResult}
+use Rattle.canonical_abi.specs.Call.{Run, PostRun, Parties, World, Ways, exact, Answered, ArgumentsFaulty, ArgumentsFail, ResultFaulty, ResultFails, Traps, argument_flats, area_of}
 use Rattle.canonical_abi.specs.Headline.{AreHonest, IsBeforeBody}
-use Rattle.canonical_abi.specs.OnlyValues.{AreToldByValues, OnlyValuesCross, TellsByte, ShowsAlone, TrapsShowValues}
+use Rattle.canonical_abi.specs.OnlyValues.{OnlyValuesCross, ShowsAlone, TrapsShowValues}
 use Rattle.canonical_abi.specs.declared.flat.Flat.{Flat}
 use Rattle.canonical_abi.specs.declared.trap.Step.{Step}
 use Rattle.canonical_abi.specs.declared.trap.Step.TheVariants as step
 use Rattle.canonical_abi.specs.declared.trap.TrapKind.{TrapKind}
-use Rattle.canonical_abi.specs.declared.trap.TrapKind.TheVariants as trap
 use Rattle.canonical_abi.proofs.Images.{byte_over-before, byte_over-within, byte_over-after, overwrite-get, slice_get-drop, slice_get-take}
 use Rattle.canonical_abi.proofs.Runs.{runs-keep, aligned-first, aligned-second}
-use Rattle.canonical_abi.proofs.Stopped.{aligned-left, leaves-none}
+use Rattle.canonical_abi.proofs.Stopped.{aligned-left, made-leaves, leaves-none}
 use Rattle.canonical_abi.proofs.Fine.{request-failed}
 use Rattle.canonical_abi.proofs.Crossed.{passes-aligned}
 use Rattle.canonical_abi.proofs.Erased.{same-entry, same-return}
@@ -159,24 +157,24 @@ module _ (parties : Parties) (caller_releases callee_releases : Release) (honest
   arguments-faulty old k done new (inr (inl (kinds, faulty, none, same))) = same-shows parties.callee_allocates callee_releases honest.callee old.callee new.callee (ap (λ w. w.callee) same) done
   arguments-faulty old k done new (inr (inr (kinds, es, until, is, (made, left, leads), caller, body))) =
       let al = (until-params-fine f.params old.caller.bytes (argument_flats f flats) k es until).0 in
-      trace-shows parties.callee_allocates callee_releases honest.callee done made old.callee new.callee (aligned-left done made left (subst AreAligned (sym is) al)) left leads
+      trace-shows parties.callee_allocates callee_releases honest.callee done made old.callee new.callee (aligned-left done made (made-leaves exact done made left) (subst AreAligned (sym is) al)) (made-leaves exact done made left) leads
 
   arguments-fail : (old : World) (k : TrapKind) (done : List Event) (new : World) → ArgumentsFail parties exact f flats old k done new → CalleeShows old done new
   arguments-fail old k done new (kinds, es, script, (front, made, rest, next, asked, is, left, leads, fails), same, caller, body) =
       let al = (script-params-fine f.params old.caller.bytes (argument_flats f flats) es script).0 in
-      subst (λ l. CalleeShows old l new) (sym same) (broken-shows parties.callee_allocates callee_releases honest.callee front made rest next es old.callee asked new.callee k al is left leads fails)
+      subst (λ l. CalleeShows old l new) (sym same) (broken-shows parties.callee_allocates callee_releases honest.callee front made rest next es old.callee asked new.callee k al is (made-leaves exact front made left) leads fails)
 
   result-faulty : (answered : World) (answer : List Flat) (k : TrapKind) (done : List Event) (new : World) → ResultFaulty parties exact f flats answered answer k done new → CallerShows answered done new
   result-faulty answered answer k done new (inl (faulty, none, same)) = same-shows parties.caller_allocates caller_releases honest.caller answered.caller new.caller (ap (λ w. w.caller) same) done
   result-faulty answered answer k done new (inr (tested, es, until, is, (made, left, leads), callee, body)) =
       let al = until-result-aligned (result_fields f.result) answered.callee.bytes answer (area_of f flats) k es until in
-      trace-shows parties.caller_allocates caller_releases honest.caller done made answered.caller new.caller (aligned-left done made left (subst AreAligned (sym is) al)) left leads
+      trace-shows parties.caller_allocates caller_releases honest.caller done made answered.caller new.caller (aligned-left done made (made-leaves exact done made left) (subst AreAligned (sym is) al)) (made-leaves exact done made left) leads
 
   result-fails : (answered : World) (answer : List Flat) (k : TrapKind) (done : List Event) (new : World) → ResultFails parties exact f flats answered answer k done new → CallerShows answered done new
   result-fails answered answer k done new (inl (tested, faulty, none, same)) = same-shows parties.caller_allocates caller_releases honest.caller answered.caller new.caller (ap (λ w. w.caller) same) done
   result-fails answered answer k done new (inr (stands, es, script, (front, made, rest, next, asked, is, left, leads, fails), same, callee, body)) =
       let al = script-aligned (result_fields f.result) answered.callee.bytes answer (area_of f flats) es script in
-      subst (λ l. CallerShows answered l new) (sym same) (broken-shows parties.caller_allocates caller_releases honest.caller front made rest next es answered.caller asked new.caller k al is left leads fails)
+      subst (λ l. CallerShows answered l new) (sym same) (broken-shows parties.caller_allocates caller_releases honest.caller front made rest next es answered.caller asked new.caller k al is (made-leaves exact front made left) leads fails)
 
   -- where the caller is as it was
   caller-same : (old new : World) (es : List Event) → new.caller ≡ old.caller → CallerShows old es new

@@ -5,7 +5,6 @@ use Rattle.canonical_abi.specs.Types.{ClosedType, prim_type, string_type, list_t
 use Rattle.canonical_abi.specs.Values.{Value}
 use Rattle.canonical_abi.specs.Layout.{align, size, discriminant_size, field_extents, payload_extents, payload_place}
 use Rattle.canonical_abi.specs.Reading.{number_at, byte_width}
-use Rattle.canonical_abi.specs.Memory.{HoldsInBlock}
 use Rattle.canonical_abi.specs.Guest.{Memory, Allocation, Release, IsHonest, IsLimited, KeepsLimit, IsWithin, IsOutside, rounded_to_eight}
 use Rattle.canonical_abi.specs.Footprint.{Reads, FieldsRead, CaseReads}
 use Rattle.canonical_abi.specs.Trace.{Event, grant, requests_of}

@@ -205,7 +205,7 @@ module _ (parties : Parties) (caller_releases callee_releases : Release) (order 
       pub same-arguments : (values : List Value) → AreArguments f flats placed.caller values → values ≡ arguments
       same-arguments values d = told-arguments.one_value values arguments d placed-denoted
 
-      no-argument-fault : (k : TrapKind) → IsArgumentFault f flats placed.caller k → ⊥
+      pub no-argument-fault : (k : TrapKind) → IsArgumentFault f flats placed.caller k → ⊥
       no-argument-fault k (inl h) = h.0 placed-fits
       no-argument-fault k (inr h) = told-arguments.not_both arguments k placed-denoted h.1
 

@@ -1,11 +1,11 @@
 -- Worked examples: lists of steps of a session, and values that stay held.
 use Rattle.std.proofs.Common.{◌≡◌, inl, inr, ℕ, true, false, Bool, ◌&&◌, List, [], ◌∷◌, Option, Some, Ok, refl, arith, zero, suc, ◌<◌, None}
 use Rattle.std.specs.Prelude.{nat_lt}
-use Rattle.canonical_abi.specs.Types.{ClosedType, int8, unsigned, prim_type}
+use Rattle.canonical_abi.specs.Types.{int8}
 use Rattle.canonical_abi.specs.Values.{Value, unsigned_value}
 use Rattle.canonical_abi.specs.Reading.{number_at}
 use Rattle.canonical_abi.specs.Guest.{Memory, Allocation, Release}
-use Rattle.canonical_abi.specs.Trace.{Grant, node, write}
+use Rattle.canonical_abi.specs.Trace.{node, write}
 use Rattle.canonical_abi.specs.Footprint.{HoldsLive}
 use Rattle.canonical_abi.specs.Call.{Parties, World, either}
 use Rattle.canonical_abi.specs.Session.{Held, SessionStep, place, read, release, SessionAnswer, placed, was_read, released, missing, RunsSession}
