@@ -1,4 +1,4 @@
-//! Reading types without scopes of their own.
+//! Reading types without scopes of their own. A stated count requests no memory: each list grows as its items are read.
 ghost use Rattle.std.specs.Prelude.{◌≡◌, false};
 ghost use Rattle.productions.specs.Production.{times};
 ghost use Rattle.ctype_format.specs.Bytes.{AnswersRead};
@@ -18,11 +18,6 @@ const MAX_CASES: u32 = 100_000;
 /// The labels that flags may have.
 const MAX_FLAGS: u32 = 32;
 
-/// How many of so many items these bytes can spell at most: each takes a byte or more.
-fn most_of(count: u32, bytes: &[u8]) -> usize {
-    (count as usize).min(bytes.len())
-}
-
 #[tactic(auto, unfolding(ctype_format::specs::Grammar::field))]
 fn field_of(alloc: Global, types: u32, bytes: &[u8]) -> Result<(RawField, &[u8]), ItemError>
     ensures { AnswersRead (λ x. (x.0, x.1.now)) result ((field types).read bytes.now) }
@@ -40,7 +35,7 @@ fn fields_of(
 ) -> Result<(Vec<RawField>, &[u8]), ItemError>
     ensures { AnswersRead (λ x. (x.0.items, x.1.now)) result ((times count (field types)).read bytes.now) }
 {
-    let mut fields = Vec::with_capacity(alloc, most_of(count, bytes))?;
+    let mut fields = Vec::new(alloc);
     let mut rest = bytes;
     for _ in 0..count {
         let (field, behind) = field_of(alloc, types, rest)?;
@@ -68,7 +63,7 @@ fn cases_of(
 ) -> Result<(Vec<RawCase>, &[u8]), ItemError>
     ensures { AnswersRead (λ x. (x.0.items, x.1.now)) result ((times count (case types)).read bytes.now) }
 {
-    let mut cases = Vec::with_capacity(alloc, most_of(count, bytes))?;
+    let mut cases = Vec::new(alloc);
     let mut rest = bytes;
     for _ in 0..count {
         let (case, behind) = case_of(alloc, types, rest)?;
@@ -86,7 +81,7 @@ fn members_of(
 ) -> Result<(Vec<RawValType>, &[u8]), ItemError>
     ensures { AnswersRead (λ x. (x.0.items, x.1.now)) result ((times count (valtype types)).read bytes.now) }
 {
-    let mut members = Vec::with_capacity(alloc, most_of(count, bytes))?;
+    let mut members = Vec::new(alloc);
     let mut rest = bytes;
     for _ in 0..count {
         let (member, behind) = valtype_of(types, rest)?;
@@ -99,7 +94,7 @@ fn members_of(
 fn labels_of(alloc: Global, count: u32, bytes: &[u8]) -> Result<(Vec<Label>, &[u8]), ItemError>
     ensures { AnswersRead (λ x. (x.0.items, x.1.now)) result ((times count label).read bytes.now) }
 {
-    let mut labels = Vec::with_capacity(alloc, most_of(count, bytes))?;
+    let mut labels = Vec::new(alloc);
     let mut rest = bytes;
     for _ in 0..count {
         let (label, behind) = label_of(alloc, rest)?;

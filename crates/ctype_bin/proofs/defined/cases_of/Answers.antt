@@ -5,7 +5,7 @@ use Rattle.ctype_bin.proofs.defined.cases_of.Goals as goal
 
 pub returns-in_err-case : goal.returns-in_err-case
 returns-in_err-case c =
-    let p = err_from_is_err_and c.from_residual-in_err-case.result c.from_residual-in_err-case.ensures.1 in
+    let p = err_from_is_err_and c.from_residual.result c.from_residual.ensures.1 in
     rw (p.1, p.2) (ends (case c.args.types) c.in_err-case.field-0.0 c.loop.cases.items c.args.count c.loop.counter c.loop.rest.now _ c.loop-test.true c.in_err-case.ensures c.loop.invariant)
 
 pub loop-preserved : goal.loop-preserved

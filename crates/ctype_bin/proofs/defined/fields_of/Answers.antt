@@ -5,7 +5,7 @@ use Rattle.ctype_bin.proofs.defined.fields_of.Goals as goal
 
 pub returns-in_err-field : goal.returns-in_err-field
 returns-in_err-field c =
-    let p = err_from_is_err_and c.from_residual-in_err-field.result c.from_residual-in_err-field.ensures.1 in
+    let p = err_from_is_err_and c.from_residual.result c.from_residual.ensures.1 in
     rw (p.1, p.2) (ends (field c.args.types) c.in_err-field.field-0.0 c.loop.fields.items c.args.count c.loop.counter c.loop.rest.now _ c.loop-test.true c.in_err-field.ensures c.loop.invariant)
 
 pub loop-preserved : goal.loop-preserved

@@ -5,7 +5,7 @@ use Rattle.ctype_bin.proofs.defined.labels_of.Goals as goal
 
 pub returns-in_err-label : goal.returns-in_err-label
 returns-in_err-label c =
-    let p = err_from_is_err_and c.from_residual-in_err-label.result c.from_residual-in_err-label.ensures.1 in
+    let p = err_from_is_err_and c.from_residual.result c.from_residual.ensures.1 in
     rw (p.1, p.2) (ends label c.in_err-label.field-0.0 c.loop.labels.items c.args.count c.loop.counter c.loop.rest.now _ c.loop-test.true c.in_err-label.ensures c.loop.invariant)
 
 pub loop-preserved : goal.loop-preserved

@@ -5,7 +5,7 @@ use Rattle.ctype_bin.proofs.defined.members_of.Goals as goal
 
 pub returns-in_err-member : goal.returns-in_err-member
 returns-in_err-member c =
-    let p = err_from_is_err_and c.from_residual-in_err-member.result c.from_residual-in_err-member.ensures.1 in
+    let p = err_from_is_err_and c.from_residual.result c.from_residual.ensures.1 in
     rw (p.1, p.2) (ends (valtype c.args.types) c.in_err-member.field-0.0 c.loop.members.items c.args.count c.loop.counter c.loop.rest.now _ c.loop-test.true c.in_err-member.ensures c.loop.invariant)
 
 pub loop-preserved : goal.loop-preserved
