@@ -9,3 +9,4 @@ pub mod Agreement
 pub mod Laid
 pub mod Standing
 pub mod Told
+pub mod Steps

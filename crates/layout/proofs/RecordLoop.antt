@@ -1,6 +1,7 @@
 -- What a loop over the members of a record keeps.
-use Rattle.std.proofs.Common.{◌≡◌, ℕ, zero, suc, ◌+◌, ◌<◌, ◌≤◌, max, List, [], ◌∷◌, ◌++◌, length, map, fold, take, get_or, refl, ap, arith}
+use Rattle.std.proofs.Common.{◌≡◌, ℕ, ◌+◌, ◌<◌, ◌≤◌, inl, inr, max, min, List, [], ◌∷◌, ◌++◌, length, fold, take, get_or, refl, ap, ◌∙◌, arith}
 use Rattle.std.specs.Int.{next_multiple_of}
+use Rattle.std.proofs.lemmas.Bool.{cases_lt}
 use Rattle.std.proofs.lemmas.List.{map-append}
 use Rattle.std.proofs.lemmas.List.Sums.{fold-append}
 use Rattle.std.proofs.lemmas.Grind.{take_at_read}
@@ -9,20 +10,22 @@ use Rattle.canonical_abi.proofs.Places.{le-next_multiple_of}
 use Rattle.tables.specs.declared.tables.ValType.{ValType}
 use Rattle.layout.specs.Kinds.{kinds_of, passed, append_kinds}
 use Rattle.layout.specs.Layout.{IsSound}
-use Rattle.layout.specs.Rows.{row_in, rows_at, extent_in, extents, record_row}
+use Rattle.layout.specs.Rows.{row_in, rows_at, extent_in, extents, deepest, record_row}
 use Rattle.layout.specs.declared.rows.Row.{Row}
 use Rattle.layout.specs.declared.kinds.Kinds.{Kinds}
 use Rattle.layout.proofs.Cuts.{fits-append}
 
-pub record RecordSoFar (rows : List Row) (end align : ℕ) (kinds : Kinds) (offsets : List ℕ) : Type 0 where
-  pub end_is : end ≡ end_from 0 (extents rows)
-  pub end_fits : end ≤ 16777216
+-- the end stays one above the greatest size where the fields are larger, and the places are then of no use
+pub record RecordSoFar (rows : List Row) (depth end align : ℕ) (kinds : Kinds) (offsets : List ℕ) : Type 0 where
+  pub depth_is : depth ≡ deepest rows
+  pub depth_fits : depth ≤ 65
+  pub end_is : end ≡ min (end_from 0 (extents rows)) 16777217
   pub align_is : align ≡ greatest_align (extents rows)
   pub least : 1 ≤ align
   pub most : align ≤ 8
   pub kinds_is : kinds ≡ fold (λ ks r. append_kinds ks r.kinds) (kinds_of []) rows
   pub fits : length (passed kinds) ≤ 16
-  pub offsets_is : offsets ≡ places_from 0 (extents rows)
+  pub offsets_is : end ≤ 16777216 → offsets ≡ places_from 0 (extents rows)
 
 places_from-push : (n : ℕ) (xs : List Extent) (x : Extent) → places_from n (xs ++ x ∷ []) ≡ places_from n xs ++ next_multiple_of (end_from n xs) x.align ∷ []
 places_from-push n [] x = refl
@@ -32,47 +35,54 @@ pub rows_at-more : {A : Type 0} (rows : List Row) (ty : A → ValType) (xs : Lis
     → rows_at rows ty (take (i + 1) xs) ≡ rows_at rows ty (take i xs) ++ row_in rows (ty (get_or xs i d)) ∷ []
 rows_at-more rows ty xs i d h = rw (take_at_read xs i d h).1 (map-append (λ a. row_in rows (ty a)) (take i xs) (get_or xs i d ∷ []))
 
-pub record_more : {rows rows' : List Row} (r : Row) {end end' align align' : ℕ} (place : ℕ) {kinds kinds' : Kinds} {offsets offsets' : List ℕ}
-    → RecordSoFar rows end align kinds offsets → IsSound r
-    → rows' ≡ rows ++ r ∷ [] → place ≡ next_multiple_of end r.align → end' ≡ place + r.size → end' ≤ 16777216
+capped-end : (e a s : ℕ) → min (next_multiple_of (min e 16777217) a + s) 16777217 ≡ min (next_multiple_of e a + s) 16777217
+capped-end e a s = elim (cases_lt e 16777217) [
+  | inl l ↦ let same : min e 16777217 ≡ e = omega arith in rw same refl
+  | inr g ↦
+      let low = le-next_multiple_of (min e 16777217) a in
+      let high = le-next_multiple_of e a in
+      omega arith
+]
+
+pub record_more : {rows rows' : List Row} (r : Row) {depth depth' end end' align align' : ℕ} (place : ℕ) {kinds kinds' : Kinds} {offsets offsets' : List ℕ}
+    → RecordSoFar rows depth end align kinds offsets → IsSound r
+    → rows' ≡ rows ++ r ∷ [] → place ≡ next_multiple_of end r.align → depth' ≡ max depth r.depth → end' ≡ min (place + r.size) 16777217
     → align' ≡ max align r.align → kinds' ≡ append_kinds kinds r.kinds → offsets' ≡ offsets ++ place ∷ []
-    → RecordSoFar rows' end' align' kinds' offsets'
-record_more {rows} {rows'} r {end} {end'} {align} {align'} place {kinds} {kinds'} {offsets} {offsets'} so_far sound rows_are place_is end_is fits align_is kinds_are offsets_are =
+    → RecordSoFar rows' depth' end' align' kinds' offsets'
+record_more {rows} {rows'} r {depth} {depth'} {end} {end'} {align} {align'} place {kinds} {kinds'} {offsets} {offsets'} so_far sound rows_are place_is depth_is end_is align_is kinds_are offsets_are =
     let split : extents rows' ≡ extents rows ++ extent_in r ∷ [] = rw rows_are (map-append extent_in rows (r ∷ [])) in
+    let whole : end_from 0 (extents rows') ≡ next_multiple_of (end_from 0 (extents rows)) r.align + r.size =
+    rw (split, fold-append (λ (end : ℕ) (f : Extent). next_multiple_of end f.align + f.size) 0 (extents rows) (extent_in r ∷ [])) refl in
     record {
-      end_is = rw (split, fold-append (λ (end : ℕ) (f : Extent). next_multiple_of end f.align + f.size) 0 (extents rows) (extent_in r ∷ []), ← so_far.end_is, ← place_is) end_is;
-      end_fits = fits;
+      depth_is = rw (rows_are, fold-append (λ (n : ℕ) (x : Row). max n x.depth) 0 rows (r ∷ []), ← so_far.depth_is) depth_is;
+      depth_fits = omega (arith, so_far.depth_fits, sound.depth);
+      end_is = rw whole (end_is ∙ ap (λ (p : ℕ). min (p + r.size) 16777217) (place_is ∙ ap (λ (e : ℕ). next_multiple_of e r.align) so_far.end_is) ∙ capped-end (end_from 0 (extents rows)) r.align r.size);
       align_is = rw (split, fold-append (λ (n : ℕ) (x : Extent). max n x.align) 1 (extents rows) (extent_in r ∷ []), ← so_far.align_is) align_is;
       least = omega (arith, so_far.least);
       most = omega (arith, so_far.most, sound.most_align);
       kinds_is = rw (rows_are, fold-append (λ (ks : Kinds) (r : Row). append_kinds ks r.kinds) (kinds_of []) rows (r ∷ []), ← so_far.kinds_is) kinds_are;
       fits = rw kinds_are (fits-append kinds r.kinds);
-      offsets_is = rw (split, places_from-push 0 (extents rows) (extent_in r), ← so_far.end_is, ← so_far.offsets_is, ← place_is) offsets_are;
+      offsets_is = λ h.
+          let up = le-next_multiple_of end r.align in
+          let within : end ≤ 16777216 = omega arith in
+          let same : end ≡ end_from 0 (extents rows) = omega (arith, so_far.end_is) in
+          rw (split, places_from-push 0 (extents rows) (extent_in r), ← same, ← so_far.offsets_is within, ← place_is) offsets_are;
     }
 
-pub end_from-more : (rows rows' : List Row) (r : Row) → rows' ≡ rows ++ r ∷ []
-    → end_from 0 (extents rows') ≡ next_multiple_of (end_from 0 (extents rows)) r.align + r.size
-end_from-more rows rows' r rows_are =
-    rw (rows_are, map-append extent_in rows (r ∷ []), fold-append (λ (end : ℕ) (f : Extent). next_multiple_of end f.align + f.size) 0 (extents rows) (extent_in r ∷ [])) refl
-
--- ---- a record whose first fields end past the limit is too large
-
-end_from-grows : (n : ℕ) (fs : List Extent) → n ≤ end_from n fs
-end_from-grows n [] = omega arith
-end_from-grows n (f ∷ fs) =
-    let here = le-next_multiple_of n f.align in
-    let rest = end_from-grows (next_multiple_of n f.align + f.size) fs in
+-- a row whose fields end at most at the limit has that end; any other is larger than the limit
+pub record_size-is : (rows : List Row) (end : ℕ) → end ≡ min (end_from 0 (extents rows)) 16777217 → next_multiple_of end (greatest_align (extents rows)) ≤ 16777216
+    → end ≡ end_from 0 (extents rows)
+record_size-is rows end is within =
+    let up = le-next_multiple_of end (greatest_align (extents rows)) in
     omega arith
 
-module _ {A : Type 0} (row : A → Row) where
-  end_from-take : (n : ℕ) (ms : List A) (i : ℕ) → end_from n (extents (map row (take i ms))) ≤ end_from n (extents (map row ms))
-  end_from-take n ms zero = end_from-grows n (extents (map row ms))
-  end_from-take n [] (suc i) = omega arith
-  end_from-take n (a ∷ ms) (suc i) = end_from-take (next_multiple_of n (row a).align + (row a).size) ms i
-
-  pub record_size-take : (ms : List A) (i : ℕ) → end_from 0 (extents (map row (take i ms))) ≤ (record_row (map row ms)).size
-  record_size-take ms i =
-      let xs = extents (map row ms) in
-      let grows = end_from-take 0 ms i in
-      let up = le-next_multiple_of (end_from 0 xs) (greatest_align xs) in
+pub record_size-above : (rows : List Row) (end : ℕ) → end ≡ min (end_from 0 (extents rows)) 16777217 → 16777216 < next_multiple_of end (greatest_align (extents rows))
+    → 16777216 < (record_row rows).size
+record_size-above rows end is above = elim (cases_lt (end_from 0 (extents rows)) 16777217) [
+  | inl l ↦
+      let same : end ≡ end_from 0 (extents rows) = omega arith in
+      rw same at above
+  | inr g ↦
+      let up = le-next_multiple_of (end_from 0 (extents rows)) (greatest_align (extents rows)) in
       omega arith
+]

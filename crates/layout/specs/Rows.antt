@@ -114,10 +114,14 @@ abbrev pub IsLimitedDefinition : Definition → Row → Type 0
 IsLimitedDefinition (row.Type d) r = IsLimited r
 IsLimitedDefinition (row.Function f) r = r.size ≤ max_size
 
+-- the refusal stands for a row whose depth is to be at most so much
+abbrev pub RefusesDeeper : ℕ → LayoutError → Row → Type 0
+RefusesDeeper most TooDeep r = most < r.depth
+RefusesDeeper most TooLarge r = (r.depth ≤ most) × (max_size < r.size)
+RefusesDeeper most NoMemory r = Unit {0}
+
 abbrev pub RefusesRow : LayoutError → Row → Type 0
-RefusesRow TooDeep r = max_depth < r.depth
-RefusesRow TooLarge r = (r.depth ≤ max_depth) × (max_size < r.size)
-RefusesRow NoMemory r = Unit {0}
+RefusesRow e r = RefusesDeeper max_depth e r
 
 abbrev pub RefusesDefinition : LayoutError → Definition → Row → Type 0
 RefusesDefinition e (row.Type d) r = RefusesRow e r

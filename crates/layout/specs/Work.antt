@@ -26,6 +26,21 @@ abbrev pub types_in : Definition → ℕ
 types_in (row.Type d) = members_in d.kind
 types_in (row.Function f) = length f.params + count f.result
 
+-- of these, those that are looked at while the definition's row is made, and while its result is
+abbrev pub laid_in : Definition → ℕ
+laid_in (row.Type d) = members_in d.kind
+laid_in (row.Function f) = length f.params
+
+abbrev pub results_in : Definition → ℕ
+results_in (row.Type d) = 0
+results_in (row.Function f) = count f.result
+
+abbrev pub laid_work : List Definition → ℕ
+laid_work ds = sum_by (λ d. 1 + laid_in d) ds
+
+abbrev pub results_work : List Definition → ℕ
+results_work ds = sum_by results_in ds
+
 abbrev pub total_work : List Definition → ℕ
 total_work ds = sum_by (λ d. 1 + types_in d) ds
 

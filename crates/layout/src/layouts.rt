@@ -1,5 +1,5 @@
 //! The layout table of a package.
-ghost use Rattle.std.specs.Prelude.{◌≡◌, ◌↔◌, ◌<◌, [], length, map, slice_get, All, IsTrue, IfOk, IfErr};
+ghost use Rattle.std.specs.Prelude.{◌≡◌, ◌+◌, ◌↔◌, ◌<◌, [], length, map, slice_get, All, IsTrue, IfOk, IfErr};
 ghost use Rattle.tables.specs.declared.tables.Resolve.{Resolve};
 ghost use Rattle.tables.specs.Closed.{closed_types, closed_type, function_type, IsFunction};
 ghost use Rattle.tables.specs.Tables.{is_below};
@@ -10,15 +10,15 @@ ghost use Rattle.layout.specs.Layout.{row_of, result_of, layouts_of, signature_o
 ghost use Rattle.layout.specs.Parts.{parts_from, AreEnded, end_of, is_end};
 ghost use Rattle.layout.specs.Queries.{shape_of, field_of, case_of, HasShape, TellsField, TellsCase};
 ghost use Rattle.layout.specs.Rows.{definition_result, result_below};
-ghost use Rattle.layout.specs.Work.{total_work, saturated};
+ghost use Rattle.layout.specs.Work.{laid_work, results_work, results_in, total_work, saturated};
 
 use crate::error::LayoutError;
 use crate::kinds::Kinds;
 use crate::parts::Parts;
 use crate::queries::{CaseInfo, FieldInfo, Shape};
-use crate::rows::{Row, end_of, lay_definition, row_in};
+use crate::rows::{Row, end_of, lay_definition, look, row_in};
 use crate::signature::{CoreSignature, lifted_of, lowered_of};
-use crate::work::total_work;
+use crate::work::Steps;
 use std::alloc::Global;
 use std::marker::Model;
 use tables::{Definition, FunctionId, Resolve, ValType};
@@ -30,19 +30,20 @@ struct Tables {
     parts: Vec<Parts>,
 }
 
-fn lay_all(alloc: Global, resolve: &Resolve) -> Result<Tables, LayoutError>
+fn lay_all(alloc: Global, resolve: &Resolve, steps: &mut Steps) -> Result<Tables, LayoutError>
     ensures rows { IfOk result (λ t. t.rows.items ≡ map row_of (closed_types resolve.now)) }
     ensures parts { IfOk result (λ t. t.parts.items ≡ parts_from (λ v. extent_of (closed_type resolve.now v)) [] resolve.now.definitions) }
     ensures sound { IfOk result (λ t. All IsSound t.rows.items) }
     ensures ended { IfOk result (λ t. AreEnded t.parts.items) }
     ensures within { IfOk result (λ _. AreWithin resolve.now) }
+    ensures steps { IfOk result (λ t. steps.new.count ≡ saturated (steps.old.count + laid_work resolve.now.definitions)) }
     ensures err { IfErr result (λ e. RefusesFirst e resolve.now) }
 {
     let count = resolve.definitions.len();
     let mut rows = Vec::with_capacity(alloc, count)?;
     let mut parts = Vec::with_capacity(alloc, count)?;
     for definition in resolve.definitions.as_slice() {
-        let laid = lay_definition(alloc, rows.as_slice(), parts.as_slice(), definition)?;
+        let laid = lay_definition(alloc, rows.as_slice(), parts.as_slice(), definition, steps)?;
         rows.push(laid.row)?;
         parts.push(laid.parts)?;
     }
@@ -50,30 +51,37 @@ fn lay_all(alloc: Global, resolve: &Resolve) -> Result<Tables, LayoutError>
 }
 
 /// The kinds of a function's result, and none of a type.
-fn result_kinds(rows: &[Row], definition: &Definition) -> Kinds
+fn result_kinds(rows: &[Row], definition: &Definition, steps: &mut Steps) -> Kinds
     requires below { IsTrue (result_below (length rows.now) definition.now) }
     requires sound { All IsSound rows.now }
-    ensures { result ≡ definition_result rows.now definition.now }
+    ensures value { result ≡ definition_result rows.now definition.now }
+    ensures steps { steps.new.count ≡ saturated (steps.old.count + results_in definition.now) }
 {
     match definition {
         Definition::Type(_) => Kinds::none(),
         Definition::Function(function) => match function.result {
-            Some(ty) => row_in(rows, ty).kinds,
+            Some(ty) => look(rows, ty, steps).kinds,
             None => Kinds::none(),
         },
     }
 }
 
 /// The kinds of the results of a package's functions.
-fn all_results(alloc: Global, resolve: &Resolve, rows: &[Row]) -> Result<Vec<Kinds>, LayoutError>
+fn all_results(
+    alloc: Global,
+    resolve: &Resolve,
+    rows: &[Row],
+    steps: &mut Steps,
+) -> Result<Vec<Kinds>, LayoutError>
     requires rows { rows.now ≡ map row_of (closed_types resolve.now) }
     requires sound { All IsSound rows.now }
     ensures ok { IfOk result (λ results. results.items ≡ map (result_of (closed_types resolve.now)) resolve.now.definitions) }
+    ensures steps { IfOk result (λ t. steps.new.count ≡ saturated (steps.old.count + results_work resolve.now.definitions)) }
     ensures err { IfErr result (λ e. e ≡ LayoutError.NoMemory) }
 {
     let mut results = Vec::with_capacity(alloc, rows.len())?;
     for definition in resolve.definitions.as_slice() {
-        results.push(result_kinds(rows, definition))?;
+        results.push(result_kinds(rows, definition, steps))?;
     }
     Ok(results)
 }
@@ -108,14 +116,14 @@ impl Layouts {
         ensures within { IfOk result (λ _. AreWithin resolve.now) }
         ensures err { IfErr result (λ e. RefusesFirst e resolve.now) }
     {
-        let tables = lay_all(alloc, resolve)?;
-        let results = all_results(alloc, resolve, tables.rows.as_slice())?;
-        let work = total_work(resolve.definitions.as_slice());
+        let mut steps = Steps::none();
+        let tables = lay_all(alloc, resolve, &mut steps)?;
+        let results = all_results(alloc, resolve, tables.rows.as_slice(), &mut steps)?;
         Ok(Layouts {
             rows: tables.rows,
             results,
             parts: tables.parts,
-            work,
+            work: steps.count,
         })
     }
 
@@ -184,8 +192,8 @@ impl Layouts {
         lowered_of(&self.rows[place].kinds, &self.results[place])
     }
 
-    /// How many steps the table took: one for each definition, and one for each type that stands directly in
-    /// one; the greatest u64 where they are more.
+    /// How many steps the table took, as they were counted while it was made: one for each definition, and one
+    /// for the row of each type that stands directly in one. It is the greatest u64 if they are more.
     pub fn work(&self) -> u64
         ensures { (r : Resolve) → self.now ≡ layouts_of r → result ≡ saturated (total_work r.definitions) }
     {

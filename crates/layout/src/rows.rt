@@ -7,11 +7,13 @@ ghost use Rattle.tables.specs.Closed.{prim_of};
 ghost use Rattle.tables.specs.Tables.{is_below, option_below, kind_below, definition_below};
 ghost use Rattle.layout.specs.Layout.{row_of, capped, IsSound, max_size};
 ghost use Rattle.layout.specs.Parts.{payloads, end_of, record_parts, variant_parts, kind_parts, definition_parts};
-ghost use Rattle.layout.specs.Rows.{row_in, rows_at, extent_at, extents, deepest, record_row, choices_at, variant_row, list_row, kind_row, definition_row, number_row, IsKept, IsLimited, IsLimitedDefinition, RefusesRow, RefusesDefinition};
+ghost use Rattle.layout.specs.Rows.{row_in, rows_at, extent_at, extents, deepest, record_row, choices_at, variant_row, list_row, kind_row, definition_row, number_row, IsKept, IsLimited, IsLimitedDefinition, RefusesDeeper, RefusesRow, RefusesDefinition};
+ghost use Rattle.layout.specs.Work.{members_in, laid_in, saturated};
 
 use crate::error::LayoutError;
 use crate::kinds::Kinds;
 use crate::parts::Parts;
+use crate::work::Steps;
 use canonical_abi::CoreKind;
 use std::alloc::Global;
 use tables::{Choice, Definition, Member, Primitive, Sequence, TypeDefKind, ValType};
@@ -124,29 +126,16 @@ pub(crate) fn row_in(rows: &[Row], ty: ValType) -> Row
     }
 }
 
-/// How deep a type is.
-fn depth_in(rows: &[Row], ty: ValType) -> u32
+/// The row of a type that stands directly in a definition whose row is made, which is one step.
+pub(crate) fn look(rows: &[Row], ty: ValType, steps: &mut Steps) -> Row
     requires below { IsTrue (is_below (length rows.now) ty) }
     requires sound { All IsSound rows.now }
-    ensures value { result ≡ (row_in rows.now ty).depth }
-    ensures few { result ≤ 65 }
+    ensures value { result ≡ row_in rows.now ty }
+    ensures sound { IsSound result }
+    ensures steps { steps.new.count ≡ saturated (steps.old.count + 1) }
 {
-    match ty {
-        ValType::Primitive(_) | ValType::String => 1,
-        ValType::Id(id) => rows[id.0 as usize].depth,
-    }
-}
-
-fn depth_of<M: Member>(rows: &[Row], members: &[M]) -> u32
-    requires below { All (λ m. IsTrue (is_below (length rows.now) (M.type_of m))) members.now }
-    requires sound { All IsSound rows.now }
-    ensures { result ≡ capped (deepest (rows_at rows.now M.type_of members.now) + 1) }
-{
-    let mut depth = 0;
-    for member in members {
-        depth = depth.max(depth_in(rows, member.ty()));
-    }
-    deeper(depth)
+    steps.take_one();
+    row_in(rows, ty)
 }
 
 /// A record's row, and the places of its fields.
@@ -156,34 +145,41 @@ struct RecordRow {
     offsets: Sequence<u32>,
 }
 
-/// The row of a record. Its depth has no limit here.
+/// The row of a record, whose depth is at most `most`.
 fn record_row<M: Member>(
     alloc: Global,
     rows: &[Row],
     members: &[M],
+    most: u32,
+    steps: &mut Steps,
 ) -> Result<RecordRow, LayoutError>
     requires below { All (λ m. IsTrue (is_below (length rows.now) (M.type_of m))) members.now }
     requires sound { All IsSound rows.now }
+    requires most { most ≤ 65 }
     ensures row { IfOk result (λ x. x.row ≡ record_row (rows_at rows.now M.type_of members.now)) }
     ensures offsets { IfOk result (λ x. x.offsets ≡ places_from 0 (extents (rows_at rows.now M.type_of members.now))) }
     ensures sound { IfOk result (λ x. IsSound x.row) }
-    ensures err { IfErr result (λ e. (e ≡ LayoutError.NoMemory) ⊎ ((e ≡ LayoutError.TooLarge) × (max_size < (record_row (rows_at rows.now M.type_of members.now)).size))) }
+    ensures within { IfOk result (λ x. (x.row.depth ≤ most) × (x.row.size ≤ max_size)) }
+    ensures steps { IfOk result (λ x. steps.new.count ≡ saturated (steps.old.count + length members.now)) }
+    ensures err { IfErr result (λ e. RefusesDeeper most e (record_row (rows_at rows.now M.type_of members.now))) }
 {
-    let depth = depth_of(rows, members);
     let mut offsets = Vec::with_capacity(alloc, members.len())?;
+    let mut depth = 0;
     let mut end = 0;
     let mut align = 1;
     let mut kinds = Kinds::none();
     for member in members {
-        let row = row_in(rows, member.ty());
+        let row = look(rows, member.ty(), steps);
         let offset = align_up(end, row.align);
-        end = offset + row.size;
-        if end > MAX_SIZE {
-            return Err(LayoutError::TooLarge);
-        }
         offsets.push(offset)?;
+        depth = depth.max(row.depth);
+        end = (offset + row.size).min(MAX_SIZE + 1);
         align = align.max(row.align);
         kinds = kinds.append(&row.kinds);
+    }
+    let depth = deeper(depth);
+    if depth > most {
+        return Err(LayoutError::TooDeep);
     }
     let size = align_up(end, align);
     if size > MAX_SIZE {
@@ -232,37 +228,30 @@ fn payload_types<C: Choice>(
     Ok(Sequence::new(payloads))
 }
 
-/// A record of these members, without a limit of depth.
-fn lay_members<M: Member>(alloc: Global, rows: &[Row], members: &[M]) -> Result<Laid, LayoutError>
+/// A record of these members, whose depth is at most `most`.
+fn lay_members<M: Member>(
+    alloc: Global,
+    rows: &[Row],
+    members: &[M],
+    most: u32,
+    steps: &mut Steps,
+) -> Result<Laid, LayoutError>
     requires below { All (λ m. IsTrue (is_below (length rows.now) (M.type_of m))) members.now }
     requires sound { All IsSound rows.now }
+    requires most { most ≤ 65 }
     ensures row { IfOk result (λ x. x.row ≡ record_row (rows_at rows.now M.type_of members.now)) }
     ensures parts { IfOk result (λ x. x.parts ≡ record_parts (extent_at rows.now) (map M.type_of members.now)) }
     ensures sound { IfOk result (λ x. IsSound x.row) }
-    ensures err { IfErr result (λ e. (e ≡ LayoutError.NoMemory) ⊎ ((e ≡ LayoutError.TooLarge) × (max_size < (record_row (rows_at rows.now M.type_of members.now)).size))) }
+    ensures within { IfOk result (λ x. (x.row.depth ≤ most) × (x.row.size ≤ max_size)) }
+    ensures steps { IfOk result (λ x. steps.new.count ≡ saturated (steps.old.count + length members.now)) }
+    ensures err { IfErr result (λ e. RefusesDeeper most e (record_row (rows_at rows.now M.type_of members.now))) }
 {
-    let record = record_row(alloc, rows, members)?;
+    let record = record_row(alloc, rows, members, most, steps)?;
     let types = member_types(alloc, members)?;
     Ok(Laid {
         row: record.row,
         parts: Parts::Record(types, record.offsets),
     })
-}
-
-/// A record or a tuple that is a type.
-fn lay_record<M: Member>(alloc: Global, rows: &[Row], members: &[M]) -> Result<Laid, LayoutError>
-    requires below { All (λ m. IsTrue (is_below (length rows.now) (M.type_of m))) members.now }
-    requires sound { All IsSound rows.now }
-    ensures row { IfOk result (λ x. x.row ≡ record_row (rows_at rows.now M.type_of members.now)) }
-    ensures parts { IfOk result (λ x. x.parts ≡ record_parts (extent_at rows.now) (map M.type_of members.now)) }
-    ensures sound { IfOk result (λ x. IsSound x.row) }
-    ensures within { IfOk result (λ x. IsLimited x.row) }
-    ensures err { IfErr result (λ e. RefusesRow e (record_row (rows_at rows.now M.type_of members.now))) }
-{
-    if depth_of(rows, members) > MAX_DEPTH {
-        return Err(LayoutError::TooDeep);
-    }
-    lay_members(alloc, rows, members)
 }
 
 /// The bytes of a discriminant of so many cases.
@@ -287,12 +276,13 @@ struct VariantRow {
     payload: u32,
 }
 
-fn variant_row<C: Choice>(rows: &[Row], cases: &[C]) -> VariantRow
+fn variant_row<C: Choice>(rows: &[Row], cases: &[C], steps: &mut Steps) -> VariantRow
     requires below { All (λ c. IsTrue (option_below (length rows.now) (C.payload_of c))) cases.now }
     requires sound { All IsSound rows.now }
     ensures value { result.row ≡ variant_row (choices_at rows.now C.payload_of cases.now) }
     ensures payload { result.payload ≡ payload_at (length cases.now) (extents (payloads (choices_at rows.now C.payload_of cases.now))) }
     ensures kept { IsKept result.row }
+    ensures steps { steps.new.count ≡ saturated (steps.old.count + length (payloads (choices_at rows.now C.payload_of cases.now))) }
 {
     let discriminant = discriminant_size(cases.len());
     let mut depth = 0;
@@ -301,7 +291,7 @@ fn variant_row<C: Choice>(rows: &[Row], cases: &[C]) -> VariantRow
     let mut kinds = Kinds::none();
     for case in cases {
         if let Some(payload) = case.payload() {
-            let row = row_in(rows, payload);
+            let row = look(rows, payload, steps);
             depth = depth.max(row.depth);
             size = size.max(row.size);
             align = align.max(row.align);
@@ -339,16 +329,22 @@ fn limited(row: Row) -> Result<Row, LayoutError>
 }
 
 /// A variant, an enum, an option or a result.
-fn lay_variant<C: Choice>(alloc: Global, rows: &[Row], cases: &[C]) -> Result<Laid, LayoutError>
+fn lay_variant<C: Choice>(
+    alloc: Global,
+    rows: &[Row],
+    cases: &[C],
+    steps: &mut Steps,
+) -> Result<Laid, LayoutError>
     requires below { All (λ c. IsTrue (option_below (length rows.now) (C.payload_of c))) cases.now }
     requires sound { All IsSound rows.now }
     ensures row { IfOk result (λ x. x.row ≡ variant_row (choices_at rows.now C.payload_of cases.now)) }
     ensures parts { IfOk result (λ x. x.parts ≡ variant_parts (extent_at rows.now) (map C.payload_of cases.now)) }
     ensures sound { IfOk result (λ x. IsSound x.row) }
     ensures within { IfOk result (λ x. IsLimited x.row) }
+    ensures steps { IfOk result (λ x. steps.new.count ≡ saturated (steps.old.count + length (payloads (choices_at rows.now C.payload_of cases.now)))) }
     ensures err { IfErr result (λ e. RefusesRow e (variant_row (choices_at rows.now C.payload_of cases.now))) }
 {
-    let variant = variant_row(rows, cases);
+    let variant = variant_row(rows, cases, steps);
     let row = limited(variant.row)?;
     let payloads = payload_types(alloc, cases)?;
     Ok(Laid {
@@ -372,7 +368,12 @@ pub(crate) fn end_of(parts: &[Parts], ty: ValType) -> ValType
 }
 
 /// A used name or a new name.
-fn lay_name(rows: &[Row], parts: &[Parts], target: ValType) -> Result<Laid, LayoutError>
+fn lay_name(
+    rows: &[Row],
+    parts: &[Parts],
+    target: ValType,
+    steps: &mut Steps,
+) -> Result<Laid, LayoutError>
     requires below { IsTrue (is_below (length rows.now) target) }
     requires same { length parts.now ≡ length rows.now }
     requires sound { All IsSound rows.now }
@@ -380,9 +381,10 @@ fn lay_name(rows: &[Row], parts: &[Parts], target: ValType) -> Result<Laid, Layo
     ensures parts { IfOk result (λ x. x.parts ≡ Parts.Same (end_of parts.now target)) }
     ensures sound { IfOk result (λ x. IsSound x.row) }
     ensures within { IfOk result (λ x. IsLimited x.row) }
+    ensures steps { steps.new.count ≡ saturated (steps.old.count + 1) }
     ensures err { IfErr result (λ e. RefusesRow e (row_in rows.now target)) }
 {
-    let row = limited(row_in(rows, target))?;
+    let row = limited(look(rows, target, steps))?;
     Ok(Laid {
         row,
         parts: Parts::Same(end_of(parts, target)),
@@ -390,16 +392,17 @@ fn lay_name(rows: &[Row], parts: &[Parts], target: ValType) -> Result<Laid, Layo
 }
 
 /// A list of these elements.
-fn lay_list(rows: &[Row], element: ValType) -> Result<Laid, LayoutError>
+fn lay_list(rows: &[Row], element: ValType, steps: &mut Steps) -> Result<Laid, LayoutError>
     requires below { IsTrue (is_below (length rows.now) element) }
     requires sound { All IsSound rows.now }
     ensures row { IfOk result (λ x. x.row ≡ list_row (row_in rows.now element)) }
     ensures parts { IfOk result (λ x. x.parts ≡ Parts.List element) }
     ensures sound { IfOk result (λ x. IsSound x.row) }
     ensures within { IfOk result (λ x. IsLimited x.row) }
+    ensures steps { steps.new.count ≡ saturated (steps.old.count + 1) }
     ensures err { IfErr result (λ e. RefusesRow e (list_row (row_in rows.now element))) }
 {
-    let row = limited(block_row(deeper(depth_in(rows, element))))?;
+    let row = limited(block_row(deeper(look(rows, element, steps).depth)))?;
     Ok(Laid {
         row,
         parts: Parts::List(element),
@@ -412,6 +415,7 @@ fn lay_kind(
     rows: &[Row],
     parts: &[Parts],
     kind: &TypeDefKind,
+    steps: &mut Steps,
 ) -> Result<Laid, LayoutError>
     requires below { IsTrue (kind_below (length rows.now) kind.now) }
     requires same { length parts.now ≡ length rows.now }
@@ -420,18 +424,25 @@ fn lay_kind(
     ensures parts { IfOk result (λ x. x.parts ≡ kind_parts (extent_at rows.now) parts.now kind.now) }
     ensures sound { IfOk result (λ x. IsSound x.row) }
     ensures within { IfOk result (λ x. IsLimited x.row) }
+    ensures steps { IfOk result (λ x. steps.new.count ≡ saturated (steps.old.count + members_in kind.now)) }
     ensures err { IfErr result (λ e. RefusesRow e (kind_row rows.now kind.now)) }
 {
     match kind {
-        TypeDefKind::Use(target) => lay_name(rows, parts, ValType::Id(*target)),
-        TypeDefKind::Alias(target) => lay_name(rows, parts, *target),
-        TypeDefKind::List(element) => lay_list(rows, *element),
-        TypeDefKind::Option(payload) => lay_variant(alloc, rows, &[None, Some(*payload)]),
-        TypeDefKind::Result(ok, error) => lay_variant(alloc, rows, &[*ok, *error]),
-        TypeDefKind::Tuple(types) => lay_record(alloc, rows, types.as_slice()),
-        TypeDefKind::Record(fields) => lay_record(alloc, rows, fields.as_slice()),
-        TypeDefKind::Variant(cases) => lay_variant(alloc, rows, cases.as_slice()),
-        TypeDefKind::Enum(names) => lay_variant(alloc, rows, names.as_slice()),
+        TypeDefKind::Use(target) => lay_name(rows, parts, ValType::Id(*target), steps),
+        TypeDefKind::Alias(target) => lay_name(rows, parts, *target, steps),
+        TypeDefKind::List(element) => lay_list(rows, *element, steps),
+        TypeDefKind::Option(payload) => lay_variant(alloc, rows, &[None, Some(*payload)], steps),
+        TypeDefKind::Result(ok, error) => lay_variant(alloc, rows, &[*ok, *error], steps),
+        TypeDefKind::Tuple(types) => lay_members(alloc, rows, types.as_slice(), MAX_DEPTH, steps),
+        TypeDefKind::Record(fields) => lay_members(
+            alloc,
+            rows,
+            fields.as_slice(),
+            MAX_DEPTH,
+            steps,
+        ),
+        TypeDefKind::Variant(cases) => lay_variant(alloc, rows, cases.as_slice(), steps),
+        TypeDefKind::Enum(names) => lay_variant(alloc, rows, names.as_slice(), steps),
         TypeDefKind::Flags(labels) => Ok(Laid {
             row: flags_row(labels.len()),
             parts: Parts::Flags(labels.len()),
@@ -445,6 +456,7 @@ pub(crate) fn lay_definition(
     rows: &[Row],
     parts: &[Parts],
     definition: &Definition,
+    steps: &mut Steps,
 ) -> Result<Laid, LayoutError>
     requires below { IsTrue (definition_below (length rows.now) definition.now) }
     requires same { length parts.now ≡ length rows.now }
@@ -453,10 +465,20 @@ pub(crate) fn lay_definition(
     ensures parts { IfOk result (λ x. x.parts ≡ definition_parts (extent_at rows.now) parts.now definition.now) }
     ensures sound { IfOk result (λ x. IsSound x.row) }
     ensures within { IfOk result (λ x. IsLimitedDefinition definition.now x.row) }
+    ensures steps { IfOk result (λ x. steps.new.count ≡ saturated (steps.old.count + (1 + laid_in definition.now))) }
     ensures err { IfErr result (λ e. RefusesDefinition e definition.now (definition_row rows.now definition.now)) }
 {
+    steps.take_one();
     match definition {
-        Definition::Type(definition) => lay_kind(alloc, rows, parts, &definition.kind),
-        Definition::Function(function) => lay_members(alloc, rows, function.params.as_slice()),
+        Definition::Type(definition) => lay_kind(alloc, rows, parts, &definition.kind, steps),
+        Definition::Function(function) => {
+            lay_members(
+                alloc,
+                rows,
+                function.params.as_slice(),
+                MAX_DEPTH + 1,
+                steps,
+            )
+        }
     }
 }

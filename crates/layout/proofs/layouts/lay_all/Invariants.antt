@@ -1,5 +1,10 @@
+use Rattle.std.proofs.Common.{◌≡◌, ◌+◌, take}
+use Rattle.layout.specs.Work.{laid_work, saturated}
 use Rattle.layout.proofs.Laid.{LaidSoFar}
 use Rattle.layout.proofs.layouts.lay_all.Given as goal
 
 abbrev pub invariant-loop-definition : goal.invariant-loop-definition
-invariant-loop-definition l = LaidSoFar l.resolve l.definition-index l.rows.items l.parts.items
+invariant-loop-definition l = record {
+  laid : LaidSoFar l.resolve l.definition-index l.rows.items l.parts.items;
+  steps_are : l.steps.count ≡ saturated (l.initial.steps.count + laid_work (take l.definition-index l.definition-items));
+}

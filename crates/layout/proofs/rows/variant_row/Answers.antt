@@ -1,4 +1,6 @@
 use Rattle.std.proofs.Common.{◌≡◌, ◌+◌, ◌∷◌, [], ◌++◌, None, Some, take, get_or, arith, rules}
+use Rattle.std.proofs.lemmas.List.{length-append}
+use Rattle.layout.specs.declared.rows.Row.{Row}
 use Rattle.layout.specs.Parts.{payloads}
 use Rattle.layout.specs.Rows.{choices_at}
 use Rattle.layout.proofs.VariantLoop.{variant_more, choices_at-some, choices_at-none}
@@ -12,16 +14,22 @@ loop-case-preserved g c =
     let cases = c.args.cases.now in
     let i = c.loop-case.case-index in
     let d = c.case-item.result in
+    let so_far = c.loop-case.invariant.so_far in
     elim c.match-payload.branch [
       | in-Some w ↦
           let is : payload (get_or cases i d) ≡ Some w.in-Some.payload = cc in
-          let more : payloads (choices_at rows payload (take (i + 1) cases)) ≡ payloads (choices_at rows payload (take i cases)) ++ w.row_in-row.result ∷ [] =
-          rw w.row_in-row.ensures.value (choices_at-some rows payload cases i d w.in-Some.payload (omega arith) is) in
-          variant_more {rows = payloads (choices_at rows payload (take i cases))} {rows' = payloads (choices_at rows payload (take (i + 1) cases))} w.row_in-row.result c.loop-case.invariant w.row_in-row.ensures.sound more
-          (rw (w.depth-is) (search rules)) (rw (w.size-is) (search rules)) (rw w.align-is (search rules)) (rw w.kinds-is w.join-kinds.ensures)
+          let more : payloads (choices_at rows payload (take (i + 1) cases)) ≡ payloads (choices_at rows payload (take i cases)) ++ w.look-row.result ∷ [] =
+          rw w.look-row.ensures.value (choices_at-some rows payload cases i d w.in-Some.payload (omega arith) is) in
+          record {
+            so_far = variant_more {rows = payloads (choices_at rows payload (take i cases))} {rows' = payloads (choices_at rows payload (take (i + 1) cases))} w.look-row.result so_far w.look-row.ensures.sound more
+                (rw (w.depth-is) (search rules)) (rw (w.size-is) (search rules)) (rw w.align-is (search rules)) (rw w.kinds-is w.join-kinds.ensures);
+            steps_are = rw (w.steps-is, more) (omega (arith, length-append {A = Row}, w.look-row.ensures.steps, c.loop-case.invariant.steps_are));
+          }
       | in_default w ↦
           let is : payload (get_or cases i d) ≡ None = cc in
-          let so_far = c.loop-case.invariant in
           let more = choices_at-none rows payload cases i d (omega arith) is in
-          rw (more, w.depth-is, w.size-is, w.align-is, w.kinds-is) c.loop-case.invariant
+          record {
+            so_far = rw (more, w.depth-is, w.size-is, w.align-is, w.kinds-is) so_far;
+            steps_are = rw (more, w.steps-is) c.loop-case.invariant.steps_are;
+          }
     ]

@@ -1,9 +1,12 @@
-use Rattle.std.proofs.Common.{take}
+use Rattle.std.proofs.Common.{◌≡◌, ◌+◌, length, take}
 use Rattle.layout.specs.Parts.{payloads}
 use Rattle.layout.specs.Rows.{choices_at}
+use Rattle.layout.specs.Work.{saturated}
 use Rattle.layout.proofs.VariantLoop.{VariantSoFar}
 use Rattle.layout.proofs.rows.variant_row.Given as goal
 
 abbrev pub invariant-loop-case : goal.invariant-loop-case
-invariant-loop-case g l =
-    VariantSoFar (payloads (choices_at l.rows g.C.Choice.payload_of (take l.case-index l.cases))) l.depth l.size l.align l.kinds
+invariant-loop-case g l = record {
+  so_far : VariantSoFar (payloads (choices_at l.rows g.C.Choice.payload_of (take l.case-index l.cases))) l.depth l.size l.align l.kinds;
+  steps_are : l.steps.count ≡ saturated (l.initial.steps.count + length (payloads (choices_at l.rows g.C.Choice.payload_of (take l.case-index l.cases))));
+}

@@ -1,8 +1,10 @@
-use Rattle.std.proofs.Common.{[], arith, length, ap, ◌∙◌, sym}
+use Rattle.std.proofs.Common.{◌≡◌, refl, [], arith, length, ap, ◌∙◌, sym}
 use Rattle.std.proofs.lemmas.List.{length-map}
 use Rattle.canonical_abi.specs.Layout.{extent_of}
 use Rattle.tables.specs.Closed.{closed_types, closed_type}
 use Rattle.layout.specs.Layout.{result_of}
+use Rattle.layout.specs.Work.{saturated, total_work}
+use Rattle.layout.proofs.Steps.{work-split}
 use Rattle.layout.proofs.Agreement.{length-parts}
 use Rattle.layout.proofs.Table.{length-table}
 use Rattle.layout.proofs.layouts.Layouts.of.Goals as goal
@@ -17,3 +19,10 @@ invariant_of-result c =
       ap length c.in_ok-tables.ensures.parts ∙ length-parts (λ v. extent_of (closed_type r v)) [] r.definitions ∙ omega (arith, rows),
       c.in_ok-tables.ensures.ended,
     )
+
+pub returns-clause-ok : goal.returns-clause-ok
+returns-clause-ok c =
+    let r = c.args.resolve.now in
+    let work : c.all_results.new.steps.count ≡ saturated (total_work r.definitions) =
+    omega (arith, work-split r.definitions, c.in_ok-tables.ensures.steps, c.in_ok-results.ensures.steps, c.none-steps.ensures) in
+    rw (c.in_ok-tables.ensures.rows, c.in_ok-results.ensures.ok, c.in_ok-tables.ensures.parts, work) refl
