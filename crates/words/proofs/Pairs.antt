@@ -1,31 +1,9 @@
--- The words where no pair stands in front, and those behind the command.
-use Rattle.std.proofs.Common.{◌≡◌, ◌++◌, append_assoc, ◌+◌, ◌<◌, ◌≤◌, ℕ, Bor, false, List, [], ◌∷◌, String, length, slice_index_or, take, drop, min, string_bytes, codes, cond, refl, sym, ◌∙◌, ap, arith}
+-- The words behind the command.
+use Rattle.std.proofs.Common.{◌≡◌, ◌++◌, append_assoc, ◌+◌, ◌<◌, ℕ, Bor, List, [], ◌∷◌, String, length, slice_index_or, take, drop, min, string_bytes, sym, ◌∙◌, ap}
 use Rattle.std.proofs.lemmas.List.{drop-map, take-map, drop_min, take_min, map_more, map-append}
 use Rattle.std.proofs.Math.Nat.{min_comm}
-use Rattle.std.specs.Str.{bytes_eq}
 use Rattle.std.specs.Global.{Global}
-use Rattle.words.specs.Earlier.{with_files, behind_files, lent_texts, texts_of}
-
--- no pair stands in front
-abbrev pub NoPair : List (List ℕ) → Type 0
-NoPair words = (with_files words ≡ []) × (behind_files words ≡ words)
-
--- fewer than two words are none
-pub few_words : (words : List (String Global)) → length words < 2 → NoPair (texts_of words)
-few_words [] few = (refl, refl)
-few_words (word ∷ []) few = (refl, refl)
-few_words (word ∷ file ∷ rest) few = absurd (omega arith)
-
--- nor are words of which the first is another one
-pub other_word : (words : List (String Global)) (default : String Global) → 2 ≤ length words
-    → bytes_eq (string_bytes (slice_index_or words 0 default)) (codes "--with") ≡ false → NoPair (texts_of words)
-other_word [] default many other = absurd (omega arith)
-other_word (word ∷ []) default many other = absurd (omega arith)
-other_word (word ∷ file ∷ rest) default many other =
-    let texts = texts_of rest in (
-      ap (λ same. cond same (string_bytes file ∷ with_files texts) []) other,
-      ap (λ same. cond same (behind_files texts) (string_bytes word ∷ string_bytes file ∷ texts)) other,
-    )
+use Rattle.words.specs.Earlier.{lent_texts, texts_of}
 
 -- the texts behind a front of two words, or of all where there are fewer, and those of the front
 pub texts_behind : (words : List (String Global)) (front : ℕ) → front ≡ min (length words) 2

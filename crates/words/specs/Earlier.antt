@@ -1,5 +1,6 @@
 -- Which words name the earlier packages' files.
-use Rattle.std.specs.Prelude.{ℕ, List, [], ◌∷◌, ◌++◌, String, map, take, drop, codes, string_bytes, if◌then◌else◌}
+use Rattle.std.specs.Prelude.{◌≡◌, ℕ, List, [], ◌∷◌, ◌++◌, String, Option, Some, None, map, take, drop, codes, string_bytes, if◌then◌else◌}
+use Rattle.std.specs.Option.{option_map_or}
 use Rattle.std.specs.Str.{bytes_eq}
 use Rattle.std.specs.Global.{Global}
 use Rattle.std.specs.Borrow.{Bor}
@@ -10,16 +11,34 @@ texts_of = map string_bytes
 abbrev pub lent_texts : List (Bor (List ℕ)) → List (List ℕ)
 lent_texts = map (λ text. text.now)
 
--- the files of the pairs, the word `--with` and a file's, that the words begin with
+-- the file that a word `--with=FILE` names
+abbrev pub joined_file : List ℕ → Option (List ℕ)
+joined_file word = if bytes_eq (take 7 word) (codes "--with=") then Some (drop 7 word) else None
+
+-- the files that the words begin with, each by a pair `--with FILE` or a word `--with=FILE`
 abbrev pub with_files : List (List ℕ) → List (List ℕ)
-with_files (option ∷ file ∷ rest) = if bytes_eq option (codes "--with") then file ∷ with_files rest else []
-with_files words = []
+with_files [] = []
+with_files (word ∷ []) = option_map_or (λ file. file ∷ []) (joined_file word) []
+with_files (word ∷ next ∷ rest) =
+    if bytes_eq word (codes "--with") then next ∷ with_files rest
+    else option_map_or (λ file. file ∷ with_files (next ∷ rest)) (joined_file word) []
 
--- the words behind these pairs
+-- the words after these
 abbrev pub behind_files : List (List ℕ) → List (List ℕ)
-behind_files (option ∷ file ∷ rest) = if bytes_eq option (codes "--with") then behind_files rest else (option ∷ file ∷ rest)
-behind_files words = words
+behind_files [] = []
+behind_files (word ∷ []) = option_map_or (λ file. []) (joined_file word) (word ∷ [])
+behind_files (word ∷ next ∷ rest) =
+    if bytes_eq word (codes "--with") then behind_files rest
+    else option_map_or (λ file. behind_files (next ∷ rest)) (joined_file word) (word ∷ next ∷ rest)
 
--- the words without the pairs right behind the program's own name and the command
+-- the words begin with no file
+abbrev pub NamesNoFile : List (List ℕ) → Type 0
+NamesNoFile words = (with_files words ≡ []) × (behind_files words ≡ words)
+
+-- they begin with this file, and these words come after it
+abbrev pub NamesFile : List (List ℕ) → List ℕ → List (List ℕ) → Type 0
+NamesFile words file after = (with_files words ≡ file ∷ with_files after) × (behind_files words ≡ behind_files after)
+
+-- the words without the files right after the program's own name and the command
 abbrev pub other_words : List (List ℕ) → List (List ℕ)
 other_words words = take 2 words ++ behind_files (drop 2 words)

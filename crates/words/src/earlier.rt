@@ -1,11 +1,28 @@
-//! The earlier packages' files, which stand right behind the command as pairs `--with FILE`.
+//! The earlier packages' files, which stand right after the command, each as `--with FILE` or `--with=FILE`.
 
-ghost use Rattle.std.specs.Prelude.{◌≡◌, ◌++◌, IfOk, OnOk, drop};
-ghost use Rattle.words.specs.Earlier.{with_files, behind_files, other_words, texts_of, lent_texts};
+ghost use Rattle.std.specs.Prelude.{◌≡◌, ◌++◌, ◌<◌, IfOk, IfSome, MatchOption, OnOk, drop, length};
+ghost use Rattle.words.specs.Earlier.{with_files, behind_files, other_words, texts_of, lent_texts, NamesNoFile, NamesFile};
 
 use std::alloc::{AllocError, Global};
 
-/// The files that the front of the words names in pairs, and the words behind these.
+/// The file that the words begin with, and the words after it.
+fn file_in_front(words: &[String]) -> Option<(&str, &[String])>
+    ensures named { MatchOption result (NamesNoFile (texts_of words.now)) (λ parts. NamesFile (texts_of words.now) parts.0.now (texts_of parts.1.now)) }
+    ensures fewer { IfSome result (λ parts. length parts.1.now < length words.now) }
+{
+    let [word, after @ ..] = words else {
+        return None;
+    };
+    match after {
+        [file, rest @ ..] if word.as_str() == "--with" => Some((file.as_str(), rest)),
+        _ => match word.as_str().strip_prefix("--with=") {
+            Some(file) => Some((file, after)),
+            None => None,
+        },
+    }
+}
+
+/// The files that the words begin with, and the words after these.
 pub fn files_in_front(
     alloc: Global,
     words: &[String],
@@ -15,11 +32,8 @@ pub fn files_in_front(
 {
     let mut files = Vec::new(alloc);
     let mut behind = words;
-    while let [option, file, after @ ..] = behind {
-        if option.as_str() != "--with" {
-            break;
-        }
-        files.push(file.clone()?)?;
+    while let Some((file, after)) = file_in_front(behind) {
+        files.push(String::from_str(alloc, file)?)?;
         behind = after;
     }
     Ok((files, behind))
@@ -35,7 +49,7 @@ fn push_words<'a>(others: &mut Vec<&'a str>, words: &'a [String]) -> Result<(), 
     Ok(())
 }
 
-/// The earlier packages' files, and the words without the pairs that name them.
+/// The earlier packages' files, and the words without those that name them.
 pub fn parted(alloc: Global, words: &[String]) -> Result<(Vec<String>, Vec<&str>), AllocError>
     ensures files { IfOk result (λ parts. texts_of parts.0.items ≡ with_files (drop 2 (texts_of words.now))) }
     ensures others { IfOk result (λ parts. lent_texts parts.1.items ≡ other_words (texts_of words.now)) }

@@ -1,9 +1,14 @@
 //! Words by way of `clap`.
 
-ghost use Rattle.std.specs.Prelude.{◌≡◌, IfOk, IfErr, drop, string_bytes};
-ghost use Rattle.clap.specs.Words.{found_of};
-ghost use Rattle.words.specs.Asked.{IsAsked, IsWord, IsCommand, HasWord, earlier_of};
-ghost use Rattle.words.specs.Earlier.{with_files, texts_of};
+ghost use Rattle.std.specs.Prelude.{◌≡◌, IfOk, IfErr, [], drop, if◌then◌else◌, string_bytes};
+ghost use Rattle.clap.specs.Faults.{fault_of};
+ghost use Rattle.clap.specs.Simple.{app_of, subcommand_of, subcommand_rows_of, with_subcommand};
+ghost use Rattle.clap.specs.Values.{kind_of};
+ghost use Rattle.clap.specs.Walk.{rows_of};
+ghost use Rattle.clap.specs.Matches.{found_of};
+ghost use Rattle.words.specs.Asked.{IsAsked, IsAskedBy, IsWord, IsCommand, HasWord, NamesCommand, AreTaken, earlier_of};
+ghost use Rattle.words.specs.Earlier.{with_files, other_words, texts_of, lent_texts};
+ghost use Rattle.words.specs.Reader.{program_app, with_words};
 
 use crate::asked::{Command, Job};
 use crate::earlier::parted;
@@ -37,44 +42,58 @@ impl From<AllocError> for WordsError {
 }
 
 /// Reads the program's words, the first of which is its own name and the second its command. The
-/// earlier packages' files stand behind these in pairs `--with FILE`; `clap` reads the other words.
+/// earlier packages' files stand right after these, each as `--with FILE` or `--with=FILE`; `clap` reads the other words.
 /// Words that it refuses are `Usage`: a missing or an extra word, an unknown command, an option,
 /// `--help`.
 pub fn command(alloc: Global, words: &[String]) -> Result<Command, WordsError>
-    ensures { IfOk result (λ asked. earlier_of asked ≡ with_files (drop 2 (texts_of words.now))) }
+    ensures earlier { IfOk result (λ asked. earlier_of asked ≡ with_files (drop 2 (texts_of words.now))) }
+    ensures found { IfOk result (IsAskedBy (subcommand_of program_app (other_words (texts_of words.now)))) }
+    ensures faultless { IfOk result (λ _. fault_of program_app (other_words (texts_of words.now)) ≡ []) }
+    ensures taken { IfErr result (λ e. AreTaken (other_words (texts_of words.now)) → e ≡ WordsError.NoMemory) }
 {
     let (earlier, others) = parted(alloc, words)?;
     let parser = parser(alloc)?;
     match parser.try_get_matches_from(others.as_slice()) {
         Ok(matches) => command_of(alloc, &matches, earlier),
-        Err(error) => {
-            if error.kind() == ErrorKind::OutOfMemory {
-                Err(WordsError::NoMemory)
-            } else {
-                Err(WordsError::Usage)
-            }
-        }
+        Err(error) => Err(refusal(error.kind())),
     }
 }
 
-fn parser<'a>(alloc: Global) -> Result<clap::Command<'a>, AllocError> {
-    let mut parser = clap::Command::new(alloc, "witcall")
+/// Why `clap` refuses words: for memory, or for what they are.
+fn refusal(kind: ErrorKind) -> WordsError
+    ensures memory { kind ≡ ErrorKind.OutOfMemory → result ≡ WordsError.NoMemory }
+    ensures usage { result ≡ WordsError.NoMemory → kind ≡ ErrorKind.OutOfMemory }
+{
+    if kind == ErrorKind::OutOfMemory {
+        WordsError::NoMemory
+    } else {
+        WordsError::Usage
+    }
+}
+
+fn parser<'a>(alloc: Global) -> Result<clap::Command<'a>, AllocError>
+    ensures { IfOk result (λ parser. app_of parser ≡ program_app) }
+{
+    let parser = clap::Command::new(alloc, "witcall")
         .disable_help_flag(true)
         .disable_help_subcommand(true)
         .subcommand_required(true);
-    for name in ["show", "bin", "text", "layout"] {
-        parser = with_subcommand(alloc, parser, name, FILE.as_slice())?;
-    }
-    with_subcommand(alloc, parser, "call", CALL.as_slice())
+    let parser = adding(alloc, parser, "show", FILE.as_slice())?;
+    let parser = adding(alloc, parser, "bin", FILE.as_slice())?;
+    let parser = adding(alloc, parser, "text", FILE.as_slice())?;
+    let parser = adding(alloc, parser, "layout", FILE.as_slice())?;
+    adding(alloc, parser, "call", CALL.as_slice())
 }
 
 /// The parser with one more command, whose words are all required.
-fn with_subcommand<'a>(
+fn adding<'a>(
     alloc: Global,
     parser: clap::Command<'a>,
     name: &'a str,
     words: &[&'a str],
-) -> Result<clap::Command<'a>, AllocError> {
+) -> Result<clap::Command<'a>, AllocError>
+    ensures { IfOk result (λ more. app_of more ≡ with_subcommand (app_of parser.entry) (with_words name.now (lent_texts words.now))) }
+{
     let mut command = clap::Command::new(alloc, name).disable_help_flag(true);
     for word in words {
         command = command.arg(Arg::new(alloc, *word).required(true).action(ArgAction::Set))?;
@@ -87,7 +106,9 @@ fn command_of(
     matches: &ArgMatches<'_>,
     earlier: Vec<String>,
 ) -> Result<Command, WordsError>
-    ensures { IfOk result (λ asked. earlier_of asked ≡ texts_of earlier.items) }
+    ensures found { IfOk result (IsAskedBy (subcommand_rows_of matches.now)) }
+    ensures earlier { IfOk result (λ asked. earlier_of asked ≡ texts_of earlier.items) }
+    ensures taken { IfErr result (λ e. NamesCommand (subcommand_rows_of matches.now) → e ≡ WordsError.NoMemory) }
 {
     match matches.subcommand() {
         Some((name, words)) => asked(alloc, name, words, earlier),
@@ -102,9 +123,9 @@ fn asked(
     words: &ArgMatches<'_>,
     earlier: Vec<String>,
 ) -> Result<Command, WordsError>
-    ensures ok { IfOk result (IsAsked name.now (found_of words.now)) }
+    ensures ok { IfOk result (IsAsked name.now (rows_of (found_of words.now))) }
     ensures earlier { IfOk result (λ asked. earlier_of asked ≡ texts_of earlier.items) }
-    ensures answered { IfErr result (λ e. IsCommand name.now (found_of words.now) → e ≡ WordsError.NoMemory) }
+    ensures answered { IfErr result (λ e. IsCommand name.now (rows_of (found_of words.now)) → e ≡ WordsError.NoMemory) }
 {
     let job = match name {
         "show" => Job::Show,
@@ -132,8 +153,8 @@ fn asked(
 
 /// The word of a name, copied.
 fn word(alloc: Global, words: &ArgMatches<'_>, id: &str) -> Result<String, WordsError>
-    ensures found { IfOk result (λ text. IsWord (found_of words.now) id.now (string_bytes text)) }
-    ensures answered { IfErr result (λ e. HasWord (found_of words.now) id.now → e ≡ WordsError.NoMemory) }
+    ensures found { IfOk result (λ text. IsWord (rows_of (found_of words.now)) id.now (string_bytes text)) }
+    ensures answered { IfErr result (λ e. HasWord (rows_of (found_of words.now)) id.now → e ≡ WordsError.NoMemory) }
 {
     match words.get_str(id) {
         Some(text) => Ok(String::from_str(alloc, text)?),
