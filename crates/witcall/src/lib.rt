@@ -2,8 +2,8 @@
 //!
 //! `open` reads a package from its text or its binary, `open_set` one that uses others, and `Package::to_binary` and `Package::to_text` write it. `Session` carries typed
 //! calls between two components, `run_call` makes one call whose arguments and result are JSON, `run` does what needs a
-//! file alone, and `report` tells why something was refused. It stands on all layers below and shows their types;
-//! `Session::call` carries the promise of a call.
+//! file alone, and `report` tells why something was refused. `command` reads the words of a command line. It stands on all
+//! layers below and shows their types; `Session::call` carries the promise of a call.
 #![tactic(auto)]
 
 mod calling;
@@ -22,7 +22,8 @@ mod steps;
 mod typing;
 
 // What a host needs beside them, under one name.
-pub use adapter::{Body, BoxedBody, Export, Link, Stopped};
+pub use adapter::{Body, BoxedBody, Export, Link, Request, Stopped};
+pub use atoms::{Failed, Sink, Source, Watched};
 pub use calling::run_call;
 pub use canonical_abi::{
     CoreKind, Fault, Flat, Full, Guest, Honest, NotTaken, Step as TrapStep, Trap, TrapKind,
@@ -39,3 +40,5 @@ pub use resolve::{FunctionId, InterfaceId, Resolve, TypeId, ValType};
 pub use running::{run, run_set};
 pub use session::Session;
 pub use steps::{Answer, Held, Step, takes_steps};
+pub use words::asked::{Command, Job};
+pub use words::{WordsError, command};
