@@ -23,7 +23,7 @@ fn asked(alloc: Global, line: &str) -> Result<Result<Command, WordsError>, Fail>
     Ok(command(alloc, words.as_slice()))
 }
 
-static USAGE: [&str; 26] = [
+static USAGE: [&str; 25] = [
     "witcall",
     "witcall --help",
     "witcall -h",
@@ -50,7 +50,6 @@ static USAGE: [&str; 26] = [
     "witcall show --with",
     "witcall show --with d.wit --with",
     "witcall call --with c.wit a:b/c f [7] [8]",
-    "witcall show --with=d.wit c.wit",
     "witcall show --With d.wit c.wit",
 ];
 
@@ -76,7 +75,7 @@ fn usage(rt: HostRuntime) -> Result<(), Fail> {
 }
 
 /// Lines, and the earlier packages' files parted by spaces.
-static JOBS: [(&str, Job, &str); 13] = [
+static JOBS: [(&str, Job, &str); 15] = [
     ("witcall show c.wit", Job::Show, ""),
     ("witcall bin c.wit", Job::Bin, ""),
     ("witcall text c.wit", Job::Text, ""),
@@ -84,6 +83,8 @@ static JOBS: [(&str, Job, &str); 13] = [
     ("witcall show -- c.wit", Job::Show, ""),
     ("another-name show c.wit", Job::Show, ""),
     ("witcall show --with d.wit c.wit", Job::Show, "d.wit"),
+    ("witcall show --with=d.wit c.wit", Job::Show, "d.wit"),
+    ("witcall bin --with=d --with e c.wit", Job::Bin, "d e"),
     ("witcall bin --with d --with e c.wit", Job::Bin, "d e"),
     ("witcall text --with e --with d c.wit", Job::Text, "e d"),
     ("witcall layout --with d --with d c.wit", Job::Layout, "d d"),
