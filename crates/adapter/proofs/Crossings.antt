@@ -12,6 +12,7 @@ use Rattle.canonical_abi.specs.Call.{area_of, argument_flats, KindsFit}
 use Rattle.canonical_abi.specs.declared.flat.CoreKind.{CoreKind}
 use Rattle.canonical_abi.specs.declared.flat.CoreKind.TheVariants as kind
 use Rattle.canonical_abi.specs.declared.flat.Flat.{Flat}
+use Rattle.canonical_abi.specs.declared.trap.Fault.{Fault}
 use Rattle.canonical_abi.specs.declared.trap.Fault.TheVariants as ended
 use Rattle.canonical_abi.specs.declared.trap.Step.TheVariants as step
 use Rattle.canonical_abi.specs.declared.trap.TrapKind.{TrapKind}
@@ -21,6 +22,7 @@ use Rattle.crossing.specs.declared.stopped.Stopped.{Stopped}
 use Rattle.crossing.specs.declared.stopped.Stopped.TheVariants as stopped
 use Rattle.canonical_abi.specs.Halves.{counted_nodes, source, world, HasEntered, EntryFails, HasReturned, ReturnFails}
 use Rattle.adapter.specs.Faults.{fault_in}
+use Rattle.adapter.specs.Leaving.{LeaveFails}
 
 -- the flat value behind those of the arguments
 pub area-is : (f : FunctionType) (flats : List Flat) (area count : ℕ) (s : CoreSignature) → area ≡ low_bits (map number_of flats) count 32 → count ≡ length s.params → s ≡ lifted_signature f
@@ -150,3 +152,9 @@ module _ (allocates : Allocation) (f : FunctionType) (flats : List Flat) (caller
     result-ends n (Err (stopped.Source k)) caller' c back fresh small (inr (final, u)) = bad-result answer n caller' c fresh small k final u
     result-ends n (Err (stopped.Target k)) caller' c back fresh small (inl (bad, none)) = bad-area answer n caller' c fresh small k bad none
     result-ends n (Err (stopped.Target k)) caller' c back fresh small (inr (final, u)) = no-room-back answer n caller' c fresh small k final u
+
+-- where the caller's kinds were tested before, the answer did not return
+pub return-fails : (allocates : Allocation) (f : FunctionType) (flats : List Flat) (m : List ℕ) (answer : List Flat) (old : Memory) (fault : Fault) (new : Memory) (c : ℕ) → KindsFit f flats
+    → LeaveFails allocates f flats m answer old fault new c → ReturnFails allocates f flats m answer old fault new c
+return-fails allocates f flats m answer old fault new c kinds (inl (others, is, same, none)) = absurd (others kinds)
+return-fails allocates f flats m answer old fault new c kinds (inr (own, fails)) = fails
