@@ -123,7 +123,8 @@ witcall_status witcall_leave_requests(witcall_package *package, uint32_t func, c
                                       uint8_t *callee, size_t callee_len, witcall_request *requests, size_t requests_len);
 
 /* Puts what the core function answered into the caller's blocks and its return area: count values for the caller. flats are those
- * that witcall_enter was given. The callee is only read. back has room for WITCALL_MAX_VALUES. */
+ * that witcall_enter was given: if their number or their kinds are not the function's, this is K8 in step WITCALL_LOWER_RESULT, and no
+ * byte is written. The callee is only read. back has room for WITCALL_MAX_VALUES. */
 witcall_status witcall_leave(witcall_package *package, uint32_t func, const witcall_value *flats, size_t flats_len,
                              const witcall_value *answer, size_t answer_len, uint8_t *callee, size_t callee_len,
                              uint8_t *caller, size_t caller_len, const witcall_block *blocks, size_t blocks_len,

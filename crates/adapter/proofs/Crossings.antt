@@ -12,16 +12,17 @@ use Rattle.canonical_abi.specs.Call.{area_of, argument_flats, KindsFit}
 use Rattle.canonical_abi.specs.declared.flat.CoreKind.{CoreKind}
 use Rattle.canonical_abi.specs.declared.flat.CoreKind.TheVariants as kind
 use Rattle.canonical_abi.specs.declared.flat.Flat.{Flat}
+use Rattle.canonical_abi.specs.declared.trap.Fault.{Fault}
 use Rattle.canonical_abi.specs.declared.trap.Fault.TheVariants as ended
 use Rattle.canonical_abi.specs.declared.trap.Step.TheVariants as step
 use Rattle.canonical_abi.specs.declared.trap.TrapKind.{TrapKind}
-use Rattle.canonical_abi.proofs.Stopped.{leaves-none}
 use Rattle.crossing.specs.Outcome.{Counts, IsDone, MetFault, WasRefused}
 use Rattle.crossing.specs.Ways.{ParamsWalk, ResultWalk, AreaIsBad, IsUnbegun, WayEnds}
 use Rattle.crossing.specs.declared.stopped.Stopped.{Stopped}
 use Rattle.crossing.specs.declared.stopped.Stopped.TheVariants as stopped
 use Rattle.canonical_abi.specs.Halves.{counted_nodes, source, world, HasEntered, EntryFails, HasReturned, ReturnFails}
 use Rattle.adapter.specs.Faults.{fault_in}
+use Rattle.adapter.specs.Leaving.{LeaveFails}
 
 -- the flat value behind those of the arguments
 pub area-is : (f : FunctionType) (flats : List Flat) (area count : ℕ) (s : CoreSignature) → area ≡ low_bits (map number_of flats) count 32 → count ≡ length s.params → s ≡ lifted_signature f
@@ -63,7 +64,7 @@ module _ (allocates : Allocation) (f : FunctionType) (flats : List Flat) (m : Li
     bad-argument : (k : TrapKind) (final : List Flat) → KindsFit f flats → MetFault allocates (ParamsWalk max_flat_params f.params m (argument_flats f flats) final) callee n k callee' c
         → EntryFails allocates f flats m callee (ended.Trap (record { kind = k; step = step.LiftArgs })) callee' c
     bad-argument k final kinds u =
-        inl (refl, u.events, inr (inr (kinds, u.events, u.scripted, refl, (u.events, leaves-none u.events, u.leads), refl, refl)), counted u.events u.counted)
+        inl (refl, u.events, inr (inr (kinds, u.events, u.scripted, refl, (u.events, refl, u.leads), refl, refl)), counted u.events u.counted)
 
     -- the callee has no room for them
     no-room : (k : TrapKind) (final : List Flat) → KindsFit f flats → WasRefused allocates (ParamsWalk max_flat_params f.params m (argument_flats f flats) final) callee n k callee' c
@@ -73,9 +74,9 @@ module _ (allocates : Allocation) (f : FunctionType) (flats : List Flat) (m : Li
         by : (o : Option TrapKind) → ParamsWalk max_flat_params f.params m (argument_flats f flats) final o (u.done ++ grant u.next ∷ u.rest)
             → EntryFails allocates f flats m callee (ended.Trap (record { kind = k; step = step.LowerArgs })) callee' c
         by None (vs, denoted, passes) =
-            inr (refl, u.done, (kinds, u.done ++ grant u.next ∷ u.rest, inl (vs, final, denoted, passes), (u.done, u.done, u.rest, u.next, u.asked, refl, leaves-none u.done, u.leads, u.fails), refl, refl, refl), counted u.done u.counted)
+            inr (refl, u.done, (kinds, u.done ++ grant u.next ∷ u.rest, inl (vs, final, denoted, passes), (u.done, u.done, u.rest, u.next, u.asked, refl, refl, u.leads, u.fails), refl, refl, refl), counted u.done u.counted)
         by (Some j) stops =
-            inr (refl, u.done, (kinds, u.done ++ grant u.next ∷ u.rest, inr (j, stops), (u.done, u.done, u.rest, u.next, u.asked, refl, leaves-none u.done, u.leads, u.fails), refl, refl, refl), counted u.done u.counted)
+            inr (refl, u.done, (kinds, u.done ++ grant u.next ∷ u.rest, inr (j, stops), (u.done, u.done, u.rest, u.next, u.asked, refl, refl, u.leads, u.fails), refl, refl, refl), counted u.done u.counted)
 
   -- what the end of the arguments' way says of the call
   abbrev pub EndsArguments : Memory → ℕ → List Flat → Result (Unit {0}) Stopped → Type 0
@@ -116,7 +117,7 @@ module _ (allocates : Allocation) (f : FunctionType) (flats : List Flat) (caller
     bad-result : (k : TrapKind) (final : List Flat) → MetFault allocates (ResultWalk max_flat_results fs m answer (area_of f flats) caller.bytes final) caller n k caller' c
         → ReturnFails allocates f flats m answer caller (ended.Trap (record { kind = k; step = step.LiftResult })) caller' c
     bad-result k final u =
-        inl (refl, u.events, inr (u.scripted.0, u.events, u.scripted.1, refl, (u.events, leaves-none u.events, u.leads), refl, refl), counted-back u.events u.counted)
+        inl (refl, u.events, inr (u.scripted.0, u.events, u.scripted.1, refl, (u.events, refl, u.leads), refl, refl), counted-back u.events u.counted)
 
     -- the return area is
     bad-area : (k : TrapKind) → AreaIsBad max_flat_results fs m answer (area_of f flats) caller.bytes k → IsUnbegun caller n caller' c
@@ -131,9 +132,9 @@ module _ (allocates : Allocation) (f : FunctionType) (flats : List Flat) (caller
         by : (o : Option TrapKind) → ResultWalk max_flat_results fs m answer (area_of f flats) caller.bytes final o (u.done ++ grant u.next ∷ u.rest)
             → ReturnFails allocates f flats m answer caller (ended.Trap (record { kind = k; step = step.LowerResult })) caller' c
         by None (stands, vs, denoted, passes) =
-            inr (refl, u.done, inr (stands, u.done ++ grant u.next ∷ u.rest, inl (vs, final, denoted, passes), (u.done, u.done, u.rest, u.next, u.asked, refl, leaves-none u.done, u.leads, u.fails), refl, refl, refl), counted-back u.done u.counted)
+            inr (refl, u.done, inr (stands, u.done ++ grant u.next ∷ u.rest, inl (vs, final, denoted, passes), (u.done, u.done, u.rest, u.next, u.asked, refl, refl, u.leads, u.fails), refl, refl, refl), counted-back u.done u.counted)
         by (Some j) (stands, stops) =
-            inr (refl, u.done, inr (stands, u.done ++ grant u.next ∷ u.rest, inr (j, stops), (u.done, u.done, u.rest, u.next, u.asked, refl, leaves-none u.done, u.leads, u.fails), refl, refl, refl), counted-back u.done u.counted)
+            inr (refl, u.done, inr (stands, u.done ++ grant u.next ∷ u.rest, inr (j, stops), (u.done, u.done, u.rest, u.next, u.asked, refl, refl, u.leads, u.fails), refl, refl, refl), counted-back u.done u.counted)
 
   module _ (answer : List Flat) where
     -- what the end of the result's way says of the call
@@ -151,3 +152,9 @@ module _ (allocates : Allocation) (f : FunctionType) (flats : List Flat) (caller
     result-ends n (Err (stopped.Source k)) caller' c back fresh small (inr (final, u)) = bad-result answer n caller' c fresh small k final u
     result-ends n (Err (stopped.Target k)) caller' c back fresh small (inl (bad, none)) = bad-area answer n caller' c fresh small k bad none
     result-ends n (Err (stopped.Target k)) caller' c back fresh small (inr (final, u)) = no-room-back answer n caller' c fresh small k final u
+
+-- where the caller's kinds were tested before, the answer did not return
+pub return-fails : (allocates : Allocation) (f : FunctionType) (flats : List Flat) (m : List ℕ) (answer : List Flat) (old : Memory) (fault : Fault) (new : Memory) (c : ℕ) → KindsFit f flats
+    → LeaveFails allocates f flats m answer old fault new c → ReturnFails allocates f flats m answer old fault new c
+return-fails allocates f flats m answer old fault new c kinds (inl (others, is, same, none)) = absurd (others kinds)
+return-fails allocates f flats m answer old fault new c kinds (inr (own, fails)) = fails

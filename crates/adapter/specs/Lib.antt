@@ -2,3 +2,4 @@ pub mod Asked
 pub mod Carrying
 pub mod Faults
 pub mod Linked
+pub mod Leaving

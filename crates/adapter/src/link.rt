@@ -4,7 +4,7 @@ ghost use Rattle.asking.specs.Asking.{IsToldAhead};
 ghost use Rattle.canonical_abi.specs.Call.{Calls, Ways, exact, AllowsSameRuns, AllowsSamePosts, KindsFit};
 ghost use Rattle.canonical_abi.specs.Few.{AreFewNodes};
 ghost use Rattle.canonical_abi.specs.Flat.{Denotes, DenotesFault};
-ghost use Rattle.canonical_abi.specs.Halves.{HasEntered, EntryFails, HasReturned, ReturnFails};
+ghost use Rattle.canonical_abi.specs.Halves.{HasEntered, EntryFails, HasReturned};
 ghost use Rattle.canonical_abi.specs.Headline.{IsLinkPromised, AreArguments, IsArgumentFault};
 ghost use Rattle.canonical_abi.specs.Layout.{max_flat_params, max_flat_results};
 ghost use Rattle.canonical_abi.specs.Requests.{params_requests, fields_requests};
@@ -14,6 +14,7 @@ ghost use Rattle.tables.specs.Closed.{function_type, IsFunction};
 ghost use Rattle.layout.specs.Layout.{layouts_of, AreWithin};
 ghost use Rattle.adapter.specs.Asked.{IsTrapIn};
 ghost use Rattle.adapter.specs.Carrying.{answer_of};
+ghost use Rattle.adapter.specs.Leaving.{LeaveFails};
 ghost use Rattle.adapter.specs.Linked.{TellsNodes};
 
 use crate::arguments::pass_arguments;
@@ -152,9 +153,10 @@ impl<'a> Link<'a> {
     }
 
     /// The second half: what the core function answered is lifted from the callee, which is only read, and lowered into the
-    /// caller. Puts the flat values for the caller into `back`, whatever that held. `flats` are those that `enter` was given. A
-    /// fault is in `lift-result` or `lower-result`; then `back` says nothing, and post-return isn't run. `nodes` then tells the nodes
-    /// of this half beside those that it told.
+    /// caller. Puts the flat values for the caller into `back`, whatever that held. `flats` are those that `enter` was given. Their
+    /// kinds are tested first: K8 in `lower-result` if they are not those of the function, with nothing asked for and no byte
+    /// written. A fault is in `lift-result` or `lower-result`; then `back` says nothing, and post-return isn't run. `nodes` then
+    /// tells the nodes of this half beside those that it told.
     /// Takes no memory of the host.
     pub fn leave<C: Guest, E: Guest>(
         &mut self,
@@ -168,7 +170,8 @@ impl<'a> Link<'a> {
         requires function { IsFunction self.old.resolve func }
         ensures returned { OnOk result (HasReturned C.allocates (function_type self.old.resolve func) flats.now (E.memory callee.now).bytes answer.now
             (C.memory caller.old) back.new.items (C.memory caller.new) self.new.back) }
-        ensures fault { IfErr result (λ fault. ReturnFails C.allocates (function_type self.old.resolve func) flats.now (E.memory callee.now).bytes answer.now
+        ensures kinds { OnOk result (KindsFit (function_type self.old.resolve func) flats.now) }
+        ensures fault { IfErr result (λ fault. LeaveFails C.allocates (function_type self.old.resolve func) flats.now (E.memory callee.now).bytes answer.now
             (C.memory caller.old) fault (C.memory caller.new) self.new.back) }
         ensures no_memory { result ≢ Err Fault.NoMemory }
         ensures no_shorter { OnOk result (length (C.memory caller.old).bytes ≤ length (C.memory caller.new).bytes) }

@@ -1,9 +1,11 @@
 //! The second way of a call: the result, from the callee into the caller.
 ghost use Rattle.std.specs.Prelude.{◌≡◌, ◌≤◌, [], length, map, OnOk, IfErr};
 ghost use Rattle.canonical_abi.specs.Reading.{low_bits, number_of};
-ghost use Rattle.canonical_abi.specs.Halves.{HasReturned, ReturnFails};
+ghost use Rattle.canonical_abi.specs.Call.{KindsFit};
+ghost use Rattle.canonical_abi.specs.Halves.{HasReturned};
 ghost use Rattle.layout.specs.Layout.{AreWithin};
 ghost use Rattle.tables.specs.Closed.{IsFunction, function_type};
+ghost use Rattle.adapter.specs.Leaving.{LeaveFails};
 
 use crate::fault::{fault_of, trap};
 use canonical_abi::{Fault, Flat, Guest, Step, TrapKind};
@@ -12,8 +14,8 @@ use lift_lower::{Flats, Types, are_kinds, low_word};
 use tables::FunctionId;
 
 /// Puts the body's answer, as the callee holds it, into the caller: the flat values that carry it there into `back`, where there
-/// were none, and in `nodes` how many nodes were visited, those up to the fault where there was one. The kinds of its flat values
-/// come first. Takes no memory of the host.
+/// were none, and in `nodes` how many nodes were visited, those up to the fault where there was one. The kinds of the caller's flat
+/// values come first, and then those of the answer. Takes no memory of the host.
 pub(crate) fn pass_answer<C: Guest, E: Guest>(
     table: &Types,
     func: FunctionId,
@@ -30,11 +32,16 @@ pub(crate) fn pass_answer<C: Guest, E: Guest>(
     requires fresh { nodes.old ≡ 0 }
     ensures returned { OnOk result (HasReturned C.allocates (function_type table.now func) flats.now (E.memory callee.now).bytes answer.now
         (C.memory caller.old) back.new.items (C.memory caller.new) nodes.new) }
-    ensures fault { IfErr result (λ fault. ReturnFails C.allocates (function_type table.now func) flats.now (E.memory callee.now).bytes answer.now
+    ensures kinds { OnOk result (KindsFit (function_type table.now func) flats.now) }
+    ensures fault { IfErr result (λ fault. LeaveFails C.allocates (function_type table.now func) flats.now (E.memory callee.now).bytes answer.now
         (C.memory caller.old) fault (C.memory caller.new) nodes.new) }
     ensures no_shorter { OnOk result (length (C.memory caller.old).bytes ≤ length (C.memory caller.new).bytes) }
 {
-    let signature = table.layouts().lifted(func);
+    let layouts = table.layouts();
+    if !are_kinds(layouts.lowered(func).params.as_slice(), flats) {
+        return Err(trap(TrapKind::CoreSignature, Step::LowerResult));
+    }
+    let signature = layouts.lifted(func);
     if !are_kinds(signature.result.as_slice(), answer) {
         return Err(trap(TrapKind::CoreSignature, Step::LiftResult));
     }

@@ -1,6 +1,6 @@
 -- CanonicalABI.md, "canon lift" and "canon lower": what is told of a half of a call between memories of a host's own, and why it is not.
 use Rattle.std.specs.Prelude.{◌≡◌, ◌⊎◌, ◌<◌, ◌≤◌, ℕ, false, List, map, drop, length, Result, MatchResult}
-use Rattle.canonical_abi.specs.Call.{area_of}
+use Rattle.canonical_abi.specs.Call.{KindsFit, area_of}
 use Rattle.canonical_abi.specs.Headline.{AreArguments, IsArgumentFault, LendsArea, area_size}
 use Rattle.canonical_abi.specs.Flat.{Denotes, DenotesFault}
 use Rattle.canonical_abi.specs.Requests.{params_requests, fields_requests}
@@ -18,7 +18,7 @@ use Rattle.adapter.specs.Asked.{IsTrapIn}
 use Rattle.lending.specs.Halves.{EntersLent, EntryOfLentFails, ReturnsLent, ReturnOfLentFails}
 use Rattle.lending.specs.Values.{flat_of, HoldsFlats}
 use Rattle.lending.specs.declared.value.Value.{Value}
-use Rattle.memory.specs.Blocks.{can_lend}
+use Rattle.memory.specs.Blocks.{can_lend, rise}
 use Rattle.memory.specs.Lent.{lent}
 use Rattle.memory.specs.declared.block.Block.{Block}
 use Rattle.host_calls.specs.declared.error.CallError.{CallError}
@@ -55,7 +55,7 @@ EnterRefuses f flats caller old blocks handed (error.Fault fault) new =
     (AreTooMany flats LiftArgs (error.Fault fault) × (new ≡ old)) ⊎ EntryOfLentFails f (map flat_of flats) caller old blocks fault new
 EnterRefuses f flats caller old blocks handed (error.NoRoom count) new = (count ≡ 17) × (length handed < 17) × (new ≡ old)
 EnterRefuses f flats caller old blocks handed error.BadBlock new = IsBadBlock caller old nowhere blocks × (new ≡ old)
-EnterRefuses f flats caller old blocks handed error.NoMemory new = new ≡ old
+EnterRefuses f flats caller old blocks handed error.NoMemory new = (rise 0 blocks ≡ false) × (new ≡ old)
 EnterRefuses f flats caller old blocks handed error.NoFunction new = ⊥
 EnterRefuses f flats caller old blocks handed error.NotOpen new = ⊥
 
@@ -66,7 +66,7 @@ LeaveRefuses f flats callee answer old blocks back (error.Fault fault) new =
     ⊎ (KeepsArea f (map flat_of flats) old blocks × ReturnOfLentFails f (map flat_of flats) callee (map flat_of answer) old blocks fault new)
 LeaveRefuses f flats callee answer old blocks back (error.NoRoom count) new = (count ≡ 17) × (length back < 17) × (new ≡ old)
 LeaveRefuses f flats callee answer old blocks back error.BadBlock new = IsBadBlock callee old (area_block f (map flat_of flats)) blocks × (new ≡ old)
-LeaveRefuses f flats callee answer old blocks back error.NoMemory new = new ≡ old
+LeaveRefuses f flats callee answer old blocks back error.NoMemory new = (rise 0 blocks ≡ false) × (new ≡ old)
 LeaveRefuses f flats callee answer old blocks back error.NoFunction new = ⊥
 LeaveRefuses f flats callee answer old blocks back error.NotOpen new = ⊥
 
@@ -79,7 +79,7 @@ EnterDone f flats caller old blocks handed done new handed' = MatchResult done
 -- the second half, with the caller
 abbrev pub LeaveDone : FunctionType → List Value → List ℕ → List Value → List ℕ → List Block → List Value → Result ℕ CallError → List ℕ → List Value → Type 0
 LeaveDone f flats callee answer old blocks back done new back' = MatchResult done
-    (λ count. (given : List Flat) × TellsFlats back back' count given × KeepsArea f (map flat_of flats) old blocks
+    (λ count. (given : List Flat) × TellsFlats back back' count given × KindsFit f (map flat_of flats) × KeepsArea f (map flat_of flats) old blocks
     × ReturnsLent f (map flat_of flats) callee (map flat_of answer) old blocks given new)
     (λ e. LeaveRefuses f flats callee answer old blocks back e new × (back' ≡ back))
 

@@ -1,10 +1,10 @@
 //! The return area that a caller gives.
-ghost use Rattle.std.specs.Prelude.{◌≡◌, map, IfOk};
+ghost use Rattle.std.specs.Prelude.{◌≡◌, false, map, IfOk, IfErr};
 ghost use Rattle.canonical_abi.specs.Headline.{area_size};
 ghost use Rattle.canonical_abi.specs.Reading.{low_bits, number_of};
 ghost use Rattle.layout.specs.Layout.{AreWithin};
 ghost use Rattle.tables.specs.Closed.{IsFunction, function_type};
-ghost use Rattle.memory.specs.Blocks.{can_lend};
+ghost use Rattle.memory.specs.Blocks.{can_lend, rise};
 ghost use Rattle.host_calls.specs.Calling.{area_block};
 
 use canonical_abi::Flat;
@@ -64,7 +64,8 @@ pub fn can_return(
 ) -> Result<bool, AllocError>
     requires within { ∥ AreWithin types.now ∥₁ }
     requires function { IsFunction types.now func }
-    ensures { IfOk result (λ can. can ≡ can_lend len (area_block (function_type types.now func) flats.now) blocks.now) }
+    ensures can { IfOk result (λ can. can ≡ can_lend len (area_block (function_type types.now func) flats.now) blocks.now) }
+    ensures memory { IfErr result (λ _. rise 0 blocks.now ≡ false) }
 {
     if blocks.is_empty() {
         // There is none that could meet it.

@@ -100,7 +100,7 @@ fn enter_flats(
 /// The first half of a call: puts the arguments into the callee's blocks, and tells the core values for its core function at the front of
 /// `handed`, which has room for 17 whatever the function. Answers how many they are. `flats` are those of a whole call, the return area's address
 /// behind the arguments. The caller is only read. 71 where there is no room, 72 where the blocks can't be handed out or the caller
-/// has 2^32 bytes or more, 66 where no memory is left to test many blocks; else a trap.
+/// has 2^32 bytes or more, 66 where the blocks don't rise and no memory is left to test them; else a trap.
 pub fn enter(
     alloc: Global,
     types: &Types,
@@ -202,8 +202,9 @@ fn leave_answer(
 }
 
 /// The second half: puts what the core function answered into the caller's blocks and its return area, and tells the core values for the caller at
-/// the front of `back`, which has room for 17. Answers how many they are. `flats` are those that the first half was given. The callee is
-/// only read. Refused as the first half is, and by 72, too, where a block meets the return area.
+/// the front of `back`, which has room for 17. Answers how many they are. `flats` are those that the first half was given; if they are
+/// not of the function's kinds, this is K8 in `lower-result`, before a byte is written. The callee is only read. Refused as the first
+/// half is, and by 72, too, where a block meets the return area.
 pub fn leave(
     alloc: Global,
     types: &Types,

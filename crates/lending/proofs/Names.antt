@@ -2,10 +2,11 @@
 use Rattle.std.proofs.Common.{◌≡◌, ℕ, List, ◌∷◌, Result, Ok, Err, OnOk, IfErr, inl, inr, refl, sym, ap, subst}
 use Rattle.canonical_abi.specs.Types.{FunctionType}
 use Rattle.canonical_abi.specs.Guest.{Memory}
-use Rattle.canonical_abi.specs.Halves.{HasEntered, EntryFails, HasReturned, ReturnFails}
+use Rattle.canonical_abi.specs.Halves.{HasEntered, EntryFails, HasReturned}
 use Rattle.canonical_abi.specs.declared.flat.Flat.{Flat}
 use Rattle.canonical_abi.specs.declared.trap.Fault.{Fault}
 use Rattle.canonical_abi.specs.declared.trap.Fault.TheVariants.{Trap, NoMemory}
+use Rattle.adapter.specs.Leaving.{LeaveFails}
 use Rattle.memory.specs.Lent.{numbers, lent, LentAllocates}
 use Rattle.memory.specs.declared.block.Block.{Block}
 use Rattle.memory.proofs.LentNames.{IsNamed, trace_keeps, begun_keeps, break_keeps}
@@ -25,12 +26,13 @@ module _ (f : FunctionType) (flats : List Flat) (m : List ℕ) (old new : Memory
   return_keeps : (answer given : List Flat) → HasReturned LentAllocates f flats m answer old given new count → IsNamed name old → IsNamed name new
   return_keeps answer given (values, back, returns, is) named = trace_keeps back old new name returns.leads named
 
-  failed_return_keeps : (answer : List Flat) (fault : Fault) → ReturnFails LentAllocates f flats m answer old fault new count → IsNamed name old → IsNamed name new
-  failed_return_keeps answer (Trap t) (inl (step, done, inl (address, none, same), is)) named = subst (λ w. IsNamed name w.caller) (sym same) named
-  failed_return_keeps answer (Trap t) (inl (step, done, inr (stands, es, until, part, begun, callee, body), is)) named = begun_keeps done old new name begun named
-  failed_return_keeps answer (Trap t) (inr (step, done, inl (stands, area, none, same), is)) named = subst (λ w. IsNamed name w.caller) (sym same) named
-  failed_return_keeps answer (Trap t) (inr (step, done, inr (area, es, script, breaks, part, callee, body), is)) named = break_keeps es t.kind old new name breaks named
-  failed_return_keeps answer NoMemory h named = absurd h
+  failed_return_keeps : (answer : List Flat) (fault : Fault) → LeaveFails LentAllocates f flats m answer old fault new count → IsNamed name old → IsNamed name new
+  failed_return_keeps answer fault (inl (others, is, same, none)) named = subst (IsNamed name) (sym same) named
+  failed_return_keeps answer (Trap t) (inr (kinds, inl (step, done, inl (address, none, same), is))) named = subst (λ w. IsNamed name w.caller) (sym same) named
+  failed_return_keeps answer (Trap t) (inr (kinds, inl (step, done, inr (stands, es, until, part, begun, callee, body), is))) named = begun_keeps done old new name begun named
+  failed_return_keeps answer (Trap t) (inr (kinds, inr (step, done, inl (stands, area, none, same), is))) named = subst (λ w. IsNamed name w.caller) (sym same) named
+  failed_return_keeps answer (Trap t) (inr (kinds, inr (step, done, inr (area, es, script, breaks, part, callee, body), is))) named = break_keeps es t.kind old new name breaks named
+  failed_return_keeps answer NoMemory (inr (kinds, never)) named = absurd never
 
 named_lent : (old : Memory) (name : ℕ) (bytes : List ℕ) (blocks : List Block) → old ≡ lent name bytes blocks → IsNamed name old
 named_lent old name bytes blocks is = (numbers blocks, ap (λ memory. memory.state) is)
@@ -85,7 +87,7 @@ module _ (f : FunctionType) (flats : List Flat) (m n : List ℕ) (old : Memory) 
       )
   returned answer given (Err fault) h = tt
 
-  pub not_returned : (answer : List Flat) (result : Result (Unit {0}) Fault) → IfErr result (λ fault. ReturnFails LentAllocates f flats n answer old fault (lent other after rest) count)
+  pub not_returned : (answer : List Flat) (result : Result (Unit {0}) Fault) → IfErr result (λ fault. LeaveFails LentAllocates f flats n answer old fault (lent other after rest) count)
       → IfErr result (λ fault. ReturnOfLentFails f flats m answer before blocks fault now)
   not_returned answer (Ok _) h = tt
   not_returned answer (Err fault) h =
@@ -94,6 +96,6 @@ module _ (f : FunctionType) (flats : List Flat) (m n : List ℕ) (old : Memory) 
         name,
         count,
         rest,
-        subst (λ x. ReturnFails LentAllocates f flats x answer (lent name before blocks) fault (lent name now rest) count) read
-            (subst (λ x. ReturnFails LentAllocates f flats n answer x fault (lent name now rest) count) is (subst (λ x. ReturnFails LentAllocates f flats n answer old fault x count) e h)),
+        subst (λ x. LeaveFails LentAllocates f flats x answer (lent name before blocks) fault (lent name now rest) count) read
+            (subst (λ x. LeaveFails LentAllocates f flats n answer x fault (lent name now rest) count) is (subst (λ x. LeaveFails LentAllocates f flats n answer old fault x count) e h)),
       )

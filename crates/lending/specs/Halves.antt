@@ -2,9 +2,10 @@
 -- have granted before.
 use Rattle.std.specs.Prelude.{ℕ, List}
 use Rattle.canonical_abi.specs.Types.{FunctionType}
-use Rattle.canonical_abi.specs.Halves.{HasEntered, EntryFails, HasReturned, ReturnFails}
+use Rattle.canonical_abi.specs.Halves.{HasEntered, EntryFails, HasReturned}
 use Rattle.canonical_abi.specs.declared.flat.Flat.{Flat}
 use Rattle.canonical_abi.specs.declared.trap.Fault.{Fault}
+use Rattle.adapter.specs.Leaving.{LeaveFails}
 use Rattle.memory.specs.Lent.{lent, LentAllocates}
 use Rattle.memory.specs.declared.block.Block.{Block}
 
@@ -24,4 +25,4 @@ ReturnsLent f flats m answer old blocks given new =
 
 abbrev pub ReturnOfLentFails : FunctionType → List Flat → List ℕ → List Flat → List ℕ → List Block → Fault → List ℕ → Type 0
 ReturnOfLentFails f flats m answer old blocks fault new =
-    (name count : ℕ) × (rest : List Block) × ReturnFails LentAllocates f flats m answer (lent name old blocks) fault (lent name new rest) count
+    (name count : ℕ) × (rest : List Block) × LeaveFails LentAllocates f flats m answer (lent name old blocks) fault (lent name new rest) count

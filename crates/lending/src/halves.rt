@@ -1,5 +1,6 @@
 //! The two halves of a call between memories that a host lends.
-ghost use Rattle.std.specs.Prelude.{◌≡◌, ◌<◌, OnOk, IfErr, IsTrue, length};
+ghost use Rattle.std.specs.Prelude.{◌≡◌, ◌≢◌, ◌<◌, Err, OnOk, IfErr, IsTrue, length};
+ghost use Rattle.canonical_abi.specs.Call.{KindsFit};
 ghost use Rattle.layout.specs.Layout.{layouts_of, AreWithin};
 ghost use Rattle.memory.specs.Blocks.{are_good};
 ghost use Rattle.tables.specs.Closed.{IsFunction, function_type};
@@ -41,6 +42,7 @@ pub fn enter_lent(
         callee.old blocks.now handed.new.items callee.new) }
     ensures fault { IfErr result (λ fault. EntryOfLentFails (function_type resolve.now func) flats.now caller.old
         callee.old blocks.now fault callee.new) }
+    ensures no_memory { result ≢ Err Fault.NoMemory }
     ensures same_caller { caller.new ≡ caller.old }
 {
     let source = Lent::new(caller, &[]);
@@ -50,8 +52,8 @@ pub fn enter_lent(
 }
 
 /// The second half (`Link::leave`): puts what the core function answered into the caller's blocks and its return area, and the flat
-/// values for the caller into `back`, whatever that held; it says nothing after a fault. The callee is only read. `can_lend` tests
-/// with the return area as its place that no block meets it.
+/// values for the caller into `back`, whatever that held; it says nothing after a fault. The callee is only read. The kinds of `flats`
+/// are tested first, as by `Link::leave`. `can_lend` tests with the return area as its place that no block meets it.
 pub fn leave_lent(
     resolve: &Resolve,
     layouts: &Layouts,
@@ -71,8 +73,10 @@ pub fn leave_lent(
     requires good { IsTrue (are_good (length caller.old) blocks.now) }
     ensures returned { OnOk result (ReturnsLent (function_type resolve.now func) flats.now callee.old answer.now
         caller.old blocks.now back.new.items caller.new) }
+    ensures kinds { OnOk result (KindsFit (function_type resolve.now func) flats.now) }
     ensures fault { IfErr result (λ fault. ReturnOfLentFails (function_type resolve.now func) flats.now callee.old answer.now
         caller.old blocks.now fault caller.new) }
+    ensures no_memory { result ≢ Err Fault.NoMemory }
     ensures same_callee { callee.new ≡ callee.old }
 {
     let source = Lent::new(callee, &[]);

@@ -1,8 +1,9 @@
 -- The name of a lent memory's bytes stays, whatever is put into it.
 use Rattle.std.proofs.Common.{◌≡◌, ℕ, List, [], ◌∷◌, Option, Some, None, sym, ap, ◌∙◌, subst}
 use Rattle.canonical_abi.specs.Guest.{Memory}
-use Rattle.canonical_abi.specs.Trace.{Event, TraceLeads, TraceIsBegun, TraceBreaks, RequestFails}
+use Rattle.canonical_abi.specs.Trace.{Event, TraceLeads, RequestFails}
 use Rattle.canonical_abi.specs.Trace.Event.{node, grant, write}
+use Rattle.canonical_abi.specs.Call.{exact, Begins, Breaks}
 use Rattle.canonical_abi.specs.declared.trap.TrapKind.{TrapKind}
 use Rattle.canonical_abi.specs.declared.trap.TrapKind.TheVariants as trap
 use Rattle.memory.specs.Lent.{numbers, LentAllocates}
@@ -32,9 +33,9 @@ request_keeps old align size trap.Align new name (at, h, bad) named = allocation
 request_keeps old align size trap.Bounds new name (at, h, good, bad) named = allocation_keeps old align size (Some at) new name h named
 request_keeps old align size _ new name h named = absurd h
 
-pub begun_keeps : (es : List Event) (old new : Memory) (name : ℕ) → TraceIsBegun LentAllocates old es new → IsNamed name old → IsNamed name new
-begun_keeps es old new name (made, some, leads) named = trace_keeps made old new name leads named
+pub begun_keeps : (es : List Event) (old new : Memory) (name : ℕ) → Begins exact LentAllocates old es new → IsNamed name old → IsNamed name new
+begun_keeps es old new name (made, all, leads) named = trace_keeps made old new name leads named
 
-pub break_keeps : (es : List Event) (k : TrapKind) (old new : Memory) (name : ℕ) → TraceBreaks LentAllocates old es k new → IsNamed name old → IsNamed name new
-break_keeps es k old new name (done, made, rest, next, asked, is, some, leads, fails) named =
+pub break_keeps : (es : List Event) (k : TrapKind) (old new : Memory) (name : ℕ) → Breaks exact LentAllocates old es k new → IsNamed name old → IsNamed name new
+break_keeps es k old new name (done, made, rest, next, asked, is, all, leads, fails) named =
     request_keeps asked next.align next.size k new name fails (trace_keeps made old asked name leads named)

@@ -1,5 +1,5 @@
 //! The blocks that a host's own allocator has granted before a call, and the test whether they can be handed out.
-ghost use Rattle.std.specs.Prelude.{◌≡◌, ◌+◌, IfOk};
+ghost use Rattle.std.specs.Prelude.{◌≡◌, ◌+◌, false, IfOk, IfErr};
 ghost use Rattle.std.specs.List.{list_all};
 ghost use Rattle.memory.specs.Blocks.{is_apart, is_placed, are_apart, can_lend, rise, IsRisingByAddress};
 
@@ -71,7 +71,8 @@ fn by_address(alloc: Global, blocks: &[Block]) -> Result<Vec<Block>, AllocError>
 /// Whether no two of the blocks have an address in common: blocks that don't rise are tested in the order of their
 /// addresses.
 fn are_apart(alloc: Global, blocks: &[Block]) -> Result<bool, AllocError>
-    ensures { IfOk result (λ apart. apart ≡ are_apart blocks.now) }
+    ensures apart { IfOk result (λ apart. apart ≡ are_apart blocks.now) }
+    ensures memory { IfErr result (λ _. rise 0 blocks.now ≡ false) }
 {
     if rise(blocks) {
         return Ok(true);
@@ -101,7 +102,8 @@ pub fn can_lend(
     place: &Block,
     blocks: &[Block],
 ) -> Result<bool, AllocError>
-    ensures { IfOk result (λ can. can ≡ can_lend len place.now blocks.now) }
+    ensures can { IfOk result (λ can. can ≡ can_lend len place.now blocks.now) }
+    ensures memory { IfErr result (λ _. rise 0 blocks.now ≡ false) }
 {
     if u32::try_from(len).is_err() || !are_placed(len, blocks) || !are_beside(place, blocks) {
         return Ok(false);

@@ -41,7 +41,6 @@ module _ (parties : Parties) (caller_releases callee_releases : Release) (r : Re
 
 pub tell_callee : (parties : Parties) (other : Allocation) (caller_releases other_releases callee_releases : Release) (r : Resolve)
     → StepsTellCallee parties other caller_releases other_releases callee_releases r
-tell_callee parties other caller_releases other_releases callee_releases r before earlier old past steps moves answers replies new last honest too limited small one_way ignores runs all every ran went
-    answered replied same begun =
-    callee-is-told parties other caller_releases other_releases callee_releases exact before earlier old past (map (step_of r) steps) (map (step_of r) moves) answers replies new last honest too limited
-    small one_way ignores runs (are_standard r steps all) (are_standard r moves every) ran went answered replied same begun
+tell_callee parties other caller_releases other_releases callee_releases r before earlier old past steps moves answers replies new last honest too limited small one_way runs all every ran went calls ends begun =
+    callee-is-told parties other caller_releases other_releases callee_releases before earlier old past (map (step_of r) steps) (map (step_of r) moves) answers replies new last honest too limited small
+    one_way runs (are_standard r steps all) (are_standard r moves every) ran went calls ends begun

@@ -8,7 +8,7 @@ use Rattle.canonical_abi.specs.Footprint.{Reads}
 use Rattle.canonical_abi.specs.Guest.{Allocation, Release}
 use Rattle.canonical_abi.specs.Headline.{AreHonest, AreLimited}
 use Rattle.canonical_abi.specs.Keeping.{IsKept, IsPlaced, ReadAnswers, ReleasesMiss, StaysLive}
-use Rattle.canonical_abi.specs.Told.{AllocatesInOneWay, AreAnswered, IgnoresBytes, RunsInOneWay, SameCallee, calls_of, otherwise}
+use Rattle.canonical_abi.specs.Told.{AllocatesInOneWay, RunsInOneWay, SameCallee, calls_of, endings_of, otherwise}
 use Rattle.canonical_abi.specs.Session.{Held, PlacesValue, ReadsStep, RunsSession, SessionAnswer}
 use Rattle.tables.specs.Closed.{closed_type}
 use Rattle.tables.specs.Standard.{IsTypeOf}
@@ -51,15 +51,14 @@ module _ (parties : Parties) (caller_releases callee_releases : Release) (r : Re
 module _ (parties : Parties) (other : Allocation) (caller_releases other_releases callee_releases : Release) (r : Resolve) where
   -- the same callee and body, called from another caller
   abbrev pub second : Parties
-  second = otherwise parties other caller_releases other_releases callee_releases exact
+  second = otherwise parties other caller_releases other_releases callee_releases
 
-  -- what two lists of steps whose calls all answer Ok leave of the callee and the body is told by their beginning, the functions and the
-  -- arguments in turn: nothing else of a caller is in them
+  -- what two lists of steps leave of the callee and the body, traps among them or not, is told by their beginning, by the functions and the
+  -- arguments in turn, and by which calls the callers had no room for: nothing else of a caller is in them
   abbrev pub StepsTellCallee : Type 0
   StepsTellCallee =
       (before earlier : List SessionAnswer) (old past : World) (steps moves : List Step) (answers replies : List SessionAnswer) (new last : World)
       → AreHonest parties caller_releases callee_releases → AreHonest second other_releases callee_releases → AreLimited parties old → AreLimited second past
-      → AllocatesInOneWay parties.callee_allocates → IgnoresBytes parties.callee_allocates → RunsInOneWay parties.runs parties.posts → All (IsStep r) steps → All (IsStep r) moves
+      → AllocatesInOneWay parties.callee_allocates → RunsInOneWay parties.runs parties.posts → All (IsStep r) steps → All (IsStep r) moves
       → Ran parties caller_releases callee_releases r before old steps answers new → Ran second other_releases callee_releases r earlier past moves replies last
-      → AreAnswered (map (step_of r) steps) answers → AreAnswered (map (step_of r) moves) replies → calls_of (map (step_of r) steps) ≡ calls_of (map (step_of r) moves)
-      → SameCallee old past → SameCallee new last
+      → calls_of (map (step_of r) steps) ≡ calls_of (map (step_of r) moves) → endings_of answers ≡ endings_of replies → SameCallee old past → SameCallee new last

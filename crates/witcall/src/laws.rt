@@ -66,8 +66,9 @@ pub fn keeps_held<C: Guest, E: Guest, B: Body<E>>(_session: &Session<'_, C, E, B
         E.releases }
 {}
 
-/// After lists of steps whose calls all answer Ok, the callee and its body are told by their beginning, the functions and
-/// the arguments in turn: nothing else of a caller is in them, of whatever kind its memory is.
+/// After any list of steps, traps among them, the callee and its body are told by their beginning, by the functions and the
+/// arguments in turn, and by which calls the caller had no room for, in `place` or in `lower-result`: nothing else of a caller is in
+/// them, of whatever kind its memory is.
 pub fn tells_callee<C: Guest, D: Guest, E: Guest, B: Body<E>>(_session: &Session<'_, C, E, B>)
     ensures { StepsTellCallee
         (record { caller_allocates = C.allocates; callee_allocates = E.allocates; runs = B.runs _session.now.body; posts = B.posts _session.now.body })

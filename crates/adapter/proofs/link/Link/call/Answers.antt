@@ -4,6 +4,7 @@ use Rattle.canonical_abi.specs.Call.{Parties, World}
 use Rattle.canonical_abi.specs.Halves.{world, HasEntered, EntryFails, ReturnFails, RunsBetween, RunsAndReturns, CallsInHalves, body_stopped, ends_at_entry, ends_at_run, ends_at_return, ends_at_post, completes}
 use Rattle.layout.specs.Layout.{AreWithin}
 use Rattle.tables.specs.Closed.{function_type}
+use Rattle.adapter.proofs.Crossings.{return-fails}
 use Rattle.adapter.proofs.Promised.{link-promised, link-told}
 use Rattle.adapter.proofs.link.Link.call.Goals as goal
 
@@ -60,7 +61,8 @@ returns-in_err-leave-clause-call g c =
     let caller = g.C.Guest.memory c.leave.new.caller in
     let back = c.leave.new.self.back in
     let p = err_from_is_err_and c.from_residual-in_err-leave.result c.from_residual-in_err-leave.ensures.1 in
-    let fails : ReturnFails g.C.Guest.allocates f flats ran.bytes answer old.caller c.in_err-leave.field-0.0 caller back = rw c.enter.ensures.same_package at c.in_err-leave.ensures.fault in
+    let fails : ReturnFails g.C.Guest.allocates f flats ran.bytes answer old.caller c.in_err-leave.field-0.0 caller back =
+    return-fails g.C.Guest.allocates f flats ran.bytes answer old.caller c.in_err-leave.field-0.0 caller back enters.2.kinds (rw c.enter.ensures.same_package at c.in_err-leave.ensures.fault) in
     rw (p.1, p.2) (link-told parties r within c.args.func flats old (Err c.in_err-leave.field-0.0) (world caller ran body) there back c.requires.function
     (ends_at_return there back answer c.in_err-leave.field-0.0 caller ran body runs fails))
 
