@@ -1,13 +1,11 @@
 //! The walk over flat values: core values of one component are carried on by core values for another.
-ghost use Rattle.std.specs.Prelude.{◌≡◌, ◌+◌, ◌^◌, ◌<◌, ◌≤◌, ◌∷◌, ℕ, List, [], length, map, None, Some, OnOk, IfOk, IfErr};
+ghost use Rattle.std.specs.Prelude.{◌≡◌, ◌+◌, ◌^◌, ◌<◌, ◌≤◌, ◌∷◌, ℕ, List, [], length, map, None, Some, OnOk, IfErr};
 ghost use Rattle.canonical_abi.specs.Types.{prim_type, string_type, list_type, variant_type, variant_cases, field_count};
 ghost use Rattle.canonical_abi.specs.Layout.{flat_kinds, field_kinds, payload_kinds};
-ghost use Rattle.canonical_abi.specs.Memory.{PrimIs, PrimFaulty};
-ghost use Rattle.canonical_abi.specs.Reading.{number_of, low_bits, flat_bits};
+ghost use Rattle.canonical_abi.specs.Reading.{number_of};
 ghost use Rattle.canonical_abi.specs.Trace.{node};
 ghost use Rattle.canonical_abi.specs.declared.trap.TrapKind.{TrapKind};
 ghost use Rattle.crossing.specs.Outcome.{FlatWalks, FieldsFlatWalk, FlatBehind, FlatEnds};
-ghost use Rattle.lift_lower.specs.Scalar.{prim_in, value_in};
 ghost use Rattle.lift_lower.specs.Members.{AreInside, members_fields};
 ghost use Rattle.lift_lower.specs.Types.{IsInside};
 ghost use Rattle.tables.specs.Closed.{closed_type, prim_of};
@@ -17,9 +15,10 @@ use crate::walk::cross_elements;
 use canonical_abi::{Flat, Guest, TrapKind};
 use layout::Shape;
 use lift_lower::nodes::{
-    Members, ask_block, flags_in, push_header, push_joined, test_block, text_in, write_bytes,
+    Members, ask_block, flags_in, push_header, push_joined, scalar_in, test_block, text_in,
+    write_bytes,
 };
-use lift_lower::{Flats, Scalar, Types, lift_scalar, low_word, lower_scalar};
+use lift_lower::{Flats, Types, low_word, lower_scalar};
 use tables::{Primitive, ValType};
 
 /// Carries on the value in the first of these flat values.
@@ -56,17 +55,6 @@ fn cross_flat<G: Guest>(
             Ok(())
         }
     }
-}
-
-/// The primitive in the first of these flat values.
-#[tactic(auto, unfolding(canonical_abi::specs::Reading::low_bits))]
-fn scalar_in(primitive: Primitive, flats: &[Flat]) -> Result<Scalar, TrapKind>
-    requires { 0 < length flats.now }
-    ensures typed { IfOk result (λ s. prim_in s ≡ prim_of primitive) }
-    ensures value { IfOk result (λ s. PrimIs (prim_of primitive) (low_bits (map number_of flats.now) 0 (flat_bits (prim_of primitive))) (value_in s)) }
-    ensures fault { IfErr result (PrimFaulty (prim_of primitive) (low_bits (map number_of flats.now) 0 (flat_bits (prim_of primitive)))) }
-{
-    lift_scalar(primitive, flats[0])
 }
 
 /// Carries on a primitive other than string.

@@ -1,45 +1,18 @@
 //! Nodes without parts: primitives, flags and texts.
-ghost use Rattle.std.specs.Prelude.{◌≡◌, ℕ, ◌+◌, ◌^◌, ◌<◌, ◌≤◌, length, IfOk, IfErr};
+ghost use Rattle.std.specs.Prelude.{◌≡◌, ℕ, ◌+◌, ◌^◌, ◌<◌, ◌≤◌, length};
 ghost use Rattle.std.specs.Int.{byte_len};
 ghost use Rattle.canonical_abi.specs.Types.{prim_type, string_type, flags_type};
 ghost use Rattle.canonical_abi.specs.Layout.{prim_width, flags_size};
-ghost use Rattle.canonical_abi.specs.Memory.{PrimIs, PrimFaulty};
-ghost use Rattle.canonical_abi.specs.Reading.{number_at};
-ghost use Rattle.lift_lower.specs.Scalar.{prim_in, value_in};
 ghost use Rattle.tables.specs.Closed.{prim_of};
 ghost use Rattle.crossing.specs.Outcome.{Walks, Behind, Ends};
 
 use crate::stopped::Stopped;
-use canonical_abi::{Guest, TrapKind};
-use lift_lower::Scalar;
+use canonical_abi::Guest;
 use lift_lower::nodes::{
-    ask_block, flags_bytes, low_flags, number_of_size, text_in, u8_at, u16_at, u32_at, u64_at,
-    write_bytes, write_header, write_number, write_scalar,
+    ask_block, flags_bytes, low_flags, number_of_size, scalar_at, text_in, u32_at, write_bytes,
+    write_header, write_number, write_scalar,
 };
 use tables::Primitive;
-
-fn scalar_at(primitive: Primitive, memory: &[u8], at: usize) -> Result<Scalar, TrapKind>
-    requires inside { at + byte_len (prim_width (prim_of primitive)) ≤ length memory.now }
-    ensures typed { IfOk result (λ s. prim_in s ≡ prim_of primitive) }
-    ensures value { IfOk result (λ s. PrimIs (prim_of primitive) (number_at memory.now at (prim_width (prim_of primitive))) (value_in s)) }
-    ensures fault { IfErr result (PrimFaulty (prim_of primitive) (number_at memory.now at (prim_width (prim_of primitive)))) }
-{
-    match primitive {
-        Primitive::Bool => Ok(Scalar::Bool(u8_at(memory, at) != 0)),
-        Primitive::S8 => Ok(Scalar::S8(u8_at(memory, at).cast_signed())),
-        Primitive::U8 => Ok(Scalar::U8(u8_at(memory, at))),
-        Primitive::S16 => Ok(Scalar::S16(u16_at(memory, at).cast_signed())),
-        Primitive::U16 => Ok(Scalar::U16(u16_at(memory, at))),
-        Primitive::S32 => Ok(Scalar::S32(u32_at(memory, at).cast_signed())),
-        Primitive::U32 => Ok(Scalar::U32(u32_at(memory, at))),
-        Primitive::S64 => Ok(Scalar::S64(u64_at(memory, at).cast_signed())),
-        Primitive::U64 => Ok(Scalar::U64(u64_at(memory, at))),
-        Primitive::Char => match char::from_u32(u32_at(memory, at)) {
-            Some(c) => Ok(Scalar::Char(c)),
-            None => Err(TrapKind::Char),
-        },
-    }
-}
 
 /// Crosses a primitive other than string.
 pub(crate) fn cross_primitive<G: Guest>(

@@ -18,3 +18,4 @@ pub mod Storings
 pub mod Lowerings
 pub mod Unlimited
 pub mod Placings
+mod HeadExamples

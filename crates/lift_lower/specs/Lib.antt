@@ -9,3 +9,4 @@ pub mod Scalars
 pub mod Scripts
 pub mod Types
 pub mod Val
+pub mod Heads

@@ -8,6 +8,7 @@
 
 mod bytes;
 mod guest_blocks;
+mod heads;
 mod lift_flat;
 mod lifting;
 mod loading;
@@ -25,6 +26,7 @@ mod types;
 mod typing;
 mod val;
 
+pub use heads::{Head, head_at, head_of, put_head};
 pub use lift_flat::low_word;
 pub use lifting::{are_kinds, lift, lift_params, lift_result};
 pub use loading::load;

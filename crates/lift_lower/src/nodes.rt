@@ -5,6 +5,7 @@ pub use crate::bytes::{
     u16_at, u32_at, u64_at,
 };
 pub use crate::guest_blocks::{ask_block, write_bytes, write_header, write_number, write_scalar};
+pub use crate::heads::{scalar_at, scalar_in};
 pub use crate::lift_flat::flags_in;
 pub use crate::lower_flat::{push_header, push_joined};
 pub use crate::members::Members;
