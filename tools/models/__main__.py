@@ -17,6 +17,7 @@ import sys
 
 from . import programs, rows, stored
 from .cases import calls, layouts, requests, steps
+from .faults import NotModelled, Refused
 from .jobs import JOBS
 from .opening import opened
 
@@ -38,7 +39,7 @@ def random_lines(name, count, *seed):
 
 def answer(name):
     """Answers to standard input."""
-    return print_lines(ANSWERS[name](sys.stdin.read().splitlines()))
+    return print_lines(ANSWERS[name](line.rstrip("\n") for line in sys.stdin))
 
 
 def job(name, paths):
@@ -65,7 +66,10 @@ def done(command, words):
 
 def main():
     """Does what the command line asks for."""
-    right = done(sys.argv[1], sys.argv[2:]) if sys.argv[1:] else None
+    try:
+        right = done(sys.argv[1], sys.argv[2:]) if sys.argv[1:] else None
+    except (NotModelled, Refused) as fault:
+        sys.exit(str(fault))
     if right is None:
         print(__doc__, file=sys.stderr)
         sys.exit(2)

@@ -2,6 +2,7 @@
 from dataclasses import replace
 
 from . import wit
+from .faults import NotModelled
 from .wit import Built, Name, PackageName, Path, Primitive
 
 OPCODES = {"bool": 0x7F, "s8": 0x7E, "u8": 0x7D, "s16": 0x7C, "u16": 0x7B, "s32": 0x7A, "u32": 0x79, "s64": 0x78, "u64": 0x77}
@@ -300,7 +301,7 @@ class InstanceReader:
     def typed(self, name, ty):
         """Takes a named type, or a used name."""
         if isinstance(ty, wit.Use):
-            self.uses.append(wit.Use(ty.path, ty.name, name))
+            self.uses.append(replace(ty, local=name))
         elif isinstance(ty, tuple):
             kind, members = ty
             self.typedefs.append(wit.TypeDef(name, kind, members=members))
@@ -368,7 +369,9 @@ class PackageReader:
 
     def definition(self, code):
         """An instance type, or a world's component type, whose name comes later."""
-        return InstanceReader(self.data, self.types).interface(None) if code == INSTANCE else WorldReader(self.data, self.types).world(None)
+        if code == INSTANCE:
+            return InstanceReader(self.data, self.types).interface(None)
+        return WorldReader(self.data, self.types).world(None)
 
     def named(self, direction, package, name):
         """An import or export of an interface, or the export of a world."""
@@ -392,7 +395,10 @@ class PackageReader:
 def read(data):
     """The package of a binary, and its imports."""
     source = Bytes(data)
-    source.bytes(*PREAMBLE, SECTION_TYPE)
-    source.number()
-    source.bytes(1, COMPONENT)
-    return PackageReader(source).package()
+    try:
+        source.bytes(*PREAMBLE, SECTION_TYPE)
+        source.number()
+        source.bytes(1, COMPONENT)
+        return PackageReader(source).package()
+    except (AttributeError, LookupError, TypeError, ValueError) as error:
+        raise NotModelled(f"a binary that is no package: {error}") from error

@@ -18,3 +18,7 @@ class Trap(Exception):
 
 class Stopped(Exception):
     """A body or its post-return that stops."""
+
+
+class NotModelled(Exception):
+    """An input of which the models don't know the answer."""

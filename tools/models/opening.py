@@ -6,9 +6,11 @@ from . import binary, wit
 from .faults import Refused
 from .names import owner_names, scopes, source_order, unknown_names
 from .sets import Set
-from .tables import definitions
+from .tables import definitions, entries
 
 MOST_PACKAGES = 64
+MOST_ENTRIES = 65535
+MOST_MEMBERS = {"variant": 100000, "enum": 100000, "flags": 32}
 MOST_DEPTH, MOST_SIZE = 64, 16777216
 
 
@@ -33,6 +35,7 @@ def add_text(packages, text):
     test_packages(packages, [path.package for path in source_order(package) if path.package])
     test_unknown(packages, package)
     packages.keep(package)
+    test_limits(packages)
 
 
 def add_binary(packages, data):
@@ -103,6 +106,15 @@ def test_unknown(packages, package):
 
     for name in unknown_names(package, names_of):
         raise Refused(f"41 unknown {name}")
+
+
+def test_limits(packages):
+    """Refuses a last package of too many type entries, cases or flags."""
+    typedefs = [typedef for _, interface in packages.own() for typedef in interface.types]
+    if any(len(typedef.members) > MOST_MEMBERS.get(typedef.kind, len(typedef.members)) for typedef in typedefs):
+        raise Refused("45 limit")
+    if entries(packages) > MOST_ENTRIES:
+        raise Refused("45 limit")
 
 
 def test_layouts(packages):

@@ -50,10 +50,15 @@ def answer(command, arguments):
         return str(fault)
 
 
+def is_row(line):
+    """Whether a line is a row, and no comment."""
+    return bool(line) and not line.startswith("#")
+
+
 def answers(lines):
     """The lines with their answers, which they may lack; comments and empty lines as they are."""
     for line in lines:
-        if not line or line.startswith("#"):
+        if not is_row(line):
             yield line
             continue
         front = line.split(" => ", 1)[0]

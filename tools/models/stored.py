@@ -1,4 +1,5 @@
 """The files that hold answers of the models: stored runs of crates, and rows."""
+import collections
 import itertools
 import pathlib
 
@@ -9,6 +10,11 @@ from .cases import sets as set_cases
 from .cases import steps as step_cases
 
 ROOT = pathlib.Path(__file__).resolve().parent.parent.parent
+
+
+def lines_of(path):
+    """The lines of a file."""
+    return path.read_text().removesuffix("\n").split("\n")
 
 
 def text_of(lines):
@@ -34,12 +40,11 @@ class Run:
 
     def wanted(self):
         """The answers to the stored input."""
-        return list(self.answers((self.folder / "stdin").read_text().splitlines()))
+        return list(self.answers(lines_of(self.folder / "stdin")))
 
-    def faults(self):
-        """The answers by hand that aren't found. They stand below their lines."""
-        answers = self.wanted()
-        found = dict(zip(answers, answers[1:]))
+    def faults(self, wanted):
+        """The answers by hand that aren't among these, where each stands below its line."""
+        found = dict(zip(wanted, wanted[1:]))
         return [f"{line}: {answer} by hand" for line, answer in self.known().items() if found.get(f"> {line}") != answer]
 
     def write(self):
@@ -61,12 +66,12 @@ class Rows:
 
     def wanted(self):
         """The rows with the answers to them."""
-        return list(rows.answers(self.path.read_text().splitlines()))
+        return list(rows.answers(lines_of(self.path)))
 
-    def faults(self):
-        """What else is wrong: a name that two rows have."""
-        names = [line.split(": ", 1)[0] for line in self.path.read_text().splitlines() if line and not line.startswith("#")]
-        return [f"two rows {name}" for name in sorted(set(names)) if names.count(name) > 1]
+    def faults(self, wanted):
+        """The names that two of these rows have."""
+        names = collections.Counter(line.split(": ", 1)[0] for line in wanted if rows.is_row(line))
+        return [f"two rows {name}" for name, number in names.items() if number > 1]
 
     def write(self):
         """Writes the answers anew."""
@@ -93,24 +98,26 @@ def named(paths):
     return found or ALL
 
 
+def shown(line):
+    """The beginning of a line, or nothing past the end."""
+    return "nothing" if line is None else line[:300]
+
+
+def is_right(it):
+    """Whether one of these is what the models answer; prints where it isn't."""
+    wanted, where = it.wanted(), it.path.relative_to(ROOT) if it.path.is_relative_to(ROOT) else it.path
+    pairs = enumerate(itertools.zip_longest(lines_of(it.path), wanted), 1)
+    differing = [(place, *pair) for place, pair in pairs if pair[0] != pair[1]]
+    for place, *pair in differing[:10]:
+        print(f"{where}:{place}\n  stored {shown(pair[0])}\n  wanted {shown(pair[1])}")
+    faults = it.faults(wanted)
+    print("\n".join([*faults, f"{where}: {len(wanted)} lines, {len(differing)} differ"]))
+    return not differing and not faults
+
+
 def check(paths):
     """Whether what is stored is what the models answer; prints where it isn't."""
-    right = True
-    for it in named(paths):
-        stored, where = it.path.read_text().splitlines(), it.path.relative_to(ROOT) if it.path.is_relative_to(ROOT) else it.path
-        wanted = it.wanted()
-        differing = [place for place, (line, other) in enumerate(itertools.zip_longest(stored, wanted), 1) if line != other]
-        for place in differing[:10]:
-            print(f"{where}:{place}\n  stored {shown(stored, place)}\n  wanted {shown(wanted, place)}")
-        faults = it.faults()
-        print("\n".join([*faults, f"{where}: {len(wanted)} lines, {len(differing)} differ"]))
-        right &= not differing and not faults
-    return right
-
-
-def shown(lines, place):
-    """The beginning of a line, or nothing past the end."""
-    return lines[place - 1][:300] if place <= len(lines) else "nothing"
+    return all([is_right(it) for it in named(paths)])
 
 
 def write(paths):

@@ -2,20 +2,22 @@
 from dataclasses import dataclass
 
 from . import abi, wit
-from .wit import Built
+from .wit import Built, Name
 
 
 @dataclass(frozen=True)
 class Definition:
     """A row of a package's table: the name of its interface or world and its own, both None of a type without a name; and what it is.
 
-    `closed` is a closed type, or a function of closed types; `members` are the types that stand directly in it.
+    `closed` is a closed type, or a function of closed types; `members` counts the types that stand directly in it, and `entries` the type
+    indices that it takes in a binary.
     """
 
     owner: object
     name: object
     closed: object
     members: int
+    entries: int
 
     @property
     def is_function(self):
@@ -47,6 +49,14 @@ def work(rows):
     return sum(1 + row.members for row in rows)
 
 
+def entries(packages):
+    """The type indices that the last package takes in a binary."""
+    package = packages.packages[-1]
+    interfaces = len(packages.reached() + packages.own())
+    worlds = sum(1 + sum(item.path is not None for item in world.items) for world in package.worlds)
+    return 1 + interfaces + worlds + sum(row.entries for row in definitions(packages))
+
+
 class Rows:
     """The rows of an interface, or of a world as an interface of its functions."""
 
@@ -56,18 +66,18 @@ class Rows:
     def all(self):
         """Used names, types, functions, and before each the types without a name in it."""
         for use in self.interface.uses:
-            yield self.named(use.local, 1)
+            yield self.named(use.local, members=1, entries=3)
         for typedef in self.interface.types:
             yield from self.typedef(typedef)
         for function in self.interface.functions:
             inner = [*(ty for _, ty in function.parameters), function.result]
             yield from self.inner(inner)
             closed = self.packages.closed_function(self.package, self.interface, function)
-            yield Definition(self.interface.name, function.name, closed, count(inner))
+            yield Definition(self.interface.name, function.name, closed, members=count(inner), entries=1)
 
-    def named(self, name, members):
+    def named(self, name, **counts):
         """The row of a named type."""
-        return Definition(self.interface.name, name, self.packages.closed_name(self.package, self.interface, name), members)
+        return Definition(self.interface.name, name, self.packages.closed_name(self.package, self.interface, name), **counts)
 
     def typedef(self, typedef):
         """The row of a type, and those of the types in it."""
@@ -75,11 +85,12 @@ class Rows:
         if typedef.kind == "alias":
             inner = typedef.target.parts if isinstance(typedef.target, Built) else [typedef.target]
         yield from self.inner(inner)
-        yield self.named(typedef.name, count(inner))
+        yield self.named(typedef.name, members=count(inner), entries=1 if isinstance(typedef.target, Name) else 2)
 
     def inner(self, types):
         """The rows of types without a name, inner ones first."""
         for ty in types:
             if isinstance(ty, Built):
                 yield from self.inner(ty.parts)
-                yield Definition(None, None, self.packages.closed(self.package, self.interface, ty), count(ty.parts))
+                closed = self.packages.closed(self.package, self.interface, ty)
+                yield Definition(None, None, closed, members=count(ty.parts), entries=1)

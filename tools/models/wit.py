@@ -1,11 +1,11 @@
 """WIT texts as trees: what the grammar of docs/FORMATS.md reads, for texts that it reads.
 
-Of the faults of a text only a first token other than `package` is told; other texts than those of the grammar end in a `ValueError`.
+Of the faults of a text only a first token other than `package` is known.
 """
 import re
 from dataclasses import dataclass, replace
 
-from .faults import Refused
+from .faults import NotModelled, Refused
 
 PRIMITIVES = ("bool", "s8", "u8", "s16", "u16", "s32", "u32", "s64", "u64", "char", "string")
 KEYWORDS = frozenset(
@@ -161,7 +161,7 @@ def tokens_of(text):
     while at < len(text):
         found = TOKEN.match(text, at)
         if not found:
-            raise ValueError(f"no token: {text[at:at + 20]!r}")
+            raise NotModelled(f"no token: {text[at:at + 20]!r}")
         end = place + len(found.group().encode())
         if found.group(1):
             tokens.append((found.group(1), place, end))
@@ -182,6 +182,8 @@ class Reader:
 
     def next(self):
         """The next token."""
+        if self.at == len(self.tokens):
+            raise NotModelled("the text ends")
         self.at += 1
         return self.tokens[self.at - 1][0]
 
@@ -196,7 +198,7 @@ class Reader:
         """Passes these tokens."""
         for token in tokens:
             if not self.takes(token):
-                raise ValueError(f"{token} wanted, not {self.peek()!r}")
+                raise NotModelled(f"{token} wanted, not {self.peek()!r}")
 
     def name(self):
         """An identifier, without its `%`."""
