@@ -1,4 +1,4 @@
-"""Rows, which are lines `NAME: COMMAND ARGUMENTS => ANSWER` (docs/FORMATS.md, "Rows"): layouts, JSON values, and calls with JSON."""
+"""Rows, which are lines `NAME: COMMAND ARGUMENTS => ANSWER` (docs/FORMATS.md, "Files of rows"): layouts, JSON values, and calls with JSON."""
 import re
 
 from . import json_values, layouts, sessions
