@@ -8,8 +8,8 @@ for. A call in halves differs by its form in three ways, and any other differenc
 
   fault first  the source's fault is told before any block is asked for. The stored call met it on its way, behind blocks that were
                granted and written. The trap is the same; nobody was asked, and the target is as it was.
-  fault alone  the stored call met a refused or bad block first. What is told is the fault that stands in the source, as
-               tools/call_abi.py finds it where each block is granted; nobody was asked, and the target is as it was.
+  fault alone  the stored call met a refused or bad block first. What is told is the fault that the source has, as the model
+               of calls (tools/models) finds it if each block is granted; nobody was asked, and the target is as it was.
   bad blocks   blocks of the stored call's allocator that can't be lent (misaligned, outside, meeting each other or the return area) are
                refused by 72, and the target is as it was.
 
@@ -21,10 +21,9 @@ import subprocess
 import sys
 
 ROOT = pathlib.Path(__file__).resolve().parent.parent.parent
-sys.path.insert(0, str(ROOT / "tools"))
+sys.path.insert(0, str(ROOT))
 sys.dont_write_bytecode = True
-import call_abi  # noqa: E402
-from call_vectors import TEXTS  # noqa: E402
+from tools.models import calls as model  # noqa: E402
 
 VECTORS = ROOT / "crates/vectors"
 WORDS = {
@@ -154,8 +153,7 @@ def is_fault_alone(call, wanted, found, way):
     ends, side, log = way
     if not trap_of(wanted).endswith(f"lower-{ends}") or not is_untouched(call, found, way):
         return False
-    text = TEXTS[call["binary"]] if "binary" in call else call["text"]
-    stands = call_abi.told(with_room(call, side), text)["outcome"]
+    stands = model.told(with_room(call, side))["outcome"]
     faulty = found["outcome"] == stands and trap_of(found).endswith(f"lift-{ends}")
     return faulty and differs_only(wanted, found, {"outcome", f"{side}_after", log})
 
@@ -167,11 +165,10 @@ def meet(first, other):
 
 def area_of(call):
     """The caller's return area, as a block."""
-    text = TEXTS[call["binary"]] if "binary" in call else call["text"]
-    _, result = call_abi.Wit(text).functions[call["iface"], call["func"]]
-    if result is None or len(call_abi.flat(result)) < 2:
+    function = model.function_of(call)
+    if not function.has_area:
         return 1, 0, 0
-    return call_abi.align_of(result), call_abi.size_of(result), call["flats"][-1][1]
+    return function.result.align, function.result.size, call["flats"][-1][1]
 
 
 def can_be_lent(blocks, length, area):

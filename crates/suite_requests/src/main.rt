@@ -1,6 +1,6 @@
 //! Answers requests to a memory that takes blocks back, line by line: `new LENGTH`, `alloc ALIGNMENT SIZE` and
 //! `free ADDRESS SIZE`. Its stored input is lists of random requests, its stored output a plain model's
-//! answers (`tools/random_sessions.py`).
+//! answers (`tools/models/memory.py`).
 #![tactic(auto)]
 
 use memory::{FirstFit, Guest};

@@ -1,7 +1,7 @@
 //! Takes lists of steps of a session, line by line: `new CALLER CALLEE` begins a list over memories of so many bytes,
 //! `call FUNCTION VALUE`, `place FUNCTION VALUE` (a value of that function's parameter), `read NUMBER` and
 //! `release ADDRESS SIZE` are its steps, and `run` takes them. Its stored input is random lists, its stored output a plain
-//! model's answers (`tools/random_steps.py`).
+//! model's answers (`tools/models/sessions.py`).
 #![tactic(auto)]
 
 mod answering;

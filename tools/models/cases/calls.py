@@ -1,30 +1,13 @@
-#!/usr/bin/env python3
-"""Writes and checks the call vectors of crates/vectors: calls as JSON, one a line, and what they do, one a line.
-
-usage: tools/call_vectors.py write            writes its files stdin (calls) and stdout (answers) anew
-       tools/call_vectors.py check            whether stdout is what tools/call_abi.py finds for stdin
-       tools/call_vectors.py random N [SEED]  prints N random calls
-       tools/call_vectors.py compare PROGRAM N [SEED]
-                                              runs N random calls through the program `vectors` and compares
-       tools/call_vectors.py memory PROGRAM   runs 500 random calls and 5,000 through it, and compares their memory
-
-The answers are those of tools/call_abi.py, an implementation of its own, and never the program's. The exit status is 1 where
-something differs.
-"""
+"""The calls of crates/vectors: some of each kind worked by hand, and random ones, of values that stand and of such in which one thing or another
+is wrong."""
 import itertools
-import json
-import pathlib
 import random
-import subprocess
-import sys
-import tempfile
-import time
 
-import call_abi
-from call_abi import align_of, case_width, flags_width, flat, payload_place, places_of, size_of, up, WIDTHS
+from ..abi import Flags, List, Record, Scalar, String, up
+from ..calls import line_of
+from ..opening import opened
+from ..wit import PRIMITIVES
 
-VECTORS = pathlib.Path(__file__).resolve().parent.parent / "crates/vectors"
-CALLS, ANSWERS = VECTORS / "stdin", VECTORS / "stdout"
 SEED = 20
 FUNCTION = "package a:b; interface c { f: func(x: u32) -> u32; }"
 SMALLEST = (
@@ -39,14 +22,7 @@ THREE = (
     "0005613a622f7805020203000101750142040203020103040001750300000140010171010001040001670102040005613a622f7a0504"
     "0b0d0100077061636b616765030000"
 )
-# the texts of the packages whose binaries are called
-TEXTS = {SMALLEST: FUNCTION, THREE: USES}
-# what is told of packages that are none
-REFUSED = {
-    "": "error 32 expected package at 0..0",
-    "package a:b; interface c { f: func(x: t); }": "error 41 unknown t",
-}
-SCALARS = ["bool", "s8", "u8", "s16", "u16", "s32", "u32", "s64", "u64", "char"]
+SCALARS = list(PRIMITIVES[:-1])
 STRINGS = ["", "a", "hi", "h\u00e9llo", "\u20ac", "\U0001f600", "plain text", "\u0000"]
 # of each kind of random call: definitions, and the types of its parameters and results
 KINDS = {
@@ -82,11 +58,13 @@ class Source:
         self.harm, self.kind, self.scripts = harm, kind, scripts
 
     def harmed(self):
+        """Whether something is to be wrong here."""
         return self.random.random() < self.harm
 
     # ---- types, as text
 
     def type(self, names, depth=0):
+        """A type, perhaps one of these names."""
         pick = self.random.random()
         if names and pick < 0.3:
             return self.random.choice(names)
@@ -95,10 +73,12 @@ class Source:
         if pick < 0.62:
             return "string"
         inner = [self.type(names, depth + 1) for _ in range(3)]
-        shapes = [f"list<{inner[0]}>", f"option<{inner[0]}>", f"result<{inner[0]}, {inner[1]}>", f"result<_, {inner[0]}>", f"tuple<{', '.join(inner)}>"]
+        shapes = [f"list<{inner[0]}>", f"option<{inner[0]}>", f"result<{inner[0]}, {inner[1]}>", f"result<_, {inner[0]}>"]
+        shapes.append(f"tuple<{', '.join(inner)}>")
         return self.random.choice(shapes)
 
     def definition(self, name, names):
+        """The definition of a type, of any types and these names."""
         shape = self.random.choice(["record", "variant", "enum", "flags"])
         labels = "abcdefghijklmnopqrstuvwxyz"
         if shape == "record":
@@ -112,6 +92,7 @@ class Source:
         return f"{shape} {name} {{ {', '.join(parts)} }}"
 
     def package(self):
+        """A package of an interface with a function `f`."""
         if self.kind:
             definitions, types = KINDS[self.kind]
             params = ", ".join(f"p{place}: {self.random.choice(types)}" for place in range(self.random.randint(1, 3)))
@@ -133,86 +114,105 @@ class Source:
         self.bytes = bytearray()
 
     def block(self, align, size):
+        """Where a block begins, behind those before."""
         at = up(len(self.bytes), align)
         self.bytes += self.random.randbytes(at + size - len(self.bytes))
         return at
 
     def address(self, align, size):
-        """Where a block stands; now and then a wrong place."""
+        """Where a block begins; now and then a wrong place."""
         at = self.block(align, size)
         if self.harmed():
             return self.random.choice([at + 1, at + align, len(self.bytes), 0xFFFFFFFC])
         return at
 
     def put(self, at, width, number):
+        """Writes a number of so many bytes."""
         self.bytes[at : at + width] = number.to_bytes(width, "little")
 
     def scalar(self, t):
-        if t == "bool":
+        """The number of a scalar."""
+        if t.word == "bool":
             return self.random.choice([0, 1, 1, 2, 255])
-        if t == "char":
+        if t.word == "char":
             wrong = self.random.choice([0xD800, 0xDFFF, 0x110000, 0xFFFFFFFF])
             return wrong if self.harmed() else self.random.choice([0x61, 0xE9, 0x20AC, 0x1F600, 0x10FFFF])
-        bits = 8 * WIDTHS[t]
+        bits = 8 * t.size
         return self.random.choice([0, 1, (1 << bits) - 1, 1 << bits - 1, self.random.getrandbits(bits)])
 
+    def string(self):
+        """Address and length of a string."""
+        text = self.random.choice(STRINGS).encode()
+        if self.harmed():
+            text += self.random.choice([b"\xc0\x80", b"\xed\xa0\x80", b"\xf4\x90\x80\x80", b"\xe2\x82"])
+        at = self.address(1, len(text))
+        self.bytes[at : at + len(text)] = text
+        return at, len(text)
+
     def header(self, t):
-        """Address and length of a text or a list."""
-        if t == "string":
-            text = self.random.choice(STRINGS).encode()
-            if self.harmed():
-                text += self.random.choice([b"\xc0\x80", b"\xed\xa0\x80", b"\xf4\x90\x80\x80", b"\xe2\x82"])
-            at = self.address(1, len(text))
-            self.bytes[at : at + len(text)] = text
-            return at, len(text)
+        """Address and length of a string or a list."""
+        if isinstance(t, String):
+            return self.string()
         count = self.random.choice([0, 1, 2, 3])
-        size = size_of(t[1])
-        at = self.block(align_of(t[1]), count * size)
+        size = t.element.size
+        at = self.block(t.element.align, count * size)
         for place in range(count):
-            self.store(t[1], at + place * size)
+            self.store(t.element, at + place * size)
         if self.harmed():
             at, count = self.random.choice([(at + 1, count), (at, 1 << 30), (0xFFFFFFF8, 1)])
         return at, count
 
     def case(self, t):
-        return len(t[1]) + self.random.choice([0, 1]) if self.harmed() else self.random.randrange(len(t[1]))
+        """The number of a case."""
+        count = len(t.payloads)
+        return count + self.random.choice([0, 1]) if self.harmed() else self.random.randrange(count)
 
     def store(self, t, at):
-        if t in WIDTHS:
-            self.put(at, WIDTHS[t], self.scalar(t))
-        elif t == "string" or t[0] == "list":
+        """Writes a value at an address."""
+        if isinstance(t, Scalar):
+            self.put(at, t.size, self.scalar(t))
+        elif isinstance(t, (String, List)):
             place, length = self.header(t)
             self.put(at, 8, place | length << 32)
-        elif t[0] == "flags":
-            self.put(at, flags_width(t[1]), self.random.getrandbits(8 * flags_width(t[1])))
-        elif t[0] == "record":
-            for field, place in zip(t[1], places_of(t[1])[0]):
-                self.store(field, at + place)
+        elif isinstance(t, Flags):
+            self.put(at, t.size, self.random.getrandbits(8 * t.size))
+        elif isinstance(t, Record):
+            for field, offset in zip(t.fields, t.offsets):
+                self.store(field, at + offset)
         else:
-            case = self.case(t)
-            width = case_width(len(t[1]))
-            self.put(at, width, case % (1 << 8 * width))
-            if case < len(t[1]) and t[1][case]:
-                self.store(t[1][case], at + payload_place(t))
+            self.store_case(t, at)
+
+    def store_case(self, t, at):
+        """Writes a case with its payload at an address."""
+        case = self.case(t)
+        self.put(at, t.case_width, case % (1 << 8 * t.case_width))
+        if case < len(t.payloads) and t.payloads[case]:
+            self.store(t.payloads[case], at + t.payload_offset)
 
     def flats(self, t):
-        """Core values that stand for a value, as numbers."""
-        if t in WIDTHS:
+        """Core values of a value, as numbers."""
+        if isinstance(t, Scalar):
             number = self.scalar(t)
-            noise = self.random.getrandbits(32) << 8 * WIDTHS[t] if WIDTHS[t] < 4 and t != "bool" else 0
-            return [(number | noise) % (1 << 32) if WIDTHS[t] < 8 else number]
-        if t == "string" or t[0] == "list":
+            noise = self.random.getrandbits(32) << 8 * t.size if t.size < 4 and t.word != "bool" else 0
+            return [(number | noise) % (1 << 32) if t.size < 8 else number]
+        if isinstance(t, (String, List)):
             return list(self.header(t))
-        if t[0] == "flags":
+        if isinstance(t, Flags):
             return [self.random.getrandbits(32)]
-        if t[0] == "record":
-            return sum(map(self.flats, t[1]), [])
+        return self.field_flats(t.fields) if isinstance(t, Record) else self.case_flats(t)
+
+    def field_flats(self, fields):
+        """Core values of a value of each of these types."""
+        return sum(map(self.flats, fields), [])
+
+    def case_flats(self, t):
+        """Core values of a case with its payload."""
         case = self.case(t)
-        kinds = flat(t)[1:]
+        kinds = t.kinds[1:]
         numbers = [self.random.getrandbits(64 if kind == "i64" else 32) for kind in kinds]
-        if case < len(t[1]) and t[1][case]:
-            payload = self.flats(t[1][case])
-            for place, (number, kind) in enumerate(zip(payload, flat(t[1][case]))):
+        if case < len(t.payloads) and t.payloads[case]:
+            payload = self.flats(t.payloads[case])
+            for place, (number, kind) in enumerate(zip(payload, t.payloads[case].kinds)):
                 joined = kinds[place] == "i64" and kind == "i32"
                 numbers[place] = number | self.random.getrandbits(32) << 32 if joined else number
         return [case] + numbers
@@ -220,26 +220,12 @@ class Source:
     # ---- calls
 
     def call(self, name):
+        """A call of this name."""
         text = self.package()
-        (params, result), = call_abi.Wit(text).functions.values()
-        kinds = sum(map(flat, params), [])
-        self.begin()
-        if len(kinds) > 16:
-            record = "record", params
-            at = self.address(align_of(record), size_of(record))
-            if at + size_of(record) <= len(self.bytes):
-                self.store(record, at)
-            flats = [("i32", at)]
-        else:
-            flats = list(zip(kinds, sum(map(self.flats, params), [])))
-        if result is not None and len(flat(result)) > 1:
-            flats.append(("i32", self.address(align_of(result), size_of(result))))
-        if self.harmed():
-            flats.append(("i32", 0))
-        caller, caller_top, room = bytes(self.bytes), len(self.bytes), self.room()
-        self.begin()
-        answer = self.answer(result)
-        callee = bytes(self.bytes)
+        function = opened([text]).function("a:b/c", "f")
+        flats, caller = self.caller(function)
+        caller_top, room = len(caller), self.room()
+        answer, callee = self.callee(function.result)
         line = {"name": name, "text": text, "iface": "a:b/c", "func": "f", "flats": flats}
         line["caller"] = (caller + self.random.randbytes(room)).hex()
         line["callee"] = (callee + self.random.randbytes(self.room())).hex()
@@ -249,31 +235,48 @@ class Source:
         line["stop"] = self.random.choice(["body", "post"]) if self.harmed() else "no"
         return line
 
+    def caller(self, function):
+        """The core values of arguments, and the caller's memory."""
+        self.begin()
+        params, result = function.params, function.result
+        if function.is_spilled:
+            flats = [("i32", self.stored(params))]
+        else:
+            flats = list(zip(params.kinds, self.field_flats(params.fields)))
+        if function.has_area:
+            flats.append(("i32", self.address(result.align, result.size)))
+        if self.harmed():
+            flats.append(("i32", 0))
+        return flats, bytes(self.bytes)
+
+    def callee(self, result):
+        """The core values that the body answers, and the callee's memory."""
+        self.begin()
+        if result is None:
+            return [], b""
+        answer = [("i32", self.stored(result))] if len(result.kinds) > 1 else list(zip(result.kinds, self.flats(result)))
+        return answer + [("i64", 1)] if self.harmed() else answer, bytes(self.bytes)
+
+    def stored(self, t):
+        """The address at which a value is written, or a wrong one."""
+        at = self.address(t.align, t.size)
+        if at + t.size <= len(self.bytes):
+            self.store(t, at)
+        return at
+
     def room(self):
         """How many bytes an allocator has."""
         return self.random.randint(0, 40) if self.harmed() else 400
 
     def script(self):
+        """What allocators answer, or None."""
         if not self.scripts and not self.harmed():
             return None
         return [[self.random.choice([0, 8, 16, 24, 64, 3, None, 0xFFFFFFF8]) for _ in range(6)] for _ in range(2)]
 
-    def answer(self, result):
-        if result is None:
-            return []
-        kinds = flat(result)
-        if len(kinds) > 1:
-            at = self.address(align_of(result), size_of(result))
-            if at + size_of(result) <= len(self.bytes):
-                self.store(result, at)
-            answer = [("i32", at)]
-        else:
-            answer = list(zip(kinds, self.flats(result)))
-        return answer + [("i64", 1)] if self.harmed() else answer
 
-
-def random_calls(count, seed):
-    """Calls of values that stand, and calls in which one thing or another is wrong."""
+def calls(count, seed=SEED):
+    """Random calls of values that stand, and calls in which one thing or another is wrong."""
     for number in range(count):
         harm = [0, 0.03, 0.12][number % 3]
         yield Source(f"{seed}:{number}", harm).call(f"random {number}")
@@ -300,6 +303,7 @@ def row(name, items, flats, caller="", callee="", **more):
 
 
 def zeros(count):
+    """So many bytes of zero."""
     return "00" * count
 
 
@@ -308,6 +312,7 @@ SEVENTEEN = "f: func(%s)" % ", ".join(f"a{place}: u32" for place in range(17))
 
 
 def scalar_rows():
+    """Calls of scalars."""
     yield row("scalars: a function of a number", FUNCTION, [7], answer=[("i32", 8)])
     yield row("scalars: from its binary", FUNCTION, [7], binary=SMALLEST, answer=[("i32", 8)])
     yield row("scalars: through two uses, from its binary", USES, [70000], binary=THREE, iface="a:b/z", func="g", answer=[("i32", 65536)])
@@ -324,6 +329,7 @@ def scalar_rows():
 
 
 def string_rows():
+    """Calls of strings."""
     text = "f: func(x: string);"
     yield row("strings: one of two bytes", text, [0, 2], "6869", zeros(4))
     yield row("strings: empty ones, there and back", "f: func(x: string) -> string;", [0, 0, 8], zeros(16), zeros(8), answer=[("i32", 0)])
@@ -346,6 +352,7 @@ def string_rows():
 
 
 def list_rows():
+    """Calls of lists."""
     yield row("lists: of records, whose padding stays", f"{RECORD} f: func(x: list<r>);", [0, 1], "01eeeeee020000000300eeee", zeros(16))
     yield row("lists: padding of the target stays too", f"{RECORD} f: func(x: list<r>);", [0, 1], "01eeeeee020000000300eeee", "cc" * 16)
     yield row("lists: of a bool of 2", "f: func(x: list<bool>);", [0, 1], "02", zeros(4))
@@ -364,13 +371,15 @@ def list_rows():
 
 
 def spilled_rows():
+    """Calls whose arguments or results go through memory."""
     numbers = hex_of(*range(1, 18))
     yield row("spilled: seventeen numbers", f"{SEVENTEEN};", [0], numbers, zeros(68))
     yield row("spilled: seventeen numbers, a byte too few", f"{SEVENTEEN};", [0], numbers, zeros(67))
     yield row("spilled: a misaligned address", f"{SEVENTEEN};", [2], numbers, zeros(68))
     yield row("spilled: an address past the end", f"{SEVENTEEN};", [4], numbers, zeros(68))
     yield row("spilled: sixteen numbers are not", SEVENTEEN.replace(", a16: u32", "") + ";", range(16), "", "")
-    yield row("spilled: with a result of two kinds", f"{SEVENTEEN} -> tuple<u8, u16>;", [0, 68], numbers + zeros(4), zeros(4) + zeros(68), tops=[72, 4], answer=[("i32", 0)])
+    both = {"tops": [72, 4], "answer": [("i32", 0)]}
+    yield row("spilled: with a result of two kinds", f"{SEVENTEEN} -> tuple<u8, u16>;", [0, 68], numbers + zeros(4), zeros(72), **both)
     wide = "f: func() -> tuple<u8, u32>;"
     yield row("spilled: a result, padding stays", wide, [0], "cc" * 8, "05eeeeee06000000", tops=[8, 8], answer=[("i32", 0)])
     yield row("spilled: the body's address misaligned", wide, [0], zeros(8), zeros(16), answer=[("i32", 2)])
@@ -381,6 +390,7 @@ def spilled_rows():
 
 
 def variant_rows():
+    """Calls of variants, enums, options and results."""
     joined = "variant v { a(u32), b(s64), c } f: func(x: v) -> v;"
     area = {"answer": [("i32", 0)], "tops": [16, 16]}
     yield row("variants: an i32 in a joined i64", joined, [0, ("i64", 0xFFFFFFFF00000007), 0], zeros(16), zeros(16), **area)
@@ -390,11 +400,13 @@ def variant_rows():
     yield row("variants: a case number at the count, answered", joined, [2, ("i64", 0), 0], zeros(16), hex_of("03", zeros(15)), **area)
     yield row("variants: a negative number in a joined i64", "variant v { a(s32), b(u64) } f: func(x: v);", [0, ("i64", 0xFFFFFFFF)], "", "")
     yield row("variants: an enum of 3", "enum e { a, b, c } f: func(x: e) -> e;", [2], answer=[("i32", 3)])
-    yield row("variants: an option in an option", "f: func(x: option<option<u8>>) -> option<option<u8>>;", [1, 0, 9, 0], zeros(4), "010105", tops=[4, 3], answer=[("i32", 0)])
+    twice = "f: func(x: option<option<u8>>) -> option<option<u8>>;"
+    yield row("variants: an option in an option", twice, [1, 0, 9, 0], zeros(4), "010105", tops=[4, 3], answer=[("i32", 0)])
     yield row("variants: a result without payloads", "f: func(x: result) -> result;", [1], answer=[("i32", 0)])
 
 
 def stop_rows():
+    """Core signatures, bodies that stop, and refusals."""
     yield row("signature: none for one", "f: func(x: u32);", [])
     yield row("signature: two for one", "f: func(x: u32);", [1, 2])
     yield row("signature: an i64 for an i32", "f: func(x: u32);", [("i64", 1)])
@@ -412,7 +424,10 @@ def stop_rows():
 
 
 def script_rows():
+    """Calls over scripted allocators."""
+
     def answers(name, items, flats, given, caller="", **more):
+        """A call in which the callee's allocator gives these answers."""
         return row(f"scripts: {name}", items, flats, caller, zeros(16), script=[None, given], **more)
 
     text = "f: func(x: string);"
@@ -442,93 +457,16 @@ def random_rows():
 
 
 def all_rows():
+    """The stored calls."""
     parts = [scalar_rows, string_rows, list_rows, variant_rows, spilled_rows, stop_rows, script_rows, random_rows]
     return itertools.chain.from_iterable(part() for part in parts)
 
 
-def told(call):
-    """What the call does, as a line tells it."""
-    text = TEXTS[call["binary"]] if "binary" in call else call["text"]
-    if text in REFUSED:
-        kept = {"caller_after": call["caller"], "callee_after": call["callee"], "caller_log": [], "callee_log": []}
-        return {"outcome": {"refused": REFUSED[text]}, "body_got": None, "post_got": None, "nodes": [0, 0], **kept}
-    return call_abi.told(call, text)
+def stored():
+    """The lines of the stored calls."""
+    return list(map(line_of, all_rows()))
 
 
-def line_of(value):
-    return json.dumps(value, separators=(",", ":")) + "\n"
-
-
-def write():
-    calls = list(all_rows())
-    CALLS.write_text("".join(map(line_of, calls)))
-    ANSWERS.write_text("".join(line_of(told(call)) for call in calls))
-
-
-def check():
-    """Whether each answer is the one that is found for its call."""
-    differ = 0
-    for call, answer in itertools.zip_longest(CALLS.read_text().splitlines(), ANSWERS.read_text().splitlines()):
-        call, answer = json.loads(call or "null"), json.loads(answer or "null")
-        if call is None or json.loads(line_of(told(call))) != answer:
-            differ += 1
-            print(f"{call and call['name']}: differs")
-    sys.exit(differ > 0)
-
-
-def compare(program, calls):
-    """Runs the calls through the program, and tells where it differs."""
-    ran = subprocess.run([program], input="".join(map(line_of, calls)), capture_output=True, text=True, check=True)
-    differ, kinds = 0, {}
-    for call, line in itertools.zip_longest(calls, ran.stdout.splitlines()):
-        wanted = json.loads(line_of(told(call)))
-        (kind, words), = wanted["outcome"].items()
-        kind = kind if kind == "ok" else words
-        kinds[kind] = kinds.get(kind, 0) + 1
-        if json.loads(line or "null") != wanted:
-            differ += 1
-            print(line_of(call), "  wanted", line_of(wanted), "  found ", line)
-    for kind, number in sorted(kinds.items()):
-        print(f"{number:6} {kind}")
-    print(f"{len(calls)} calls, {differ} differ")
-    sys.exit(differ > 0)
-
-
-def memory(program):
-    """Whether 5,000 calls take more memory than 500 of them, and how long they take."""
-    calls = list(map(line_of, random_calls(5000, SEED)))
-    calls.sort(key=len, reverse=True)
-    found = {}
-    for number in (500, 5000):
-        with tempfile.TemporaryFile("w+") as lines:
-            lines.writelines(calls[:number])
-            lines.seek(0)
-            started = time.perf_counter()
-            # A child of Python is told to have had at least the memory that Python has, so another starts it.
-            ran = subprocess.run(["time", "-f", "%M", program], stdin=lines, stdout=subprocess.DEVNULL, stderr=subprocess.PIPE, text=True, check=False)
-            seconds = time.perf_counter() - started
-        if ran.returncode:
-            sys.exit(f"{number} calls: status {ran.returncode}")
-        found[number] = int(ran.stderr.splitlines()[-1])
-        print(f"{number} calls: at most {found[number]} KiB, {number / seconds:.0f} calls a second")
-    sys.exit(found[5000] > found[500] * 1.05 + 256)
-
-
-def main():
-    words = sys.argv[1:]
-    if words == ["write"]:
-        write()
-    elif words == ["check"]:
-        check()
-    elif words[:1] == ["random"] and len(words) in (2, 3):
-        sys.stdout.writelines(map(line_of, random_calls(int(words[1]), words[2] if words[2:] else SEED)))
-    elif words[:1] == ["memory"] and len(words) == 2:
-        memory(words[1])
-    elif words[:1] == ["compare"] and len(words) in (3, 4):
-        compare(words[1], list(random_calls(int(words[2]), words[3] if words[3:] else SEED)))
-    else:
-        sys.exit(__doc__)
-
-
-if __name__ == "__main__":
-    main()
+def lines(count, seed=SEED):
+    """The lines of random calls."""
+    return list(map(line_of, calls(count, seed)))

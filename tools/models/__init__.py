@@ -1,0 +1,22 @@
+"""Small models of what witcall does, written from the rules alone: docs/FORMATS.md, CanonicalABI.md and Binary.md. They give the answers of stored
+runs and of rows, and nothing in them comes from the program's sources.
+
+| module | models |
+|---|---|
+| `wit` | texts as trees |
+| `names` | which names stand in one scope, and which aren't there |
+| `sets` | sets of packages: what refuses them, their tables, what `show` and `layout` print |
+| `printing`, `binary` | canonical texts; component type binaries, both ways |
+| `abi` | closed types: layouts, flat kinds, core signatures |
+| `memory` | memories with their allocators |
+| `crossing` | values from one place to another |
+| `calls` | calls by core values |
+| `json_values` | values as JSON |
+| `sessions` | typed calls, and what is placed, read and released |
+| `jobs`, `layouts`, `rows` | lines that ask, and lines that answer |
+| `cases` | the lines that are asked: stored ones and random ones |
+| `stored` | the files in which these are kept |
+
+One module serves all that need a rule. What finds faults is that the models and the program were written apart; two models of one
+rule would have one author and would err alike.
+"""

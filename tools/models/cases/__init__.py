@@ -1,0 +1,1 @@
+"""The lines that the models are asked: stored ones and random ones."""

@@ -1,0 +1,122 @@
+"""Memories with their allocators: `Bump`, `FirstFit` and `Scripted`."""
+from .abi import up
+from .faults import Trap
+
+PAGE = 65536
+
+
+class Bump:
+    """Grants blocks upwards from a top, and takes none back."""
+
+    def __init__(self, length, top=0):
+        self.length, self.top = length, top
+
+    def alloc(self, align, size):
+        """The address of a block, or None."""
+        at = up(self.top, align)
+        if at + size > self.length:
+            return None
+        self.top = at + size
+        return at
+
+
+class Scripted:
+    """Gives these answers in turn, and none after them."""
+
+    def __init__(self, length, answers):
+        self.length, self.answers = length, iter(answers)
+
+    def alloc(self, _align, _size):
+        """The next answer."""
+        return next(self.answers, None)
+
+
+class FirstFit:
+    """Grants the lowest free block, and takes blocks back. It has a flag for each byte, which says whether it is live.
+
+    Blocks begin at multiples of 8 and take such many bytes; what is behind the last multiple of 8 is never used. It may grow by pages up to
+    `most`, where it has one.
+    """
+
+    def __init__(self, length, most=None):
+        self.length, self.most = length, most
+        self.live = bytearray(length // 8 * 8)
+
+    def alloc(self, _align, size):
+        """The address of a block, or None."""
+        if size == 0:
+            return 0
+        size = up(size, 8)
+        at = self.free_at(size)
+        if at is None:
+            at = self.grown(size)
+        if at is not None:
+            self.live[at : at + size] = b"\1" * size
+        return at
+
+    def free_at(self, size):
+        """The lowest place with so many bytes that aren't live."""
+        for at in range(0, len(self.live) - size + 1, 8):
+            if not any(self.live[at : at + size]):
+                return at
+        return None
+
+    def grown(self, size):
+        """The place of a block at the end, once there are as many pages as it takes; None where these would be too many."""
+        at = up(self.live.rfind(1) + 1, 8)
+        length = up(at + size, PAGE)
+        if self.most is None or length > self.most:
+            return None
+        self.live += bytes(length - self.length)
+        self.length = length
+        return at
+
+    def free(self, at, size):
+        """Takes a block back; whether it was live as a whole."""
+        size = up(size, 8)
+        if at % 8 or at + size > len(self.live) or not all(self.live[at : at + size]):
+            return False
+        self.live[at : at + size] = bytes(size)
+        return True
+
+
+class Memory:
+    """The bytes of a linear memory, its allocator, and a log of requests: alignment, size, and the address or None."""
+
+    def __init__(self, allocator, data=b""):
+        self.allocator, self.log = allocator, []
+        self.bytes = bytearray(data) + bytes(allocator.length - len(data))
+
+    def request(self, align, size):
+        """What the allocator answers."""
+        at = self.allocator.alloc(align, size)
+        self.log.append((align, size, at))
+        self.bytes += bytes(self.allocator.length - len(self.bytes))
+        return at
+
+    def grant(self, align, size, step):
+        """The address of a block; a trap where there is none, or none that can be one."""
+        at = self.request(align, size)
+        if at is None:
+            raise Trap("K6 full", step)
+        self.test(align, size, at, step)
+        return at
+
+    def test(self, align, size, at, step):
+        """Traps at an address that isn't aligned, or from where so many bytes go past the memory's end."""
+        if at % align:
+            raise Trap("K3 align", step)
+        if at + size > len(self.bytes):
+            raise Trap("K4 bounds", step)
+
+    def number(self, at, width):
+        """The number of so many bytes."""
+        return int.from_bytes(self.bytes[at : at + width], "little")
+
+    def put(self, at, width, number):
+        """Writes a number of so many bytes."""
+        self.write(at, number.to_bytes(width, "little"))
+
+    def write(self, at, data):
+        """Writes bytes."""
+        self.bytes[at : at + len(data)] = data

@@ -1,0 +1,126 @@
+"""Sets that are opened from texts and binaries, and what refuses them.
+
+Of several faults of one class the first is told as `names` has them, which is the order of the source but among the items of one interface.
+"""
+from . import binary, wit
+from .faults import Refused
+from .names import owner_names, scopes, source_order, unknown_names
+from .sets import Set
+from .tables import definitions, entries
+
+MOST_PACKAGES = 64
+MOST_ENTRIES = 65535
+MOST_MEMBERS = {"variant": 100000, "enum": 100000, "flags": 32}
+MOST_DEPTH, MOST_SIZE = 64, 16777216
+
+
+def opened(inputs):
+    """The set of these texts and binaries."""
+    packages = Set()
+    for data in inputs:
+        if len(packages.packages) == MOST_PACKAGES:
+            raise Refused("49 set limit")
+        add = add_text if isinstance(data, str) else add_binary
+        add(packages, data)
+    test_layouts(packages)
+    return packages
+
+
+def add_text(packages, text):
+    """Opens one more package, from a text."""
+    package = wit.read(text)
+    test_empty(package)
+    test_new(packages, package)
+    test_scopes(package)
+    test_packages(packages, [path.package for path in source_order(package) if path.package])
+    test_unknown(packages, package)
+    packages.keep(package)
+    test_limits(packages)
+
+
+def add_binary(packages, data):
+    """Opens one more package, from a binary that is of the layout of packages."""
+    package, imports = binary.read(data)
+    test_empty(package)
+    test_scopes(package)
+    test_new(packages, package)
+    test_packages(packages, [name for name, _ in imports])
+    test_imports(packages, imports)
+    packages.keep(package)
+
+
+def test_empty(package):
+    """Refuses a package without interfaces and worlds."""
+    if not package.items:
+        raise Refused("43 empty package")
+
+
+def test_new(packages, package):
+    """Refuses a package that the set has."""
+    if packages.number(package.name) is not None:
+        raise Refused(f"48 same package {package.name.full()}")
+
+
+def test_scopes(package):
+    """Refuses a name that its scope has before, but for the case of its letters."""
+    for scope in scopes(package):
+        seen = set()
+        for name in scope:
+            if name.lower() in seen:
+                raise Refused(f"40 duplicate {name}")
+            seen.add(name.lower())
+
+
+def test_packages(packages, names):
+    """Refuses the name of a package that the set doesn't have."""
+    for name in names:
+        if packages.number(name) is None:
+            raise Refused(f"47 no package {name.full()}")
+
+
+def test_imports(packages, imports):
+    """Refuses imports that aren't interfaces of the set, or aren't in its order."""
+    places = [import_place(packages, name, interface) for name, interface in imports]
+    if None in places or places != sorted(places):
+        raise Refused("44 not this shape")
+
+
+def import_place(packages, name, interface):
+    """Where an interface of this package stands in the set, or None where it isn't this one."""
+    number = packages.number(name)
+    for place, own in enumerate(packages.packages[number].interfaces):
+        if own.name == interface.name:
+            whole = [it.with_paths(lambda path: path.whole(name)) for it in (own, interface)]
+            return (number, place) if whole[0] == whole[1] else None
+    return None
+
+
+def test_unknown(packages, package):
+    """Refuses names that aren't there."""
+
+    def names_of(path):
+        """The names of types of the interface that a path means, or None."""
+        there = package if path.package is None else packages.packages[packages.number(path.package)]
+        found = [interface for interface in there.interfaces if interface.name == path.name]
+        return owner_names(found[0]) if found else None
+
+    for name in unknown_names(package, names_of):
+        raise Refused(f"41 unknown {name}")
+
+
+def test_limits(packages):
+    """Refuses a last package of too many type entries, cases or flags."""
+    typedefs = [typedef for _, interface in packages.own() for typedef in interface.types]
+    if any(len(typedef.members) > MOST_MEMBERS.get(typedef.kind, len(typedef.members)) for typedef in typedefs):
+        raise Refused("45 limit")
+    if entries(packages) > MOST_ENTRIES:
+        raise Refused("45 limit")
+
+
+def test_layouts(packages):
+    """Refuses the first definition past a limit, of the last package and of what it reaches."""
+    for definition in definitions(packages):
+        if not definition.is_function and definition.laid.depth > MOST_DEPTH:
+            raise Refused("51 too deep")
+        if definition.laid.size > MOST_SIZE:
+            raise Refused("50 too large")

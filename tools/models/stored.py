@@ -1,0 +1,127 @@
+"""The files that hold answers of the models: stored runs of crates, and rows."""
+import collections
+import itertools
+import pathlib
+
+from . import calls, rows, sessions, set_lines
+from .cases import calls as call_cases
+from .cases import requests as request_cases
+from .cases import sets as set_cases
+from .cases import steps as step_cases
+
+ROOT = pathlib.Path(__file__).resolve().parent.parent.parent
+
+
+def lines_of(path):
+    """The lines of a file."""
+    return path.read_text().removesuffix("\n").split("\n")
+
+
+def text_of(lines):
+    """Lines, each ended by a newline."""
+    return "".join(f"{line}\n" for line in lines)
+
+
+class Run:
+    """The stored run of a crate: `lines` makes its input, `answers` answers one, `known` has answers that are told by hand, by their lines."""
+
+    def __init__(self, crate, lines, answers, known=dict):
+        self.folder = ROOT / "crates" / crate
+        self.lines, self.answers, self.known = lines, answers, known
+
+    @property
+    def path(self):
+        """The file of the answers."""
+        return self.folder / "stdout"
+
+    def is_named(self, path):
+        """Whether a path is the crate's or one of its files'."""
+        return path in (self.folder, self.folder / "stdin", self.path)
+
+    def wanted(self):
+        """The answers to the stored input."""
+        return list(self.answers(lines_of(self.folder / "stdin")))
+
+    def faults(self, wanted):
+        """The answers by hand that aren't among these, where each stands below its line."""
+        found = dict(zip(wanted, wanted[1:]))
+        return [f"{line}: {answer} by hand" for line, answer in self.known().items() if found.get(f"> {line}") != answer]
+
+    def write(self):
+        """Writes the input and the answers anew."""
+        lines = self.lines()
+        (self.folder / "stdin").write_text(text_of(lines))
+        self.path.write_text(text_of(self.answers(lines)))
+
+
+class Rows:
+    """A file of rows."""
+
+    def __init__(self, path):
+        self.path = path
+
+    def is_named(self, path):
+        """Whether a path is the file's."""
+        return path == self.path
+
+    def wanted(self):
+        """The rows with the answers to them."""
+        return list(rows.answers(lines_of(self.path)))
+
+    def faults(self, wanted):
+        """The names that two of these rows have."""
+        names = collections.Counter(line.split(": ", 1)[0] for line in wanted if rows.is_row(line))
+        return [f"two rows {name}" for name, number in names.items() if number > 1]
+
+    def write(self):
+        """Writes the answers anew."""
+        self.path.write_text(text_of(self.wanted()))
+
+
+RUNS = {
+    "vectors": Run("vectors", call_cases.stored, calls.answers),
+    "wasi": Run("suite_wasi", set_cases.lines, set_lines.answers, set_cases.known),
+    "steps": Run("suite_steps", step_cases.lines, sessions.answers),
+    "requests": Run("suite_requests", request_cases.lines, sessions.request_answers),
+}
+ALL = [*RUNS.values(), *map(Rows, sorted((ROOT / "tools/rows").glob("*.rows")))]
+
+
+def named(paths):
+    """What is stored in these files or folders; everything where there is none. A file of rows may be any."""
+    found = []
+    for path in (pathlib.Path(path).resolve() for path in paths):
+        of_path = [it for it in ALL if it.is_named(path)] or [Rows(path)] * (path.suffix == ".rows")
+        if not of_path:
+            raise SystemExit(f"{path}: nothing of the models is stored there")
+        found += of_path
+    return found or ALL
+
+
+def shown(line):
+    """The beginning of a line, or nothing past the end."""
+    return "nothing" if line is None else line[:300]
+
+
+def is_right(it):
+    """Whether one of these is what the models answer; prints where it isn't."""
+    wanted, where = it.wanted(), it.path.relative_to(ROOT) if it.path.is_relative_to(ROOT) else it.path
+    pairs = enumerate(itertools.zip_longest(lines_of(it.path), wanted), 1)
+    differing = [(place, *pair) for place, pair in pairs if pair[0] != pair[1]]
+    for place, *pair in differing[:10]:
+        print(f"{where}:{place}\n  stored {shown(pair[0])}\n  wanted {shown(pair[1])}")
+    faults = it.faults(wanted)
+    print("\n".join([*faults, f"{where}: {len(wanted)} lines, {len(differing)} differ"]))
+    return not differing and not faults
+
+
+def check(paths):
+    """Whether what is stored is what the models answer; prints where it isn't."""
+    return all([is_right(it) for it in named(paths)])
+
+
+def write(paths):
+    """Writes what is stored anew."""
+    for it in named(paths):
+        it.write()
+    return True
