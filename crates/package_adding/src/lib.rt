@@ -9,10 +9,12 @@
 mod error;
 mod imported;
 mod named;
+mod names;
 mod set;
 mod tree;
 mod written;
 
 pub use error::AddError;
+pub use names::has_full_names;
 pub use package_sets::AttachError;
 pub use set::PackageSet;

@@ -70,6 +70,13 @@ impl PackageSet {
         &self.resolve
     }
 
+    /// The table itself.
+    pub fn into_resolve(self) -> Resolve
+        ensures { result ≡ self.resolve }
+    {
+        self.resolve
+    }
+
     /// That there is room for a package more. 49 where there are 64.
     pub fn has_room(&self) -> Result<(), AttachError>
         ensures ok { OnOk result (HasRoom self.now.resolve) }

@@ -37,7 +37,7 @@ use Rattle.value_json.proofs.Distinct.{prop-rows, prop-type}
 none-distinct : AreDistinct []
 none-distinct = record { each = λ k l m. absurd (omega (arith, l)) }
 
-abbrev IsScope : Definition → Type 0
+abbrev pub IsScope : Definition → Type 0
 IsScope (row.Type d) = AreDistinct (kind_members d.kind)
 IsScope (row.Function f) = Unit {0}
 
@@ -86,6 +86,10 @@ found [] k d e = absurd (cc)
 found (x ∷ ds) zero d e = let same : x ≡ d = cc in (omega arith, sym same)
 found (x ∷ ds) (suc k) d e = let (less, is) = found ds k d e in (omega (arith, less), is)
 
+-- the members of a type without a name differ
+pub unnamed-scope-of : (rows : List Definition) → IsPostfix rows → (a : ℕ) (k : TypeDefKind) → slice_get rows a ≡ Some (inner_row k) → AreDistinct (kind_members k)
+unnamed-scope-of rows postfix a k e = inner-scope k (unnamed-inner rows [] postfix a k e)
+
 module _ (rows : List Definition) (postfix : IsPostfix rows) where
   -- a row where no type has a name
   unnamed-scope : (a n : ℕ) (d : Definition) → NoneFrom rows n → n ≤ a → slice_get rows a ≡ Some d → IsScope d
@@ -94,7 +98,7 @@ module _ (rows : List Definition) (postfix : IsPostfix rows) where
   unnamed-scope a n (row.Type d) none l h = by d.name h
     where
       by : (o : Option TypeName) → slice_get rows a ≡ Some (row.Type (record { name = o; kind = d.kind })) → AreDistinct (kind_members d.kind)
-      by None e = inner-scope d.kind (unnamed-inner rows [] postfix a d.kind e)
+      by None e = unnamed-scope-of rows postfix a d.kind e
       by (Some y) e = absurd (none a y l (d.kind, e))
 
   scope-at : (start : ℕ) (is : List Interface) → NoneFrom rows (interfaces_end start is) → All AreDistinct (interfaces_scopes rows start is)
@@ -216,12 +220,16 @@ rows-labels ts [] known h = known
 rows-labels ts (d ∷ ds) known (here, h) =
     rows-labels (ts ++ labelled_definition ts d ∷ []) ds (all-more HasDistinctLabels ts (labelled_definition ts d) known (definition-labels ts known d here)) h
 
+-- where the members of each type differ
+pub labels-of-scopes : (r : Resolve) → ((a : ℕ) (d : Definition) → slice_get r.definitions a ≡ Some d → IsScope d) → HasApartLabels r × ((ty : ValType) → HasDistinctLabels (labelled_type r ty))
+labels-of-scopes r each =
+    let scopes = scopes-from r.definitions 0 each in
+    (all-apart r.definitions scopes, val-labels (labelled_rows [] r.definitions) (rows-labels [] r.definitions tt scopes))
+
 labels-apart-in-form : (r : Resolve) → IsInPackageForm r → All AreDistinct (package_scopes r) → HasApartLabels r × ((ty : ValType) → HasDistinctLabels (labelled_type r ty))
 labels-apart-in-form r form distinct =
-    let rows = r.definitions in
-    let none = none-named rows 0 (interfaces_end 0 r.interfaces) r.worlds (worlds-parted rows 0 r.interfaces r.worlds form.parted) form.worlds in
-    let scopes = scopes-from rows 0 (λ a d h. scope-at rows form.postfix 0 r.interfaces none (interfaces-distinct r distinct) a d (omega arith) h) in
-    (all-apart rows scopes, val-labels (labelled_rows [] rows) (rows-labels [] rows tt scopes))
+    let none = none-named r.definitions 0 (interfaces_end 0 r.interfaces) r.worlds (worlds-parted r.definitions 0 r.interfaces r.worlds form.parted) form.worlds in
+    labels-of-scopes r (λ a d h. scope-at r.definitions form.postfix 0 r.interfaces none (interfaces-distinct r distinct) a d (omega arith) h)
 
 pub labels-apart : (r : Resolve) → LabelsAreApart r
 labels-apart r form distinct =
