@@ -15,7 +15,8 @@ pub fn has_full_names(alloc: Global, ast: &Ast) -> Result<bool, AllocError>
     ensures { IfOk result (λ full. full ≡ has_full_names (file_view ast.now)) }
 {
     let package = &ast.package;
-    if !is_package_label(package.namespace.as_bytes()) || !is_package_label(package.name.as_bytes())
+    if !is_package_label(package.namespace.as_bytes())
+        || !is_package_label(package.name.as_bytes())
     {
         return Ok(false);
     }
