@@ -6,7 +6,7 @@ from . import binary, wit
 from .faults import Refused
 from .names import owner_names, scopes, source_order, unknown_names
 from .sets import Set
-from .tables import definitions, entries
+from .tables import entries, set_rows
 
 MOST_PACKAGES = 64
 MOST_ENTRIES = 65535
@@ -118,8 +118,8 @@ def test_limits(packages):
 
 
 def test_layouts(packages):
-    """Refuses the first definition past a limit, of the last package and of what it reaches."""
-    for definition in definitions(packages):
+    """Refuses the first definition past a limit, of all packages."""
+    for definition in set_rows(packages):
         if not definition.is_function and definition.laid.depth > MOST_DEPTH:
             raise Refused("51 too deep")
         if definition.laid.size > MOST_SIZE:

@@ -84,10 +84,11 @@ class Set:
         return [(self.last, interface) for interface in self.packages[-1].interfaces]
 
     def functions(self, full_name):
-        """The functions of an interface of the last package or one that it reaches, by their names; none where there is no such interface."""
-        for package, interface in self.reached() + self.own():
-            if self.packages[package].name.full(interface.name) == full_name:
-                return {function.name: self.closed_function(package, interface, function) for function in interface.functions}
+        """The functions of an interface of any package, by their names; none if there is no such interface."""
+        for number, package in enumerate(self.packages):
+            for interface in package.interfaces:
+                if package.name.full(interface.name) == full_name:
+                    return {function.name: self.closed_function(number, interface, function) for function in interface.functions}
         return {}
 
     def function(self, full_name, name):

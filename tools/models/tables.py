@@ -35,13 +35,27 @@ def count(types):
     return sum(ty is not None for ty in types)
 
 
-def definitions(packages):
-    """The rows of the last package's table, those of what it reaches first."""
-    for package, interface in packages.reached() + packages.own():
-        yield from Rows(packages, package, interface).all()
-    for world in packages.packages[-1].worlds:
+def own_rows(packages, number):
+    """The rows of one package: those of its interfaces, and then those of its worlds."""
+    package = packages.packages[number]
+    for interface in package.interfaces:
+        yield from Rows(packages, number, interface).all()
+    for world in package.worlds:
         functions = tuple(item.function for item in world.items if item.function)
-        yield from Rows(packages, packages.last, wit.Interface(world.name, (), (), functions)).all()
+        yield from Rows(packages, number, wit.Interface(world.name, (), (), functions)).all()
+
+
+def set_rows(packages):
+    """The rows of a set's table, package by package."""
+    for number in range(len(packages.packages)):
+        yield from own_rows(packages, number)
+
+
+def definitions(packages):
+    """The rows of the last package, those of what it reaches first."""
+    for package, interface in packages.reached():
+        yield from Rows(packages, package, interface).all()
+    yield from own_rows(packages, packages.last)
 
 
 def work(rows):

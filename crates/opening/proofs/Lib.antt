@@ -1,7 +1,8 @@
+pub mod Before
 pub mod Behind
 pub mod Binaries
 pub mod Members
-pub mod Packages
 pub mod PrintedTexts
 pub mod Reopened
 pub mod Sets
+pub mod Within

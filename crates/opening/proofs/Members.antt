@@ -23,8 +23,8 @@ use Rattle.wit_text.specs.Reading.{IsRead, Faulty}
 use Rattle.wit_tokens.specs.Lexing.{limit}
 use Rattle.wit_tokens.specs.declared.error.TextError.{TextError}
 use Rattle.wit_tokens.specs.declared.error.TextError.TheVariants as text_error
-use Rattle.opening.specs.Opening.{is_binary, open_error, IsUtf8Behind36, IsNoText, IsNoBinary, IsWantOfMemory}
-use Rattle.opening.specs.Sets.{IsOfTextBehind, IsOfClosedBinary, AddsMember, MemberRefuses, TextNotAdded, BinaryNotAdded}
+use Rattle.opening.specs.Opening.{open_error, IsWantOfMemory}
+use Rattle.opening.specs.Sets.{is_binary, IsOfTextBehind, IsBinaryOf, AddsMember, IsUtf8Behind36, IsNoText, IsNoBinary, MemberRefuses, TextNotAdded, BinaryNotAdded}
 use Rattle.opening.specs.declared.package.OpenError.{OpenError}
 use Rattle.opening.specs.declared.package.OpenError.TheVariants as error
 
@@ -48,21 +48,18 @@ module _ (bytes : List ℕ) (A B : Type 0) where
 module _ (set : Resolve) (bytes : List ℕ) (text : is_binary bytes ≡ false) where
   pub adds-text : (f : File) (closed r : Resolve) (id : ℕ) → IsUtf8 bytes → IsRead bytes f → file_fits f ≡ true → AddsTree f set closed r id → ∥ IsWritable closed ∥₁ → IsBehindImports set closed → AddsMember set bytes closed r
   adds-text f closed r id utf8 read fits h writable behind = record {
-    member = as-text bytes (IsOfClosedBinary bytes closed) (IsOfTextBehind set bytes closed) text (record { utf8 = utf8; file = f; read = read; fits = fits; tree = h.tree });
-    writable = writable;
-    behind = behind;
-    id = id;
-    attached = h.attached;
+    member = as-text bytes (IsBinaryOf bytes closed) (IsOfTextBehind set bytes closed) text (record { utf8 = utf8; file = f; read = read; fits = fits; tree = h.tree });
+    puts = record { writable = writable; behind = behind; id = id; attached = h.attached };
   }
 
   pub of-member : (closed r : Resolve) → AddsMember set bytes closed r → IsOfTextBehind set bytes closed
-  of-member closed r h = of-text bytes (IsOfClosedBinary bytes closed) (IsOfTextBehind set bytes closed) text h.member
+  of-member closed r h = of-text bytes (IsBinaryOf bytes closed) (IsOfTextBehind set bytes closed) text h.member
 
   -- the tree that was read adds it
-  pub tree-added : (closed r : Resolve) (h : AddsMember set bytes closed r) (g : File) → g ≡ (of-member closed r h).file → AddsTree g set closed r h.id × (file_fits g ≡ true)
+  pub tree-added : (closed r : Resolve) (h : AddsMember set bytes closed r) (g : File) → g ≡ (of-member closed r h).file → AddsTree g set closed r h.puts.id × (file_fits g ≡ true)
   tree-added closed r h g same =
       let t = of-member closed r h in (
-        subst (λ (f : File). AddsTree f set closed r h.id) (sym same) (record { tree = t.tree; attached = h.attached }),
+        subst (λ (f : File). AddsTree f set closed r h.puts.id) (sym same) (record { tree = t.tree; attached = h.puts.attached }),
         subst (λ (f : File). file_fits f ≡ true) (sym same) t.fits,
       )
 
@@ -116,22 +113,19 @@ same-view f g bytes a b = cc
 module _ (set : Resolve) (bytes : List ℕ) (binary : is_binary bytes ≡ true) (raw : RawComponent) (spelt : decoded bytes ≡ Ok (file_view raw)) where
   pub adds-binary : (closed r : Resolve) (id : ℕ) → AddsComponent raw set closed r id → ∥ IsWritable closed ∥₁ → AddsMember set bytes closed r
   adds-binary closed r id h writable = record {
-    member = as-binary bytes (IsOfClosedBinary bytes closed) (IsOfTextBehind set bytes closed) binary (record { raw = raw; spelt = spelt; component = h.component });
-    writable = writable;
-    behind = h.behind;
-    id = id;
-    attached = h.attached;
+    member = as-binary bytes (IsBinaryOf bytes closed) (IsOfTextBehind set bytes closed) binary (record { raw = raw; spelt = spelt; component = h.component });
+    puts = record { writable = writable; behind = h.behind; id = id; attached = h.attached };
   }
 
   -- the component that was decoded adds it
-  pub component-added : (closed r : Resolve) (h : AddsMember set bytes closed r) → AddsComponent raw set closed r h.id
+  pub component-added : (closed r : Resolve) (h : AddsMember set bytes closed r) → AddsComponent raw set closed r h.puts.id
   component-added closed r h =
-      let t = of-binary bytes (IsOfClosedBinary bytes closed) (IsOfTextBehind set bytes closed) binary h.member in
+      let t = of-binary bytes (IsBinaryOf bytes closed) (IsOfTextBehind set bytes closed) binary h.member in
       let same : file_view raw ≡ file_view t.raw = same-view (file_view raw) (file_view t.raw) bytes spelt t.spelt in
       record {
         component = record { stands = ∥∥₁_map t.component.stands (λ s. record { component = same ∙ s.component; form = s.form; labels = s.labels; world_labels = s.world_labels }); distinct = t.component.distinct };
-        behind = h.behind;
-        attached = h.attached;
+        behind = h.puts.behind;
+        attached = h.puts.attached;
       }
 
   pub binary-refuses : HasRoom set → (e : AddError) → ComponentNotAdded raw set e → MemberRefuses set bytes (open_error e)

@@ -1,5 +1,5 @@
--- The last of several packages, behind those before it; what is written of it opens as it.
-use Rattle.std.proofs.Common.{◌≡◌, ◌<◌, ◌-◌, ◌∙◌, ℕ, zero, suc, List, [], ◌∷◌, length, take, get_or, Result, Ok, Err, IfErr, refl, ap, sym, subst, arith}
+-- Several packages are opened as those before the last and the last; what is written of it opens as it.
+use Rattle.std.proofs.Common.{◌≡◌, ◌<◌, ◌+◌, ◌-◌, ◌∙◌, ℕ, zero, suc, List, [], ◌∷◌, ◌++◌, length, take, get_or, Result, Ok, Err, IfOk, IfErr, refl, ap, sym, subst, arith}
 use Rattle.std.specs.Prelude.{MatchResult}
 use Rattle.std.specs.Borrow.{Bor}
 use Rattle.std.proofs.Math.Logic.{∥∥₁_elim}
@@ -8,6 +8,7 @@ use Rattle.std.proofs.lemmas.List.{length-map}
 use Rattle.ctype_format.specs.declared.error.BinError.{BinError}
 use Rattle.ctype_format.specs.declared.error.Fault.{Fault}
 use Rattle.layout.specs.declared.error.LayoutError.{LayoutError}
+use Rattle.package_form.specs.Closed.{IsAlone}
 use Rattle.package_sets.specs.declared.error.AttachError.{AttachError}
 use Rattle.package_sets.proofs.SameTables.{same-is-prop}
 use Rattle.package_text.specs.Laws.{IsTextOfClosed, NestsAsText}
@@ -15,12 +16,13 @@ use Rattle.tables.specs.Same.{IsSamePackage}
 use Rattle.tables.specs.declared.error.ResolveError.{ResolveError}
 use Rattle.tables.specs.declared.tables.Resolve.{Resolve}
 use Rattle.wit_tokens.specs.declared.error.TextError.{TextError}
-use Rattle.opening.specs.Opening.{IsWrittenAs, IsPrintedAs, IsWantOfMemory}
-use Rattle.opening.specs.Sets.{all_bytes, earlier_of, last_of, IsOpenedBehind, IsOpenedSet, OpenSetRefuses}
+use Rattle.opening.specs.Opening.{IsOpened, IsWrittenAs, IsPrintedAs, IsWantOfMemory, OpenRefuses}
+use Rattle.opening.specs.Sets.{all_bytes, earlier_of, last_of, IsSetOf}
 use Rattle.opening.specs.declared.package.OpenError.{OpenError}
 use Rattle.opening.specs.declared.package.OpenError.TheVariants as error
 use Rattle.opening.specs.declared.package.Package.{Package}
-use Rattle.opening.proofs.Behind.{is-in-form, rewritten, reprinted}
+use Rattle.opening.proofs.Behind.{is-alone, is-in-form, rewritten, reprinted}
+use Rattle.opening.proofs.Sets.{set-more, last-of}
 
 -- ---- the last, and those before it
 
@@ -42,6 +44,16 @@ earlier-is xs = front-bytes (length xs - 1) xs ∙ ap (λ (n : ℕ). take (n - 1
 
 last-is : (xs : List (Bor (List ℕ))) (d : Bor (List ℕ)) → 0 < length xs → (get_or xs (length xs - 1) d).now ≡ last_of (all_bytes xs)
 last-is xs d some = bytes-at xs (length xs - 1) d (omega (arith, some)) ∙ ap (λ (n : ℕ). get_or (all_bytes xs) (n - 1) []) (sym (counted xs))
+
+whole-is : (ys : List (List ℕ)) → 0 < length ys → earlier_of ys ++ last_of ys ∷ [] ≡ ys
+whole-is ys some = by (length ys - 1) ys (omega (arith, some))
+  where
+    by : (n : ℕ) (zs : List (List ℕ)) → length zs ≡ n + 1 → take n zs ++ get_or zs n [] ∷ [] ≡ zs
+    by zero [] e = absurd (omega (arith, e))
+    by zero (z ∷ []) e = refl
+    by zero (z ∷ y ∷ zs) e = absurd (omega (arith, e))
+    by (suc n) [] e = absurd (omega (arith, e))
+    by (suc n) (z ∷ zs) e = ap (λ (xs : List (List ℕ)). z ∷ xs) (by n zs (omega (arith, e)))
 
 -- ---- want of memory is a fact
 
@@ -81,36 +93,54 @@ answers-is-prop : (answer : Result Package OpenError) (p : Resolve) → IsProp (
 answers-is-prop (Ok q) p = same-is-prop q.resolve p
 answers-is-prop (Err e) p = want-is-prop e
 
+-- ---- what is opened of one package
+
+pub alone : (bytes : List ℕ) (answer : Result Package OpenError) → IfOk answer (λ p. IsOpened (bytes ∷ []) p.resolve) → IfOk answer (λ p. IsAlone p.resolve)
+alone bytes (Ok p) h = is-alone bytes p.resolve h.set
+alone bytes (Err e) h = h
+
 -- ---- what is opened of several packages
 
 module _ (xs : List (Bor (List ℕ))) (d : Bor (List ℕ)) (some : 0 < length xs) (answer : Result Package OpenError) where
-  abbrev earlier : List (List ℕ)
-  earlier = all_bytes (take (length xs - 1) xs)
+  abbrev ys : List (List ℕ)
+  ys = all_bytes xs
 
-  abbrev last : List ℕ
-  last = (get_or xs (length xs - 1) d).now
+  abbrev inputs : List (List ℕ)
+  inputs = all_bytes (take (length xs - 1) xs) ++ (get_or xs (length xs - 1) d).now ∷ []
 
-  pub is-refused : IfErr answer (OpenSetRefuses earlier last) → IfErr answer (OpenSetRefuses (earlier_of (all_bytes xs)) (last_of (all_bytes xs)))
-  is-refused h =
-      subst (λ (bytes : List ℕ). IfErr answer (OpenSetRefuses (earlier_of (all_bytes xs)) bytes)) (last-is xs d some)
-      (subst (λ (before : List (List ℕ)). IfErr answer (OpenSetRefuses before last)) (earlier-is xs) h)
+  parts-are : earlier_of ys ++ last_of ys ∷ [] ≡ ys
+  parts-are = whole-is ys (omega (arith, some, counted xs))
 
-  module _ (only : (p : Resolve) → IsOpenedBehind earlier last p → Answers answer p) where
-    pub is-only : (p : Resolve) → IsOpenedSet (all_bytes xs) p → Answers answer p
-    is-only p h =
-        only p
-        (subst (λ (bytes : List ℕ). IsOpenedBehind earlier bytes p) (sym (last-is xs d some))
-        (subst (λ (before : List (List ℕ)). IsOpenedBehind before (last_of (all_bytes xs)) p) (sym (earlier-is xs)) h))
+  inputs-are : inputs ≡ ys
+  inputs-are =
+      ap (λ (b : List ℕ). all_bytes (take (length xs - 1) xs) ++ b ∷ []) (last-is xs d some)
+      ∙ (ap (λ (zs : List (List ℕ)). zs ++ last_of ys ∷ []) (earlier-is xs) ∙ parts-are)
+
+  pub is-opened : IfOk answer (λ p. IsOpened inputs p.resolve) → IfOk answer (λ p. IsOpened ys p.resolve)
+  is-opened h = subst (λ (zs : List (List ℕ)). IfOk answer (λ p. IsOpened zs p.resolve)) inputs-are h
+
+  pub is-refused : IfErr answer (OpenRefuses inputs) → IfErr answer (OpenRefuses ys)
+  is-refused h = subst (λ (zs : List (List ℕ)). IfErr answer (OpenRefuses zs)) inputs-are h
+
+  module _ (only : (r : Resolve) → IsOpened inputs r → Answers answer r) where
+    pub is-only : (r : Resolve) → IsOpened ys r → Answers answer r
+    is-only r h = only r (subst (λ (zs : List (List ℕ)). IsOpened zs r) (sym inputs-are) h)
 
     -- the last is what is written of a package behind the others
-    pub opens-written : (bytes : List ℕ) (p : Resolve) → IsOpenedBehind (earlier_of (all_bytes xs)) bytes p → IsWrittenAs (last_of (all_bytes xs)) p → Answers answer p
-    opens-written bytes p h w =
-        let l = h.last_is in
-        is-only p (record { last_is = record { set = l.set; made = l.made; all = l.all; adds = rewritten l.set p l.all bytes (last_of (all_bytes xs)) l.adds w }; within = h.within })
+    pub opens-written : (bytes : List ℕ) (r : Resolve) → IsOpened (earlier_of ys ++ bytes ∷ []) r → IsWrittenAs (last_of ys) r → Answers answer r
+    opens-written bytes r h w =
+        let l = last-of (earlier_of ys) bytes r h.set in
+        ∥∥₁_elim (is-in-form (earlier_of ys) l.set l.made) (answers-is-prop answer r) (λ form.
+        ∥∥₁_elim w.last.form (answers-is-prop answer r) (λ before.
+        let adds = rewritten l.set l.closed r bytes (last_of ys) l.adds form w before in
+        is-only r (record { set = subst (λ (zs : List (List ℕ)). IsSetOf zs r) parts-are (set-more (earlier_of ys) (last_of ys) l.set w.closed r l.made adds); within = h.within })))
 
-    pub opens-printed : ((r imports : Resolve) → IsTextOfClosed r imports) → ((r : Resolve) → NestsAsText r) → (bytes : List ℕ) (p : Resolve) → IsOpenedBehind (earlier_of (all_bytes xs)) bytes p
-        → IsPrintedAs (last_of (all_bytes xs)) p → Answers answer p
-    opens-printed texts nests bytes p h w =
-        let l = h.last_is in
-        ∥∥₁_elim (is-in-form (earlier_of (all_bytes xs)) l.set l.made) (answers-is-prop answer p) (λ form.
-        is-only p (record { last_is = record { set = l.set; made = l.made; all = l.all; adds = reprinted l.set p l.all bytes (last_of (all_bytes xs)) l.adds texts nests form w }; within = h.within }))
+    pub opens-printed : ((r imports : Resolve) → IsTextOfClosed r imports) → ((r : Resolve) → NestsAsText r) → (bytes : List ℕ) (r : Resolve) → IsOpened (earlier_of ys ++ bytes ∷ []) r
+        → IsPrintedAs (last_of ys) r → Answers answer r
+    opens-printed texts nests bytes r h w =
+        let l = last-of (earlier_of ys) bytes r h.set in
+        ∥∥₁_elim (is-in-form (earlier_of ys) l.set l.made) (answers-is-prop answer r) (λ form.
+        ∥∥₁_elim w.last.form (answers-is-prop answer r) (λ before.
+        ∥∥₁_elim w.last.puts.writable (answers-is-prop answer r) (λ writable.
+        let adds = reprinted l.set l.closed r bytes (last_of ys) l.adds form texts nests w before writable in
+        is-only r (record { set = subst (λ (zs : List (List ℕ)). IsSetOf zs r) parts-are (set-more (earlier_of ys) (last_of ys) l.set w.closed r l.made adds); within = h.within }))))

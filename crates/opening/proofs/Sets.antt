@@ -17,6 +17,23 @@ parted : (xs ys : List (List ℕ)) (s r : Resolve) → AddsMembers s (xs ++ ys) 
 parted [] ys s r h = (s, refl, h)
 parted (x ∷ xs) ys s r (c, next, g, rest) = let p = parted xs ys next r rest in (p.0, (c, next, g, p.1), p.2)
 
+-- with one package more
+pub set-more : (xs : List (List ℕ)) (b : List ℕ) (m closed r : Resolve) → IsSetOf xs m → AddsMember m b closed r → IsSetOf (xs ++ b ∷ []) r
+set-more xs b m closed r h g = record { none = h.none; empty = h.empty; adds = adds-more xs h.none m closed r b h.adds g }
+
+-- the last package, behind those before it
+pub record IsLastOf (xs : List (List ℕ)) (b : List ℕ) (r : Resolve) : Type 0 where
+  pub set : Resolve
+  pub made : IsSetOf xs set
+  pub closed : Resolve
+  pub adds : AddsMember set b closed r
+
+pub last-of : (xs : List (List ℕ)) (b : List ℕ) (r : Resolve) → IsSetOf (xs ++ b ∷ []) r → IsLastOf xs b r
+last-of xs b r h =
+    let p = parted xs (b ∷ []) h.none r h.adds in
+    let (closed, next, g, e) = p.2 in
+    record { set = p.0; made = record { none = h.none; empty = h.empty; adds = p.1 }; closed = closed; adds = subst (AddsMember p.0 b closed) e g }
+
 -- ---- a set of so many packages, the only one
 
 pub record IsOneSet (inputs : List (List ℕ)) (s : Resolve) : Type 0 where

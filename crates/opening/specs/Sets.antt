@@ -1,12 +1,13 @@
--- Which bytes are opened as packages that use each other, and why others are refused: WIT.md, "Package Names", "Item: `use`"; Binary.md, "Import
--- and Export Definitions".
-use Rattle.std.specs.Prelude.{◌≡◌, ◌-◌, ℕ, true, MatchBool, List, [], ◌∷◌, ◌++◌, map, take, length, slice_index_or, Ok}
+-- Which bytes are packages that use each other, what set they make, and why others are refused: WIT.md, "Package Names", "Item: `use`"; Binary.md,
+-- "Import and Export Definitions".
+use Rattle.std.specs.Prelude.{◌≡◌, ◌≤◌, ◌-◌, ◌==◌, ℕ, Bool, true, MatchBool, List, [], ◌∷◌, ◌++◌, map, take, length, slice_index_or, Ok, Err}
 use Rattle.std.specs.Borrow.{Bor}
-use Rattle.std.specs.Str.{IsUtf8}
+use Rattle.std.specs.List.{starts_with}
+use Rattle.std.specs.Str.{IsUtf8, IsValidUpTo}
 use Rattle.ctype_bin.specs.FileView.{file_view}
 use Rattle.ctype_bin.specs.declared.component.RawComponent.{RawComponent}
+use Rattle.ctype_format.specs.File as binary
 use Rattle.ctype_format.specs.File.{decoded}
-use Rattle.layout.specs.Layout.{AreWithin, RefusesFirst}
 use Rattle.package_adding.specs.Added.{IsOfComponent, ComponentNotAdded, IsOfTree, TreeNotAdded}
 use Rattle.package_adding.specs.BehindImports.{IsBehindImports}
 use Rattle.package_adding.specs.declared.error.AddError.{AddError}
@@ -18,8 +19,11 @@ use Rattle.package_text.specs.Writable.{IsWritable}
 use Rattle.resolve.specs.Resolves.{file_fits}
 use Rattle.tables.specs.declared.tables.Resolve.{Resolve}
 use Rattle.wit_syntax.specs.Syntax.{File}
+use Rattle.wit_text.specs.Reading as text
 use Rattle.wit_text.specs.Reading.{IsRead}
-use Rattle.opening.specs.Opening.{is_binary, IsNoText, IsNoBinary}
+use Rattle.wit_tokens.specs.Lexing.{limit}
+use Rattle.wit_tokens.specs.declared.error.TextError.{TextError}
+use Rattle.wit_tokens.specs.declared.error.TextError.TheVariants as text_error
 use Rattle.opening.specs.declared.package.OpenError.{OpenError}
 use Rattle.opening.specs.declared.package.OpenError.TheVariants as error
 
@@ -37,6 +41,10 @@ last_of inputs = slice_index_or inputs (length inputs - 1) []
 
 -- ---- one package behind a set
 
+-- they begin as a binary does
+abbrev pub is_binary : List ℕ → Bool
+is_binary bytes = starts_with (λ a b. a == b) bytes (0x00 ∷ 0x61 ∷ 0x73 ∷ 0x6d ∷ [])
+
 -- the bytes are a text that is read, and this is the closed table of its package behind the set
 pub record IsOfTextBehind (set : Resolve) (bytes : List ℕ) (closed : Resolve) : Type 0 where
   pub utf8 : IsUtf8 bytes
@@ -45,23 +53,47 @@ pub record IsOfTextBehind (set : Resolve) (bytes : List ℕ) (closed : Resolve) 
   pub fits : file_fits file ≡ true
   pub tree : IsOfTree file set closed
 
--- the bytes spell a component that stands for the package of this closed table, whose names differ in each scope
-pub record IsOfClosedBinary (bytes : List ℕ) (closed : Resolve) : Type 0 where
+-- the bytes, of which there are at most 1,048,576, spell a component that stands for the package of this closed table, whose names differ in each scope
+pub record IsBinaryOf (bytes : List ℕ) (closed : Resolve) : Type 0 where
   pub raw : RawComponent
   pub spelt : decoded bytes ≡ Ok (file_view raw)
   pub component : IsOfComponent raw closed
 
 abbrev pub IsMember : Resolve → List ℕ → Resolve → Type 0
-IsMember set bytes closed = MatchBool (is_binary bytes) (IsOfClosedBinary bytes closed) (IsOfTextBehind set bytes closed)
+IsMember set bytes closed = MatchBool (is_binary bytes) (IsBinaryOf bytes closed) (IsOfTextBehind set bytes closed)
 
--- the set with the bytes' package behind it, whose closed table this is: its imports are just those of the set that its own part names, with what
--- these reach
-pub record AddsMember (set : Resolve) (bytes : List ℕ) (closed r : Resolve) : Type 0 where
-  pub member : IsMember set bytes closed
+-- the set with the package of this closed table behind it: its imports are just those of the set that its own part names, with what these reach
+pub record PutsBehind (set closed r : Resolve) : Type 0 where
   pub writable : ∥ IsWritable closed ∥₁
   pub behind : IsBehindImports set closed
   pub id : ℕ
   pub attached : IsAttached set closed r id
+
+-- the set with the bytes' package behind it, whose closed table this is
+pub record AddsMember (set : Resolve) (bytes : List ℕ) (closed r : Resolve) : Type 0 where
+  pub member : IsMember set bytes closed
+  pub puts : PutsBehind set closed r
+
+-- ---- why it is refused
+
+-- 36 is asked of all bytes, the text's other refusals of UTF-8 alone
+abbrev pub IsUtf8Behind36 : List ℕ → TextError → Type 0
+IsUtf8Behind36 bytes text_error.Limit = Unit {0}
+IsUtf8Behind36 bytes _ = IsUtf8 bytes
+
+-- the bytes are too long for a text, no UTF-8, or not read
+abbrev pub IsNoText : List ℕ → OpenError → Type 0
+IsNoText bytes (error.Text e) = IsUtf8Behind36 bytes e × text.Faulty bytes e
+IsNoText bytes (error.NotUtf8 place) = (length bytes ≤ limit) × ¬ (IsUtf8 bytes) × IsValidUpTo bytes place
+IsNoText bytes _ = ⊥
+
+-- the bytes are not decoded
+abbrev pub IsNoBinary : List ℕ → OpenError → Type 0
+IsNoBinary bytes (error.Binary e) = binary.Decodes file_view (Err e) bytes
+IsNoBinary bytes _ = ⊥
+
+abbrev pub IsNothing : List ℕ → OpenError → Type 0
+IsNothing bytes e = MatchBool (is_binary bytes) (IsNoBinary bytes e) (IsNoText bytes e)
 
 -- why a text's package is not added, and why a binary's is not
 abbrev pub TextNotAdded : Resolve → List ℕ → AddError → Type 0
@@ -72,9 +104,6 @@ BinaryNotAdded set bytes e = (raw : RawComponent) × (decoded bytes ≡ Ok (file
 
 abbrev pub NotAdded : Resolve → List ℕ → AddError → Type 0
 NotAdded set bytes e = MatchBool (is_binary bytes) (BinaryNotAdded set bytes e) (TextNotAdded set bytes e)
-
-abbrev pub IsNothing : List ℕ → OpenError → Type 0
-IsNothing bytes e = MatchBool (is_binary bytes) (IsNoBinary bytes e) (IsNoText bytes e)
 
 -- 49 comes before all, then what is wrong with the bytes alone, then what is wrong with the package in this set
 abbrev pub MemberRefuses : Resolve → List ℕ → OpenError → Type 0
@@ -96,22 +125,6 @@ pub record IsSetOf (inputs : List (List ℕ)) (r : Resolve) : Type 0 where
   pub empty : IsEmpty none
   pub adds : AddsMembers none inputs r
 
--- the last package's closed table, behind the set of those before it
-pub record IsLastOf (earlier : List (List ℕ)) (last : List ℕ) (closed : Resolve) : Type 0 where
-  pub set : Resolve
-  pub made : IsSetOf earlier set
-  pub all : Resolve
-  pub adds : AddsMember set last closed all
-
--- .. and it is within the limits of layout
-pub record IsOpenedBehind (earlier : List (List ℕ)) (last : List ℕ) (closed : Resolve) : Type 0 where
-  pub last_is : IsLastOf earlier last closed
-  pub within : AreWithin closed
-
--- the last of these packages, behind all others
-abbrev pub IsOpenedSet : List (List ℕ) → Resolve → Type 0
-IsOpenedSet inputs closed = IsOpenedBehind (earlier_of inputs) (last_of inputs) closed
-
 -- the first of these packages that isn't added
 pub record FirstRefused (inputs : List (List ℕ)) (e : OpenError) : Type 0 where
   pub earlier : List (List ℕ)
@@ -121,8 +134,3 @@ pub record FirstRefused (inputs : List (List ℕ)) (e : OpenError) : Type 0 wher
   pub set : Resolve
   pub made : IsSetOf earlier set
   pub refuses : MemberRefuses set bytes e
-
--- why they are not opened: the layouts of the last package come behind all
-abbrev pub OpenSetRefuses : List (List ℕ) → List ℕ → OpenError → Type 0
-OpenSetRefuses earlier last (error.Layout e) = (r : Resolve) × IsLastOf earlier last r × RefusesFirst e r
-OpenSetRefuses earlier last e = FirstRefused (earlier ++ last ∷ []) e

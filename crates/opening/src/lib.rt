@@ -1,7 +1,8 @@
 //! Packages opened from texts and binaries, and written as both.
 //!
-//! `open` reads a package from its text or its binary, `open_set` one that uses others, and `Package::to_binary` and `Package::to_text`
-//! write it. A `Package` is its tables with the layouts of their types. It stands on the layers of texts, of binaries and of tables.
+//! `open_set` reads packages from texts and binaries, each of which may use those before it, `open` one that stands alone, and `Package::to_binary` and
+//! `Package::to_text` write the last. A `Package` is the table of them all with the layouts of its types. It stands on the layers of texts, of binaries
+//! and of tables.
 #![tactic(auto)]
 
 mod binary;

@@ -1,16 +1,13 @@
 //! Packages, and how they are opened.
 
-ghost use Rattle.std.specs.Prelude.{◌≡◌, All, IfOk, IfErr, MatchResult};
-ghost use Rattle.package_form.specs.Scope.{AreDistinct};
-ghost use Rattle.package_form.specs.Naming.{package_scopes};
+ghost use Rattle.std.specs.Prelude.{◌≡◌, ◌∷◌, [], ℕ, List, IfOk, IfErr, MatchResult};
 ghost use Rattle.layout.specs.Layout.{layouts_of, AreWithin, RefusesFirst};
 ghost use Rattle.tables.specs.Same.{IsSamePackage};
 ghost use Rattle.package_form.specs.Closed.{IsAlone};
-ghost use Rattle.package_form.specs.Form.{IsInPackageForm};
-ghost use Rattle.opening.specs.Opening.{IsOfBytes, IsOpened, IsWrittenAs, IsPrintedAs, IsWantOfMemory, OpenRefuses};
+ghost use Rattle.package_sets.specs.SetForm.{IsInSetForm};
+ghost use Rattle.opening.specs.Opening.{IsOpened, IsLast, IsWrittenAs, IsPrintedAs, IsWantOfMemory, OpenRefuses};
 
-use crate::binary::{binary_tables, is_binary};
-use crate::text::text_tables;
+use crate::set::open_set;
 use ctype_bin::BinError;
 use layout::{LayoutError, Layouts};
 use lift_lower::Types;
@@ -128,39 +125,55 @@ impl From<LayoutError> for OpenError {
     }
 }
 
-/// A package: its tables, in which the interfaces of other packages that it reaches stand first, and the layouts of its types. Its
-/// tables are in the form of packages, and names differ, so what is written of it is opened as the same package.
+/// A package with those before it, which it may use: the table of this set, with the layouts of all its types, and the closed table of the last
+/// package, which is written.
 #[derive(Debug, Drop)]
 pub struct Package {
     resolve: Resolve,
     layouts: Layouts,
-    ghost form: { ∥ IsInPackageForm resolve ∥₁ },
-    ghost distinct: { ∥ All AreDistinct (package_scopes resolve) ∥₁ },
+    closed: Resolve,
+    pub ghost form: { ∥ IsInSetForm resolve ∥₁ },
+    pub ghost last: { ∥ IsLast resolve closed ∥₁ },
     ghost laid_out: { layouts ≡ layouts_of resolve },
     ghost within: { ∥ AreWithin resolve ∥₁ },
 }
 
 impl Package {
-    /// The package of these tables, with its layouts.
-    pub(crate) fn of_tables(alloc: Global, resolve: Resolve) -> Result<Package, LayoutError>
-        requires form { ∥ IsInPackageForm resolve ∥₁ }
-        requires distinct { ∥ All AreDistinct (package_scopes resolve) ∥₁ }
+    /// The last package of a set, with the layouts of all the set's types.
+    pub(crate) fn of_set(
+        alloc: Global,
+        resolve: Resolve,
+        closed: Resolve,
+    ) -> Result<Package, LayoutError>
+        requires form { ∥ IsInSetForm resolve ∥₁ }
+        requires last { ∥ IsLast resolve closed ∥₁ }
         ensures ok { IfOk result (λ p. p.resolve ≡ resolve) }
         ensures within { IfOk result (λ _. AreWithin resolve) }
         ensures err { IfErr result (λ e. RefusesFirst e resolve) }
     {
         let layouts = Layouts::of(alloc, &resolve)?;
-        Ok(Package { resolve, layouts })
+        Ok(Package {
+            resolve,
+            layouts,
+            closed,
+        })
     }
 
-    /// The tables.
+    /// The table of the set: all packages, the last of which is the one that was opened behind the others.
     pub fn resolve(&self) -> &Resolve
         ensures { result.now ≡ self.now.resolve }
     {
         &self.resolve
     }
 
-    /// The layouts of all types of the tables.
+    /// The closed table of the last package.
+    pub(crate) fn closed(&self) -> &Resolve
+        ensures { result.now ≡ self.now.closed }
+    {
+        &self.closed
+    }
+
+    /// The layouts of all types of the set.
     pub fn layouts(&self) -> &Layouts
         ensures layouts { result.now ≡ self.now.layouts }
         ensures laid_out { result.now ≡ layouts_of self.now.resolve }
@@ -169,7 +182,7 @@ impl Package {
         &self.layouts
     }
 
-    /// The types of the package, with their layouts.
+    /// The types of the set, with their layouts.
     pub fn types(&self) -> Types<'_>
         ensures types { result ≡ self.now.resolve }
         ensures within { ∥ AreWithin self.now.resolve ∥₁ }
@@ -177,13 +190,19 @@ impl Package {
         Types::new(&self.resolve, &self.layouts)
     }
 
-    /// The same package.
+    /// The same package, with the same packages before it.
     pub fn copy(&self, alloc: Global) -> Result<Package, AllocError>
-        ensures { IfOk result (λ p. IsSamePackage p.resolve self.now.resolve) }
+        ensures set { IfOk result (λ p. IsSamePackage p.resolve self.now.resolve) }
+        ensures last { IfOk result (λ p. IsSamePackage p.closed self.now.closed) }
     {
         let resolve = self.resolve.copy(alloc)?;
+        let closed = self.closed.copy(alloc)?;
         match Layouts::of(alloc, &resolve) {
-            Ok(layouts) => Ok(Package { resolve, layouts }),
+            Ok(layouts) => Ok(Package {
+                resolve,
+                layouts,
+                closed,
+            }),
             Err(LayoutError::NoMemory) => Err(AllocError),
             // The layouts of the same tables are within the limits.
             Err(LayoutError::TooDeep | LayoutError::TooLarge) => unreachable!(),
@@ -191,38 +210,16 @@ impl Package {
     }
 }
 
-/// Opens a package. Bytes that begin `00 61 73 6d` are a binary: its own refusals come first (10 to 19, 22, 23), then 43,
-/// 44, 40, and 47 where it imports another package. Others are a text: its length comes first (36), then whether it is UTF-8 (60), then the text's own refusals,
-/// and those of its names. Those of layouts come last.
+/// Opens a package that stands alone: `open_set` of it. A path, or an import, that names another package is 47.
 pub fn open(alloc: Global, bytes: &[u8]) -> Result<Package, OpenError>
-    ensures ok { IfOk result (λ p. IsOpened bytes.now p.resolve) }
+    ensures ok { IfOk result (λ p. IsOpened (bytes.now ∷ []) p.resolve) }
     ensures alone { IfOk result (λ p. IsAlone p.resolve) }
-    ensures written { (p : Resolve) → IsAlone p → IsWrittenAs bytes.now p
-        → MatchResult result (λ q. IsSamePackage q.resolve p) IsWantOfMemory }
-    ensures printed { (p : Resolve) → IsAlone p → IsPrintedAs bytes.now p
-        → MatchResult result (λ q. IsSamePackage q.resolve p) IsWantOfMemory }
-    ensures err { IfErr result (OpenRefuses bytes.now) }
+    ensures only { (r : Resolve) → IsOpened (bytes.now ∷ []) r → MatchResult result (λ p. IsSamePackage p.resolve r) IsWantOfMemory }
+    ensures written { (first : List ℕ) (r : Resolve) → IsOpened (first ∷ []) r → IsWrittenAs bytes.now r
+        → MatchResult result (λ p. IsSamePackage p.resolve r) IsWantOfMemory }
+    ensures printed { (first : List ℕ) (r : Resolve) → IsOpened (first ∷ []) r → IsPrintedAs bytes.now r
+        → MatchResult result (λ p. IsSamePackage p.resolve r) IsWantOfMemory }
+    ensures err { IfErr result (OpenRefuses (bytes.now ∷ [])) }
 {
-    let resolve = tables_of(alloc, bytes)?;
-    let layouts = Layouts::of(alloc, &resolve)?;
-    Ok(Package { resolve, layouts })
-}
-
-/// The tables of the package that the bytes are.
-fn tables_of(alloc: Global, bytes: &[u8]) -> Result<Resolve, OpenError>
-    ensures ok { IfOk result (IsOfBytes bytes.now) }
-    ensures form { IfOk result (λ r. ∥ IsInPackageForm r ∥₁) }
-    ensures alone { IfOk result (λ r. IsAlone r) }
-    ensures distinct { IfOk result (λ r. All AreDistinct (package_scopes r)) }
-    ensures written { (p : Resolve) → IsAlone p → IsWrittenAs bytes.now p
-        → MatchResult result (λ q. IsSamePackage q p) IsWantOfMemory }
-    ensures printed { (p : Resolve) → IsAlone p → IsPrintedAs bytes.now p
-        → MatchResult result (λ q. IsSamePackage q p) IsWantOfMemory }
-    ensures err { IfErr result (OpenRefuses bytes.now) }
-{
-    if is_binary(bytes) {
-        binary_tables(alloc, bytes)
-    } else {
-        text_tables(alloc, bytes)
-    }
+    open_set(alloc, &[bytes])
 }

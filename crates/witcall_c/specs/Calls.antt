@@ -1,5 +1,5 @@
 -- What is told of what a handle stands for: a package, or why the bytes are none.
-use Rattle.std.specs.Prelude.{◌≡◌, ◌⊎◌, ℕ, List, Result, Ok, Err, Option, Some, None, MatchResult}
+use Rattle.std.specs.Prelude.{◌≡◌, ◌⊎◌, ◌∷◌, [], ℕ, List, Result, Ok, Err, Option, Some, None, MatchResult}
 use Rattle.std.specs.Str.{IsUtf8}
 use Rattle.canonical_abi.specs.Types.{FunctionType}
 use Rattle.layout.specs.Layout.{AreWithin}
@@ -22,7 +22,7 @@ Opening = Result Package OpenError
 
 -- the bytes are opened as this package, or refused for this reason
 abbrev pub IsOpening : List ℕ → Opening → Type 0
-IsOpening bytes opened = MatchResult opened (λ p. IsOpened bytes p.resolve) (OpenRefuses bytes)
+IsOpening bytes opened = MatchResult opened (λ p. IsOpened (bytes ∷ []) p.resolve) (OpenRefuses (bytes ∷ []))
 
 abbrev pub opening_status : Opening → Status
 opening_status (Ok p) = status_of (Ok 0)

@@ -205,14 +205,45 @@ def reaching(run):
 
 
 def sizes(run):
-    """Layouts are those of the last package, with what it uses."""
+    """Layouts are those of all packages, used or not. The first definition past a limit is told, behind what is wrong with any input."""
     doubled = " ".join(f"type t{k} = tuple<t{k - 1}, t{k - 1}>;" for k in range(1, 26))
-    run.wit("large", f"package d:e@1.0.0; interface y {{ type t = u16; }} interface big {{ type t0 = u8; {doubled} }}")
-    run.refused("50 too large", "large")
-    run.opened("large", "using")
-    run.made("layout", "large", "using")
+    nested = "list<" * 63 + "u8" + ">" * 63
+    past = {"large": f"interface big {{ type t0 = u8; {doubled} }}", "deep": f"interface deep {{ type s = {nested}; type r = list<s>; }}"}
+    words = {"large": "50 too large", "deep": "51 too deep"}
     run.wit("using-large", "package a:b; interface x { use d:e/big@1.0.0.{t3}; f: func(p: t3); }")
-    run.refused("50 too large", "large", "using-large")
+    run.wit("using-deep", "package a:b; interface x { use d:e/deep@1.0.0.{s}; f: func(p: s); }")
+    for name, interface in past.items():
+        run.wit(name, f"package d:e@1.0.0; interface y {{ type t = u16; }} {interface}")
+        run.wit(f"{name}-too", f"package q:{name}; {interface}")
+        run.hex(f"{name}.bin", name)
+        run.refused(words[name], name)
+        for other in ("using", "using.bin", f"using-{name}"):
+            run.refused(words[name], name, other)
+            run.refused(words[name], f"{name}.bin", other)
+        for job in JOBS:
+            run.row(f"{job} {name} using", "error " + words[name])
+        run.called("a:b/x", "f", [7], [8], name, "using", line="error " + words[name])
+        run.refused(words[name], "used", "using", f"{name}-too")
+        run.refused("48 same package d:e@1.0.0", name, "used")
+    run.refused(words["large"], "large-too", "deep-too")
+    run.refused(words["deep"], "deep-too", "large-too")
+
+
+def unused(run):
+    """Functions of interfaces that no package uses."""
+    run.wit("unused", "package d:e@1.0.0; interface y { type t = u16; g: func(p: t) -> t; } interface z { record r { n: u8 } f: func(x: r) -> r; h: func() -> u8; }")
+    run.hex("unused.bin", "unused")
+    for names in (("unused", "using"), ("unused.bin", "using")):
+        run.opened(*names)
+        run.made("bin", *names)
+        run.called("a:b/x", "f", [7], [8], *names)
+        run.called("d:e/y@1.0.0", "g", [7], [8], *names)
+        run.called("d:e/z@1.0.0", "f", [{"n": 7}], [{"n": 8}], *names)
+        run.called("d:e/z@1.0.0", "h", [], [8], *names)
+        run.called("d:e/z@1.0.0", "f", [{"n": 256}], [{"n": 8}], *names, line="error 62 not this type")
+        run.called("d:e/z", "h", [], [8], *names, line="error 63 no function")
+        run.called("a:b/z", "h", [], [8], *names, line="error 63 no function")
+    run.called("d:e/z@1.0.0", "h", [], [8], "using", "unused", line="error " + NO_USED)
 
 
 def worlds(run):
@@ -291,7 +322,7 @@ def wasi(run):
 def run():
     """The whole run."""
     whole = Run()
-    for rows in (pairs, missing, repeated, differing, first_of_two, reaching, sizes, worlds, chains, wasi):
+    for rows in (pairs, missing, repeated, differing, first_of_two, reaching, unused, sizes, worlds, chains, wasi):
         rows(whole)
     return whole
 

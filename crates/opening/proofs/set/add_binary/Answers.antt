@@ -12,7 +12,7 @@ pub returns-in_err-closed-clause-only : goal.returns-in_err-closed-clause-only
 returns-in_err-closed-clause-only c = λ closed r h.
     let p = err_from_is_err_and c.from_residual-in_err-closed.result c.from_residual-in_err-closed.ensures.1 in
     let a = component-added c.args.set.now.resolve c.args.bytes.now c.requires.binary c.in_ok-raw.raw c.in_ok-raw.ensures.exact closed r h in
-    rw (p.1, p.2) (wants c.in_err-closed.field-0.0 (c.in_err-closed.ensures.only closed r h.id a))
+    rw (p.1, p.2) (wants c.in_err-closed.field-0.0 (c.in_err-closed.ensures.only closed r h.puts.id a))
 
 pub returns-clause-ok : goal.returns-clause-ok
 returns-clause-ok c =
@@ -20,4 +20,4 @@ returns-clause-ok c =
 
 pub returns-clause-only : goal.returns-clause-only
 returns-clause-only c = λ closed r h.
-    c.in_ok-closed.ensures.only closed r h.id (component-added c.args.set.now.resolve c.args.bytes.now c.requires.binary c.in_ok-raw.raw c.in_ok-raw.ensures.exact closed r h)
+    c.in_ok-closed.ensures.only closed r h.puts.id (component-added c.args.set.now.resolve c.args.bytes.now c.requires.binary c.in_ok-raw.raw c.in_ok-raw.ensures.exact closed r h)

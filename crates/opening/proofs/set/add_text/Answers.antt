@@ -44,7 +44,7 @@ returns-in_err-closed-clause-only c = λ closed r h.
     let f = file_view c.in_ok-ast.ast in
     let same = read-tree t.file f (c.in_ok-ast.ensures.only t.file (subst (λ x. IsRead x t.file) (sym c.in_ok-text.ensures.ok) t.read)) in
     let a = tree-added c.args.set.now.resolve c.args.bytes.now c.requires.text closed r h f (sym same) in
-    rw (p.1, p.2) (wants c.in_err-closed.field-0.0 (c.in_err-closed.ensures.only closed r h.id a.0 h.writable a.1))
+    rw (p.1, p.2) (wants c.in_err-closed.field-0.0 (c.in_err-closed.ensures.only closed r h.puts.id a.0 h.puts.writable a.1))
 
 pub returns-clause-ok : goal.returns-clause-ok
 returns-clause-ok c =
@@ -59,4 +59,4 @@ returns-clause-only c = λ closed r h.
     let f = file_view c.in_ok-ast.ast in
     let same = read-tree t.file f (c.in_ok-ast.ensures.only t.file (subst (λ x. IsRead x t.file) (sym c.in_ok-text.ensures.ok) t.read)) in
     let a = tree-added c.args.set.now.resolve c.args.bytes.now c.requires.text closed r h f (sym same) in
-    c.in_ok-closed.ensures.only closed r h.id a.0 h.writable a.1
+    c.in_ok-closed.ensures.only closed r h.puts.id a.0 h.puts.writable a.1

@@ -1,6 +1,9 @@
--- The last of the packages is opened behind the others, and so is what is written of it.
-use Rattle.opening.proofs.Reopened.{is-refused, is-only, opens-written, opens-printed}
+-- The packages are opened as the last behind those before it, and so is what is written of the last.
+use Rattle.opening.proofs.Reopened.{is-opened, is-refused, is-only, opens-written, opens-printed}
 use Rattle.opening.proofs.set.open_set.Goals as goal
+
+pub returns-clause-ok : goal.returns-clause-ok
+returns-clause-ok c = is-opened c.args.inputs.now _ c.requires.some c.open_behind.result c.open_behind.ensures.ok
 
 pub returns-clause-err : goal.returns-clause-err
 returns-clause-err c = is-refused c.args.inputs.now _ c.requires.some c.open_behind.result c.open_behind.ensures.err

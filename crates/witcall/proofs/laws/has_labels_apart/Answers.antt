@@ -1,9 +1,8 @@
-use Rattle.std.proofs.Common.{subst}
-use Rattle.value_json.specs.Laws.{LabelsAreApart}
+use Rattle.witcall.proofs.SetLabels.{labels-apart}
 use Rattle.witcall.proofs.laws.has_labels_apart.Goals as goal
 
 pub returns : goal.returns
 returns c =
-    let p = c.args.«package».now in
-    let apart = (subst LabelsAreApart c.resolve.ensures c.labels_are_apart.ensures) p.form p.distinct in
+    let p = c.args._package.now in
+    let apart = labels-apart p.resolve p.form in
     record { records = apart.0; types = apart.1 }

@@ -1,10 +1,17 @@
 use Rattle.std.proofs.Common.{subst}
-use Rattle.std.proofs.Math.Logic.{∥∥₁_elim, ∥∥₁_map, ∥∥₁_prop}
-use Rattle.package_form.specs.Laws.{ClosesByNames}
+use Rattle.std.proofs.Math.Logic.{∥∥₁_map}
+use Rattle.atoms.specs.Label.{IsLabel}
+use Rattle.package_adding.proofs.ImportTables.{interfaces-labelled}
+use Rattle.package_text.specs.Writable.{package_labels}
+use Rattle.std.specs.Prelude.{All}
+use Rattle.tables.specs.Package.{ClosesAlike}
+use Rattle.tables.specs.declared.tables.Resolve.{Resolve}
+use Rattle.witcall.proofs.SetNames.{types-apart}
 use Rattle.witcall.proofs.laws.is_closed_by_names.Goals as goal
 
 pub returns : goal.returns
 returns c =
     let p = c.args.«package».now in
-    let law = subst ClosesByNames c.resolve.ensures c.closes_by_names.ensures in
-    ∥∥₁_elim p.form ∥∥₁_prop (λ form. ∥∥₁_map p.distinct (λ distinct. law form distinct))
+    let labels = subst (λ (r : Resolve). All IsLabel (package_labels r)) c.resolve.ensures c.names_are_labels.ensures in
+    let law = subst ClosesAlike c.resolve-2.ensures c.closes_alike.ensures in
+    ∥∥₁_map p.form (λ form. law (types-apart p.resolve form (interfaces-labelled p.resolve labels)))

@@ -1,5 +1,5 @@
 -- A package is opened behind the earlier ones.
-use Rattle.std.proofs.Common.{ap, ◌∙◌}
+use Rattle.std.proofs.Common.{ap, [], ◌∷◌, ◌++◌, ◌∙◌}
 use Rattle.opening.specs.Sets.{all_bytes}
 use Rattle.witcall.specs.Running.{all_items}
 use Rattle.witcall.proofs.Inputs.{opens, refuses}
@@ -7,8 +7,8 @@ use Rattle.witcall.proofs.running.opened_behind.Goals as goal
 
 pub returns-clause-ok : goal.returns-clause-ok
 returns-clause-ok c =
-    opens (all_items c.args.earlier.now) c.args.last.now (all_bytes c.as_slice.result.now) (ap all_bytes c.as_slice.ensures.value ∙ c.in_ok-inputs.ensures) c.open_set.result c.open_set.ensures.ok
+    opens (all_bytes c.as_slice.result.now) (all_items c.args.earlier.now ++ c.args.last.now ∷ []) (ap all_bytes c.as_slice.ensures.value ∙ c.in_ok-inputs.ensures) c.open_set.result c.open_set.ensures.ok
 
 pub returns-clause-err : goal.returns-clause-err
 returns-clause-err c =
-    refuses (all_items c.args.earlier.now) c.args.last.now (all_bytes c.as_slice.result.now) (ap all_bytes c.as_slice.ensures.value ∙ c.in_ok-inputs.ensures) c.open_set.result c.open_set.ensures.err
+    refuses (all_bytes c.as_slice.result.now) (all_items c.args.earlier.now ++ c.args.last.now ∷ []) (ap all_bytes c.as_slice.ensures.value ∙ c.in_ok-inputs.ensures) c.open_set.result c.open_set.ensures.err

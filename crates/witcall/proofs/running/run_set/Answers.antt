@@ -1,8 +1,7 @@
 use Rattle.std.proofs.Common.{refl, inl, inr}
 use Rattle.std.proofs.lemmas.Result.{err_from_is_err_and}
-use Rattle.opening.specs.Sets.{IsOpenedBehind, OpenSetRefuses}
-use Rattle.witcall.proofs.Made.{makes, refuses_opening, refuses_making}
-use Rattle.witcall.specs.Running.{all_items, RunSetRefuses}
+use Rattle.witcall.proofs.Made.{makes, refuses-opening, refuses-making}
+use Rattle.witcall.specs.Running.{all_items, RunRefuses}
 use Rattle.witcall.specs.declared.refused.Refused.TheVariants.{Open}
 use Rattle.witcall.proofs.Written.{appended, begun}
 use Rattle.witcall.proofs.running.run_set.Goals as goal
@@ -17,31 +16,43 @@ returns-in_err-package-clause-err g c =
     let p = err_from_is_err_and c.from_residual-in_err-package.result c.from_residual-in_err-package.ensures.1 in
     let before = all_items c.args.earlier.now in
     let e = c.in_err-package.field-0.0 in
-    let refused : RunSetRefuses before (g.R.Source.remaining c.args.reader.now) c.args.job (Open e) = elim c.in_err-package.ensures.err [
+    let refused : RunRefuses before (g.R.Source.remaining c.args.reader.now) c.args.job (Open e) = elim c.in_err-package.ensures.err [
       | inl is ↦ inl (inr is)
-      | inr h ↦ refuses_opening (IsOpenedBehind before) (OpenSetRefuses before) _ c.args.job c.in_ok-last.last.items _ c.in_ok-last.ensures.bytes c.as_slice.ensures.value _ h
+      | inr h ↦ refuses-opening before _ c.args.job c.in_ok-last.last.items _ c.in_ok-last.ensures.bytes c.as_slice.ensures.value _ h
     ] in
     rw (p.1, p.2) refused
 
 pub returns-in_err-whole-clause-err : goal.returns-in_err-whole-clause-err
 returns-in_err-whole-clause-err g c =
     let p = err_from_is_err_and c.from_residual-in_err-whole.result c.from_residual-in_err-whole.ensures.1 in
-    rw (p.1, p.2) (refuses_making (IsOpenedBehind (all_items c.args.earlier.now)) (OpenSetRefuses (all_items c.args.earlier.now)) _ c.args.job c.in_ok-last.last.items _ c.in_ok-last.ensures.bytes c.as_slice.ensures.value _ _ c.in_ok-package.ensures.ok c.in_err-whole.ensures.err)
+    let opened = c.in_ok-package.«package» in
+    rw (p.1, p.2)
+    (refuses-making (all_items c.args.earlier.now) _ c.args.job c.in_ok-last.last.items _ c.in_ok-last.ensures.bytes c.as_slice.ensures.value opened.resolve opened.closed c.in_ok-package.ensures.ok opened.last _
+    c.in_err-whole.ensures.err)
 
 pub returns-in_err-write_bytes-clause-begun : goal.returns-in_err-write_bytes-clause-begun
 returns-in_err-write_bytes-clause-begun g c = λ write.
     let part = begun _ _ _ c.in_ok-whole.whole.items c.as_slice-2.ensures.value c.in_err-write_bytes.ensures.begun in
-    (_, part.0, makes (IsOpenedBehind (all_items c.args.earlier.now)) (OpenSetRefuses (all_items c.args.earlier.now)) _ c.args.job c.in_ok-last.last.items _ c.in_ok-last.ensures.bytes c.as_slice.ensures.value _ _ _ c.in_ok-package.ensures.ok c.in_ok-whole.ensures.ok refl, part.1, part.2)
+    let opened = c.in_ok-package.«package» in
+    let made = makes (all_items c.args.earlier.now) _ c.args.job c.in_ok-last.last.items _ c.in_ok-last.ensures.bytes c.as_slice.ensures.value opened.resolve opened.closed c.in_ok-package.ensures.ok opened.last _ _
+    c.in_ok-whole.ensures.ok refl in
+    (_, part.0, made, part.1, part.2)
 
 pub returns-in_err-write_bytes-clause-err : goal.returns-in_err-write_bytes-clause-err
 returns-in_err-write_bytes-clause-err g c =
     let p = err_from_is_err_and c.from_residual-in_err-write_bytes.result c.from_residual-in_err-write_bytes.ensures.1 in
-    rw (p.1, p.2, c.in_err-write_bytes.ensures.err)
-    (_, makes (IsOpenedBehind (all_items c.args.earlier.now)) (OpenSetRefuses (all_items c.args.earlier.now)) _ c.args.job c.in_ok-last.last.items _ c.in_ok-last.ensures.bytes c.as_slice.ensures.value _ _ c.in_ok-whole.whole.items c.in_ok-package.ensures.ok c.in_ok-whole.ensures.ok refl)
+    let opened = c.in_ok-package.«package» in
+    rw (p.1, p.2, c.in_err-write_bytes.ensures.err) (
+      _,
+      makes (all_items c.args.earlier.now) _ c.args.job c.in_ok-last.last.items _ c.in_ok-last.ensures.bytes c.as_slice.ensures.value opened.resolve opened.closed c.in_ok-package.ensures.ok opened.last _
+          c.in_ok-whole.whole.items c.in_ok-whole.ensures.ok refl,
+    )
 
 pub returns-clause-ok : goal.returns-clause-ok
-returns-clause-ok g c = (
-  _,
-  makes (IsOpenedBehind (all_items c.args.earlier.now)) (OpenSetRefuses (all_items c.args.earlier.now)) _ c.args.job c.in_ok-last.last.items _ c.in_ok-last.ensures.bytes c.as_slice.ensures.value _ _ c.in_ok-whole.whole.items c.in_ok-package.ensures.ok c.in_ok-whole.ensures.ok refl,
-  appended _ _ _ c.in_ok-whole.whole.items c.as_slice-2.ensures.value c.in_ok-write_bytes.ensures.ok,
-)
+returns-clause-ok g c =
+    let opened = c.in_ok-package.«package» in (
+      _,
+      makes (all_items c.args.earlier.now) _ c.args.job c.in_ok-last.last.items _ c.in_ok-last.ensures.bytes c.as_slice.ensures.value opened.resolve opened.closed c.in_ok-package.ensures.ok opened.last _
+          c.in_ok-whole.whole.items c.in_ok-whole.ensures.ok refl,
+      appended _ _ _ c.in_ok-whole.whole.items c.as_slice-2.ensures.value c.in_ok-write_bytes.ensures.ok,
+    )
