@@ -112,13 +112,8 @@ RUNS = {
     "steps": Run("suite_steps", step_cases.lines, sessions.answers),
     "requests": Run("suite_requests", request_cases.lines, sessions.request_answers),
 }
-OF_ROWS = ("rows_layouts",)
-ALL = [
-    *RUNS.values(),
-    *(Rows(ROOT / "crates" / crate / "stdin") for crate in OF_ROWS),
-    *map(Names, OF_ROWS),
-    *map(Rows, sorted((ROOT / "tools/rows").glob("*.rows"))),
-]
+OF_ROWS = ("rows_layouts", "rows_json")
+ALL = [*RUNS.values(), *(Rows(ROOT / "crates" / crate / "stdin") for crate in OF_ROWS), *map(Names, OF_ROWS)]
 
 
 def named(paths):
