@@ -5,7 +5,7 @@ ghost use Rattle.tables.specs.Standard.{IsTypeOf};
 
 use atoms::Watched;
 use std::alloc::Global;
-use tables::{Definition, TypeDef};
+use tables::Definition;
 use witcall::{
     Package, Refused, Reply, Resolve, TypeId, ValType, from_json, open, run_call, to_json,
 };
@@ -22,16 +22,13 @@ fn package_of(alloc: Global, items: &str) -> Result<Package, Refused> {
 fn is_t(resolve: &Resolve, id: TypeId) -> bool
     ensures { IsTrue result → IsTypeOf resolve.now (ValType.Id id) }
 {
-    match resolve.definitions.as_slice().get(id.0 as usize) {
-        Some(
-            Definition::Type(
-                TypeDef {
-                    name: Some(own),
-                    ..
-                },
-            ),
-        ) => own.name.as_str() == "t",
-        _ => false,
+    let Some(Definition::Type(definition)) = resolve.definitions.as_slice().get(id.0 as usize)
+    else {
+        return false;
+    };
+    match &definition.name {
+        Some(own) => own.name.as_str() == "t",
+        None => false,
     }
 }
 
@@ -58,14 +55,19 @@ fn written(alloc: Global, items: &str, text: &str) -> anyhow::Result<String> {
     Ok(to_json(alloc, &package, ty, &value)?)
 }
 
-/// What a call of `f` prints.
-fn called(alloc: Global, items: &str, args: &str, reply: &str) -> anyhow::Result<String> {
+/// What a call of `f` writes.
+fn output(alloc: Global, items: &str, args: &str, reply: &str) -> Result<Vec<u8>, Refused> {
     let package = package_of(alloc, items)?;
     let body = Reply::of(alloc, &package, INTERFACE, "f", reply)?;
     let body = Box::new(alloc, body).map_err(|_| Refused::NoMemory)?;
     let mut output = Watched::new(Vec::new(alloc));
     run_call(alloc, &package, INTERFACE, "f", args, body, &mut output)?;
-    let printed = String::from_utf8(output.into_inner())?;
+    Ok(output.into_inner())
+}
+
+/// What a call of `f` prints, without the end of its line.
+fn called(alloc: Global, items: &str, args: &str, reply: &str) -> anyhow::Result<String> {
+    let printed = String::from_utf8(output(alloc, items, args, reply)?)?;
     match printed.as_str().strip_suffix("\n") {
         Some(result) => Ok(String::from_str(alloc, result)?),
         None => Ok(String::from_str(alloc, "nothing")?),
