@@ -5,8 +5,8 @@ usage: tools/check_names.py
 
 A name is a word in backquotes, or words joined by `::`, that could be one of Rust or of a definition: with a capital letter within it, an
 underscore, or `::`. Each of its parts has to stand in a file of crates/ or in a header of include/, or be the name of a crate, of a file,
-of an edit or of a script. A clause that is named beside its function, as `open`: ok, written, has to be one of that function. The exit status is 1 where
-one isn't there.
+of an edit or of a script. A clause that is named beside its function, as `open`: ok, written, has to be one of that function. Words in backquotes
+behind a crate `rows_..` are names of rows, and each has to be a line of the output of that crate. The exit status is 1 where one isn't there.
 """
 import pathlib
 import re
@@ -17,6 +17,8 @@ NAME = re.compile(r"[A-Za-z_][A-Za-z0-9_]*(::[A-Za-z_][A-Za-z0-9_]*)*")
 WORD = re.compile(r"[A-Za-z_][A-Za-z0-9_]*")
 # a row of a table that names functions and the clauses of their contracts
 CLAUSES = re.compile(r"\| ((?:`[A-Za-z_:]+`(?:, )?)+): ([a-z_0-9]+(?:, [a-z_0-9]+)*) \|")
+# names of rows behind their crate
+ROWS = re.compile(r"`(rows_[a-z]+)` ((?:`[^`]+`(?:, )?)+)")
 FUNCTION = re.compile(r"\bfn ([A-Za-z_0-9]+)(.*?)\n(?: *)\{", re.S)
 LABEL = re.compile(r"\bensures ([a-z_0-9]+) \{")
 
@@ -53,6 +55,15 @@ def is_told(name):
     return bool(NAME.fullmatch(name)) and ("_" in name.strip("_") or "::" in name or bool(re.search(r"[a-z][A-Z]", name)))
 
 
+def missing_rows(line):
+    """The names of rows in a line that their crate doesn't have."""
+    for crate, names in ROWS.findall(line):
+        there = (ROOT / "crates" / crate / "stdout").read_text().splitlines()
+        for name in re.findall(r"`([^`]+)`", names):
+            if name not in there:
+                yield f"{crate} has no row {name}"
+
+
 def main():
     words, labels = known()
     missing = 0
@@ -62,6 +73,9 @@ def main():
                 if is_told(name) and any(part not in words for part in name.split("::")):
                     missing += 1
                     print(f"{page.relative_to(ROOT)}:{number}: {name}")
+            for fault in missing_rows(line):
+                missing += 1
+                print(f"{page.relative_to(ROOT)}:{number}: {fault}")
             for functions, clauses in CLAUSES.findall(line):
                 names = [it.split("::")[-1] for it in re.findall(r"`([^`]+)`", functions)]
                 there = set().union(*(labels.get(it, set()) for it in names))

@@ -61,8 +61,8 @@ class Rows:
         self.path = path
 
     def is_named(self, path):
-        """Whether a path is the file's."""
-        return path == self.path
+        """Whether a path is the file's, or its folder's."""
+        return path in (self.path, self.path.parent)
 
     def wanted(self):
         """The rows with the answers to them."""
@@ -78,13 +78,42 @@ class Rows:
         self.path.write_text(text_of(self.wanted()))
 
 
+class Names:
+    """The output of a crate whose input is rows: their names, since it answers them as they say."""
+
+    def __init__(self, crate):
+        self.folder = ROOT / "crates" / crate
+
+    @property
+    def path(self):
+        """The file of the names."""
+        return self.folder / "stdout"
+
+    def is_named(self, path):
+        """Whether a path is the file's, or the crate's."""
+        return path in (self.path, self.folder)
+
+    def wanted(self):
+        """The names of the stored rows."""
+        return [line.split(": ", 1)[0] for line in lines_of(self.folder / "stdin") if rows.is_row(line)]
+
+    def faults(self, _):
+        """Nothing: the file of the rows tells of two that have one name."""
+        return []
+
+    def write(self):
+        """Writes the names anew."""
+        self.path.write_text(text_of(self.wanted()))
+
+
 RUNS = {
     "vectors": Run("vectors", call_cases.stored, calls.answers),
     "wasi": Run("suite_wasi", set_cases.lines, set_lines.answers, set_cases.known),
     "steps": Run("suite_steps", step_cases.lines, sessions.answers),
     "requests": Run("suite_requests", request_cases.lines, sessions.request_answers),
 }
-ALL = [*RUNS.values(), *map(Rows, sorted((ROOT / "tools/rows").glob("*.rows")))]
+OF_ROWS = ("rows_layouts", "rows_json")
+ALL = [*RUNS.values(), *(Rows(ROOT / "crates" / crate / "stdin") for crate in OF_ROWS), *map(Names, OF_ROWS)]
 
 
 def named(paths):

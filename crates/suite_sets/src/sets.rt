@@ -7,8 +7,8 @@ use std::process::Abort;
 use std::test::Fail;
 use tables::{
     Definition, Direction, Function, FunctionId, Interface, InterfaceId, Owner, PackageId,
-    PackageName, Primitive, Resolve, Sequence, TypeDef, TypeDefKind, TypeId, TypeName, ValType,
-    World, WorldId, WorldItem, WorldItemKind,
+    PackageName, Primitive, Resolve, ResolveError, Sequence, TypeDef, TypeDefKind, TypeId,
+    TypeName, ValType, World, WorldId, WorldItem, WorldItemKind,
 };
 
 pub const U8: ValType = ValType::Primitive(Primitive::U8);
@@ -220,5 +220,29 @@ fn uses_reach_through_other_packages(rt: HostRuntime) -> Result<(), Fail> {
     let table = test_table(&rt, rt.alloc(), 2, "a b c types middle own ", 6, 1)?;
     assert_eq!(rt; used(&table, 1), Some(TypeId(0)));
     assert_eq!(rt; used(&table, 4), Some(TypeId(3)));
+    Ok(())
+}
+
+/// A table of a function and of a list of this type.
+fn with_list(alloc: Global, element: ValType) -> Result<Result<Resolve, ResolveError>, Fail> {
+    let mut rows = Vec::new(alloc);
+    push_function(&mut rows, alloc, 0)?;
+    rows.push(Definition::Type(TypeDef {
+        name: None,
+        kind: TypeDefKind::List(element),
+    }))?;
+    Ok(Resolve::from_parts(
+        Sequence::new(Vec::new(alloc)),
+        Sequence::new(Vec::new(alloc)),
+        Sequence::new(Vec::new(alloc)),
+        Sequence::new(rows),
+    ))
+}
+
+#[test]
+fn functions_are_no_types(rt: HostRuntime) -> Result<(), Fail> {
+    let _table = with_list(rt.alloc(), U8)??;
+    let refused = with_list(rt.alloc(), ValType::Id(TypeId(0)))?;
+    assert!(&rt; matches!(refused, Err(ResolveError::NotThisShape)));
     Ok(())
 }
