@@ -23,9 +23,14 @@ fn is_t(resolve: &Resolve, id: TypeId) -> bool
     ensures { IsTrue result → IsTypeOf resolve.now (ValType.Id id) }
 {
     match resolve.definitions.as_slice().get(id.0 as usize) {
-        Some(Definition::Type(TypeDef {
-            name: Some(own), ..
-        })) => own.name.as_str() == "t",
+        Some(
+            Definition::Type(
+                TypeDef {
+                    name: Some(own),
+                    ..
+                },
+            ),
+        ) => own.name.as_str() == "t",
         _ => false,
     }
 }
