@@ -13,7 +13,7 @@ runs and of rows, and nothing in them comes from the program's sources.
 | `calls` | calls by core values |
 | `json_values` | values as JSON |
 | `sessions` | typed calls, and what is placed, read and released |
-| `jobs`, `layouts`, `rows` | lines that ask, and lines that answer |
+| `jobs`, `layouts`, `rows`, `text_rows` | lines that ask, and lines that answer |
 | `cases` | the lines that are asked: stored ones and random ones |
 | `stored` | the files in which these are kept |
 

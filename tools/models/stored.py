@@ -3,10 +3,9 @@ import collections
 import itertools
 import pathlib
 
-from . import calls, rows, sessions, set_lines
+from . import calls, rows, sessions, text_rows
 from .cases import calls as call_cases
 from .cases import requests as request_cases
-from .cases import sets as set_cases
 from .cases import steps as step_cases
 
 ROOT = pathlib.Path(__file__).resolve().parent.parent.parent
@@ -23,11 +22,11 @@ def text_of(lines):
 
 
 class Run:
-    """The stored run of a crate: `lines` makes its input, `answers` answers one, `known` has answers that are told by hand, by their lines."""
+    """The stored run of a crate: `lines` makes its input, and `answers` answers it."""
 
-    def __init__(self, crate, lines, answers, known=dict):
+    def __init__(self, crate, lines, answers):
         self.folder = ROOT / "crates" / crate
-        self.lines, self.answers, self.known = lines, answers, known
+        self.lines, self.answers = lines, answers
 
     @property
     def path(self):
@@ -42,10 +41,9 @@ class Run:
         """The answers to the stored input."""
         return list(self.answers(lines_of(self.folder / "stdin")))
 
-    def faults(self, wanted):
-        """The answers by hand that aren't among these, where each stands below its line."""
-        found = dict(zip(wanted, wanted[1:]))
-        return [f"{line}: {answer} by hand" for line, answer in self.known().items() if found.get(f"> {line}") != answer]
+    def faults(self, _wanted):
+        """None: what differs is all."""
+        return []
 
     def write(self):
         """Writes the input and the answers anew."""
@@ -106,14 +104,28 @@ class Names:
         self.path.write_text(text_of(self.wanted()))
 
 
+class TextRows(Rows):
+    """A file of text rows."""
+
+    def wanted(self):
+        """The rows with the answers to them."""
+        return list(text_rows.answers(lines_of(self.path), self.path.parent))
+
+    def faults(self, wanted):
+        """The names that two of these rows have."""
+        names = collections.Counter(line.split(": ", 1)[0] for line in wanted if text_rows.is_row(line))
+        return [f"two rows {name}" for name, number in names.items() if number > 1]
+
+
+TEXT_ROWS = ROOT / "crates/rows_texts/data"
 RUNS = {
     "vectors": Run("vectors", call_cases.stored, calls.answers),
-    "wasi": Run("suite_wasi", set_cases.lines, set_lines.answers, set_cases.known),
     "steps": Run("suite_steps", step_cases.lines, sessions.answers),
     "requests": Run("suite_requests", request_cases.lines, sessions.request_answers),
 }
 OF_ROWS = ("rows_layouts", "rows_json")
-ALL = [*RUNS.values(), *(Rows(ROOT / "crates" / crate / "stdin") for crate in OF_ROWS), *map(Names, OF_ROWS)]
+OF_TEXTS = [TextRows(TEXT_ROWS / f"{name}.rows") for name in ("grammar", "texts", "errors", "sets")]
+ALL = [*RUNS.values(), *(Rows(ROOT / "crates" / crate / "stdin") for crate in OF_ROWS), *map(Names, OF_ROWS), *OF_TEXTS]
 
 
 def named(paths):

@@ -23,45 +23,6 @@ const BINARY: [u8; 101] = [
     0x67, 0x65, 0x03, 0x00, 0x00,
 ];
 
-/// A text that is added before, or none, and what `USING` is refused with behind it, as a text and as a binary.
-static ROWS: [(&str, &str, &str); 7] = [
-    (
-        "package d:f; interface y { type t = u16; }",
-        "error 47 no package d:e@1.0.0",
-        "error 47 no package d:e@1.0.0",
-    ),
-    (
-        "package d:e@1.0.1; interface y { type t = u16; }",
-        "error 47 no package d:e@1.0.0",
-        "error 47 no package d:e@1.0.0",
-    ),
-    (
-        "package d:e; interface y { type t = u16; }",
-        "error 47 no package d:e@1.0.0",
-        "error 47 no package d:e@1.0.0",
-    ),
-    (
-        "package a:b; interface y { type t = u16; }",
-        "error 48 same package a:b",
-        "error 48 same package a:b",
-    ),
-    (
-        "package d:e@1.0.0; interface y { type s = u16; }",
-        "error 41 unknown t",
-        "error 44 not this shape",
-    ),
-    (
-        "package d:e@1.0.0; interface z { type t = u16; }",
-        "error 41 unknown y",
-        "error 44 not this shape",
-    ),
-    (
-        "package d:e@1.0.0; interface y { type t = u32; }",
-        "1",
-        "error 44 not this shape",
-    ),
-];
-
 /// The id of what was added, or the refusal.
 fn line(alloc: Global, added: Result<PackageId, AddError>) -> Result<String, Fail> {
     Ok(match added {
@@ -100,23 +61,6 @@ fn binary(alloc: Global, set: &PackageSet, id: u32) -> Result<Vec<u8>, Fail> {
     let mut bytes = Vec::new(alloc);
     encode(alloc, &raw, &mut bytes)?;
     Ok(bytes)
-}
-
-/// What stands behind the package of the text.
-fn assert_row(rt: &impl Abort, alloc: Global, row: &(&str, &str, &str)) -> Result<(), Fail> {
-    let (before, text, bytes) = *row;
-    let mut set = set_of(alloc, before)?;
-    assert_line(rt, add_binary(alloc, &mut set, &BINARY)?.as_str(), bytes);
-    assert_line(rt, add_text(alloc, &mut set, USING)?.as_str(), text);
-    Ok(())
-}
-
-#[test]
-fn a_path_names_just_one_package(rt: HostRuntime) -> Result<(), Fail> {
-    for row in ROWS.as_slice() {
-        assert_row(&rt, rt.alloc(), row)?;
-    }
-    Ok(())
 }
 
 #[test]
@@ -163,43 +107,6 @@ fn packages_are_printed_by_their_ids(rt: HostRuntime) -> Result<(), Fail> {
         &rt,
         printed(alloc, &set, 1)?.as_str(),
         "> package a:b;\n\ninterface x {\n  use d:e/y@1.0.0.{t};\n  f: func(p: t) -> t;\n}\n",
-    );
-    Ok(())
-}
-
-/// Package `a:b` with this version, which uses that of the version before.
-fn link_text(alloc: Global, version: u32) -> Result<String, Fail> {
-    Ok(match version.checked_sub(1) {
-        None => format!(in alloc; "package a:b@0.0.0; interface c {{ type t = u8; }}")?,
-        Some(before) => format!(in alloc;
-            "package a:b@0.0.{version}; interface c {{ use a:b/c@0.0.{before}.{{t}}; f: func(x: t) -> t; }}"
-        )?,
-    })
-}
-
-#[test]
-fn a_set_has_at_most_64_packages(rt: HostRuntime) -> Result<(), Fail> {
-    let alloc = rt.alloc();
-    let mut set = PackageSet::new(alloc);
-    for version in 0..64u32 {
-        let text = link_text(alloc, version)?;
-        let wanted = format!(in alloc; "{version}")?;
-        assert_line(
-            &rt,
-            add_text(alloc, &mut set, text.as_str())?.as_str(),
-            wanted.as_str(),
-        );
-    }
-    let text = link_text(alloc, 64)?;
-    assert_line(
-        &rt,
-        add_text(alloc, &mut set, text.as_str())?.as_str(),
-        "error 49 set limit",
-    );
-    assert_line(
-        &rt,
-        add_binary(alloc, &mut set, &BINARY)?.as_str(),
-        "error 49 set limit",
     );
     Ok(())
 }

@@ -1,4 +1,4 @@
-//! Inputs that are cut or fail, outputs that fail, and inputs that are no text.
+//! Inputs that are cut or fail, and outputs that fail.
 
 ghost use Rattle.std.specs.Prelude.{◌≡◌, false};
 
@@ -137,69 +137,12 @@ fn failed_inputs(rt: HostRuntime) -> Result<(), Fail> {
     Ok(())
 }
 
-/// What opening bytes answers.
-fn opened(alloc: Global, bytes: &[u8]) -> Result<String, Fail> {
-    Ok(match open(alloc, bytes) {
-        Ok(_package) => format!(in alloc; "ok")?,
-        Err(error) => format!(in alloc; "{error}")?,
-    })
-}
-
-pub fn assert_opened(
-    rt: &impl Abort,
-    alloc: Global,
-    bytes: &[u8],
-    wanted: &str,
-) -> Result<(), Fail> {
-    let line = opened(alloc, bytes)?;
-    assert_line(rt, line.as_str(), wanted);
-    Ok(())
-}
-
-/// Bytes, and what opening them answers.
-static BYTES: [(&[u8], &str); 6] = [
-    (b"\x00asm", "error 11 truncated at 4"),
-    (b"\x00asm\x0d\x00\x01\x00", "error 11 truncated at 8"),
-    (b"\x00as", "error 30 bad character at 0..1"),
-    (b"package a:b; // \xff", "error 60 not UTF-8 at 16"),
-    (b"\xc3", "error 60 not UTF-8 at 0"),
-    (b"a\xe2\x82", "error 60 not UTF-8 at 1"),
-];
-
-#[test]
-fn bytes(rt: HostRuntime) -> Result<(), Fail> {
-    for row in BYTES.as_slice() {
-        let (bytes, wanted) = *row;
-        assert_opened(&rt, rt.alloc(), bytes, wanted)?;
-    }
-    Ok(())
-}
-
-#[test]
-fn longest_texts(rt: HostRuntime) -> Result<(), Fail> {
-    let blanks = vec![in rt.alloc(); b' '; 1_048_576]?;
-    let wanted = "error 32 expected package at 1048576..1048576";
-    assert_opened(&rt, rt.alloc(), blanks.as_slice(), wanted)?;
-    let long = vec![in rt.alloc(); 0xff; 1_048_577]?;
-    let wanted = "error 36 limit at 1048576..1048576";
-    assert_opened(&rt, rt.alloc(), long.as_slice(), wanted)
-}
-
 #[test]
 fn longer_inputs(rt: HostRuntime) -> Result<(), Fail> {
     let longer = vec![in rt.alloc(); 0xff; 1_048_578]?;
     let read = read_all(rt.alloc(), &mut Watched::new(longer.as_slice()))?;
     assert!(rt; read.len() == 1_048_577);
     Ok(())
-}
-
-#[test]
-fn long_binaries(rt: HostRuntime) -> Result<(), Fail> {
-    let alloc = rt.alloc();
-    let mut long = Vec::from_slice(alloc, b"\x00asm")?;
-    let zeros = vec![in alloc; 0; 1_048_573]?;
-    long.extend_from_slice(zeros.as_slice())?;
-    assert_opened(&rt, alloc, long.as_slice(), "error 17 limit at 1048576")
 }
 
 /// Whether a call whose output has this much room is written, and what room is left; none: it is refused for
@@ -247,71 +190,6 @@ fn refused(alloc: Global, job: Job, reader: &mut Drip) -> Result<String, Fail>
         Ok(()) => String::new(alloc),
         Err(refused) => format!(in alloc; "{refused}")?,
     })
-}
-
-/// What a job writes, or nothing where it is refused.
-pub fn made(alloc: Global, job: Job, bytes: &[u8]) -> Result<Vec<u8>, Fail> {
-    let mut output = Watched::new(Vec::new(alloc));
-    match run(alloc, job, &mut Watched::new(bytes), &mut output) {
-        Ok(()) => Ok(output.into_inner()),
-        Err(_refused) => Ok(Vec::new(alloc)),
-    }
-}
-
-#[test]
-fn binaries_are_made(rt: HostRuntime) -> Result<(), Fail> {
-    let alloc = rt.alloc();
-    assert!(rt; made(alloc, Job::Bin, P1.as_bytes())?.as_slice() == SMALLEST.as_slice());
-    assert!(rt; made(alloc, Job::Bin, &SMALLEST)?.as_slice() == SMALLEST.as_slice());
-    Ok(())
-}
-
-/// Three interfaces, of which two use a name.
-const THREE: &str =
-    "package a:b; interface x { use y.{t as u}; f: func(p: u) -> u; } interface y { type t = u16; } interface z { use x.{u}; g: func(q: u) -> u; }";
-
-/// Sixteen parameters of a kind each, and seventeen.
-const SPILLED: &str = "package a:b@1.0.0-rc.1; interface c { type t = u32; flags w { a, b } \
-    f: func(a: t, b: t, c: t, d: t, e: t, f: t, g: t, h: t, i: t, j: t, k: t, l: t, m: t, n: t, o: t, p: t) -> string; \
-    g: func(a: t, b: t, c: t, d: t, e: t, f: t, g: t, h: t, i: t, j: t, k: t, l: t, m: t, n: t, o: t, p: t, q: u64) -> string; \
-    h: func(a: option<u64>, b: w); }";
-
-/// Texts, and what a job makes of each.
-static OUTPUTS: [(Job, &str, &str); 4] = [
-    (
-        Job::Show,
-        THREE,
-        "package a:b\ninterface y uses 0 types 1 funcs 0\ninterface x uses 1 types 0 funcs 1\ninterface z uses 1 types 0 funcs 1\n",
-    ),
-    (
-        Job::Show,
-        SPILLED,
-        "package a:b@1.0.0-rc.1\ninterface c uses 0 types 2 funcs 3\n",
-    ),
-    (
-        Job::Layout,
-        THREE,
-        "type a:b/y t size 2 align 2\ntype a:b/x u size 2 align 2\nfunc a:b/x f lift (i32) -> (i32) lower (i32) -> (i32)\n\
-        type a:b/z u size 2 align 2\nfunc a:b/z g lift (i32) -> (i32) lower (i32) -> (i32)\n",
-    ),
-    (
-        Job::Layout,
-        SPILLED,
-        "type a:b/c@1.0.0-rc.1 t size 4 align 4\ntype a:b/c@1.0.0-rc.1 w size 1 align 1\n\
-        func a:b/c@1.0.0-rc.1 f lift (i32 i32 i32 i32 i32 i32 i32 i32 i32 i32 i32 i32 i32 i32 i32 i32) -> (i32) \
-        lower (i32 i32 i32 i32 i32 i32 i32 i32 i32 i32 i32 i32 i32 i32 i32 i32 i32) -> ()\n\
-        func a:b/c@1.0.0-rc.1 g lift (i32) -> (i32) lower (i32 i32) -> ()\n\
-        func a:b/c@1.0.0-rc.1 h lift (i32 i64 i32) -> () lower (i32 i64 i32) -> ()\n",
-    ),
-];
-
-#[test]
-fn outputs_are_made(rt: HostRuntime) -> Result<(), Fail> {
-    for (job, text, wanted) in OUTPUTS.as_slice() {
-        let output = made(rt.alloc(), *job, text.as_bytes())?;
-        assert!(rt; output.as_slice() == wanted.as_bytes(), "{text}");
-    }
-    Ok(())
 }
 
 /// Whether a job whose output has this much room is done, and what room is left.

@@ -1,5 +1,5 @@
-//! Tests of reading, as tables of inputs and answers from outside: texts by the grammar, component type binaries,
-//! and the program's words. It has no code of its own.
+//! Tests of reading, as tables of inputs and answers from outside: numbers, names, component type binaries, streams and
+//! the program's words. It has no code of its own.
 #![tactic(auto)]
 
 #[cfg(test)]
@@ -12,9 +12,5 @@ mod interrupted;
 mod names;
 #[cfg(test)]
 mod parts;
-#[cfg(test)]
-mod syntax;
-#[cfg(test)]
-mod type_syntax;
 #[cfg(test)]
 mod wording;

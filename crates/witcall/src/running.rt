@@ -1,8 +1,8 @@
 //! What is made of a whole input, and written.
 
 ghost use Rattle.std.specs.Prelude.{◌≡◌, ◌≢◌, ◌≤◌, ◌⊎◌, ◌∷◌, ◌++◌, [], ℕ, List, true, false, length, take, Err, IfOk, IfErr, OnOk, IsErrOf};
-ghost use Rattle.std.specs.Io.KnownBytes.{Appends, Keeps};
-ghost use Rattle.atoms.specs.Streams.{ConsumesMany};
+ghost use Rattle.std.specs.Io.KnownBytes.{Appends, Consumes, Keeps};
+ghost use Rattle.atoms.specs.Streams.{ReadsUpTo, ConsumesMany};
 ghost use Rattle.opening.specs.Opening.{IsOpened, OpenRefuses};
 ghost use Rattle.opening.specs.Sets.{all_bytes};
 ghost use Rattle.witcall.specs.Running.{all_items, IsMadeOf, Makes, MakingRefuses, RunRefuses};
@@ -30,7 +30,8 @@ fn made(alloc: Global, job: Job, package: &Package) -> Result<Vec<u8>, Refused>
 }
 
 /// Does a job with all the bytes of a reader, and writes what it makes, once it is whole: `run_set` behind no package. Faults come in this order: 20,
-/// those of `open`, 17, 36 or want of memory, 65; only after 65 a beginning may have been written.
+/// those of `open`, 17, 36 or want of memory, 65; only after 65 a beginning may have been written. All bytes are read before anything is opened, so a
+/// read that fails is told as 20, whatever the bytes are.
 pub fn run<R: Source, W: Sink>(
     alloc: Global,
     job: Job,
@@ -47,6 +48,9 @@ pub fn run<R: Source, W: Sink>(
     ensures memory { result ≡ Err (Refused.Open OpenError.NoMemory) → R.has_failed reader.new ≡ false }
     ensures failed { (n : ℕ) → result ≡ Err (Refused.Open (OpenError.Read n)) →
         ((R.has_failed reader.new ≡ true) × ConsumesMany (R.remaining reader.old) (R.remaining reader.new) n) }
+    ensures failing { R.has_failed reader.new ≡ true → (n : ℕ) × (result ≡ Err (Refused.Open (OpenError.Read n))) }
+    ensures whole { R.has_failed reader.new ≡ false → result ≢ Err (Refused.Open OpenError.NoMemory)
+        → (bytes : List ℕ) × ReadsUpTo 1048576 (R.remaining reader.old) bytes × Consumes (R.remaining reader.old) (R.remaining reader.new) bytes }
     ensures broken { IsErrOf result Refused.Write → W.has_failed writer.new ≡ true }
     ensures unwritten { IfErr result (λ e. e ≢ Refused.Write → Keeps (W.contents writer.old) (W.contents writer.new)) }
 {
@@ -97,6 +101,9 @@ pub fn run_set<R: Source, W: Sink>(
     ensures memory { result ≡ Err (Refused.Open OpenError.NoMemory) → R.has_failed reader.new ≡ false }
     ensures failed { (n : ℕ) → result ≡ Err (Refused.Open (OpenError.Read n)) →
         ((R.has_failed reader.new ≡ true) × ConsumesMany (R.remaining reader.old) (R.remaining reader.new) n) }
+    ensures failing { R.has_failed reader.new ≡ true → (n : ℕ) × (result ≡ Err (Refused.Open (OpenError.Read n))) }
+    ensures whole { R.has_failed reader.new ≡ false → result ≢ Err (Refused.Open OpenError.NoMemory)
+        → (bytes : List ℕ) × ReadsUpTo 1048576 (R.remaining reader.old) bytes × Consumes (R.remaining reader.old) (R.remaining reader.new) bytes }
     ensures broken { IsErrOf result Refused.Write → W.has_failed writer.new ≡ true }
     ensures unwritten { IfErr result (λ e. e ≢ Refused.Write → Keeps (W.contents writer.old) (W.contents writer.new)) }
 {

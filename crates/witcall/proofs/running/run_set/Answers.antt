@@ -1,4 +1,4 @@
-use Rattle.std.proofs.Common.{refl, inl, inr}
+use Rattle.std.proofs.Common.{◌≡◌, true, false, Err, refl, sym, ap, ◌∙◌, inl, inr}
 use Rattle.std.proofs.lemmas.Result.{err_from_is_err_and}
 use Rattle.witcall.proofs.Made.{makes, refuses-opening, refuses-making}
 use Rattle.witcall.specs.Running.{all_items, RunRefuses}
@@ -56,3 +56,23 @@ returns-clause-ok g c =
           c.in_ok-whole.whole.items c.in_ok-whole.ensures.ok refl,
       appended _ _ _ c.in_ok-whole.whole.items c.as_slice-2.ensures.value c.in_ok-write_bytes.ensures.ok,
     )
+
+pub returns-in_err-package-clause-whole : goal.returns-in_err-package-clause-whole
+returns-in_err-package-clause-whole g c = λ ok memory. (c.in_ok-last.last.items, c.in_ok-last.ensures.bytes, c.in_ok-last.ensures.rest)
+
+pub returns-in_err-whole-clause-whole : goal.returns-in_err-whole-clause-whole
+returns-in_err-whole-clause-whole g c = λ ok memory. (c.in_ok-last.last.items, c.in_ok-last.ensures.bytes, c.in_ok-last.ensures.rest)
+
+pub returns-in_err-write_bytes-clause-whole : goal.returns-in_err-write_bytes-clause-whole
+returns-in_err-write_bytes-clause-whole g c = λ ok memory. (c.in_ok-last.last.items, c.in_ok-last.ensures.bytes, c.in_ok-last.ensures.rest)
+
+pub returns-clause-whole : goal.returns-clause-whole
+returns-clause-whole g c = λ ok memory. (c.in_ok-last.last.items, c.in_ok-last.ensures.bytes, c.in_ok-last.ensures.rest)
+
+pub returns-in_err-last-clause-whole : goal.returns-in_err-last-clause-whole
+returns-in_err-last-clause-whole g c = λ ok memory.
+    let p = err_from_is_err_and c.from_residual.result c.from_residual.ensures.1 in
+    elim c.in_err-last.ensures.err [
+      | inl h ↦ let bad : true ≡ false = sym (c.in_err-last.ensures.failed h.0 (ap Err h.1)).0 ∙ ok in absurd (cc)
+      | inr is ↦ absurd (memory (p.1 ∙ ap Err (p.2 ∙ ap Open is)))
+    ]

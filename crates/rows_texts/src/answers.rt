@@ -1,18 +1,33 @@
-//! What a line is answered.
+//! What a row is answered.
 
 ghost use Rattle.std.specs.Prelude.{◌<◌, IfOk, length};
 
 use crate::inputs::{Inputs, Set};
+use crate::parts::inputs_in;
 use atoms::Watched;
 use std::alloc::{AllocError, Global};
+use wit_text::parse;
 use witcall::{Package, Refused, Reply, open_set, report, run_call, run_set};
 use words::asked::Job;
 
-/// The program's line for a refusal.
+/// The program's line for a refusal, with its status where that isn't 1.
 fn line_of(alloc: Global, refused: &Refused) -> anyhow::Result<String> {
     let mut errors = Watched::new(Vec::new(alloc));
-    report(refused, &mut errors);
-    Ok(String::from_utf8(errors.into_inner())?)
+    let status = report(refused, &mut errors);
+    let line = String::from_utf8(errors.into_inner())?;
+    let line = line.as_str().trim_end();
+    Ok(match status {
+        1 => String::from_str(alloc, line)?,
+        _ => format!(in alloc; "{line} ({status})")?,
+    })
+}
+
+/// What was written, or the line of a refusal.
+fn told(alloc: Global, written: Result<Vec<u8>, Refused>) -> anyhow::Result<String> {
+    match written {
+        Ok(bytes) => Ok(String::from_utf8(bytes)?),
+        Err(refused) => line_of(alloc, &refused),
+    }
 }
 
 /// The inputs of a set.
@@ -33,6 +48,29 @@ fn package(alloc: Global, set: &Set) -> Result<Package, Refused> {
     Ok(open_set(alloc, inputs.as_slice())?)
 }
 
+fn opened(alloc: Global, set: &Set) -> anyhow::Result<String> {
+    match package(alloc, set) {
+        Ok(_package) => Ok(String::from_str(alloc, "opened")?),
+        Err(refused) => line_of(alloc, &refused),
+    }
+}
+
+/// How many steps the layouts of the package took.
+fn work(alloc: Global, set: &Set) -> anyhow::Result<String> {
+    match package(alloc, set) {
+        Ok(package) => Ok(format!(in alloc; "{}", package.layouts().work())?),
+        Err(refused) => line_of(alloc, &refused),
+    }
+}
+
+/// Whether the last input is a text of the grammar.
+fn parsed(alloc: Global, set: &Set) -> anyhow::Result<String> {
+    match parse(alloc, std::str::from_utf8(set.last.as_slice())?) {
+        Ok(_tree) => Ok(String::from_str(alloc, "read")?),
+        Err(error) => Ok(format!(in alloc; "{error}")?),
+    }
+}
+
 /// What a job makes of a set.
 fn made(alloc: Global, job: Job, set: &Set) -> Result<Vec<u8>, Refused> {
     let mut output = Watched::new(Vec::new(alloc));
@@ -46,23 +84,13 @@ fn made(alloc: Global, job: Job, set: &Set) -> Result<Vec<u8>, Refused> {
     Ok(output.into_inner())
 }
 
-fn opened(alloc: Global, set: &Set) -> anyhow::Result<String> {
-    match package(alloc, set) {
-        Ok(_package) => Ok(String::from_str(alloc, "opened")?),
+/// The binary of a set, in hexadecimal digits.
+fn binary(alloc: Global, set: &Set) -> anyhow::Result<String> {
+    match made(alloc, Job::Bin, set) {
+        Ok(bytes) => Ok(hex::encode(alloc, bytes.as_slice())?),
         Err(refused) => line_of(alloc, &refused),
     }
 }
-
-/// What a job makes of a set, a binary in hexadecimal digits; or the line of its refusal.
-fn told(alloc: Global, job: Job, set: &Set) -> anyhow::Result<String> {
-    match made(alloc, job, set) {
-        Ok(bytes) if job == Job::Bin => Ok(hex::encode(alloc, bytes.as_slice())?),
-        Ok(bytes) => Ok(String::from_utf8(bytes)?),
-        Err(refused) => line_of(alloc, &refused),
-    }
-}
-
-const JOBS: [Job; 4] = [Job::Show, Job::Bin, Job::Text, Job::Layout];
 
 /// Whether a job makes the same of the set once its last input is what another made of it.
 fn is_kept(alloc: Global, job: Job, by: Job, set: &mut Set) -> Result<bool, Refused> {
@@ -117,9 +145,9 @@ fn written(alloc: Global, call: &Call<'_>, set: &Set) -> Result<Vec<u8>, Refused
     Ok(output.into_inner())
 }
 
-fn called(alloc: Global, inputs: &Inputs, words: &str) -> anyhow::Result<String> {
+fn called(alloc: Global, kept: &Inputs, words: &str) -> anyhow::Result<String> {
     let mut words = words.splitn(5, ' ');
-    let (Some(interface), Some(function), Some(arguments), Some(reply), Some(names)) = (
+    let (Some(interface), Some(function), Some(arguments), Some(reply), Some(inputs)) = (
         words.next(),
         words.next(),
         words.next(),
@@ -134,26 +162,31 @@ fn called(alloc: Global, inputs: &Inputs, words: &str) -> anyhow::Result<String>
         arguments,
         reply,
     };
-    match written(alloc, &call, &inputs.set(alloc, names)?) {
-        Ok(output) => Ok(String::from_utf8(output)?),
-        Err(refused) => line_of(alloc, &refused),
-    }
+    let output = told(
+        alloc,
+        written(alloc, &call, &inputs_in(alloc, kept, inputs)?),
+    )?;
+    Ok(String::from_str(alloc, output.as_str().trim_end())?)
 }
 
-/// How a line is answered.
-pub fn answer_of(alloc: Global, inputs: &Inputs, line: &str) -> anyhow::Result<String> {
-    let Some((word, rest)) = line.split_once(' ') else {
-        return Err(anyhow::anyhow!("one word: {line}"));
+/// How a row is answered.
+pub fn answer_of(alloc: Global, kept: &Inputs, asked: &str) -> anyhow::Result<String> {
+    let Some((word, rest)) = asked.split_once(' ') else {
+        return Err(anyhow::anyhow!("one word: {asked}"));
     };
-    let job = match word {
-        "open" => return opened(alloc, &inputs.set(alloc, rest)?),
-        "again" => return repeated(alloc, &mut inputs.set(alloc, rest)?),
-        "call" => return called(alloc, inputs, rest),
-        "show" => Job::Show,
-        "bin" => Job::Bin,
-        "text" => Job::Text,
-        "layout" => Job::Layout,
-        _ => return Err(anyhow::anyhow!("no such word: {line}")),
-    };
-    told(alloc, job, &inputs.set(alloc, rest)?)
+    if word == "call" {
+        return called(alloc, kept, rest);
+    }
+    let mut set = inputs_in(alloc, kept, rest)?;
+    match word {
+        "parse" => parsed(alloc, &set),
+        "open" => opened(alloc, &set),
+        "show" => told(alloc, made(alloc, Job::Show, &set)),
+        "text" => told(alloc, made(alloc, Job::Text, &set)),
+        "layout" => told(alloc, made(alloc, Job::Layout, &set)),
+        "bin" => binary(alloc, &set),
+        "again" => repeated(alloc, &mut set),
+        "work" => work(alloc, &set),
+        _ => Err(anyhow::anyhow!("no such word: {asked}")),
+    }
 }

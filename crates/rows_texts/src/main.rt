@@ -1,0 +1,30 @@
+//! Rows of texts, binaries and sets of packages, one a line, each with its name and its answer. docs/FORMATS.md has their
+//! language. Of each file that a line names, the name of each row is written, and behind it what was answered if that is
+//! something else.
+#![tactic(auto)]
+
+mod answers;
+mod inputs;
+mod parts;
+mod rows;
+
+use rows::{Rows, read};
+use std::alloc::Global;
+
+/// Answers the rows of a file.
+fn answer_all(rt: &HostRuntime, alloc: Global, path: &str) -> anyhow::Result<()> {
+    let bytes = read(rt, alloc, path)?;
+    println!(rt; "# {path}")?;
+    let mut rows = Rows::new(alloc);
+    for line in std::str::from_utf8(bytes.as_slice())?.split('\n') {
+        rows.take_line(rt, alloc, line)?;
+    }
+    rows.finish(rt, alloc)
+}
+
+fn main(rt: HostRuntime) -> anyhow::Result<()> {
+    for path in rt.lines(rt.alloc()) {
+        answer_all(&rt, rt.alloc(), path?.as_str())?;
+    }
+    Ok(())
+}

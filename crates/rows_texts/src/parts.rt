@@ -1,0 +1,183 @@
+//! The parts of which inputs are made.
+
+use crate::inputs::{Inputs, Set};
+use std::alloc::{AllocError, Global};
+
+/// A word or a text in quotation marks, or what stands between two inputs.
+#[derive(Clone, Copy)]
+enum Token<'a> {
+    Word(&'a str),
+    Text(&'a str),
+    Comma,
+}
+
+fn push_words<'a>(tokens: &mut Vec<Token<'a>>, piece: &'a str) -> Result<(), AllocError> {
+    for word in piece.split(' ') {
+        let front = word.strip_suffix(",").unwrap_or(word);
+        if !front.is_empty() {
+            tokens.push(Token::Word(front))?;
+        }
+        if front.len() < word.len() {
+            tokens.push(Token::Comma)?;
+        }
+    }
+    Ok(())
+}
+
+/// The tokens of a line: what stands in quotation marks is one.
+fn tokens_of(alloc: Global, line: &str) -> Result<Vec<Token<'_>>, AllocError> {
+    let mut tokens = Vec::new(alloc);
+    for (index, piece) in line.split('"').enumerate() {
+        if index % 2 == 1 {
+            tokens.push(Token::Text(piece))?;
+        } else {
+            push_words(&mut tokens, piece)?;
+        }
+    }
+    Ok(tokens)
+}
+
+/// Adds what follows a brace of a text: `n}` stands for this number, and `m}` for the next.
+fn push_rule(
+    alloc: Global,
+    input: &mut Vec<u8>,
+    piece: &str,
+    number: usize,
+) -> Result<(), AllocError> {
+    let told = match piece.split_once('}') {
+        Some(("n", rest)) => format!(in alloc; "{number}{rest}")?,
+        Some(("m", rest)) => format!(in alloc; "{}{rest}", number.saturating_add(1))?,
+        _ => format!(in alloc; "{{{piece}")?,
+    };
+    input.extend_from_slice(told.as_bytes())?;
+    Ok(())
+}
+
+/// Adds a text to an input, with this number at its rules.
+fn push_numbered(
+    alloc: Global,
+    input: &mut Vec<u8>,
+    text: &str,
+    number: usize,
+) -> Result<(), AllocError> {
+    for (index, piece) in text.split('{').enumerate() {
+        if index == 0 {
+            input.extend_from_slice(piece.as_bytes())?;
+        } else {
+            push_rule(alloc, input, piece, number)?;
+        }
+    }
+    Ok(())
+}
+
+/// What the next token is taken for.
+#[derive(Clone, Copy)]
+enum Awaited {
+    Part,
+    Bytes,
+    /// How often a text or an input is repeated in one input.
+    Repeats,
+    /// What is repeated.
+    Repeated(usize),
+    /// How many inputs a text is.
+    Inputs,
+    Each(usize),
+}
+
+/// A set that is made of its parts.
+#[derive(Drop)]
+struct Maker<'a> {
+    kept: &'a Inputs,
+    set: Set,
+    awaited: Awaited,
+}
+
+impl<'a> Maker<'a> {
+    fn repeat_text(&mut self, alloc: Global, text: &str, count: usize) -> Result<(), AllocError> {
+        for number in 0..count {
+            push_numbered(alloc, &mut self.set.last, text, number)?;
+        }
+        Ok(())
+    }
+
+    fn repeat_input(&mut self, name: &str, count: usize) -> anyhow::Result<()> {
+        let part = self.kept.named(name)?;
+        for _time in 0..count {
+            self.set.last.extend_from_slice(part.last.as_slice())?;
+        }
+        Ok(())
+    }
+
+    /// Adds so many inputs, of which the first goes on with the last that is there.
+    fn push_each(&mut self, alloc: Global, text: &str, count: usize) -> Result<(), AllocError> {
+        for number in 0..count {
+            if number > 0 {
+                self.set.begin(alloc)?;
+            }
+            push_numbered(alloc, &mut self.set.last, text, number)?;
+        }
+        Ok(())
+    }
+
+    /// Takes a word that begins a part, and answers what is to come.
+    fn begin_part(&mut self, alloc: Global, word: &str) -> anyhow::Result<Awaited> {
+        match word {
+            "bytes" => Ok(Awaited::Bytes),
+            "repeat" => Ok(Awaited::Repeats),
+            "each" => Ok(Awaited::Inputs),
+            _ => {
+                self.set.go_on(alloc, self.kept.named(word)?)?;
+                Ok(Awaited::Part)
+            }
+        }
+    }
+
+    fn take_word(&mut self, alloc: Global, word: &str) -> anyhow::Result<()> {
+        self.awaited = match self.awaited {
+            Awaited::Part => self.begin_part(alloc, word)?,
+            Awaited::Bytes => {
+                let bytes = hex::decode(alloc, word)?;
+                self.set.last.extend_from_slice(bytes.as_slice())?;
+                Awaited::Part
+            }
+            Awaited::Repeats => Awaited::Repeated(word.parse::<usize>()?),
+            Awaited::Repeated(count) => {
+                self.repeat_input(word, count)?;
+                Awaited::Part
+            }
+            Awaited::Inputs => Awaited::Each(word.parse::<usize>()?),
+            Awaited::Each(_) => return Err(anyhow::anyhow!("no text: {word}")),
+        };
+        Ok(())
+    }
+
+    fn take_text(&mut self, alloc: Global, text: &str) -> anyhow::Result<()> {
+        match self.awaited {
+            Awaited::Part => self.set.last.extend_from_slice(text.as_bytes())?,
+            Awaited::Repeated(count) => self.repeat_text(alloc, text, count)?,
+            Awaited::Each(count) => self.push_each(alloc, text, count)?,
+            Awaited::Bytes | Awaited::Repeats | Awaited::Inputs => {
+                return Err(anyhow::anyhow!("no number: {text}"));
+            }
+        }
+        self.awaited = Awaited::Part;
+        Ok(())
+    }
+}
+
+/// The inputs that a line has, with commas between.
+pub fn inputs_in(alloc: Global, kept: &Inputs, line: &str) -> anyhow::Result<Set> {
+    let mut maker = Maker {
+        kept,
+        set: Set::new(alloc),
+        awaited: Awaited::Part,
+    };
+    for token in tokens_of(alloc, line)? {
+        match token {
+            Token::Word(word) => maker.take_word(alloc, word)?,
+            Token::Text(text) => maker.take_text(alloc, text)?,
+            Token::Comma => maker.set.begin(alloc)?,
+        }
+    }
+    Ok(maker.set)
+}
