@@ -25,7 +25,7 @@ link-promised parties caller_releases callee_releases r f flats old result new i
 
 -- and visit few nodes, so many
 pub link-told : (parties : Parties) (r : Resolve) → ∥ AreWithin r ∥₁ → (f : FunctionId) (flats : List Flat) (old : World) (result : Result (List Flat) Fault) (new : World) (there back : ℕ) → IsFunction r f
-    → CallsInHalves parties (function_type r f) flats old result there back new
+    → CallsInHalves parties (function_type r f) flats old old.caller result there back new
     → (ways : Ways) × Calls parties exact (function_type r f) flats old result ways new × ((there ≡ counted_nodes ways.there) × (back ≡ counted_nodes ways.back)) × AreFewNodes (function_type r f) ways
 link-told parties r within f flats old result new there back is halves =
     let (ways, calls, counts) = halves-are-a-call parties (function_type r f) flats old result there back new halves in

@@ -1,16 +1,15 @@
 -- A call, chained of its halves and of what the host ran between and after them.
 use Rattle.std.proofs.Common.{inl, inr, List, [], ℕ, Some, None, Result, Ok, Err, refl, sym, ap, subst}
 use Rattle.canonical_abi.specs.Types.{FunctionType}
-use Rattle.canonical_abi.specs.Guest.{Memory, Release}
+use Rattle.canonical_abi.specs.Guest.{Memory}
 use Rattle.canonical_abi.specs.Trace.{Event}
 use Rattle.canonical_abi.specs.Call.{exact, Parties, World, Ways, Enters, Answered, Returned, ArgumentsFaulty, ResultFaulty, ResultFails, Traps}
-use Rattle.canonical_abi.specs.Halves.{entering, returning, source, world, HasEntered, EntryFails, ReturnFails, RunsBetween, RunsAndReturns, CallsWithNodes, HalvesAreACall, HalvesKeepPromise, body_stopped, post_stopped, ends_at_entry, ends_at_run, ends_at_return, ends_at_post, completes}
+use Rattle.canonical_abi.specs.Halves.{entering, returning, source, world, HasEntered, EntryFails, ReturnFails, RunsBetween, RunsAndReturns, CallsWithNodes, HalvesAreACall, body_stopped, post_stopped, ends_at_entry, ends_at_run, ends_at_return, ends_at_post, completes}
 use Rattle.canonical_abi.specs.declared.flat.Flat.{Flat}
 use Rattle.canonical_abi.specs.declared.trap.Fault.{Fault}
 use Rattle.canonical_abi.specs.declared.trap.Fault.TheVariants as ended
 use Rattle.canonical_abi.specs.declared.trap.Step.{Step}
 use Rattle.canonical_abi.specs.declared.trap.TrapKind.{TrapKind}
-use Rattle.canonical_abi.proofs.Linked.{link-keeps-promise}
 
 module _ (parties : Parties) (f : FunctionType) (flats : List Flat) (old : World) where
   abbrev Ends : Result (List Flat) Fault → World → ℕ → ℕ → Type 0
@@ -39,7 +38,7 @@ module _ (parties : Parties) (f : FunctionType) (flats : List Flat) (old : World
 
   -- ---- the run
 
-  enters : (handed : List Flat) (entered : Memory) (there : ℕ) (h : HasEntered parties.callee_allocates f flats old.caller.bytes old.callee handed entered there)
+  pub enters : (handed : List Flat) (entered : Memory) (there : ℕ) (h : HasEntered parties.callee_allocates f flats old.caller.bytes old.callee handed entered there)
       → Enters parties f flats old h.0 handed h.1 (world old.caller entered old.body)
   enters handed entered there h =
       let e = h.2 in
@@ -54,13 +53,13 @@ module _ (parties : Parties) (f : FunctionType) (flats : List Flat) (old : World
       )
 
   module _ (there : ℕ) (answer : List Flat) (ran : Memory) (body : List ℕ) (r : RunsBetween parties f flats old there (Some answer) ran body) where
-    abbrev after : World
+    abbrev pub after : World
     after = world old.caller ran body
 
-    abbrev put : List Event
+    abbrev pub put : List Event
     put = r.enters.1
 
-    answered : Answered parties f flats old answer put after
+    abbrev pub answered : Answered parties f flats old answer put after
     answered = record {
       values = r.enters.0;
       handed = r.handed;
@@ -91,7 +90,7 @@ module _ (parties : Parties) (f : FunctionType) (flats : List Flat) (old : World
         let P : Step → Type 0 = λ s. Traps parties exact f flats old s t.kind (ways_of put done) (world caller ran body) in
         (ways_of put done, subst P (sym is) (answer, after, answered, result_fails t.kind done caller failed), (r.enters.3, counts))
 
-  module _ (there back : ℕ) (answer given : List Flat) (caller ran : Memory) (body : List ℕ) (b : RunsAndReturns parties f flats old there back answer given caller ran body) where
+  module _ (there back : ℕ) (answer given : List Flat) (caller ran : Memory) (body : List ℕ) (b : RunsAndReturns parties f flats old old.caller there back answer given caller ran body) where
     abbrev both : Ways
     both = ways_of b.runs.enters.1 b.returns.1
 
@@ -130,8 +129,3 @@ halves-are-a-call parties f flats old _ _ _ _ (ends_at_post there back answer gi
     post-stops parties f flats old there back answer given caller ran body b callee kept post
 halves-are-a-call parties f flats old _ _ _ _ (completes there back answer given caller ran body b callee kept post) =
     whole parties f flats old there back answer given caller ran body b callee kept post
-
-pub halves-keep-promise : (parties : Parties) (caller_releases callee_releases : Release) → HalvesKeepPromise parties caller_releases callee_releases
-halves-keep-promise parties caller_releases callee_releases f flats old result there back new standard calls =
-    let c = halves-are-a-call parties f flats old result there back new calls in
-    link-keeps-promise parties caller_releases callee_releases exact f flats old result c.0 new standard c.1

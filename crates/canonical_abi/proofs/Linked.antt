@@ -34,7 +34,7 @@ InArea results area x = (fits_flat max_flat_results results ≡ false) × IsWith
 
 -- ---- what the events of a result are confined to
 
-passes-result-confined : (results : Fields) (area : ℕ) (vs : List Value) (es : List Event) (back : List Flat) → PassesResult max_flat_results results area vs es back → Confined (InArea results area) es
+pub passes-result-confined : (results : Fields) (area : ℕ) (vs : List Value) (es : List Event) (back : List Flat) → PassesResult max_flat_results results area vs es back → Confined (InArea results area) es
 passes-result-confined results area vs es back (inl s) = confined-more Nowhere (InArea results area) es (λ x i. absurd i) (fields-lower-confined results vs es back s.1)
 passes-result-confined results area vs es back (inr s) =
     confined-more (λ x. IsWithin x area (size (record_type results))) (InArea results area) es (λ x i. (s.0, i)) (stores-confined (record_type results) area _ (node ∷ es) (vs, es, refl, refl, s.1))
@@ -120,14 +120,14 @@ module _ (parties : Parties) (caller_releases callee_releases : Release) (order 
   went-on : (old answered new : World) → answered.caller ≡ old.caller → Went answered new → Went old new
   went-on old answered new same (es, fine) = (es, fine-from parties.caller_allocates (InArea results area) answered.caller old.caller es new.caller (sym same) fine)
 
-  result-faulty : (answer : List Flat) (answered new : World) (k : TrapKind) (done : List Event) → ResultFaulty parties order f flats answered answer k done new → Went answered new
+  pub result-faulty : (answer : List Flat) (answered new : World) (k : TrapKind) (done : List Event) → ResultFaulty parties order f flats answered answer k done new → Went answered new
   result-faulty answer answered new k done (inl (faulty, none, is)) = went-same answered new (ap (λ w. w.caller) is)
   result-faulty answer answered new k done (inr (tested, es, until, part, begun, callee, body)) =
       let front = granted-part order (InArea results area) done es part
       (until-result-aligned results answered.callee.bytes answer area k es until) (until-result-confined results answered.callee.bytes answer area k es until) in
       (begun.0, record { aligned = aligned-left done begun.0 (made-leaves order done begun.0 begun.1) front.0; confined = confined-left (InArea results area) done begun.0 (made-leaves order done begun.0 begun.1) front.1; leads = begun.2 })
 
-  result-fails : (answer : List Flat) (answered new : World) (k : TrapKind) (done : List Event) → ResultFails parties order f flats answered answer k done new → Went answered new × ((k ≡ trap.Full) ⊎ ReturnAreaFaulty f flats answered.caller k)
+  pub result-fails : (answer : List Flat) (answered new : World) (k : TrapKind) (done : List Event) → ResultFails parties order f flats answered answer k done new → Went answered new × ((k ≡ trap.Full) ⊎ ReturnAreaFaulty f flats answered.caller k)
   result-fails answer answered new k done (inl (stands, faulty, none, is)) = (went-same answered new (ap (λ w. w.caller) is), inr faulty)
   result-fails answer answered new k done (inr (stands, es, script, breaks, is_done, callee, body)) =
       let made = broken parties.caller_allocates caller_releases honest.caller (InArea results area) answered.caller es k new.caller
@@ -154,7 +154,7 @@ module _ (parties : Parties) (caller_releases callee_releases : Release) (order 
   call-went old (Err (Trap t)) ways new traps = traps-went old t.step t.kind ways new traps
   call-went old (Err NoMemory) ways new g = gives-up-went order old ways new g
 
-  went-outside : (old new : World) → Went old new → KeepsOutside parties.caller_allocates area (area_size f) old.caller new.caller
+  pub went-outside : (old new : World) → Went old new → KeepsOutside parties.caller_allocates area (area_size f) old.caller new.caller
   went-outside old new (es, fine) =
       keeps-outside parties.caller_allocates caller_releases honest.caller (InArea results area) old.caller new.caller es fine area (area_size f)
       (λ x i. subst (λ b. IsWithin x area (cond b 0 (size (record_type results)))) (sym i.0) i.1)
@@ -222,7 +222,7 @@ module _ (parties : Parties) (caller_releases callee_releases : Release) (order 
   argument-fault old k done new (inr (inr (kinds, es, until, part, begun, caller, same))) = inr (kinds, params-denote-fault max_flat_params f.params _ _ k es until)
 
   module _ (standard : IsStandardFunction f) (old : World) (few : IsLimited old.callee) (keeps : KeepsLimit parties.callee_allocates) where
-    found : (values : List Value) (handed : List Flat) (there : List Event) (entered : World) → Enters parties f flats old values handed there entered
+    pub found : (values : List Value) (handed : List Flat) (there : List Event) (entered : World) → Enters parties f flats old values handed there entered
         → (answer : Option (List Flat)) (ran : World) → Runs parties f flats entered handed answer ran → FindsAndRunsOnce parties f values old answer ran
     found values handed there entered e answer ran r =
         let less = small entered.callee (trace-limited parties.callee_allocates keeps there old.callee entered.callee e.leads few) in
@@ -245,7 +245,7 @@ module _ (parties : Parties) (caller_releases callee_releases : Release) (order 
     pub answered-found : (answer : List Flat) (there : List Event) (answered : World) (a : Answered parties f flats old answer there answered) → FindsAndRunsOnce parties f a.values old (Some answer) answered
     answered-found answer there answered a = found a.values a.handed there a.entered a.enters (Some answer) answered a.runs
 
-    answered-once : (After : Option (List Flat) → World → Type 0) (answer : List Flat) (there : List Event) (answered : World) → Answered parties f flats old answer there answered → After (Some answer) answered → LinksOnce parties f flats old After
+    pub answered-once : (After : Option (List Flat) → World → Type 0) (answer : List Flat) (there : List Event) (answered : World) → Answered parties f flats old answer there answered → After (Some answer) answered → LinksOnce parties f flats old After
     answered-once After answer there answered a after = record {
       arguments = a.values;
       held = a.enters.denoted;

@@ -1,16 +1,23 @@
 -- CanonicalABI.md, "canon lift" and "canon lower": a call in two halves, between which a host runs the core function itself. One half puts the
--- arguments into the callee, the other the answer into the caller.
-use Rattle.std.specs.Prelude.{◌≡◌, ◌⊎◌, ℕ, ◌-◌, ◌^◌, min, false, List, [], Option, Some, None, Result, Ok, Err}
-use Rattle.canonical_abi.specs.Types.{FunctionType}
+-- arguments into the callee, the other the answer into the caller. Each keeps a promise of its own, whatever a host does before and behind it;
+-- between the halves the caller may be changed, too, as by its own allocator, which grants the blocks of the second one.
+use Rattle.std.specs.Prelude.{◌≡◌, ◌⊎◌, ℕ, ◌-◌, ◌^◌, min, false, List, [], Option, Some, None, Result, Ok, Err, IfOk}
+use Rattle.canonical_abi.specs.Types.{FunctionType, result_fields}
+use Rattle.canonical_abi.specs.Layout.{max_flat_params, max_flat_results}
+use Rattle.canonical_abi.specs.Flat.{Denotes, DenotesFault}
 use Rattle.canonical_abi.specs.Values.{Value}
-use Rattle.canonical_abi.specs.Guest.{Memory, Allocation, Release}
+use Rattle.canonical_abi.specs.Guest.{Memory, Allocation, Release, IsLimited}
 use Rattle.canonical_abi.specs.Trace.{Event, nodes_of}
-use Rattle.canonical_abi.specs.Call.{exact, Parties, World, Ways, Enters, Returns, ArgumentsFaulty, ArgumentsFail, ResultFaulty, ResultFails, Calls}
-use Rattle.canonical_abi.specs.Headline.{IsStandardFunction, IsLinkPromised}
+use Rattle.canonical_abi.specs.Call.{exact, Parties, World, Ways, Enters, Returns, ArgumentsFaulty, ArgumentsFail, ResultFaulty, ResultFails, Calls, KindsFit, area_of, ReturnAreaFaulty}
+use Rattle.canonical_abi.specs.Session.{HasResult}
+use Rattle.canonical_abi.specs.Headline as headline
+use Rattle.canonical_abi.specs.Headline.{IsStandardFunction, AreHonest, AreLimited, LendsArea, AreArguments, IsArgumentFault, KeepsOutside, area_size, CalleeIsUnchanged, EndsBeforeBody, AfterRun, IfTrap, IsLinkTrap, LinksOnce, GivesBack}
 use Rattle.canonical_abi.specs.declared.flat.Flat.{Flat}
 use Rattle.canonical_abi.specs.declared.trap.Fault.{Fault}
 use Rattle.canonical_abi.specs.declared.trap.Fault.TheVariants.{Trap, NoMemory}
+use Rattle.canonical_abi.specs.declared.trap.TrapKind.{TrapKind}
 use Rattle.canonical_abi.specs.declared.trap.TrapKind.TheVariants as trap
+use Rattle.canonical_abi.specs.declared.trap.Step.{Step}
 use Rattle.canonical_abi.specs.declared.trap.Step.TheVariants as step
 
 -- the nodes that these events visit, as far as 64 bits count
@@ -73,6 +80,48 @@ ReturnFails allocates f flats m answer old (Trap t) new c =
     × ResultFails (returning allocates) exact f flats (world old (source m) []) answer t.kind done (world new (source m) []) × (c ≡ counted_nodes done))
 ReturnFails allocates f flats m answer old NoMemory new c = ⊥
 
+-- ---- what each half promises by itself, over a memory whose allocator is honest and keeps the limit
+
+-- the callee finds exactly the arguments that the caller holds, and no byte of it outside the blocks handed out is changed
+pub record FindsArguments (allocates : Allocation) (f : FunctionType) (flats : List Flat) (m : List ℕ) (old : Memory) (handed : List Flat) (new : Memory) : Type 0 where
+  pub arguments : List Value
+  pub held : AreArguments f flats (source m) arguments
+  pub finds : Denotes max_flat_params f.params new.bytes handed arguments
+  pub kept : KeepsOutside allocates 0 0 old new
+
+-- the traps that the first half can end in
+abbrev pub IsEntryTrap : FunctionType → List Flat → List ℕ → Step → TrapKind → Type 0
+IsEntryTrap f flats m step.LiftArgs k = IsArgumentFault f flats (source m) k
+IsEntryTrap f flats m step.LowerArgs k = k ≡ trap.Full
+IsEntryTrap f flats m _ k = ⊥
+
+pub record EntryKeepsPromise (allocates : Allocation) : Type 0 where
+  pub done : (f : FunctionType) (flats : List Flat) (m : List ℕ) (old : Memory) (handed : List Flat) (new : Memory) (c : ℕ) → IsStandardFunction f → IsLimited old
+      → HasEntered allocates f flats m old handed new c → FindsArguments allocates f flats m old handed new
+  pub fails : (f : FunctionType) (flats : List Flat) (m : List ℕ) (old : Memory) (fault : Fault) (new : Memory) (c : ℕ)
+      → EntryFails allocates f flats m old fault new c → KeepsOutside allocates 0 0 old new × IfTrap {A = List Flat} (Err fault) (IsEntryTrap f flats m)
+
+-- the caller holds exactly what the answer denotes in the callee, in the flat values that come back or in the return area, and no other
+-- byte of it outside the blocks handed out is changed
+pub record GivesAnswer (allocates : Allocation) (f : FunctionType) (flats : List Flat) (m : List ℕ) (answer : List Flat) (old : Memory) (given : List Flat) (new : Memory) : Type 0 where
+  pub values : List Value
+  pub answered : Denotes max_flat_results (result_fields f.result) m answer values
+  pub holds : HasResult (result_fields f.result) new.bytes given (area_of f flats) values
+  pub unchanged : KeepsOutside allocates (area_of f flats) (area_size f) old new
+
+-- the traps that the second half can end in
+abbrev pub IsReturnTrap : FunctionType → List Flat → List ℕ → List Flat → Memory → Step → TrapKind → Type 0
+IsReturnTrap f flats m answer old step.LiftResult k = DenotesFault max_flat_results (result_fields f.result) m answer k
+IsReturnTrap f flats m answer old step.LowerResult k = (k ≡ trap.Full) ⊎ ReturnAreaFaulty f flats old k
+IsReturnTrap f flats m answer old _ k = ⊥
+
+pub record ReturnKeepsPromise (allocates : Allocation) : Type 0 where
+  pub done : (f : FunctionType) (flats : List Flat) (m : List ℕ) (answer : List Flat) (old : Memory) (given : List Flat) (new : Memory) (c : ℕ) → IsStandardFunction f → IsLimited old
+      → KindsFit f flats → LendsArea f flats old → HasReturned allocates f flats m answer old given new c → GivesAnswer allocates f flats m answer old given new
+  pub fails : (f : FunctionType) (flats : List Flat) (m : List ℕ) (answer : List Flat) (old : Memory) (fault : Fault) (new : Memory) (c : ℕ)
+      → ReturnFails allocates f flats m answer old fault new c
+      → KeepsOutside allocates (area_of f flats) (area_size f) old new × IfTrap {A = List Flat} (Err fault) (IsReturnTrap f flats m answer old)
+
 -- ---- the whole call
 
 -- where the body, or its post-return, stopped by itself
@@ -90,21 +139,23 @@ module _ (parties : Parties) (f : FunctionType) (flats : List Flat) (old : World
     pub enters : HasEntered parties.callee_allocates f flats old.caller.bytes old.callee handed entered there
     pub run : parties.runs old.body entered handed body ran answer
 
-  -- and its answer returned
+-- from a world as it is before the first half, and a caller as it is before the second
+module _ (parties : Parties) (f : FunctionType) (flats : List Flat) (old : World) (between : Memory) where
+  -- the answer of its run returned, too
   pub record RunsAndReturns (there back : ℕ) (answer given : List Flat) (caller ran : Memory) (body : List ℕ) : Type 0 where
-    pub runs : RunsBetween there (Some answer) ran body
-    pub returns : HasReturned parties.caller_allocates f flats ran.bytes answer old.caller given caller back
+    pub runs : RunsBetween parties f flats old there (Some answer) ran body
+    pub returns : HasReturned parties.caller_allocates f flats ran.bytes answer between given caller back
 
   -- what a host sees of a call in halves, by where it ended: the answer, the nodes that the two halves told, and the world after it
   pub data CallsInHalves : Result (List Flat) Fault → ℕ → ℕ → World → Type 0 where
     -- the arguments did not enter, and nothing ran
     ends_at_entry : (fault : Fault) (there : ℕ) (callee : Memory) → EntryFails parties.callee_allocates f flats old.caller.bytes old.callee fault callee there
-        → CallsInHalves (Err fault) there 0 (world old.caller callee old.body)
+        → CallsInHalves (Err fault) there 0 (world between callee old.body)
     -- the run came to no answer
-    ends_at_run : (there : ℕ) (ran : Memory) (body : List ℕ) → RunsBetween there None ran body → CallsInHalves (Err body_stopped) there 0 (world old.caller ran body)
+    ends_at_run : (there : ℕ) (ran : Memory) (body : List ℕ) → RunsBetween parties f flats old there None ran body → CallsInHalves (Err body_stopped) there 0 (world between ran body)
     -- its answer did not return
-    ends_at_return : (there back : ℕ) (answer : List Flat) (fault : Fault) (caller ran : Memory) (body : List ℕ) → RunsBetween there (Some answer) ran body
-        → ReturnFails parties.caller_allocates f flats ran.bytes answer old.caller fault caller back → CallsInHalves (Err fault) there back (world caller ran body)
+    ends_at_return : (there back : ℕ) (answer : List Flat) (fault : Fault) (caller ran : Memory) (body : List ℕ) → RunsBetween parties f flats old there (Some answer) ran body
+        → ReturnFails parties.caller_allocates f flats ran.bytes answer between fault caller back → CallsInHalves (Err fault) there back (world caller ran body)
     -- the one run of post-return on it stopped
     ends_at_post : (there back : ℕ) (answer given : List Flat) (caller ran : Memory) (body : List ℕ) → RunsAndReturns there back answer given caller ran body
         → (callee : Memory) (kept : List ℕ) → parties.posts body ran answer kept callee None → CallsInHalves (Err post_stopped) there back (world caller callee kept)
@@ -112,20 +163,40 @@ module _ (parties : Parties) (f : FunctionType) (flats : List Flat) (old : World
     completes : (there back : ℕ) (answer given : List Flat) (caller ran : Memory) (body : List ℕ) → RunsAndReturns there back answer given caller ran body
         → (callee : Memory) (kept : List ℕ) → parties.posts body ran answer kept callee (Some tt) → CallsInHalves (Ok given) there back (world caller callee kept)
 
+module _ (parties : Parties) (f : FunctionType) (flats : List Flat) (old : World) where
   -- the call gives this answer, by ways of so many nodes
   abbrev pub CallsWithNodes : Result (List Flat) Fault → ℕ → ℕ → World → Type 0
   CallsWithNodes result there back new =
       (ways : Ways) × Calls parties exact f flats old result ways new × ((there ≡ counted_nodes ways.there) × (back ≡ counted_nodes ways.back))
 
--- each call in halves is a call
+-- each call in halves between which the caller stays as it was is a call
 abbrev pub HalvesAreACall : Parties → Type 0
 HalvesAreACall parties =
     (f : FunctionType) (flats : List Flat) (old : World) (result : Result (List Flat) Fault) (there back : ℕ) (new : World)
-    → CallsInHalves parties f flats old result there back new → CallsWithNodes parties f flats old result there back new
+    → CallsInHalves parties f flats old old.caller result there back new → CallsWithNodes parties f flats old result there back new
 
--- and keeps the promise, over honest guests within the limit and a live return area, where a package can have the function's types
+-- the traps of a call in halves: those of a call, but that the return area is one of the caller as it was between
+abbrev pub IsHalvesTrap : Parties → FunctionType → List Flat → World → Memory → World → Step → TrapKind → Type 0
+IsHalvesTrap parties f flats old between new step.LowerResult k = (k ≡ trap.Full) ⊎ ReturnAreaFaulty f flats between k
+IsHalvesTrap parties f flats old between new s k = IsLinkTrap parties f flats old new s k
+
+-- what such a call promises, whatever became of the caller between: of the callee from its beginning, of the caller from the second half on
+pub record HalvesKeep (parties : Parties) (f : FunctionType) (flats : List Flat) (old : World) (between : Memory) (result : Result (List Flat) Fault) (new : World) : Type 0 where
+  -- the callee finds exactly the arguments that the caller held at the beginning, and is run once
+  pub finds : headline.HasEntered exact result → LinksOnce parties f flats old (AfterRun parties exact result new)
+  -- before the body is entered the callee keeps all outside the blocks handed out
+  pub before : EndsBeforeBody result → CalleeIsUnchanged parties old new
+  pub once : CalleeIsUnchanged parties old new ⊎ LinksOnce parties f flats old (AfterRun parties exact result new)
+  -- the caller holds exactly what the body answered
+  pub gives : IfOk result (λ back. GivesBack parties f flats old back new)
+  -- and from between on no byte of it outside the blocks handed out and the return area is changed
+  pub unchanged : KeepsOutside parties.caller_allocates (area_of f flats) (area_size f) between new.caller
+  pub own : IfTrap result (IsHalvesTrap parties f flats old between new)
+
+-- over honest guests, both memories within the limit as each half begins, and a return area that is live as the second does
 abbrev pub HalvesKeepPromise : Parties → Release → Release → Type 0
 HalvesKeepPromise parties caller_releases callee_releases =
-    (f : FunctionType) (flats : List Flat) (old : World) (result : Result (List Flat) Fault) (there back : ℕ) (new : World)
-    → IsStandardFunction f → CallsInHalves parties f flats old result there back new
-    → IsLinkPromised parties caller_releases callee_releases exact f flats old result new
+    (f : FunctionType) (flats : List Flat) (old : World) (between : Memory) (result : Result (List Flat) Fault) (there back : ℕ) (new : World)
+    → IsStandardFunction f → CallsInHalves parties f flats old between result there back new
+    → AreHonest parties caller_releases callee_releases → AreLimited parties (world between old.callee old.body) → LendsArea f flats between
+    → HalvesKeep parties f flats old between result new

@@ -11,6 +11,7 @@ mod HoleRows
 mod HoleSteps
 mod HoleTails
 pub mod LentNames
+pub mod LentOneWay
 mod OneWay
 mod PageSteps
 mod SpaceAlike

@@ -108,6 +108,12 @@ pub fn first_fits_answer_in_one_way()
     ensures ignores { IgnoresBytes FirstFitAllocates }
 {}
 
+/// So they have of a `Lent`.
+pub fn lents_answer_in_one_way()
+    ensures one_way { AllocatesInOneWay LentAllocates }
+    ensures ignores { IgnoresBytes LentAllocates }
+{}
+
 /// So they have of a `Space`.
 pub fn spaces_answer_in_one_way()
     ensures one_way { AllocatesInOneWay SpaceAllocates }

@@ -8,7 +8,7 @@ ghost use Rattle.tables.specs.Standard.{IsTypeOf};
 
 use crate::package::Package;
 use lift_lower::{Val, has_arguments, has_type};
-use resolve::{Definition, FunctionId, ValType};
+use resolve::{FunctionId, ValType};
 
 impl Package {
     /// Whether these are arguments of the function, as many as its parameters and each of its type: what
@@ -25,22 +25,14 @@ impl Package {
     pub fn is_function(&self, func: FunctionId) -> bool
         ensures { IsTrue result ↔ IsFunction self.now.resolve func }
     {
-        let definitions = self.resolve().definitions.as_slice();
-        matches!(
-            definitions.get(func.0 as usize),
-            Some(Definition::Function(_))
-        )
+        self.resolve().is_function(func)
     }
 
     /// Whether there is such a type in the package: what `Session::read` asks for.
     pub fn is_type(&self, ty: ValType) -> bool
         ensures { IsTrue result ↔ IsTypeOf self.now.resolve ty }
     {
-        let definitions = self.resolve().definitions.as_slice();
-        match ty {
-            ValType::Id(id) => matches!(definitions.get(id.0 as usize), Some(Definition::Type(_))),
-            _ => true,
-        }
+        self.resolve().is_type(ty)
     }
 
     /// Whether this is a value of the type: what `Session::place` asks for.

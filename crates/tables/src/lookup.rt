@@ -2,6 +2,7 @@
 ghost use Rattle.std.specs.Prelude.{◌≡◌, ◌↔◌, ◌≢◌, ◌<◌, ◌++◌, ◌∷◌, ℕ, List, length, IsTrue, [], slice_get, slice_index_or, IfOk, IfSome, IfNone, None, Some, MatchOption};
 ghost use Rattle.atoms.specs.FullName.{full_name_text, package_text, name_text, version_suffix};
 ghost use Rattle.tables.specs.Closed.{function_at, IsFunction, is_scalar, is_scalar_function};
+ghost use Rattle.tables.specs.Standard.{IsTypeOf};
 ghost use Rattle.tables.specs.PackageNames.{name_parts};
 ghost use Rattle.tables.specs.Names.{full_name, IsNamed, IsNamedIn};
 ghost use Rattle.tables.specs.Package.{interface_names};
@@ -148,6 +149,29 @@ impl Resolve {
             }
         }
         None
+    }
+
+    /// Whether there is such a function in the tables: what `signature` asks for.
+    pub fn is_function(&self, func: FunctionId) -> bool
+        ensures { IsTrue result ↔ IsFunction self.now func }
+    {
+        matches!(
+            self.definitions.as_slice().get(func.0 as usize),
+            Some(Definition::Function(_))
+        )
+    }
+
+    /// Whether there is such a type in the tables: a primitive, or a row that is no function.
+    pub fn is_type(&self, ty: ValType) -> bool
+        ensures { IsTrue result ↔ IsTypeOf self.now ty }
+    {
+        match ty {
+            ValType::Id(id) => matches!(
+                self.definitions.as_slice().get(id.0 as usize),
+                Some(Definition::Type(_))
+            ),
+            _ => true,
+        }
     }
 
     /// The function at this place of the table.

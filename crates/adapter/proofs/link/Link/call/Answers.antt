@@ -21,7 +21,7 @@ returns-in_err-enter-clause-call g c =
     let p = err_from_is_err_and c.from_residual.result c.from_residual.ensures.1 in
     let fails : EntryFails g.E.Guest.allocates f flats old.caller.bytes old.callee c.in_err-enter.field-0.0 entered there = c.in_err-enter.ensures.fault in
     rw (p.1, p.2) (link-told parties r within c.args.func flats old (Err c.in_err-enter.field-0.0) (world old.caller entered old.body) there c.enter.new.self.back c.requires.function
-    (subst (λ (n : ℕ). CallsInHalves parties f flats old (Err c.in_err-enter.field-0.0) there n (world old.caller entered old.body)) (sym c.enter.ensures.back) (ends_at_entry c.in_err-enter.field-0.0 there entered fails)))
+    (subst (λ (n : ℕ). CallsInHalves parties f flats old old.caller (Err c.in_err-enter.field-0.0) there n (world old.caller entered old.body)) (sym c.enter.ensures.back) (ends_at_entry c.in_err-enter.field-0.0 there entered fails)))
 
 pub returns-in_default-clause-call : goal.returns-in_default-clause-call
 returns-in_default-clause-call g c =
@@ -39,7 +39,7 @@ returns-in_default-clause-call g c =
     let body = g.B.Body.state c.call.new.self in
     let runs : RunsBetween parties f flats old there None ran body = record { handed = handed; entered = entered; enters = enters; run = c.in_default.ensures.run } in
     rw c.trap.ensures (link-told parties r within c.args.func flats old _ (world old.caller ran body) there c.enter.new.self.back c.requires.function
-    (subst (λ (n : ℕ). CallsInHalves parties f flats old (Err body_stopped) there n (world old.caller ran body)) (sym c.enter.ensures.back) (ends_at_run there ran body runs)))
+    (subst (λ (n : ℕ). CallsInHalves parties f flats old old.caller (Err body_stopped) there n (world old.caller ran body)) (sym c.enter.ensures.back) (ends_at_run there ran body runs)))
 
 pub returns-in_err-leave-clause-call : goal.returns-in_err-leave-clause-call
 returns-in_err-leave-clause-call g c =
@@ -86,7 +86,7 @@ returns-in_default-post_return-clause-call g c =
     let caller = g.C.Guest.memory c.leave.new.caller in
     let back = c.leave.new.self.back in
     let given = c.leave.new.back.items in
-    let returns : RunsAndReturns parties f flats old there back answer given caller ran body = record { runs = runs; returns = rw c.enter.ensures.same_package at c.in_ok-leave.ensures.returned } in
+    let returns : RunsAndReturns parties f flats old old.caller there back answer given caller ran body = record { runs = runs; returns = rw c.enter.ensures.same_package at c.in_ok-leave.ensures.returned } in
     let callee = g.E.Guest.memory c.post_return.new.memory in
     let kept = g.B.Body.state c.post_return.new.self in
     let post = (c.call.ensures.same_posts _ _ _ _ _ _).1 c.in_default-post_return.ensures.run in
@@ -113,7 +113,7 @@ returns-clause-call g c =
     let caller = g.C.Guest.memory c.leave.new.caller in
     let back = c.leave.new.self.back in
     let given = c.leave.new.back.items in
-    let returns : RunsAndReturns parties f flats old there back answer given caller ran body = record { runs = runs; returns = rw c.enter.ensures.same_package at c.in_ok-leave.ensures.returned } in
+    let returns : RunsAndReturns parties f flats old old.caller there back answer given caller ran body = record { runs = runs; returns = rw c.enter.ensures.same_package at c.in_ok-leave.ensures.returned } in
     let callee = g.E.Guest.memory c.post_return.new.memory in
     let kept = g.B.Body.state c.post_return.new.self in
     let post = (c.call.ensures.same_posts _ _ _ _ _ _).1 c.in-Ok-post_return.ensures.run in
