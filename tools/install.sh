@@ -61,8 +61,8 @@ remove() {
     printf '%s\n' "$listed" | grep -v '/$' | while read -r file; do
         rm -f "$to/$file"
     done
-    printf '%s\n' "$listed" | grep '/$' | sort -r | while read -r folder; do
-        rmdir "$to/$folder" 2>/dev/null || true
+    printf '%s\n' "$listed" | grep '/$' | LC_ALL=C sort -r | while read -r folder; do
+        rmdir "$to/${folder#./}" 2>/dev/null || true
     done
 }
 
@@ -132,10 +132,10 @@ filled witcall-config-version.cmake
 
 # ---- installation
 
-# Makes a folder with those around it, and notes those that were not there.
+# Makes a folder of the prefix with those around it, and notes those that were not there.
 make_folder() {
     [ ! -d "$to/$1" ] || return 0
-    make_folder "$(dirname "$1")"
+    [ "$1" = . ] || make_folder "$(dirname "$1")"
     install -d -m 755 "$to/$1"
     echo "$1/" >>"$work/manifest"
 }
@@ -148,7 +148,6 @@ put() {
 }
 
 [ ! -f "$to/$manifest" ] || remove
-mkdir -p "$to"
 : >"$work/manifest"
 put 755 "$work/witcall" bin/witcall
 put 644 "$work/libwitcall.a" lib/libwitcall.a
