@@ -26,7 +26,7 @@ trap 'rm -rf "$stage"' EXIT
 chmod 755 "$stage"
 
 # shellcheck disable=SC2086 # no word where none was given
-tools/install.sh --prefix /usr --destdir "$stage" $origin >&2
+tools/install.sh --prefix /usr --libdir lib/x86_64-linux-gnu --destdir "$stage" $origin >&2
 doc="$stage/usr/share/doc/witcall"
 
 # ---- what Debian has elsewhere

@@ -1,10 +1,11 @@
 #!/bin/sh
 # Installs witcall: the program, the library for C in one archive, its header, and what finds and documents them.
 #
-# usage: tools/install.sh [--prefix DIR] [--destdir DIR] [--released | --built]
+# usage: tools/install.sh [--prefix DIR] [--libdir NAME] [--destdir DIR] [--released | --built]
 #        tools/install.sh --uninstall [--prefix DIR] [--destdir DIR]
 #
-# DIR is /usr/local if --prefix is not given. With --destdir the files go below that folder, for a package of a distribution.
+# DIR is /usr/local if --prefix is not given, and NAME, the folder of libraries in it, is lib. With --destdir the files go below that folder,
+# for a package of a distribution.
 #
 # What is installed comes from release/ if that was built from the sources of this checkout, and otherwise from crates/ if the program was
 # proved and built there. --released and --built ask for one of them; --released does not compare the sources. It needs ar, gzip and the
@@ -24,18 +25,21 @@ fail() {
 
 # ---- words
 
-prefix=/usr/local destdir='' origin='' uninstall=''
+prefix=/usr/local libdir=lib destdir='' origin='' uninstall=''
 while [ $# -gt 0 ]; do
     case "$1" in
-        --prefix | --destdir)
+        --prefix | --libdir | --destdir)
             [ $# -gt 1 ] || fail "$1 needs a folder" 2
-            [ "$1" = --prefix ] && prefix=$2 || destdir=$2
-            shift ;;
+            words="$1=$2"
+            shift 2
+            set -- "$words" "$@"
+            continue ;;
         --prefix=*) prefix=${1#*=} ;;
+        --libdir=*) libdir=${1#*=} ;;
         --destdir=*) destdir=${1#*=} ;;
         --released | --built) origin=${1#--} ;;
         --uninstall) uninstall=yes ;;
-        *) fail "usage: tools/install.sh [--prefix DIR] [--destdir DIR] [--released | --built | --uninstall]" 2 ;;
+        *) fail "usage: tools/install.sh [--prefix DIR] [--libdir NAME] [--destdir DIR] [--released | --built | --uninstall]" 2 ;;
     esac
     shift
 done
@@ -121,13 +125,18 @@ esac
 (cd "$work" && printf '%s\n' 'create libwitcall.a' 'addlib libwitcall_c.a' 'addlib liblibc_c.a' save end | "${AR:-ar}" -M)
 version=$(cat VERSION)
 
+# A text as what sed puts for another.
+quoted() {
+    printf '%s' "$1" | sed 's/[&|\\]/\\&/g'
+}
+
 # Fills the places of a template.
 filled() {
-    quoted=$(printf '%s' "$prefix" | sed 's/[&|\\]/\\&/g')
-    sed "s|@PREFIX@|$quoted|g; s|@VERSION@|$version|g" "packaging/$1.in" >"$work/$1"
+    sed "s|@PREFIX@|$(quoted "$prefix")|g; s|@LIBDIR@|$(quoted "$libdir")|g; s|@VERSION@|$version|g" "packaging/$1.in" >"$work/$1"
 }
 
 filled witcall.pc
+filled witcall-config.cmake
 filled witcall-config-version.cmake
 
 # ---- installation
@@ -150,11 +159,11 @@ put() {
 [ ! -f "$to/$manifest" ] || remove
 : >"$work/manifest"
 put 755 "$work/witcall" bin/witcall
-put 644 "$work/libwitcall.a" lib/libwitcall.a
+put 644 "$work/libwitcall.a" "$libdir/libwitcall.a"
 put 644 include/witcall.h include/witcall.h
-put 644 "$work/witcall.pc" lib/pkgconfig/witcall.pc
-put 644 packaging/witcall-config.cmake lib/cmake/witcall/witcall-config.cmake
-put 644 "$work/witcall-config-version.cmake" lib/cmake/witcall/witcall-config-version.cmake
+put 644 "$work/witcall.pc" "$libdir/pkgconfig/witcall.pc"
+put 644 "$work/witcall-config.cmake" "$libdir/cmake/witcall/witcall-config.cmake"
+put 644 "$work/witcall-config-version.cmake" "$libdir/cmake/witcall/witcall-config-version.cmake"
 put 644 packaging/witcall.1 share/man/man1/witcall.1
 put 644 packaging/completions/witcall.bash share/bash-completion/completions/witcall
 put 644 packaging/completions/_witcall share/zsh/site-functions/_witcall
