@@ -1,15 +1,15 @@
 # Completion of witcall for bash: the commands, --with, and files.
 _witcall() {
-    local current=${COMP_WORDS[COMP_CWORD]}
+    local current=${COMP_WORDS[COMP_CWORD]} IFS=$'\n'
     COMPREPLY=()
-    if [ "$COMP_CWORD" -eq 1 ]; then
-        mapfile -t COMPREPLY < <(compgen -W "show layout text bin call" -- "$current")
-        return
-    fi
+    # bash parts --with=FILE at the `=`
     [ "$current" = = ] && current=
-    case "$current" in
-        -*) mapfile -t COMPREPLY < <(compgen -W "--with" -- "$current") ;;
-        *) mapfile -t COMPREPLY < <(compgen -f -- "$current") ;;
-    esac
+    if [ "$COMP_CWORD" -eq 1 ]; then
+        COMPREPLY=($(compgen -W $'show\nlayout\ntext\nbin\ncall' -- "$current"))
+    elif [[ $current == -* ]]; then
+        COMPREPLY=($(compgen -W --with -- "$current"))
+    else
+        COMPREPLY=($(compgen -f -- "$current"))
+    fi
 }
 complete -o filenames -F _witcall witcall
