@@ -1,5 +1,5 @@
 #!/usr/bin/env python3
-"""Checks the headers that tools/bindings.py writes: of every package in examples/, and of random ones.
+"""Checks the headers that tools/bindings.py writes: of every package in examples/, of some with names that are hard for C, and of random ones.
 
 usage: tools/check_bindings.py [--program WITCALL] [N [SEED]]      N random packages or sets, 200 if it is not given
 
@@ -35,6 +35,16 @@ DIALECTS = {"c": ["-x", "c", "-std=c11"], "c++": ["-x", "c++", "-std=c++17"]}
 SANITIZED = ["-g", "-fsanitize=address,undefined", "-fno-sanitize-recover=all"]
 CALLS = 3
 START, ROOM = 16, 1 << 16
+# packages of which two names become one in C, or a name one that C has
+COLLIDING = [
+    "package a:b; interface c { record d-e { x: u8, y: u16 } variant v { b-c(u8) } variant v-b { c(u8) } record f-parameters { z: u32 } "
+    "f: func(x: d-e, y: v) -> v-b; record g-load { a: u8 } record g { b: u64 } h: func(x: g-load, y: g, z: f-parameters) -> list<g-load>; } "
+    "interface c-d { record e { x: u64 } f: func(x: e); } interface wit { type %string = u8; }",
+    "package int:class; interface default { record NULL { %char: u8, INT-MAX: u8, errno: u16, %record: list<u8> } flags true { EOF, stdin } "
+    "enum false { %union, virtual } f: func(%list: NULL, return: true) -> false; }",
+    "package wit:%string; interface load { record store { a: string } option-u8: func(x: option<u8>) -> store; } "
+    "interface %list { type u8s = list<u8>; record %u8 { x: bool } f: func(x: list<u8>, y: list<%u8>) -> u8s; }",
+]
 # labels that are hard for C, of which each is another one in lower case
 LABELS = """a int class NULL errno two-words A1 x-Y default stdin true %bool %record %list %u8 INT-MAX tag %as address length memory value at area
 flats parameters kind bits f0 ok none some this namespace""".split()
@@ -205,6 +215,8 @@ class Program:
             names = [part.constant for place, part in enumerate(made.parts) if value >> place & 1]
             return f"({made.c})({' | '.join(names) or 0})"
         number = ord(value) if isinstance(value, str) else int(value)
+        if isinstance(t, abi.Scalar) and t.word == "bool" and value:
+            number = self.random.choice([1, 2, 255])
         return f"({made.c})UINT64_C({number % (1 << 8 * t.size)})"
 
     def make(self, t, made, value, target):
@@ -410,18 +422,24 @@ def check(program, files, folder, number):
     return len(calls.calls)
 
 
+def written(folder, name, texts):
+    """The files of these texts."""
+    files = [folder / f"{name}-{place}.wit" for place in range(len(texts))]
+    for file, text in zip(files, texts):
+        file.write_text(text)
+    return files
+
+
 def packages_of(count, seed, folder):
-    """The sets of files, each with its title: those of examples/, and random ones."""
+    """The sets of files, each with its title: those of examples/, those whose names collide, and random ones."""
     for name in EXAMPLES:
         yield name, [ROOT / "examples" / name]
     for place in range(len(WASI)):
         yield WASI[place], [ROOT / "examples" / name for name in WASI[: place + 1]]
+    for number, text in enumerate(COLLIDING):
+        yield f"colliding {number}", written(folder, f"colliding-{number}", [text])
     for number in range(count):
-        texts = Packages(f"{seed}:{number}").set(number)
-        files = [folder / f"{number}-{place}.wit" for place in range(len(texts))]
-        for file, text in zip(files, texts):
-            file.write_text(text)
-        yield f"random {seed}:{number}", files
+        yield f"random {seed}:{number}", written(folder, number, Packages(f"{seed}:{number}").set(number))
 
 
 def checked(program, folder, numbered):
