@@ -20,9 +20,8 @@ compare() {
 
 echo "$version" | grep -qE '^[0-9]+\.[0-9]+\.[0-9]+$' || { echo "VERSION is no version of three numbers"; exit 1; }
 compare include/witcall.h "$(sed -n 's/^#define WITCALL_VERSION "\(.*\)".*/\1/p' include/witcall.h)"
-for file in $(find crates/witcall_c/src -name '*.rt'); do
-    compare "$file" "$(sed -nE 's/.*\bVERSION\b.*"([0-9]+\.[0-9]+\.[0-9]+)(\\0)?".*/\1/p' "$file")"
-done
+# in the library's sources, each text that is a version and nothing else
+compare crates/witcall_c/src "$(grep -rhoE '"[0-9]+\.[0-9]+\.[0-9]+(\\0)?"' crates/witcall_c/src | grep -oE '[0-9.]+[0-9]')"
 compare packaging/witcall.1 "$(sed -n 's/^\.TH .*"witcall \([^"]*\)".*/\1/p' packaging/witcall.1 | grep . || echo none)"
 compare CHANGELOG.md "$(sed -n 's/^## \([0-9][0-9.]*\).*/\1/p' CHANGELOG.md | head -n 1 | grep . || echo none)"
 if [ "$(cat release/sources 2>/dev/null)" = "$(tools/sources.sh program)" ]; then
