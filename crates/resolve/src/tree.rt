@@ -7,29 +7,25 @@ ghost use Rattle.package_form.specs.Closed.{is_closed};
 ghost use Rattle.package_form.specs.Form.{IsInPackageForm};
 ghost use Rattle.package_form.specs.Naming.{package_scopes};
 ghost use Rattle.package_form.specs.Scope.{AreDistinct};
-ghost use Rattle.resolve.specs.Declarations.{interface_of, interfaces, interface_names, package_named};
-ghost use Rattle.resolve.specs.ImportForms.{IsNamedBehind, AreReachedFrom};
-ghost use Rattle.resolve.specs.Imports.{imports_of};
-ghost use Rattle.resolve.specs.Resolves.{AreImports, IsPackageOf, IsClosedPackageOf, ResolveRefuses, ResolveRefusesOf, HasNoFaults, HasNoFaultsOf, AnswersOnly, AnswersOnlyBehind, file_fits};
-ghost use Rattle.resolve.specs.Building.{AreImportScopes};
-ghost use Rattle.resolve.specs.Sources.{declared_tree};
+ghost use Rattle.tree_meaning.specs.Declarations.{interface_of, interfaces, interface_names, package_named};
+ghost use Rattle.tree_meaning.specs.ImportForms.{IsNamedBehind, AreReachedFrom};
+ghost use Rattle.tree_meaning.specs.Imports.{imports_of};
+ghost use Rattle.tree_meaning.specs.Resolves.{AreImports, IsPackageOf, IsClosedPackageOf, ResolveRefuses, ResolveRefusesOf, HasNoFaults, HasNoFaultsOf, AnswersOnly, AnswersOnlyBehind, file_fits};
+ghost use Rattle.tree_scopes.specs.KnownScopes.{AreImportScopes};
+ghost use Rattle.tree_scopes.specs.Sources.{declared_tree};
 
-use crate::assembly::{define_package, ordered_index, ordered_names};
-use crate::builder::Builder;
-use crate::declared::Declarations;
-use crate::duplicates::distinct_names;
-use crate::finish::{copied_parts, finish, package_id, package_name};
-use crate::graphs::{interface_order, type_orders};
-use crate::imports::{import_scopes, no_imports};
-use crate::keys::keyed_by_tree;
-use crate::known::KnownTypes;
-use crate::nested::are_nested;
-use crate::paths::known_packages;
-use crate::unknown::known_names;
-use crate::worlds::define_worlds;
 use atoms::KeyedState;
 use std::alloc::{AllocError, Global};
 use tables::{PackageName, Resolve, ResolveError};
+use tree_names::{
+    are_nested, distinct_names, interface_order, keyed_by_tree, known_names, known_packages,
+    type_orders,
+};
+use tree_rows::{
+    Builder, copied_parts, define_package, define_worlds, finish, ordered_index, ordered_names,
+    package_id,
+};
+use tree_scopes::{Declarations, KnownTypes, import_scopes, no_imports, package_name};
 use wit_syntax::{Ast, Item};
 
 fn all_declarations<'a>(

@@ -1,6 +1,6 @@
 //! Texts whose paths name interfaces of other packages, over tables of these.
 ghost use Rattle.std.specs.Prelude.{IfOk};
-ghost use Rattle.resolve.specs.Resolves.{AreImports};
+ghost use Rattle.tree_meaning.specs.Resolves.{AreImports};
 
 use crate::sets::{labels, used};
 use package_form::{distinct_names, is_in_form};

@@ -3,19 +3,20 @@ use Rattle.std.specs.List.{filter_map}
 use Rattle.std.proofs.lemmas.List.{length-map}
 use Rattle.wit_syntax.specs.View.{item_view, file_view}
 use Rattle.wit_syntax.specs.declared.ast.Item.{Item}
-use Rattle.resolve.specs.Order.{IsPlacement}
+use Rattle.placement.specs.Order.{IsPlacement}
 use Rattle.package_form.specs.Scope.{AreDistinct}
-use Rattle.resolve.specs.Declarations.{InterfaceTree, interfaces, worlds, world_of, interface_names, interface_at}
-use Rattle.resolve.specs.Imports.{imports_of}
-use Rattle.resolve.specs.Resolved.{world_meaning}
-use Rattle.resolve.specs.Resolves.{HasKnownNamesOf, IsKnownWorldOf, interface_uses, type_uses, names_in_order}
-use Rattle.resolve.specs.Building.{DefinesPackage, start_table}
-use Rattle.resolve.specs.WorldRows.{DefinesWorlds}
-use Rattle.resolve.specs.Sources.{declared_tree}
-use Rattle.resolve.proofs.Trees.{distinct-interfaces, ok-map, err-map}
-use Rattle.resolve.proofs.Packaging.{order-below}
-use Rattle.resolve.proofs.WorldTables.{worlds-known}
-use Rattle.resolve.proofs.Defined.{finished, refused}
+use Rattle.tree_meaning.specs.Declarations.{InterfaceTree, interfaces, worlds, world_of, interface_names, interface_at}
+use Rattle.tree_meaning.specs.Imports.{imports_of}
+use Rattle.tree_meaning.specs.Resolved.{world_meaning}
+use Rattle.tree_meaning.specs.Resolves.{HasKnownNamesOf, IsKnownWorldOf, interface_uses, type_uses, names_in_order}
+use Rattle.tree_meaning.specs.Building.{DefinesPackage, start_table}
+use Rattle.tree_meaning.specs.WorldRows.{DefinesWorlds}
+use Rattle.tree_scopes.specs.Sources.{declared_tree}
+use Rattle.tree_forms.proofs.FinishedTrees.{distinct-interfaces}
+use Rattle.tree_meaning.proofs.Trees.{ok-map, err-map}
+use Rattle.tree_scopes.proofs.DeclaredTrees.{order-below}
+use Rattle.tree_forms.proofs.WorldTables.{worlds-known}
+use Rattle.tree_forms.proofs.Defined.{finished, refused}
 use Rattle.resolve.proofs.tree.defined.Goals as goal
 
 pub ordered_names-requires : goal.ordered_names-requires

@@ -1,7 +1,7 @@
 use Rattle.std.proofs.Common.{◌≡◌, [], ◌∙◌, length, sym}
 use Rattle.std.proofs.lemmas.Bool.{eqb-true}
 use Rattle.std.proofs.lemmas.List.{nil_from_length}
-use Rattle.resolve.proofs.ImportTables.{closed-imports}
+use Rattle.tree_forms.proofs.ImportTables.{closed-imports}
 use Rattle.suite_sets.proofs.texts.imported.Goals as goal
 
 pub returns : goal.returns
