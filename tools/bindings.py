@@ -403,7 +403,7 @@ class Names:
     """The C names of one header, each taken once. No label ends in a digit behind a hyphen, so a numbered name is a new one."""
 
     def __init__(self):
-        self.taken = {"wit_string_load", "wit_string_store", "wit_begin", "wit_put", "wit_i32", "wit_i64", "wit_bool", "wit_char", "wit_string"}
+        self.taken = set(re.findall(r"\bwit_\w+|\bWIT_\w+", COMMON))
 
     def new(self, wanted):
         """A name that nothing else has."""
@@ -422,7 +422,6 @@ class Names:
 class Function:
     """A function, with the C names of what is made for it."""
 
-    prefix: str
     full_name: str
     name: str
     parameters: Type
@@ -658,7 +657,7 @@ class Header:
         if fields:
             self.struct(record)
         made = Function(
-            stem, full_name, name, record, answered,
+            full_name, name, record, answered,
             self.names.new(f"{stem}_fill"), self.names.new(f"{stem}_read"), self.names.new(f"{stem.upper()}_FLATS"),
         )  # fmt: skip
         self.functions.append(made)
