@@ -86,4 +86,5 @@ def main():
     sys.exit(missing > 0)
 
 
-main()
+if __name__ == "__main__":
+    main()

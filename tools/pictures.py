@@ -1,0 +1,365 @@
+#!/usr/bin/env python3
+"""Makes the pictures of the pages, docs/pictures/*.svg, each from what is there.
+
+usage: tools/pictures.py [--check] [--program WITCALL]
+
+- way.svg (docs/PROMISE.md): the way from a text to a call. The words are what the program prints of examples/c.wit, the stored run of
+  crates/program and the first row of crates/vectors. Each clause on an arrow has to be one of its function's contract.
+- bytes.svg (docs/LIBRARY.md): the bytes of a call with a list of records, in both memories: a row of crates/vectors.
+- crates.svg (docs/ARCHITECTURE.md): which crates depend on which, of crates.txt, in the groups of docs/crates.txt.
+
+With --check nothing is written, and the exit status is 1 if a picture is not current. The program is the one that was built,
+crates/program/out/program, if no other is named.
+"""
+import argparse
+import json
+import pathlib
+import re
+import subprocess
+import sys
+from html import escape
+
+ROOT = pathlib.Path(__file__).resolve().parent.parent
+sys.path[:0] = [str(ROOT), str(ROOT / "tools")]
+
+import check_names  # noqa: E402
+import crates_page  # noqa: E402
+from tools.models import calls  # noqa: E402
+
+WIDTH = 800
+# light and dark: fill, line and text of a page, then of each group in turn
+PLAIN = (("#ffffff", "#57606a", "#1f2328"), ("#0d1117", "#8b949e", "#e6edf3"))
+HUES = (210, 130, 30, 280, 60, 330, 175, 0, 245, 95, 15, 300)
+# groups of docs/crates.txt that the picture of crates leaves out, since nothing depends on them
+TESTS = ("Programs that answer rows", "Tests")
+ROW = "lists: padding of the target stays too"
+
+
+class Picture:
+    """An SVG: shapes and words, in the colours of the reader's page."""
+
+    def __init__(self, height, title):
+        self.height, self.title, self.parts = height, title, []
+
+    def add(self, part):
+        self.parts.append(part)
+
+    def text(self, x, y, words, kind="", anchor="start"):
+        """Words at a place; `kind` is a class of the style below."""
+        self.add(f'<text x="{x:g}" y="{y:g}" class="{kind}" text-anchor="{anchor}" xml:space="preserve">{escape(words, quote=False)}</text>')
+
+    def box(self, x, y, width, height, kind="box"):
+        self.add(f'<rect x="{x:g}" y="{y:g}" width="{width:g}" height="{height:g}" rx="4" class="{kind}"/>')
+
+    def arrow(self, *points):
+        """A line through points, with a head at its end."""
+        path = " ".join(f"{'ML'[number > 0]}{x:g} {y:g}" for number, (x, y) in enumerate(points))
+        self.add(f'<path d="{path}" class="line" marker-end="url(#head)"/>')
+
+    def curve(self, top, bottom):
+        """A line from one place down to another."""
+        (x, y), (to_x, to_y) = top, bottom
+        half = (y + to_y) / 2
+        self.add(f'<path d="M{x:g} {y:g}C{x:g} {half:g} {to_x:g} {half:g} {to_x:g} {to_y:g}" class="edge"/>')
+
+    def svg(self):
+        style = "".join(f"{'@media (prefers-color-scheme:dark){' if dark else ''}{colours(dark)}{'}' if dark else ''}" for dark in (0, 1))
+        return "\n".join([
+            f'<svg xmlns="http://www.w3.org/2000/svg" viewBox="0 0 {WIDTH} {self.height:g}" width="{WIDTH}" height="{self.height:g}" role="img">',
+            f"<title>{escape(self.title)}</title>",
+            f"<style>text{{font:12px ui-monospace,Menlo,Consolas,monospace}}.name{{font-weight:bold}}.small{{font-size:11px}}"
+            f".line,.edge,.frame{{fill:none}}.frame{{stroke-dasharray:4 3}}.edge{{stroke-width:.8}}{style}</style>",
+            '<defs><marker id="head" viewBox="0 0 8 8" refX="8" refY="4" markerWidth="7" markerHeight="7" orient="auto">'
+            '<path d="M0 0L8 4L0 8z" class="head"/></marker></defs>',
+            f'<rect width="{WIDTH}" height="{self.height:g}" class="page"/>',
+            *self.parts,
+            "</svg>",
+        ]) + "\n"
+
+
+def colours(dark):
+    """The style of a light page or a dark one."""
+    page, line, ink = PLAIN[dark]
+    lights = ("35%", "22%") if dark else ("70%", "90%")
+    groups = "".join(f".g{number}{{fill:hsl({hue},{lights[0]},{lights[1]})}}" for number, hue in enumerate(HUES))
+    return (f".page{{fill:{page}}}text,.head{{fill:{ink}}}.line,.edge,.frame,.box,rect[class^=g]{{stroke:{line}}}"
+            f".box{{fill:{'#161b22' if dark else '#f6f8fa'}}}.clause{{fill:{'#79c0ff' if dark else '#0550ae'}}}.dim{{fill:{line}}}{groups}")
+
+
+# The way from a text to a call
+
+def clauses(function, *names):
+    """`FUNCTION: CLAUSE, CLAUSE`, of clauses that a function of this name has, or parts that the definition of the promise has."""
+    there = set()
+    for path in ROOT.glob("crates/*/src/**/*.rt"):
+        for head in re.findall(rf"\bfn {function.split('::')[-1]}\b(.*?)\n *\{{", path.read_text(), re.S):
+            there.update(check_names.LABEL.findall(head))
+    if "promise" in there:
+        there.update(re.findall(r"^  pub (\w+) : ", (ROOT / "crates" / "canonical_abi" / "specs" / "Headline.antt").read_text(), re.M))
+    for name in names:
+        if name not in there:
+            sys.exit(f"tools/pictures.py: {function} has no clause {name}")
+    return f"{function}: {', '.join(names)}"
+
+
+def printed(program, *words):
+    """The lines that the program prints on these words."""
+    return subprocess.run([program, *words], capture_output=True, check=True).stdout.decode("utf-8", "replace").splitlines()
+
+
+def steps(picture, x, y, width, rows):
+    """Boxes from top to bottom, each a title with lines, and the clauses on the arrow to the next one. Answers where each begins."""
+    tops = []
+    for place, (title, lines, arrows) in enumerate(rows):
+        height = 26 + 16 * len(lines)
+        tops.append(y)
+        picture.box(x, y, width, height)
+        picture.text(x + 10, y + 18, title, "name")
+        for number, line in enumerate(lines):
+            picture.text(x + 10, y + 35 + 16 * number, line)
+        y += height
+        if place < len(rows) - 1:
+            gap = 18 + 16 * len(arrows)
+            picture.arrow((x + 20, y), (x + 20, y + gap))
+            for number, arrow in enumerate(arrows):
+                picture.text(x + 32, y + 20 + 16 * number, arrow, "clause")
+            y += gap
+    return tops, y
+
+
+def way(program):
+    """The way from a text to a call."""
+    file = str(ROOT / "examples" / "c.wit")
+    given = (ROOT / "crates" / "program" / "args").read_text().splitlines()
+    run = (ROOT / "crates" / "program" / "stdout").read_text().split()
+    call, done = vector("scalars: a function of a number")
+    flats = lambda values: ", ".join(f"{kind} {number}" for kind, number in values)  # noqa: E731
+    signature = printed(program, "layout", file)[0]
+    at = signature.index(" lift ")
+    binary = subprocess.run([program, "bin", file], capture_output=True, check=True).stdout
+    picture = Picture(0, "The way from a text to a call, with the clause that proves each step")
+    left, bottom = steps(picture, 30, 56, 340, [
+        ("FILE, a text", pathlib.Path(file).read_text().replace("; ", ";\n").splitlines()[:1] + [call["text"].partition("; ")[2]],
+         [clauses("lex", "ok"), clauses("parse", "found", "only")]),
+        ("syntax tree", [], [clauses("PackageSet::add_tree", "ok", "only")]),
+        ("tables: witcall show", printed(program, "show", file), [clauses("Layouts::of", "ok")]),
+        ("layouts: witcall layout", [signature[:at], signature[at + 1:]], []),
+    ])
+    picture.box(30, bottom + 58, 340, 42)
+    picture.text(40, bottom + 76, f"FILE, a binary of {len(binary)} bytes", "name")
+    picture.text(40, bottom + 93, f"{binary[:8].hex(' ')} ..")
+    picture.arrow((60, bottom + 58), (60, bottom + 40), (20, bottom + 40), (20, left[2] + 30), (30, left[2] + 30))
+    picture.text(72, bottom + 36, clauses("decode", "spelt", "only"), "clause")
+    picture.text(72, bottom + 52, clauses("PackageSet::add_spelled", "ok", "only"), "clause")
+    right, end = steps(picture, 430, 56, 340, [
+        ("ARGS", [given[4]], [clauses("from_json", "ok")]),
+        ("the caller passes", [flats(call["flats"])], [clauses("Session::call", "promise", "finds")]),
+        ("the callee finds, and is run once", [flats(done["body_got"])], []),
+        ("the body returns", [flats(call["answer"])], [clauses("Session::call", "promise", "lifts")]),
+        ("the caller lifts", [flats(done["outcome"]["ok"])], [clauses("to_json", "written", "read_back")]),
+        ("printed", run, []),
+    ])
+    picture.arrow((370, left[3] + 30), (400, left[3] + 30), (400, right[1] + 20), (430, right[1] + 20))
+    picture.height = max(bottom + 120, end + 56)
+    picture.box(10, 10, 376, picture.height - 20, "frame")
+    picture.text(30, 38, clauses("open_set", "ok", "only", "err"), "clause")
+    picture.box(414, 10, 376, picture.height - 20, "frame")
+    picture.text(430, 38, clauses("run_call", "ok", "begun", "err"), "clause")
+    picture.text(430, end + 26, clauses("Session::call", "promise", "unchanged") + ":", "clause")
+    picture.text(430, end + 40, "no other byte of the caller changes", "small")
+    return picture.svg()
+
+
+# The bytes of a call
+
+def vector(name):
+    """A row of crates/vectors, the call and what it did."""
+    folder = ROOT / "crates" / "vectors"
+    for asked, answered in zip((folder / "stdin").read_text().splitlines(), (folder / "stdout").read_text().splitlines()):
+        if json.loads(asked)["name"] == name:
+            return json.loads(asked), json.loads(answered)
+    sys.exit(f"tools/pictures.py: crates/vectors has no row {name}")
+
+
+def owners(record, start, count):
+    """Which field of its records each address of a list belongs to, and the value that is there."""
+    found = {}
+    for element in range(count):
+        for number, (begin, end) in enumerate(record.ends):
+            for at in range(begin, end):
+                found[start + element * record.size + at] = number
+    return found
+
+
+def memory(picture, y, title, data, fields):
+    """The bytes of a memory, one cell each, in the colours of the fields that own them."""
+    picture.text(20, y - 10, title, "name")
+    for at, byte in enumerate(bytes.fromhex(data)):
+        picture.box(20 + 44 * at, y, 44, 30, f"g{fields[at]}" if at in fields else "box")
+        picture.text(42 + 44 * at, y + 20, f"{byte:02x}", "" if at in fields else "dim", "middle")
+        picture.text(42 + 44 * at, y + 44, str(at), "small dim", "middle")
+
+
+def in_bytes():
+    """The bytes of a call with a list of records, in both memories."""
+    call, done = vector(ROW)
+    record = calls.function_of(call).params.fields[0].element
+    (_, start), (_, count) = call["flats"]
+    (_, to), _ = done["body_got"]
+    align, size, at = done["callee_log"][0]
+    source, target = owners(record, start, count), owners(record, to, count)
+    picture = Picture(392, "The bytes of a call with a list of records, in both memories")
+    head, _, items = call["text"].partition("; ")
+    picture.text(20, 26, f"{head}; {items}")
+    picture.text(20, 46, f"the caller passes  i32 {start}  (address)   i32 {count}  (length)", "small")
+    memory(picture, 90, "the caller's memory", call["caller"], source)
+    for number, (begin, end) in enumerate(record.ends):
+        middle = 20 + 44 * (start + (begin + end) / 2)
+        reached = 20 + 44 * (to + (begin + end) / 2)
+        label, value = record.labels[number], int.from_bytes(bytes.fromhex(call["caller"])[start + begin:start + end], "little")
+        picture.arrow((middle, 140), (reached, 196))
+        picture.text(middle + 8, 162, f"{label}: {record.fields[number].word}", "name")
+        picture.text(middle + 8, 178, f"= {value}")
+    memory(picture, 200, "", done["callee_after"], target)
+    picture.text(20 + 44 * len(bytes.fromhex(call["caller"])) + 12, 162, "the callee's memory,", "name")
+    picture.text(20 + 44 * len(bytes.fromhex(call["caller"])) + 12, 178, "after the call", "name")
+    picture.text(20, 272, f"the callee's allocator was asked for {size} bytes, aligned to {align}, and granted address {at}", "small")
+    picture.text(20, 292, f"the callee is passed  i32 {to}  (address)   i32 {count}  (length)", "small")
+    memory(picture, 332, "the callee's memory, before the call", call["callee"], {})
+    return picture.svg()
+
+
+# The graph of crates
+
+def bottom_up(below):
+    """The same crates, each after those that it depends on."""
+    placed = {}
+
+    def place(name):
+        if name not in placed:
+            for it in below[name]:
+                place(it)
+            placed[name] = below[name]
+
+    for name in below:
+        place(name)
+    return placed
+
+
+def levels(below):
+    """The level of each crate: above all that it depends on, and as high as the crates allow that depend on it, if it has few of its own."""
+    level = {}
+    for name in below:
+        level[name] = 1 + max((level[it] for it in below[name]), default=-1)
+    for name in reversed(below):
+        above = [level[it] for it in below if name in below[it]]
+        if len(above) > len(below[name]):
+            level[name] = min(above) - 1
+    return level
+
+
+def reduced(below):
+    """The same crates, each with those alone that it doesn't reach by another."""
+    reach = {}
+    for name, parts in below.items():
+        reach[name] = set(parts).union(*(reach[it] for it in parts))
+    return {name: [it for it in parts if not any(it in reach[by] for by in parts)] for name, parts in below.items()}
+
+
+def chains(below, level):
+    """Rows from the lowest on, of crates and of places on long edges, and the edges between neighbouring rows."""
+    rows, edges = [[] for _ in range(max(level.values()) + 1)], []
+    for name in below:
+        rows[level[name]].append(name)
+    for name, parts in below.items():
+        for part in parts:
+            last = part
+            for height in range(level[part] + 1, level[name]):
+                place = (part, name, height)
+                rows[height].append(place)
+                edges.append((place, last))
+                last = place
+            edges.append((name, last))
+    return rows, edges
+
+
+def order(rows, edges):
+    """Puts each row in the order of what its members are joined to, some times up and down."""
+    place = {it: number - len(row) / 2 for row in rows for number, it in enumerate(row)}
+    joined = {it: [] for it in place}
+    for upper, lower in edges:
+        joined[upper].append((lower, -1))
+        joined[lower].append((upper, 1))
+    for turn in range(24):
+        side = -1 if turn % 2 == 0 else 1
+        for row in rows if side < 0 else reversed(rows):
+            means = {}
+            for it in row:
+                others = [place[to] for to, toward in joined[it] if toward == side]
+                means[it] = sum(others) / len(others) if others else place[it]
+            row.sort(key=lambda it: (means[it], place[it]))
+            for number, it in enumerate(row):
+                place[it] = number - len(row) / 2
+    return rows
+
+
+def graph():
+    """Which crates depend on which."""
+    everything = crates_page.crates()
+    groups, missing = crates_page.facts(everything)
+    if missing:
+        sys.exit("tools/pictures.py: docs/crates.txt has no line of " + ", ".join(sorted(missing)))
+    group = {name: number % len(HUES) for number, (title, found) in enumerate(groups) for name in found if title not in TESTS}
+    below = reduced(bottom_up({name: [it for it in parts if it in group] for name, parts in everything.items() if name in group}))
+    rows, edges = chains(below, levels(below))
+    order(rows, edges)
+    titles = [(number, title) for number, (title, found) in enumerate(groups) if number in group.values()]
+    top, gap = 20, 62
+    lines = -(-len(titles) // 2)
+    picture = Picture(top + gap * len(rows) + 18 * lines, "Which crates depend on which")
+    at = {}
+    for height, row in enumerate(rows):
+        widths = [6.2 * len(it) + 12 if isinstance(it, str) else 10 for it in row]
+        space = (WIDTH - 20 - sum(widths)) / (len(row) + 1)
+        x, y = 10 + space, top + gap * (len(rows) - 1 - height)
+        for it, width in zip(row, widths):
+            at[it] = (x + width / 2, y, width)
+            x += width + space
+    for upper, lower in edges:
+        (x, y, _), (to_x, to_y, _) = at[upper], at[lower]
+        picture.curve((x, y + (24 if isinstance(upper, str) else 12)), (to_x, to_y + (0 if isinstance(lower, str) else 12)))
+    for name, number in group.items():
+        x, y, width = at[name]
+        picture.box(x - width / 2, y, width, 24, f"g{number}")
+        picture.text(x, y + 16, name, "crate", "middle")
+    for line, (number, title) in enumerate(titles):
+        x, y = 20 + 380 * (line // lines), top + gap * len(rows) - 10 + 18 * (line % lines)
+        picture.box(x, y, 14, 12, f"g{number}")
+        picture.text(x + 22, y + 10, title, "small")
+    return picture.svg().replace(".small{", ".crate{font-size:10px}.small{", 1)
+
+
+def main():
+    parser = argparse.ArgumentParser(description=__doc__.splitlines()[0])
+    parser.add_argument("--check", action="store_true")
+    parser.add_argument("--program", type=pathlib.Path, default=ROOT / "crates" / "program" / "out" / "program")
+    given = parser.parse_args()
+    folder, stale, pictures = ROOT / "docs" / "pictures", [], {"bytes.svg": in_bytes(), "crates.svg": graph()}
+    if given.program.is_file():
+        pictures["way.svg"] = way(given.program)
+    else:
+        missing = f"tools/pictures.py: way.svg needs the program, and there is no {given.program}: build it, or name another by --program"
+        if given.check:
+            sys.exit(missing)
+        print(missing, file=sys.stderr)
+    for name, svg in pictures.items():
+        if not given.check:
+            (folder / name).write_text(svg)
+        elif not (folder / name).is_file() or (folder / name).read_text() != svg:
+            stale.append(name)
+    if stale:
+        sys.exit(f"tools/pictures.py: not current: {', '.join(stale)}; run tools/pictures.py")
+
+
+if __name__ == "__main__":
+    main()
