@@ -1,2 +1,3 @@
 mod Areas
 mod Fields
+mod Halves

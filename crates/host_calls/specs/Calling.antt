@@ -17,6 +17,8 @@ use Rattle.canonical_abi.specs.declared.trap.TrapKind.TheVariants.{CoreSignature
 use Rattle.adapter.specs.Asked.{IsTrapIn}
 use Rattle.lending.specs.Halves.{EntersLent, EntryOfLentFails, ReturnsLent, ReturnOfLentFails}
 use Rattle.lending.specs.Values.{flat_of, HoldsFlats}
+use Rattle.lending.specs.declared.error.HalfError.{HalfError}
+use Rattle.lending.specs.declared.error.HalfError.TheVariants as half
 use Rattle.lending.specs.declared.value.Value.{Value}
 use Rattle.memory.specs.Blocks.{can_lend, rise}
 use Rattle.memory.specs.Lent.{lent}
@@ -34,6 +36,15 @@ pub record TellsFlats (old new : List Value) (count : ℕ) (flats : List Flat) :
 abbrev pub AreTooMany : List Value → Step → CallError → Type 0
 AreTooMany values step e = (17 < length values) × (e ≡ error.Fault (Trap (record { kind = CoreSignature; step = step })))
 
+-- core values of another number or of other kinds than the function has
+abbrev pub AreOtherKinds : FunctionType → List Flat → Step → CallError → Type 0
+AreOtherKinds f flats step e = (KindsFit f flats → ⊥) × (e ≡ error.Fault (Trap (record { kind = CoreSignature; step = step })))
+
+-- why a half was broken off
+abbrev pub of_half : HalfError → CallError
+of_half (half.OtherBlock index) = error.OtherBlock index
+of_half (half.Fault fault) = error.Fault fault
+
 -- these blocks can't be handed out of a memory of this length beside a place, or the memory that is read is too long
 abbrev pub IsBadBlock : List ℕ → List ℕ → Block → List Block → Type 0
 IsBadBlock source target place blocks = (4294967296 ≤ length source) ⊎ (can_lend (length target) place blocks ≡ false)
@@ -49,38 +60,48 @@ area_block f flats = record { align = 1; size = area_size f; at = area_of f flat
 abbrev pub KeepsArea : FunctionType → List Flat → List ℕ → List Block → Type 0
 KeepsArea f flats caller blocks = (name : ℕ) → LendsArea f flats (lent name caller blocks)
 
--- why the arguments did not enter, and what the callee has then
+-- why the arguments did not enter, and what the callee has then: the kinds of the values come first, and then the blocks
 abbrev pub EnterRefuses : FunctionType → List Value → List ℕ → List ℕ → List Block → List Value → CallError → List ℕ → Type 0
 EnterRefuses f flats caller old blocks handed (error.Fault fault) new =
-    (AreTooMany flats LiftArgs (error.Fault fault) × (new ≡ old)) ⊎ EntryOfLentFails f (map flat_of flats) caller old blocks fault new
+    ((AreTooMany flats LiftArgs (error.Fault fault) ⊎ AreOtherKinds f (map flat_of flats) LiftArgs (error.Fault fault)) × (new ≡ old))
+    ⊎ ((name : ℕ) × EntryOfLentFails name f (map flat_of flats) caller old blocks (half.Fault fault) new)
+EnterRefuses f flats caller old blocks handed (error.OtherBlock index) new = (name : ℕ) × EntryOfLentFails name f (map flat_of flats) caller old blocks (half.OtherBlock index) new
 EnterRefuses f flats caller old blocks handed (error.NoRoom count) new = (count ≡ 17) × (length handed < 17) × (new ≡ old)
-EnterRefuses f flats caller old blocks handed error.BadBlock new = IsBadBlock caller old nowhere blocks × (new ≡ old)
+EnterRefuses f flats caller old blocks handed error.BadBlock new = KindsFit f (map flat_of flats) × IsBadBlock caller old nowhere blocks × (new ≡ old)
 EnterRefuses f flats caller old blocks handed error.NoMemory new = (rise 0 blocks ≡ false) × (new ≡ old)
 EnterRefuses f flats caller old blocks handed error.NoFunction new = ⊥
 EnterRefuses f flats caller old blocks handed error.NotOpen new = ⊥
+EnterRefuses f flats caller old blocks handed error.NoInterface new = ⊥
+EnterRefuses f flats caller old blocks handed error.NoType new = ⊥
+EnterRefuses f flats caller old blocks handed error.BadLengths new = ⊥
 
--- why the answer did not return, and what the caller has then
+-- why the answer did not return, and what the caller has then, in the same order
 abbrev pub LeaveRefuses : FunctionType → List Value → List ℕ → List Value → List ℕ → List Block → List Value → CallError → List ℕ → Type 0
 LeaveRefuses f flats callee answer old blocks back (error.Fault fault) new =
-    ((AreTooMany flats LowerResult (error.Fault fault) ⊎ AreTooMany answer LiftResult (error.Fault fault)) × (new ≡ old))
-    ⊎ (KeepsArea f (map flat_of flats) old blocks × ReturnOfLentFails f (map flat_of flats) callee (map flat_of answer) old blocks fault new)
+    ((AreTooMany flats LowerResult (error.Fault fault) ⊎ (AreOtherKinds f (map flat_of flats) LowerResult (error.Fault fault) ⊎ AreTooMany answer LiftResult (error.Fault fault))) × (new ≡ old))
+    ⊎ (KeepsArea f (map flat_of flats) old blocks × ((name : ℕ) × ReturnOfLentFails name f (map flat_of flats) callee (map flat_of answer) old blocks (half.Fault fault) new))
+LeaveRefuses f flats callee answer old blocks back (error.OtherBlock index) new =
+    KeepsArea f (map flat_of flats) old blocks × ((name : ℕ) × ReturnOfLentFails name f (map flat_of flats) callee (map flat_of answer) old blocks (half.OtherBlock index) new)
 LeaveRefuses f flats callee answer old blocks back (error.NoRoom count) new = (count ≡ 17) × (length back < 17) × (new ≡ old)
-LeaveRefuses f flats callee answer old blocks back error.BadBlock new = IsBadBlock callee old (area_block f (map flat_of flats)) blocks × (new ≡ old)
+LeaveRefuses f flats callee answer old blocks back error.BadBlock new = KindsFit f (map flat_of flats) × IsBadBlock callee old (area_block f (map flat_of flats)) blocks × (new ≡ old)
 LeaveRefuses f flats callee answer old blocks back error.NoMemory new = (rise 0 blocks ≡ false) × (new ≡ old)
 LeaveRefuses f flats callee answer old blocks back error.NoFunction new = ⊥
 LeaveRefuses f flats callee answer old blocks back error.NotOpen new = ⊥
+LeaveRefuses f flats callee answer old blocks back error.NoInterface new = ⊥
+LeaveRefuses f flats callee answer old blocks back error.NoType new = ⊥
+LeaveRefuses f flats callee answer old blocks back error.BadLengths new = ⊥
 
 -- what the first half answers, and what the callee and the array of values have then
 abbrev pub EnterDone : FunctionType → List Value → List ℕ → List ℕ → List Block → List Value → Result ℕ CallError → List ℕ → List Value → Type 0
 EnterDone f flats caller old blocks handed done new handed' = MatchResult done
-    (λ count. (given : List Flat) × TellsFlats handed handed' count given × EntersLent f (map flat_of flats) caller old blocks given new)
+    (λ count. (given : List Flat) × TellsFlats handed handed' count given × ((name : ℕ) × EntersLent name f (map flat_of flats) caller old blocks given new))
     (λ e. EnterRefuses f flats caller old blocks handed e new × (handed' ≡ handed))
 
 -- the second half, with the caller
 abbrev pub LeaveDone : FunctionType → List Value → List ℕ → List Value → List ℕ → List Block → List Value → Result ℕ CallError → List ℕ → List Value → Type 0
 LeaveDone f flats callee answer old blocks back done new back' = MatchResult done
     (λ count. (given : List Flat) × TellsFlats back back' count given × KindsFit f (map flat_of flats) × KeepsArea f (map flat_of flats) old blocks
-    × ReturnsLent f (map flat_of flats) callee (map flat_of answer) old blocks given new)
+    × ((name : ℕ) × ReturnsLent name f (map flat_of flats) callee (map flat_of answer) old blocks given new))
     (λ e. LeaveRefuses f flats callee answer old blocks back e new × (back' ≡ back))
 
 -- why the requests of the arguments are not told

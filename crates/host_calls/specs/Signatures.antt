@@ -1,17 +1,17 @@
 -- The kinds of core values, as C has them.
-use Rattle.std.specs.Prelude.{◌≡◌, ◌==◌, ◌<◌, ℕ, List, map, take, drop, length, Result, MatchResult, if◌then◌else◌}
+use Rattle.std.specs.Prelude.{◌≡◌, ◌<◌, ℕ, List, map, take, drop, length, Result, MatchResult}
 use Rattle.canonical_abi.specs.declared.flat.CoreKind.{CoreKind}
 use Rattle.canonical_abi.specs.declared.flat.CoreKind.TheVariants.{I32, I64}
 use Rattle.host_calls.specs.declared.error.CallError.{CallError}
 use Rattle.host_calls.specs.declared.error.CallError.TheVariants as error
 
--- 0 is an i32, and any other an i64
-abbrev pub kind_of : ℕ → CoreKind
-kind_of n = if n == 0 then I32 else I64
+abbrev pub number_of_kind : CoreKind → ℕ
+number_of_kind I32 = 0
+number_of_kind I64 = 1
 
 -- an array tells these kinds at its front, whose number is the count, and what stands behind them is as it was
 pub record TellsKinds (old new : List ℕ) (count : ℕ) (kinds : List CoreKind) : Type 0 where
-  pub told : map kind_of (take (length kinds) new) ≡ kinds
+  pub told : take (length kinds) new ≡ map number_of_kind kinds
   pub counted : count ≡ length kinds
   pub rest : drop (length kinds) new ≡ drop (length kinds) old
 

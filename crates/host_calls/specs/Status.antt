@@ -38,8 +38,12 @@ told count = min count 4294967295
 abbrev pub refused : ℕ → ℕ → Status
 refused number count = record { code = 1; number = number; step = 0; count = count }
 
+-- the library had no memory, by the number of where it was out of it
+abbrev pub out_of_memory : ℕ → Status
+out_of_memory number = record { code = 3; number = number; step = 0; count = 0 }
+
 abbrev pub no_memory : Status
-no_memory = record { code = 3; number = 66; step = 0; count = 0 }
+no_memory = out_of_memory 66
 
 abbrev pub status_of : Result ℕ CallError → Status
 status_of (Ok count) = record { code = 0; number = 0; step = 0; count = told count }
@@ -47,6 +51,10 @@ status_of (Err error.NoFunction) = refused 63 0
 status_of (Err error.NotOpen) = refused 70 0
 status_of (Err (error.NoRoom count)) = refused 71 (told count)
 status_of (Err error.BadBlock) = refused 72 0
+status_of (Err (error.OtherBlock index)) = refused 73 (told index)
+status_of (Err error.NoInterface) = refused 74 0
+status_of (Err error.NoType) = refused 75 0
+status_of (Err error.BadLengths) = refused 76 0
 status_of (Err error.NoMemory) = no_memory
 status_of (Err (error.Fault NoMemory)) = no_memory
 status_of (Err (error.Fault (Trap t))) = record { code = 2; number = kind_number t.kind; step = step_number t.step; count = 0 }

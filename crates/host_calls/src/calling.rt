@@ -5,18 +5,19 @@ ghost use Rattle.tables.specs.Closed.{IsFunction, function_type};
 ghost use Rattle.tables.specs.declared.tables.FunctionId.{FunctionId};
 ghost use Rattle.lending.specs.Values.{flat_of};
 ghost use Rattle.lending.specs.declared.value.Value.{Value};
-ghost use Rattle.host_calls.specs.Calling.{AreTooMany, EnterDone, LeaveDone, EnterAsks, LeaveAsks};
+ghost use Rattle.canonical_abi.specs.Call.{KindsFit};
+ghost use Rattle.host_calls.specs.Calling.{AreTooMany, AreOtherKinds, of_half, EnterDone, LeaveDone, EnterAsks, LeaveAsks};
 
 use crate::area::can_return;
 use crate::error::CallError;
 use adapter::{Link, Request};
 use arrayvec::ArrayVec;
 use canonical_abi::{Fault, Flat, Step, Trap, TrapKind};
-use lending::{MAX_VALUES, NOWHERE, Value, enter_lent, leave_lent, put_flats, tell};
-use lift_lower::{Flats, Types};
+use lending::{HalfError, MAX_VALUES, NOWHERE, Value, enter_lent, leave_lent, put_flats, tell};
+use lift_lower::{Flats, Types, are_kinds};
 use memory::{Block, Lent, can_lend};
 use std::alloc::Global;
-use tables::{Definition, FunctionId};
+use tables::FunctionId;
 
 /// A list for few flat values, as most calls have them: a longer one takes longer to make.
 type Few = ArrayVec<Flat, 4>;
@@ -27,10 +28,11 @@ pub fn function_of(types: &Types, number: u32) -> Result<FunctionId, CallError>
     ensures function { IfOk result (IsFunction types.now) }
     ensures none { IfErr result (λ e. (e ≡ CallError.NoFunction) × ((f : FunctionId) → f.0 ≡ number → IsFunction types.now f → ⊥)) }
 {
-    match types.resolve().definitions.as_slice().get(number as usize) {
-        Some(Definition::Function(_)) => Ok(FunctionId(number)),
-        _ => Err(CallError::NoFunction),
+    let func = FunctionId(number);
+    if types.resolve().is_function(func) {
+        return Ok(func);
     }
+    Err(CallError::NoFunction)
 }
 
 /// Puts core values as flat values where there were none; a trap of their number where they are more than any core function takes.
@@ -40,6 +42,31 @@ fn put_values(values: &[Value], flats: &mut Flats, step: Step) -> Result<(), Cal
     ensures many { IfErr result (AreTooMany values.now step) }
 {
     if put_flats(values, flats) {
+        return Ok(());
+    }
+    Err(CallError::Fault(Fault::Trap(Trap {
+        kind: TrapKind::CoreSignature,
+        step,
+    })))
+}
+
+/// Why a half was broken off.
+fn of_half(error: HalfError) -> CallError
+    ensures { result ≡ of_half error }
+{
+    match error {
+        HalfError::OtherBlock(index) => CallError::OtherBlock(index),
+        HalfError::Fault(fault) => CallError::Fault(fault),
+    }
+}
+
+/// Tests that core values are those of the function's signature, by their number and kinds.
+fn fit(types: &Types, func: FunctionId, flats: &[Flat], step: Step) -> Result<(), CallError>
+    requires function { IsFunction types.now func }
+    ensures ok { OnOk result (KindsFit (function_type types.now func) flats.now) }
+    ensures other { IfErr result (AreOtherKinds (function_type types.now func) flats.now step) }
+{
+    if are_kinds(types.layouts().lowered(func).params.as_slice(), flats) {
         return Ok(());
     }
     Err(CallError::Fault(Fault::Trap(Trap {
@@ -77,6 +104,7 @@ fn enter_flats(
         → EnterDone (function_type types.now func) values caller.old callee.old blocks.now handed.old result callee.new handed.new }
     ensures same_caller { caller.new ≡ caller.old }
 {
+    fit(types, func, flats, Step::LiftArgs)?;
     if u32::try_from(caller.len()).is_err() {
         return Err(CallError::BadBlock);
     }
@@ -93,14 +121,15 @@ fn enter_flats(
             tell(&given, handed);
             Ok(count)
         }
-        Err(fault) => Err(CallError::Fault(fault)),
+        Err(error) => Err(of_half(error)),
     }
 }
 
 /// The first half of a call: puts the arguments into the callee's blocks, and tells the core values for its core function at the front of
 /// `handed`, which has room for 17 whatever the function. Answers how many they are. `flats` are those of a whole call, the return area's address
-/// behind the arguments. The caller is only read. 71 where there is no room, 72 where the blocks can't be handed out or the caller
-/// has 2^32 bytes or more, 66 where the blocks don't rise and no memory is left to test them; else a trap.
+/// behind the arguments. The caller is only read. 71 if there is no room; K8 if the values are of another number or kind; 72 if the blocks
+/// can't be handed out or the caller has 2^32 bytes or more; 66 if the blocks don't rise and no memory is left to test them; 73 if a block
+/// has another size or alignment than was asked for, and the blocks before it were written to; otherwise a trap.
 pub fn enter(
     alloc: Global,
     types: &Types,
@@ -143,6 +172,7 @@ fn leave_flats(
     requires within { ∥ AreWithin types.now ∥₁ }
     requires function { IsFunction types.now func }
     requires room { 17 ≤ length back.old }
+    requires kinds { KindsFit (function_type types.now func) flats.now }
     ensures done { (values answers : List Value) → flats.now ≡ map flat_of values → answer.now ≡ map flat_of answers
         → LeaveDone (function_type types.now func) values callee.old answers caller.old blocks.now back.old result caller.new back.new }
     ensures same_callee { callee.new ≡ callee.old }
@@ -163,7 +193,7 @@ fn leave_flats(
             tell(&given, back);
             Ok(count)
         }
-        Err(fault) => Err(CallError::Fault(fault)),
+        Err(error) => Err(of_half(error)),
     }
 }
 
@@ -186,6 +216,7 @@ fn leave_answer(
         → LeaveDone (function_type types.now func) values callee.old answer.now caller.old blocks.now back.old result caller.new back.new }
     ensures same_callee { callee.new ≡ callee.old }
 {
+    fit(types, func, flats, Step::LowerResult)?;
     let mut few = Few::new();
     if put_flats(answer, &mut few) {
         let answer = few.as_slice();
@@ -203,8 +234,8 @@ fn leave_answer(
 
 /// The second half: puts what the core function answered into the caller's blocks and its return area, and tells the core values for the caller at
 /// the front of `back`, which has room for 17. Answers how many they are. `flats` are those that the first half was given; if they are
-/// not of the function's kinds, this is K8 in `lower-result`, before a byte is written. The callee is only read. Refused as the first
-/// half is, and by 72, too, where a block meets the return area.
+/// not of the function's kinds, this is K8 in `lower-result`, before the blocks are tested. The callee is only read. Refused as the first
+/// half is, and by 72, too, if a block meets the return area.
 pub fn leave(
     alloc: Global,
     types: &Types,

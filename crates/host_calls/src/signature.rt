@@ -3,7 +3,7 @@ ghost use Rattle.std.specs.Prelude.{◌≡◌};
 ghost use Rattle.canonical_abi.specs.Layout.{lifted_signature, lowered_signature};
 ghost use Rattle.tables.specs.Closed.{IsFunction, function_type};
 ghost use Rattle.layout.specs.Layout.{results_of};
-ghost use Rattle.host_calls.specs.Signatures.{kind_of, KindsDone};
+ghost use Rattle.host_calls.specs.Signatures.{number_of_kind, KindsDone};
 
 use crate::error::CallError;
 use canonical_abi::CoreKind;
@@ -12,7 +12,7 @@ use tables::FunctionId;
 
 /// A kind as C has it.
 fn kind_number(kind: CoreKind) -> u32
-    ensures { kind_of result ≡ kind }
+    ensures { result ≡ number_of_kind kind }
 {
     match kind {
         CoreKind::I32 => 0,

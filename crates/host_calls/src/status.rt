@@ -1,13 +1,13 @@
 //! What an export answers.
 ghost use Rattle.std.specs.Prelude.{◌≡◌, IfSome};
-ghost use Rattle.host_calls.specs.Status.{kind_number, step_number, told, status_of, refused};
+ghost use Rattle.host_calls.specs.Status.{kind_number, step_number, told, status_of, refused, out_of_memory};
 
 use crate::error::CallError;
 use canonical_abi::{Fault, Step, Trap, TrapKind};
 use std::fmt;
 
 /// Whether it was done, and how many things were told; or why not. `code` is 0 where it was done, 1 where it was refused, with the number of
-/// the refusal, 2 for a trap, with the number of its kind and its step, and 3 where the library had no memory. It is displayed as the program's
+/// the refusal, 2 for a trap, with the number of its kind and its step, and 3 where the library had no memory, with the number of where. It is displayed as the program's
 /// line, a refusal that has more to tell by its number alone; as nothing where it was done.
 #[repr(C)]
 #[derive(Clone, Copy, Debug)]
@@ -57,7 +57,7 @@ fn told(count: usize) -> u32
     u32::try_from(count).unwrap_or(u32::MAX)
 }
 
-/// A refusal of this number, and how many things there has to be room for.
+/// A refusal of this number: its count is how many things there has to be room for, or the index of a block.
 pub fn refused(number: u32, count: u32) -> Status
     ensures { result ≡ refused number count }
 {
@@ -69,12 +69,17 @@ pub fn refused(number: u32, count: u32) -> Status
     }
 }
 
-const NO_MEMORY: Status = Status {
-    code: 3,
-    number: 66,
-    step: 0,
-    count: 0,
-};
+/// The library had no memory, by the number of where it was out of it.
+pub fn out_of_memory(number: u32) -> Status
+    ensures { result ≡ out_of_memory number }
+{
+    Status {
+        code: 3,
+        number,
+        step: 0,
+        count: 0,
+    }
+}
 
 impl Status {
     /// Of what was done, with how many things were told, or of why it was not.
@@ -92,7 +97,11 @@ impl Status {
             Err(CallError::NotOpen) => refused(70, 0),
             Err(CallError::NoRoom(count)) => refused(71, told(count)),
             Err(CallError::BadBlock) => refused(72, 0),
-            Err(CallError::NoMemory | CallError::Fault(Fault::NoMemory)) => NO_MEMORY,
+            Err(CallError::OtherBlock(index)) => refused(73, told(index)),
+            Err(CallError::NoInterface) => refused(74, 0),
+            Err(CallError::NoType) => refused(75, 0),
+            Err(CallError::BadLengths) => refused(76, 0),
+            Err(CallError::NoMemory | CallError::Fault(Fault::NoMemory)) => out_of_memory(66),
             Err(CallError::Fault(Fault::Trap(trap))) => Status {
                 code: 2,
                 number: kind_number(trap.kind),
@@ -144,6 +153,10 @@ fn numbered_error(number: u32, count: u32) -> Option<CallError> {
         70 => Some(CallError::NotOpen),
         71 => Some(CallError::NoRoom(count as usize)),
         72 => Some(CallError::BadBlock),
+        73 => Some(CallError::OtherBlock(count as usize)),
+        74 => Some(CallError::NoInterface),
+        75 => Some(CallError::NoType),
+        76 => Some(CallError::BadLengths),
         _ => None,
     }
 }
@@ -160,7 +173,7 @@ impl fmt::Display for Status {
                 (Some(kind), Some(step)) => write!(f, "{}", Trap { kind, step }),
                 _ => Ok(()),
             },
-            _ => write!(f, "{}", CallError::NoMemory),
+            _ => write!(f, "error {} no memory", self.number),
         }
     }
 }

@@ -1,11 +1,12 @@
 //! The two halves of a call between memories that a host lends.
-ghost use Rattle.std.specs.Prelude.{◌≡◌, ◌≢◌, ◌<◌, Err, OnOk, IfErr, IsTrue, length};
+ghost use Rattle.std.specs.Prelude.{◌≡◌, ◌≢◌, ◌<◌, ℕ, Err, OnOk, IfErr, IsTrue, length};
 ghost use Rattle.canonical_abi.specs.Call.{KindsFit};
 ghost use Rattle.layout.specs.Layout.{layouts_of, AreWithin};
 ghost use Rattle.memory.specs.Blocks.{are_good};
 ghost use Rattle.tables.specs.Closed.{IsFunction, function_type};
 ghost use Rattle.lending.specs.Halves.{EntersLent, EntryOfLentFails, ReturnsLent, ReturnOfLentFails};
 
+use crate::error::{HalfError, half_error};
 use adapter::Link;
 use canonical_abi::{Fault, Flat};
 use layout::Layouts;
@@ -21,7 +22,8 @@ pub const NOWHERE: Block = Block {
 };
 
 /// The first half of a call (`Link::enter`): puts the arguments into the callee's blocks, and the flat values for its core function
-/// into `handed`, whatever that held; it says nothing after a fault. The caller is only read.
+/// into `handed`, whatever that held; it says nothing after an error. The caller is only read. A block of another size or alignment than the
+/// one that is asked for is told by its index, and the blocks before it were written to; where there are too few blocks, this is K6.
 pub fn enter_lent(
     resolve: &Resolve,
     layouts: &Layouts,
@@ -31,29 +33,35 @@ pub fn enter_lent(
     callee: &mut [u8],
     blocks: &[Block],
     handed: &mut Flats,
-) -> Result<(), Fault>
+) -> Result<(), HalfError>
     requires laid_out { layouts.now ≡ layouts_of resolve.now }
     requires within { ∥ AreWithin resolve.now ∥₁ }
     requires function { IsFunction resolve.now func }
     requires short { length caller.old < 4294967296 }
     requires limited { length callee.old < 4294967296 }
     requires good { IsTrue (are_good (length callee.old) blocks.now) }
-    ensures entered { OnOk result (EntersLent (function_type resolve.now func) flats.now caller.old
+    ensures entered { OnOk result ((name : ℕ) × EntersLent name (function_type resolve.now func) flats.now caller.old
         callee.old blocks.now handed.new.items callee.new) }
-    ensures fault { IfErr result (λ fault. EntryOfLentFails (function_type resolve.now func) flats.now caller.old
-        callee.old blocks.now fault callee.new) }
-    ensures no_memory { result ≢ Err Fault.NoMemory }
+    ensures error { IfErr result (λ error. (name : ℕ) × EntryOfLentFails name (function_type resolve.now func) flats.now caller.old
+        callee.old blocks.now error callee.new) }
+    ensures no_memory { result ≢ Err (HalfError.Fault Fault.NoMemory) }
     ensures same_caller { caller.new ≡ caller.old }
 {
     let source = Lent::new(caller, &[]);
     let mut target = Lent::new(callee, blocks);
     let mut link = Link::new(resolve, layouts);
-    link.enter(func, flats, &source, &mut target, handed)
+    let done = link.enter(func, flats, &source, &mut target, handed);
+    let left = target.left().len();
+    match done {
+        Ok(()) => Ok(()),
+        Err(fault) => Err(half_error(fault, blocks.len(), left)),
+    }
 }
 
 /// The second half (`Link::leave`): puts what the core function answered into the caller's blocks and its return area, and the flat
-/// values for the caller into `back`, whatever that held; it says nothing after a fault. The callee is only read. The kinds of `flats`
-/// are tested first, as by `Link::leave`. `can_lend` tests with the return area as its place that no block meets it.
+/// values for the caller into `back`, whatever that held; it says nothing after an error. The callee is only read. The kinds of `flats`
+/// are tested first, as by `Link::leave`. `can_lend` tests with the return area as its place that no block meets it. A block of another size
+/// or alignment is told as by `enter_lent`.
 pub fn leave_lent(
     resolve: &Resolve,
     layouts: &Layouts,
@@ -64,23 +72,28 @@ pub fn leave_lent(
     caller: &mut [u8],
     blocks: &[Block],
     back: &mut Flats,
-) -> Result<(), Fault>
+) -> Result<(), HalfError>
     requires laid_out { layouts.now ≡ layouts_of resolve.now }
     requires within { ∥ AreWithin resolve.now ∥₁ }
     requires function { IsFunction resolve.now func }
     requires short { length callee.old < 4294967296 }
     requires limited { length caller.old < 4294967296 }
     requires good { IsTrue (are_good (length caller.old) blocks.now) }
-    ensures returned { OnOk result (ReturnsLent (function_type resolve.now func) flats.now callee.old answer.now
+    ensures returned { OnOk result ((name : ℕ) × ReturnsLent name (function_type resolve.now func) flats.now callee.old answer.now
         caller.old blocks.now back.new.items caller.new) }
     ensures kinds { OnOk result (KindsFit (function_type resolve.now func) flats.now) }
-    ensures fault { IfErr result (λ fault. ReturnOfLentFails (function_type resolve.now func) flats.now callee.old answer.now
-        caller.old blocks.now fault caller.new) }
-    ensures no_memory { result ≢ Err Fault.NoMemory }
+    ensures error { IfErr result (λ error. (name : ℕ) × ReturnOfLentFails name (function_type resolve.now func) flats.now callee.old answer.now
+        caller.old blocks.now error caller.new) }
+    ensures no_memory { result ≢ Err (HalfError.Fault Fault.NoMemory) }
     ensures same_callee { callee.new ≡ callee.old }
 {
     let source = Lent::new(callee, &[]);
     let mut target = Lent::new(caller, blocks);
     let mut link = Link::new(resolve, layouts);
-    link.leave(func, flats, answer, &mut target, &source, back)
+    let done = link.leave(func, flats, answer, &mut target, &source, back);
+    let left = target.left().len();
+    match done {
+        Ok(()) => Ok(()),
+        Err(fault) => Err(half_error(fault, blocks.len(), left)),
+    }
 }

@@ -6,10 +6,12 @@
 //! Stands on `adapter` (the halves of a call) and `memory` (`Lent`).
 #![tactic(auto)]
 
+mod error;
 mod halves;
 mod value;
 
 pub use canonical_abi::{Fault, Flat};
+pub use error::HalfError;
 pub use halves::{NOWHERE, enter_lent, leave_lent};
 pub use lift_lower::Flats;
 pub use memory::{Block, can_lend};

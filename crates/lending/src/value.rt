@@ -1,7 +1,7 @@
 //! Core values as C has them.
 ghost use Rattle.std.specs.Prelude.{◌≡◌, ◌↔◌, ◌≤◌, [], drop, length, map, IsTrue};
 ghost use Rattle.arrayvec.specs.ArrayVec.{array_vec_len};
-ghost use Rattle.lending.specs.Values.{flat_of, HoldsFlats};
+ghost use Rattle.lending.specs.Values.{flat_of, value_of, HoldsFlats};
 
 use arrayvec::ArrayVec;
 use canonical_abi::Flat;
@@ -10,7 +10,8 @@ use lift_lower::Flats;
 /// The most core values that a core function takes.
 pub const MAX_VALUES: usize = 17;
 
-/// A core value: an i32, the low 32 bits of `bits`, where `kind` is 0, and else an i64.
+/// A core value: an i32, the low 32 bits of `bits`, if `kind` is 0, and otherwise an i64. Values that the library tells have the kind
+/// 0 or 1, and the upper half of an i32 is 0.
 #[repr(C)]
 #[derive(Clone, Copy, Debug)]
 pub struct Value {
@@ -32,7 +33,7 @@ impl Value {
 
     /// A flat value as C has it.
     pub fn of(flat: Flat) -> Value
-        ensures { flat_of result ≡ flat }
+        ensures { result ≡ value_of flat }
     {
         match flat {
             Flat::I32(number) => Value {

@@ -174,12 +174,13 @@ pub fn assert_line(
 }
 
 /// How many flat values there are, for how many there is room, how many blocks there are, where the list's block stands, and the line.
-const REFUSALS: [(usize, usize, usize, u32, &str); 6] = [
+const REFUSALS: [(usize, usize, usize, u32, &str); 7] = [
     (4, 16, 3, 40, "error 71 no room for 17"),
     (4, 17, 3, 42, "error 72 bad block"),
     (4, 17, 3, 52, "error 72 bad block"),
     (4, 17, 3, 28, "error 72 bad block"),
     (18, 17, 3, 40, "trap K8 coresignature in lift-args"),
+    (3, 17, 3, 42, "trap K8 coresignature in lift-args"),
     (4, 17, 0, 40, "trap K6 full in lower-args"),
 ];
 
@@ -210,6 +211,23 @@ fn refused_first_halves(rt: HostRuntime) -> Result<(), Fail> {
         assert!(rt; callee == *DOTS);
     }
     Ok(())
+}
+
+/// The block of the first text is a byte short.
+#[test]
+fn a_block_of_another_size(rt: HostRuntime) -> Result<(), Fail> {
+    let package = open(rt.alloc(), TEXT)?;
+    let (mut callee, mut handed) = (*DOTS, [word(9); 17]);
+    let granted = [block(4, 16, 40), block(1, 2, 30), block(1, 6, 20)];
+    let done = entered(
+        rt.alloc(),
+        &package,
+        &flats(),
+        &mut callee,
+        &granted,
+        &mut handed,
+    );
+    assert_line(&rt, rt.alloc(), Status::of(done), "error 73 other block 1")
 }
 
 /// Where the block for the answer stands, and the line.

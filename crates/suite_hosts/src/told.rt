@@ -97,15 +97,18 @@ fn kinds_of_core_signatures(rt: HostRuntime) -> Result<(), Fail> {
 }
 
 /// Code, number, step and count, and the line.
-const STATUSES: [(u32, u32, u32, u32, &str); 8] = [
+const STATUSES: [(u32, u32, u32, u32, &str); 11] = [
     (0, 0, 0, 3, ""),
     (1, 63, 0, 0, "error 63 no function"),
     (1, 70, 0, 0, "error 70 not open"),
     (1, 71, 0, 17, "error 71 no room for 17"),
+    (1, 73, 0, 2, "error 73 other block 2"),
+    (1, 76, 0, 0, "error 76 bad lengths"),
     (1, 41, 0, 0, "error 41"),
     (2, 5, 2, 0, "trap K5 utf8 in lift-args"),
     (2, 8, 7, 0, "trap K8 coresignature in post"),
     (3, 66, 0, 0, "error 66 no memory"),
+    (3, 35, 0, 0, "error 35 no memory"),
 ];
 
 #[test]

@@ -1,8 +1,8 @@
 -- The places so far tell the kinds so far, and those behind all of them are as they were.
 use Rattle.std.proofs.Common.{◌≡◌, map, take, drop, length}
-use Rattle.host_calls.specs.Signatures.{kind_of}
+use Rattle.host_calls.specs.Signatures.{number_of_kind}
 use Rattle.host_calls.proofs.signature.tell_kinds.Given as goal
 
 abbrev pub invariant-loop-place : goal.invariant-loop-place
-invariant-loop-place l = (map kind_of (take l.place l.out) ≡ take l.place l.kinds)
+invariant-loop-place l = (take l.place l.out ≡ map number_of_kind (take l.place l.kinds))
     × (drop (length l.kinds) l.out ≡ drop (length l.kinds) l.initial.out)

@@ -1,20 +1,32 @@
 -- The caller's bytes are those that the memory has which was lent.
-use Rattle.std.proofs.Common.{ap, subst, drop, OnOk, IfErr}
+use Rattle.std.proofs.Common.{ap, subst, drop}
+use Rattle.memory.proofs.LentNames.{IsNamed}
 use Rattle.tables.specs.Closed.{function_type}
 use Rattle.lending.specs.Halves.{ReturnsLent, ReturnOfLentFails}
-use Rattle.lending.proofs.Names.{returned, not_returned}
+use Rattle.lending.proofs.Names.{returned, not_returned, failed_return_keeps, named_lent, left_fit}
 use Rattle.lending.proofs.halves.leave_lent.Goals as goal
 
-pub returns-clause-returned : goal.returns-clause-returned
-returns-clause-returned c =
-    let lent = c.leave.new.caller in
-    subst (λ r. OnOk c.leave.result (ReturnsLent (function_type r c.args.func) c.args.flats.now c.args.callee.now c.args.answer.now c.args.caller.now c.args.blocks.now c.leave.new.back.items c.caller-1.given.0)) c.new-link.ensures.«package»
-    (returned (function_type c.new-link.result.resolve c.args.func) c.args.flats.now c.args.callee.now _ _ _ lent.bytes.ghost_name c.leave.new.self.back c.args.caller.now lent.bytes.now _ c.args.blocks.now (drop lent.next lent.blocks.now)
-    (ap (λ memory. memory.bytes) c.new-source.ensures.memory) c.new-target.ensures.memory c.caller-1.given.1.1 c.args.answer.now c.leave.new.back.items c.leave.result c.leave.ensures.returned)
+pub half_error-requires : goal.half_error-requires
+half_error-requires c =
+    let now = c.leave-done.new.caller in
+    let f = function_type c.new-link.result.resolve c.args.func in
+    let named = failed_return_keeps f c.args.flats.now _ _ _ _ c.leave-done.new.self.back c.args.blocks.now c.args.answer.now c.in-Err.fault c.in-Err.ensures.fault (named_lent _ _ _ _ c.new-target.ensures.memory) in
+    left_fit _ now.bytes.ghost_name now.bytes.now c.args.blocks.now c.left-left.result.now (subst (IsNamed _ c.args.blocks.now) c.left-left.ensures named)
 
-pub returns-clause-fault : goal.returns-clause-fault
-returns-clause-fault c =
-    let lent = c.leave.new.caller in
-    subst (λ r. IfErr c.leave.result (λ fault. ReturnOfLentFails (function_type r c.args.func) c.args.flats.now c.args.callee.now c.args.answer.now c.args.caller.now c.args.blocks.now fault c.caller-1.given.0)) c.new-link.ensures.«package»
-    (not_returned (function_type c.new-link.result.resolve c.args.func) c.args.flats.now c.args.callee.now _ _ _ lent.bytes.ghost_name c.leave.new.self.back c.args.caller.now lent.bytes.now _ c.args.blocks.now (drop lent.next lent.blocks.now)
-    (ap (λ memory. memory.bytes) c.new-source.ensures.memory) c.new-target.ensures.memory c.caller-1.given.1.1 c.args.answer.now c.leave.result c.leave.ensures.fault)
+pub returns-in-Ok-clause-returned : goal.returns-in-Ok-clause-returned
+returns-in-Ok-clause-returned c =
+    let now = c.leave-done.new.caller in (
+      c.new-arg-4-1.given,
+      subst (λ r. ReturnsLent c.new-arg-4-1.given (function_type r c.args.func) c.args.flats.now c.args.callee.now c.args.answer.now c.args.caller.now c.args.blocks.now c.leave-done.new.back.items c.caller-1.given.0) c.new-link.ensures.«package»
+          (returned (function_type c.new-link.result.resolve c.args.func) c.args.flats.now c.args.callee.now _ _ _ now.bytes.ghost_name c.leave-done.new.self.back c.args.caller.now now.bytes.now _ c.args.blocks.now (drop now.next now.blocks.now)
+          (ap (λ memory. memory.bytes) c.new-source.ensures.memory) c.new-target.ensures.memory c.caller-1.given.1.1 c.args.answer.now c.leave-done.new.back.items c.in-Ok.ensures.returned),
+    )
+
+pub returns-in-Err-clause-error : goal.returns-in-Err-clause-error
+returns-in-Err-clause-error c =
+    let now = c.leave-done.new.caller in (
+      c.new-arg-4-1.given,
+      subst (λ r. ReturnOfLentFails c.new-arg-4-1.given (function_type r c.args.func) c.args.flats.now c.args.callee.now c.args.answer.now c.args.caller.now c.args.blocks.now c.half_error.result c.caller-1.given.0) c.new-link.ensures.«package»
+          (not_returned (function_type c.new-link.result.resolve c.args.func) c.args.flats.now c.args.callee.now _ _ _ now.bytes.ghost_name c.leave-done.new.self.back c.args.caller.now now.bytes.now _ c.args.blocks.now c.left-left.result.now
+          (ap (λ memory. memory.bytes) c.new-source.ensures.memory) c.new-target.ensures.memory c.caller-1.given.1.1 _ c.left-left.ensures c.args.answer.now c.in-Err.fault c.half_error.result c.half_error.ensures c.in-Err.ensures.fault),
+    )

@@ -1,0 +1,20 @@
+-- Why a half was broken off is why it is refused.
+use Rattle.std.proofs.Common.{ℕ, List, map, inr}
+use Rattle.canonical_abi.specs.Types.{FunctionType}
+use Rattle.memory.specs.declared.block.Block.{Block}
+use Rattle.lending.specs.Halves.{EntryOfLentFails, ReturnOfLentFails}
+use Rattle.lending.specs.Values.{flat_of}
+use Rattle.lending.specs.declared.error.HalfError.{HalfError}
+use Rattle.lending.specs.declared.error.HalfError.TheVariants as half
+use Rattle.lending.specs.declared.value.Value.{Value}
+use Rattle.host_calls.specs.Calling.{of_half, KeepsArea, EnterRefuses, LeaveRefuses}
+
+module _ (f : FunctionType) (flats : List Value) (m old : List ℕ) (blocks : List Block) (out : List Value) (new : List ℕ) where
+  pub enter-refuses : (e : HalfError) → ((name : ℕ) × EntryOfLentFails name f (map flat_of flats) m old blocks e new) → EnterRefuses f flats m old blocks out (of_half e) new
+  enter-refuses (half.OtherBlock index) failed = failed
+  enter-refuses (half.Fault fault) failed = inr failed
+
+  pub leave-refuses : (answer : List Value) (e : HalfError) → KeepsArea f (map flat_of flats) old blocks
+      → ((name : ℕ) × ReturnOfLentFails name f (map flat_of flats) m (map flat_of answer) old blocks e new) → LeaveRefuses f flats m answer old blocks out (of_half e) new
+  leave-refuses answer (half.OtherBlock index) area failed = (area, failed)
+  leave-refuses answer (half.Fault fault) area failed = inr (area, failed)
