@@ -24,7 +24,7 @@ sys.path[:0] = [str(ROOT), str(ROOT / "tools")]
 
 import check_names  # noqa: E402
 import crates_page  # noqa: E402
-from tools.models import calls  # noqa: E402
+from tools.models.opening import opened  # noqa: E402
 
 WIDTH = 800
 # light and dark: fill, line and text of a page, then of each group in turn
@@ -203,7 +203,7 @@ def memory(picture, y, title, data, fields):
 def in_bytes():
     """The bytes of a call with a list of records, in both memories."""
     call, done = vector(ROW)
-    record = calls.function_of(call).params.fields[0].element
+    record = opened([call["text"]]).function(call["iface"], call["func"]).params.fields[0].element
     (_, start), (_, count) = call["flats"]
     (_, to), _ = done["body_got"]
     align, size, at = done["callee_log"][0]
