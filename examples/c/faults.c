@@ -388,16 +388,14 @@ static void a_package_refused(void) {
 
 /* ---- memory ---- */
 
-/* How many more blocks the library gets, if not all that it asks for. */
-static long granted = -1;
+/* Which of the next blocks is refused, counted from 1, or 0 for none. */
+static long refused_block = 0;
 
 void *__real_malloc(size_t size);
 void *__real_realloc(void *old, size_t size);
 
 static bool is_granted(void) {
-    if (granted > 0)
-        granted--;
-    return granted != 0;
+    return refused_block == 0 || --refused_block > 0;
 }
 
 void *__wrap_malloc(size_t size) {
@@ -408,12 +406,12 @@ void *__wrap_realloc(void *old, size_t size) {
     return is_granted() ? __real_realloc(old, size) : NULL;
 }
 
-/* Opens a package while the library gets so many blocks and no more: whether it was out of memory, and by which number. */
-static bool is_out_of_memory(long count, bool seen[100]) {
+/* Opens a package while this block is refused: whether it was out of memory, and by which number. */
+static bool is_out_of_memory(long block, bool seen[100]) {
     witcall_package opened = WITCALL_NONE;
-    granted = count + 1;
+    refused_block = block;
     witcall_status status = witcall_open(BYTES(TEXT), &opened);
-    granted = -1;
+    refused_block = 0;
     witcall_close(&opened);
     if (status.code == WITCALL_DONE)
         return false;
@@ -425,10 +423,10 @@ static bool is_out_of_memory(long count, bool seen[100]) {
 /* Each allocation of `open` is refused in turn. */
 static void refused_allocations(void) {
     bool seen[100] = {false};
-    long count = 0;
-    while (is_out_of_memory(count, seen))
-        count++;
-    holds("it asks for memory", count > 0);
+    long block = 1;
+    while (is_out_of_memory(block, seen))
+        block++;
+    holds("it asks for memory", block > 1);
     for (uint32_t number = 0; number < 100; number++)
         if (seen[number])
             expect("out of memory", (witcall_status){WITCALL_NO_MEMORY, number, 0, 0}, (wanted){WITCALL_NO_MEMORY, number, 0, 0});
