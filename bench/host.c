@@ -15,7 +15,7 @@
 
 static const char TEXT[] = "package a:b; interface c { number: func(x: u32); bytes: func(x: list<u8>); }";
 
-static witcall_package package;
+static witcall_package package = WITCALL_NONE;
 static uint8_t *source, *target;
 
 static double now(void) {
@@ -100,7 +100,7 @@ int main(void) {
     printf("number %.1f\n", time_of(call_of_number, 100000));
     printf("list %.0f\n", time_of(list_of_bytes, 1024));
     printf("copy %.0f\n", time_of(copy, 1024));
-    witcall_close(package);
+    witcall_close(&package);
     free(source), free(target);
     return 0;
 }

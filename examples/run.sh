@@ -132,7 +132,7 @@ if has rust cargo; then
     same rust "$here/rust/host.expected" "$build/cargo/debug/host"
 fi
 if has faults "$CC"; then
-    step build-faults checked_c_program "$here/c/faults.c" "$build/faults"
+    step build-faults checked_c_program "$here/c/faults.c" "$build/faults" -Wl,--wrap=malloc -Wl,--wrap=realloc
     same faults "$here/c/faults.expected" "$build/faults"
 fi
 if has vectors python3; then

@@ -1,4 +1,4 @@
-/* witcall for C hosts: typed calls between two linear memories that the host keeps where they are.
+/* witcall for C hosts: typed calls between two linear memories that the host keeps where they are. docs/C.md is its manual.
  *
  * A call is made in halves, so that no code of a component runs within the library:
  *   1. witcall_enter_requests tells which blocks the arguments need in the callee, whose allocator grants them;
@@ -7,9 +7,26 @@
  *   4. witcall_leave_requests, the caller's allocator, and witcall_leave carry what it answered into the caller;
  *   5. the host runs post-return.
  *
- * What a caller owes: each pointer is good for its length, and of length 0 it may be null; no two arrays of one call overlap, of the
- * memories too; a handle is the one that witcall_open told, is used by one call at a time, and is closed once, after all its calls.
- * All else is tested, and told in the status. */
+ * What the host owes. No test of the library can find a break of these:
+ *   - Each pointer is good for its length, and of length 0 it may be null. A pointer to a handle is not null. (A pointer doesn't tell
+ *     what it points to.)
+ *   - No two arrays of one call overlap, the memories too. (The library writes one while it reads another, and compares no addresses.)
+ *   - A handle is WITCALL_NONE, or was written by witcall_open or witcall_open_set. Of copies of a handle one is used. (An address tells
+ *     nothing of who wrote it.)
+ *   - A handle stays on the thread that opened it; see below. (A call doesn't tell its thread.)
+ *   - Each block was free in the memory that it is in. (Only that memory's allocator knows which bytes are free.)
+ *   - func is the function that the host runs, and answer is what its core function returned. (Other values of the same kinds look the same.)
+ *   - The flats of witcall_leave are those of witcall_enter. (The library keeps nothing between the halves; their number and kinds are
+ *     tested.)
+ *   - Between the halves only the allocators and the core function change the memories. (The library doesn't see them then.)
+ *   - malloc, realloc and free are of one allocator. malloc and realloc align a block to each power of two up to 16 that divides its size.
+ *     (They are the program's.)
+ *   - No call is made from a signal handler, or in the forked child of a process with threads. (A call may hold the allocator's lock.)
+ * All else is tested, and told in the status.
+ *
+ * Threads. A handle is used by the thread that opened it, since no proof says that a package may move to another thread. Two handles share
+ * nothing, so that each thread opens the package once for itself, and threads with handles of their own call at the same time. witcall_status_line
+ * may be called by any thread at any time. */
 #ifndef WITCALL_H
 #define WITCALL_H
 
@@ -23,11 +40,14 @@ extern "C" {
 /* The most core values that a core function takes. */
 #define WITCALL_MAX_VALUES 17
 
-/* What a status tells. */
+/* The most bytes of the line of a status (witcall_status_line). */
+#define WITCALL_MAX_STATUS_LINE 64
+
+/* The code of a status. */
 #define WITCALL_DONE 0      /* done; count tells how many things were told, if any */
-#define WITCALL_REFUSED 1   /* refused: number is that of docs/ERRORS.md, and count what is wanted where it is 71 */
+#define WITCALL_REFUSED 1   /* refused: number is that of docs/ERRORS.md; of 71 count is how many are needed, and of 73 the block's index */
 #define WITCALL_TRAP 2      /* a trap of the call: number is its kind, 1 to 8 (K1 to K8), and step where it was found */
-#define WITCALL_NO_MEMORY 3 /* the library had no memory; number is 66 */
+#define WITCALL_NO_MEMORY 3 /* the library had no memory; number is 66, of witcall_open also 21, 35, 46 or 52 */
 
 /* The steps of a trap. */
 #define WITCALL_LIFT_ARGS 2
@@ -36,10 +56,12 @@ extern "C" {
 #define WITCALL_LOWER_RESULT 6
 
 /* Refusals of this library alone. */
-#define WITCALL_NO_FUNCTION 63
-#define WITCALL_NOT_OPEN 70
-#define WITCALL_NO_ROOM 71
-#define WITCALL_BAD_BLOCK 72
+#define WITCALL_NO_FUNCTION 63 /* no function has this name or this number */
+#define WITCALL_NOT_OPEN 70    /* the handle is WITCALL_NONE, closed, or stands for a package that was refused */
+#define WITCALL_NO_ROOM 71     /* an array has less room than count */
+#define WITCALL_BAD_BLOCK 72   /* a block is misaligned, outside, or meets another one or the return area; nothing was written */
+#define WITCALL_OTHER_BLOCK 73 /* the block of index count has another size or alignment than was asked for */
+#define WITCALL_BAD_LENGTHS 76 /* the lengths of a set's inputs are not together that of their bytes */
 
 typedef struct {
     uint32_t code;
@@ -48,10 +70,14 @@ typedef struct {
     uint32_t count;
 } witcall_status;
 
-/* A package that the library holds. */
+/* A handle on a package that the library holds, or on why it was refused; WITCALL_NONE stands for nothing. The host doesn't read or change
+ * what is in it. */
 typedef struct {
     void *at;
+    uint32_t is_open;
 } witcall_package;
+
+#define WITCALL_NONE {0, 0}
 
 /* A block that is asked for: of size bytes, at a multiple of align. */
 typedef struct {
@@ -66,7 +92,8 @@ typedef struct {
     uint32_t at;
 } witcall_block;
 
-/* A core value: an i32, the low 32 bits of bits, where kind is 0, and else an i64. */
+/* A core value: an i32, the low 32 bits of bits, if kind is 0, and otherwise an i64. The library writes the kinds 0 and 1, and 0 into the upper
+ * half of an i32. */
 typedef struct {
     uint32_t kind;
     uint64_t bits;
@@ -79,17 +106,19 @@ typedef struct {
     uint32_t offset;
 } witcall_part;
 
-/* Opens a package from its text or its binary. The handle is written in any case, and is to be closed, unless the status is
- * WITCALL_NO_MEMORY and its at is null. Where the package is refused, witcall_line tells the whole line. */
+/* Opens a package from its text or its binary. The handle is written in any case, and is to be closed; what it stood for is forgotten, so
+ * close it before. If the package is refused, witcall_line tells the whole line. */
 witcall_status witcall_open(const uint8_t *bytes, size_t bytes_len, witcall_package *package);
 
-/* Frees what a handle stands for. */
-void witcall_close(witcall_package package);
+/* Frees what a handle stands for, and makes it WITCALL_NONE. Closing it again does nothing. */
+void witcall_close(witcall_package *package);
 
-/* The line of the refusal of a handle, as the program writes it, with no line end; count bytes. 0 where it is open. */
+/* The line of the refusal of a handle, as the program writes it, with no line end: count bytes, 0 if it is open. It is as long as the names in
+ * it: if there is no room, count is its length. */
 witcall_status witcall_line(witcall_package *package, uint8_t *line, size_t line_len);
 
-/* The line of a status, of one that is done 0 bytes. A refusal by witcall_open has more to tell: see witcall_line. */
+/* The line of a status, of one that is done 0 bytes; WITCALL_MAX_STATUS_LINE bytes are room for each. A refusal by witcall_open has more to
+ * tell: see witcall_line. */
 witcall_status witcall_status_line(witcall_status status, uint8_t *line, size_t line_len);
 
 /* Finds a function by the full name of its interface (a:b/c, or a:b/c@1.0.0) and its own; count is its number. */
@@ -113,7 +142,8 @@ witcall_status witcall_enter_requests(witcall_package *package, uint32_t func, c
                                       uint8_t *caller, size_t caller_len, witcall_request *requests, size_t requests_len);
 
 /* Puts the arguments into the callee's blocks: count values for its core function. The caller is only read. handed has room for
- * WITCALL_MAX_VALUES, whatever the function. */
+ * WITCALL_MAX_VALUES, whatever the function. The number and kinds of flats are tested first, and then the blocks, before a byte is
+ * written. If there are fewer blocks than requests, this is K6. */
 witcall_status witcall_enter(witcall_package *package, uint32_t func, const witcall_value *flats, size_t flats_len,
                              uint8_t *caller, size_t caller_len, uint8_t *callee, size_t callee_len,
                              const witcall_block *blocks, size_t blocks_len, witcall_value *handed, size_t handed_len);

@@ -21,7 +21,7 @@ static const char TEXT[] =
     "  number: func(x: u32) -> u32;"
     "}";
 
-static witcall_package package;
+static witcall_package package = WITCALL_NONE;
 static uint32_t function, number;
 static bool failed = false;
 
@@ -45,6 +45,10 @@ static wanted no_room(uint32_t count) {
     return (wanted){WITCALL_REFUSED, WITCALL_NO_ROOM, 0, count};
 }
 
+static wanted other_block(uint32_t index) {
+    return (wanted){WITCALL_REFUSED, WITCALL_OTHER_BLOCK, 0, index};
+}
+
 static wanted trap(uint32_t kind, uint32_t step) {
     return (wanted){WITCALL_TRAP, kind, step, 0};
 }
@@ -57,8 +61,9 @@ static void holds(const char *name, bool fact) {
 }
 
 static void expect(const char *name, witcall_status found, wanted w) {
-    uint8_t line[128];
+    uint8_t line[WITCALL_MAX_STATUS_LINE];
     witcall_status told = witcall_status_line(found, line, sizeof line);
+    holds("the line of a status has its size", told.code == WITCALL_DONE);
     printf("%s: %.*s\n", name, told.count ? (int)told.count : 4, told.count ? (const char *)line : "done");
     if (found.code == w.code && found.number == w.number && found.step == w.step && found.count == w.count)
         return;
@@ -190,12 +195,29 @@ static void bad_block(const char *name, int place, witcall_block block) {
     free_call(c);
 }
 
-/* Good blocks that are not the ones asked for: the allocator's answer is as good as none. */
-static void other_blocks(const char *name, int place, witcall_block block, size_t count) {
+/* A good block that is not the one asked for. */
+static void another_block(const char *name, int place, witcall_block block) {
     call c = new_call();
     c.blocks[place] = block;
+    expect(name, enter(c, 2), other_block(place));
+    free_call(c);
+}
+
+/* Where the allocator had no more blocks, it was full. */
+static void few_blocks(const char *name, size_t count) {
+    call c = new_call();
     expect(name, enter(c, count), trap(6, WITCALL_LOWER_ARGS));
     free_call(c);
+}
+
+static void a_block_of_the_answer(void) {
+    call c = new_call();
+    witcall_value *back = array(1, sizeof *back);
+    answer(c, back);
+    c.blocks[0] = (witcall_block){.align = 1, .size = 3, .at = 30};
+    expect("a block of another size for the answer", leave(c, back, 1), other_block(0));
+    expect("no block for the answer", leave(c, back, 0), trap(6, WITCALL_LOWER_RESULT));
+    free(back), free_call(c);
 }
 
 static void blocks(void) {
@@ -205,10 +227,12 @@ static void blocks(void) {
     bad_block("a block within another", 0, (witcall_block){1, 2, 42});
     bad_block("a block of alignment 0", 0, (witcall_block){0, 2, 50});
     bad_block("a block of alignment 3", 0, (witcall_block){3, 2, 48});
-    other_blocks("a block of another size", 0, (witcall_block){1, 3, 50}, 2);
-    other_blocks("a block of another alignment", 0, (witcall_block){2, 2, 50}, 2);
-    other_blocks("one block for two", 0, (witcall_block){1, 2, 50}, 1);
-    other_blocks("no block for two", 0, (witcall_block){1, 2, 50}, 0);
+    another_block("a block of another size", 0, (witcall_block){1, 3, 50});
+    another_block("a second block of another size", 1, (witcall_block){2, 4, 40});
+    another_block("a block of another alignment", 0, (witcall_block){2, 2, 50});
+    few_blocks("one block for two", 1);
+    few_blocks("no block for two", 0);
+    a_block_of_the_answer();
 }
 
 /* ---- arrays ---- */
@@ -244,7 +268,28 @@ static void core_values(void) {
         &package, function, c.flats, 5, NULL, 0, c.callee, LENGTH, c.caller, LENGTH, NULL, 0, c.handed, ROOM),
         trap(8, WITCALL_LIFT_RESULT));
     holds("the callee is as it was", is_zero(c.callee));
+    c.blocks[0].at = 63;
+    expect("four values and a bad block", witcall_enter(
+        &package, function, c.flats, 4, c.caller, LENGTH, c.callee, LENGTH, c.blocks, 2, c.handed, ROOM),
+        trap(8, WITCALL_LIFT_ARGS));
     free(many), free_call(c);
+}
+
+/* The flats of another signature at the second half, which are found before the blocks. */
+static void other_flats_at_leave(void) {
+    call c = new_call();
+    witcall_value *back = array(1, sizeof *back), *many = array(ROOM + 1, sizeof *many);
+    answer(c, back);
+    c.blocks[0].at = 63;
+    expect("leave with four values of five", witcall_leave(
+        &package, function, c.flats, 4, back, 1, c.callee, LENGTH, c.caller, LENGTH, c.blocks, 1, c.handed, ROOM),
+        trap(8, WITCALL_LOWER_RESULT));
+    expect("leave with eighteen values", witcall_leave(
+        &package, function, many, ROOM + 1, back, 1, c.callee, LENGTH, c.caller, LENGTH, c.blocks, 1, c.handed, ROOM),
+        trap(8, WITCALL_LOWER_RESULT));
+    c.flats[4].kind = 1;
+    expect("leave with an i64 for an i32", leave(c, back, 1), trap(8, WITCALL_LOWER_RESULT));
+    free(back), free(many), free_call(c);
 }
 
 /* ---- the components' own faults ---- */
@@ -269,7 +314,7 @@ static void a_source_that_changed(void) {
     call c = new_call();
     expect("requests before it changes", requests(c, NULL, 0), done(2));
     c.flats[1].bits = 3;
-    expect("enter once it has", enter(c, 2), trap(6, WITCALL_LOWER_ARGS));
+    expect("enter once it has", enter(c, 2), other_block(0));
     c.flats[1].bits = LENGTH + 1;
     expect("a text past the end", enter(c, 2), trap(4, WITCALL_LIFT_ARGS));
     free_call(c);
@@ -294,29 +339,97 @@ static void return_areas(void) {
 
 /* ---- handles ---- */
 
+/* Each call says of this handle that it is not open. */
+static void each_call(const char *name, witcall_package *handle) {
+    const wanted not_open = refused(WITCALL_NOT_OPEN);
+    witcall_value *values = array(ROOM, sizeof *values);
+    expect(name, witcall_find(handle, BYTES("a:b/c"), BYTES("f")), not_open);
+    expect("its requests", witcall_enter_requests(handle, 0, NULL, 0, NULL, 0, NULL, 0), not_open);
+    expect("its enter", witcall_enter(handle, 0, NULL, 0, NULL, 0, NULL, 0, NULL, 0, values, ROOM), not_open);
+    expect("its requests back", witcall_leave_requests(handle, 0, NULL, 0, NULL, 0, NULL, 0), not_open);
+    expect("its leave", witcall_leave(handle, 0, NULL, 0, NULL, 0, NULL, 0, NULL, 0, NULL, 0, values, ROOM), not_open);
+    expect("its parameters", witcall_parameters(handle, 0, NULL, 0), not_open);
+    expect("its result", witcall_result(handle, 0, NULL, 0), not_open);
+    expect("its lifted parameters", witcall_lifted_params(handle, 0, NULL, 0), not_open);
+    expect("its lifted result", witcall_lifted_result(handle, 0, NULL, 0), not_open);
+    expect("its lowered parameters", witcall_lowered_params(handle, 0, NULL, 0), not_open);
+    expect("its lowered result", witcall_lowered_result(handle, 0, NULL, 0), not_open);
+    free(values);
+}
+
+/* A handle on nothing, and one that was closed, and closed again. */
+static void closed_handles(void) {
+    witcall_package handle = WITCALL_NONE;
+    each_call("a handle on nothing", &handle);
+    expect("its line", witcall_line(&handle, NULL, 0), refused(WITCALL_NOT_OPEN));
+    witcall_close(&handle);
+    expect("a package to close", witcall_open(BYTES(TEXT), &handle), DONE_WITH_NONE);
+    witcall_close(&handle);
+    each_call("a handle that is closed", &handle);
+    witcall_close(&handle);
+    expect("a handle that is closed twice", witcall_find(&handle, NULL, 0, NULL, 0), refused(WITCALL_NOT_OPEN));
+}
+
 /* A handle on what was refused: each call says that it is not open. */
 static void a_package_refused(void) {
     static const char WRONG[] = "package a:b; interface c { f: func(x: t); }";
-    witcall_package wrong;
-    witcall_value *values = array(ROOM, sizeof *values);
+    witcall_package wrong = WITCALL_NONE;
     uint8_t line[64];
     expect("open", witcall_open(BYTES(WRONG), &wrong), refused(41));
     witcall_status told = witcall_line(&wrong, line, sizeof line);
     printf("its line: %.*s\n", (int)told.count, line);
-    const wanted not_open = refused(WITCALL_NOT_OPEN);
-    expect("find in what is not open", witcall_find(&wrong, BYTES("a:b/c"), BYTES("f")), not_open);
-    expect("requests of what is not open", witcall_enter_requests(&wrong, 0, NULL, 0, NULL, 0, NULL, 0), not_open);
-    expect("enter what is not open", witcall_enter(&wrong, 0, NULL, 0, NULL, 0, NULL, 0, NULL, 0, values, ROOM), not_open);
-    expect("requests back from what is not open", witcall_leave_requests(&wrong, 0, NULL, 0, NULL, 0, NULL, 0), not_open);
-    expect("leave what is not open", witcall_leave(
-        &wrong, 0, NULL, 0, NULL, 0, NULL, 0, NULL, 0, NULL, 0, values, ROOM), not_open);
-    expect("parameters of what is not open", witcall_parameters(&wrong, 0, NULL, 0), not_open);
-    expect("kinds of what is not open", witcall_lifted_params(&wrong, 0, NULL, 0), not_open);
-    witcall_close(wrong);
-    witcall_package none;
+    expect("no room for its line", witcall_line(&wrong, line, 4), no_room(told.count));
+    each_call("a handle on what was refused", &wrong);
+    witcall_close(&wrong);
+    witcall_package none = WITCALL_NONE;
     expect("open no bytes", witcall_open(NULL, 0, &none), refused(32));
-    witcall_close(none);
-    free(values);
+    witcall_close(&none);
+}
+
+/* ---- memory ---- */
+
+/* Which of the next blocks is refused, counted from 1, or 0 for none. */
+static long refused_block = 0;
+
+void *__real_malloc(size_t size);
+void *__real_realloc(void *old, size_t size);
+
+static bool is_granted(void) {
+    return refused_block == 0 || --refused_block > 0;
+}
+
+void *__wrap_malloc(size_t size) {
+    return is_granted() ? __real_malloc(size) : NULL;
+}
+
+void *__wrap_realloc(void *old, size_t size) {
+    return is_granted() ? __real_realloc(old, size) : NULL;
+}
+
+/* Opens a package while this block is refused: whether it was out of memory, and by which number. */
+static bool is_out_of_memory(long block, bool seen[100]) {
+    witcall_package opened = WITCALL_NONE;
+    refused_block = block;
+    witcall_status status = witcall_open(BYTES(TEXT), &opened);
+    refused_block = 0;
+    witcall_close(&opened);
+    if (status.code == WITCALL_DONE)
+        return false;
+    holds("it is out of memory", status.code == WITCALL_NO_MEMORY && status.number < 100 && status.step == 0 && status.count == 0);
+    seen[status.number % 100] = true;
+    return true;
+}
+
+/* Each allocation of `open` is refused in turn. */
+static void refused_allocations(void) {
+    bool seen[100] = {false};
+    long block = 1;
+    while (is_out_of_memory(block, seen))
+        block++;
+    holds("it asks for memory", block > 1);
+    for (uint32_t number = 0; number < 100; number++)
+        if (seen[number])
+            expect("out of memory", (witcall_status){WITCALL_NO_MEMORY, number, 0, 0}, (wanted){WITCALL_NO_MEMORY, number, 0, 0});
 }
 
 static void names_and_numbers(void) {
@@ -345,11 +458,14 @@ int main(void) {
     blocks();
     short_arrays();
     core_values();
+    other_flats_at_leave();
     bad_texts();
     a_source_that_changed();
     return_areas();
+    closed_handles();
     a_package_refused();
+    refused_allocations();
     names_and_numbers();
-    witcall_close(package);
+    witcall_close(&package);
     return failed;
 }

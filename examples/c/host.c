@@ -160,7 +160,7 @@ static void print_layout(witcall_package *package, uint32_t func) {
 }
 
 int main(void) {
-    witcall_package package;
+    witcall_package package = WITCALL_NONE;
     check(witcall_open(BYTES(demo_shop_text), &package));
     witcall_status found = witcall_find(&package, BYTES(DEMO_SHOP_DESK_INTERFACE), BYTES(DEMO_SHOP_DESK_ORDER_NAME));
     check(found);
@@ -181,6 +181,6 @@ int main(void) {
     print_lines(caller, back.lines);
     print_text(caller, back.note);
     printf("\n");
-    witcall_close(package);
+    witcall_close(&package);
     return 0;
 }

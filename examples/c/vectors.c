@@ -196,9 +196,9 @@ static void leave(witcall_package *package, uint32_t func, call *c, answer *a) {
 
 static answer made(call *c) {
     answer a = {.stopped = NULL};
-    witcall_package package;
+    witcall_package package = WITCALL_NONE;
     if (failed(&a, witcall_open(c->package, c->package_len, &package))) {
-        witcall_close(package);
+        witcall_close(&package);
         return a;
     }
     const uint8_t *interface = (const uint8_t *)c->interface, *function = (const uint8_t *)c->function;
@@ -206,7 +206,7 @@ static answer made(call *c) {
         &package, interface, strlen(c->interface), function, strlen(c->function));
     if (!failed(&a, found) && has_entered(&package, found.count, c, &a))
         leave(&package, found.count, c, &a);
-    witcall_close(package);
+    witcall_close(&package);
     return a;
 }
 

@@ -107,7 +107,7 @@ static napi_value thrown(napi_env env, const char *message) {
 }
 
 static napi_value told(napi_env env, witcall_status status) {
-    char line[128];
+    char line[WITCALL_MAX_STATUS_LINE + 1];
     witcall_status told = witcall_status_line(status, (uint8_t *)line, sizeof line - 1);
     line[told.code == WITCALL_DONE ? told.count : 0] = '\0';
     return thrown(env, line);
@@ -118,7 +118,7 @@ static napi_value refused(napi_env env, witcall_package *package) {
     char line[512];
     witcall_status told = witcall_line(package, (uint8_t *)line, sizeof line - 1);
     line[told.code == WITCALL_DONE ? told.count : 0] = '\0';
-    witcall_close(*package);
+    witcall_close(package);
     free(package);
     return thrown(env, line);
 }
@@ -174,6 +174,7 @@ static napi_value open_package(napi_env env, napi_callback_info info) {
     witcall_package *package = malloc(sizeof *package);
     if (!package)
         return thrown(env, "no memory");
+    *package = (witcall_package)WITCALL_NONE;
     witcall_status status = witcall_open(text.at, text.len, package);
     if (status.code != WITCALL_DONE)
         return refused(env, package);
@@ -186,7 +187,7 @@ static napi_value close_package(napi_env env, napi_callback_info info) {
     witcall_package *package;
     if (!arguments_of(env, info, &argument, 1) || napi_get_value_external(env, argument, (void **)&package) != napi_ok)
         return thrown(env, "close(package)");
-    witcall_close(*package);
+    witcall_close(package);
     free(package);
     return NULL;
 }

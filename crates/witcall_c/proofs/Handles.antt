@@ -41,7 +41,7 @@ use Rattle.witcall_c.specs.Handle.{holds}
 use Rattle.witcall_c.specs.declared.held.Held.{Held}
 use Rattle.witcall_c.specs.contracts.held.Held as held
 use Rattle.witcall_c.proofs.held.Held.TheLaws as held_laws
-use Rattle.witcall_c.specs.contracts.handle.Kept as handle
+use Rattle.witcall_c.specs.contracts.kept.Kept as handle
 
 -- the machine value of a handle at this pointer
 abbrev pub handle_value : Ptr → Val

@@ -1,5 +1,5 @@
 -- The numbers of the refusals of a package (docs/FORMATS.md, "Refusals").
-use Rattle.std.specs.Prelude.{ℕ}
+use Rattle.std.specs.Prelude.{ℕ, Bool, ◌||◌, ◌==◌}
 use Rattle.ctype_format.specs.declared.error.BinError.{BinError}
 use Rattle.ctype_format.specs.declared.error.BinError.TheVariants as binary_error
 use Rattle.ctype_format.specs.declared.error.Fault.{Fault}
@@ -74,3 +74,7 @@ open_number (error.Attach e) = attach_number e
 open_number (error.Layout e) = layout_number e
 open_number (error.NotUtf8 place) = 60
 open_number error.NoMemory = 66
+
+-- the numbers of want of memory: in a binary, in a text, of names, of layouts, and elsewhere
+abbrev pub is_out_of_memory : ℕ → Bool
+is_out_of_memory number = number == 21 || (number == 35 || (number == 46 || (number == 52 || number == 66)))

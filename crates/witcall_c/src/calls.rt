@@ -1,140 +1,139 @@
-//! Calls of what a handle stands for.
+//! Calls of the package that a handle stands for.
 ghost use Rattle.std.specs.Prelude.{◌≡◌, Result};
+ghost use Rattle.std.specs.Option.{option_map};
 ghost use Rattle.canonical_abi.specs.Layout.{lifted_signature, lowered_signature};
 ghost use Rattle.canonical_abi.specs.Types.{result_fields};
 ghost use Rattle.host_calls.specs.Calling.{EnterDone, LeaveDone, EnterAsks, LeaveAsks};
 ghost use Rattle.host_calls.specs.Parts.{PartsDone};
 ghost use Rattle.host_calls.specs.Signatures.{KindsDone};
-ghost use Rattle.witcall_c.specs.Calls.{CallsFunction};
+ghost use Rattle.witcall_c.specs.Calls.{CallsFunction, package_of};
 
-use crate::held::Held;
+use crate::held::{Target, function};
 use adapter::Request;
 use host_calls::{CallError, Part};
 use lending::Value;
 use memory::Block;
 use std::alloc::Global;
 
-impl Held {
-    /// The first half of a call of the function of this number.
-    pub fn enter(
-        &self,
-        alloc: Global,
-        number: u32,
-        flats: &[Value],
-        caller: &mut [u8],
-        callee: &mut [u8],
-        blocks: &[Block],
-        handed: &mut [Value],
-    ) -> Result<usize, CallError>
-        ensures done { CallsFunction self.now.opened number
-            (λ f done. EnterDone f flats.now caller.old callee.old blocks.now handed.old done callee.new handed.new)
-            ((callee.new ≡ callee.old) × (handed.new ≡ handed.old)) result }
-        ensures same_caller { caller.new ≡ caller.old }
-    {
-        let (types, func) = self.function(number)?;
-        host_calls::enter(alloc, &types, func, flats, caller, callee, blocks, handed)
-    }
+/// The first half of a call of the function of this number.
+pub fn enter(
+    held: &Target,
+    alloc: Global,
+    number: u32,
+    flats: &[Value],
+    caller: &mut [u8],
+    callee: &mut [u8],
+    blocks: &[Block],
+    handed: &mut [Value],
+) -> Result<usize, CallError>
+    ensures done { CallsFunction (package_of (option_map (λ held. held.value) held.now)) number
+        (λ f done. EnterDone f flats.now caller.old callee.old blocks.now handed.old done callee.new handed.new)
+        ((callee.new ≡ callee.old) × (handed.new ≡ handed.old)) result }
+    ensures same_caller { caller.new ≡ caller.old }
+{
+    let (types, func) = function(held, number)?;
+    host_calls::enter(alloc, &types, func, flats, caller, callee, blocks, handed)
+}
 
-    /// The second half.
-    pub fn leave(
-        &self,
-        alloc: Global,
-        number: u32,
-        flats: &[Value],
-        answer: &[Value],
-        callee: &mut [u8],
-        caller: &mut [u8],
-        blocks: &[Block],
-        back: &mut [Value],
-    ) -> Result<usize, CallError>
-        ensures done { CallsFunction self.now.opened number
-            (λ f done. LeaveDone f flats.now callee.old answer.now caller.old blocks.now back.old done caller.new back.new)
-            ((caller.new ≡ caller.old) × (back.new ≡ back.old)) result }
-        ensures same_callee { callee.new ≡ callee.old }
-    {
-        let (types, func) = self.function(number)?;
-        host_calls::leave(
-            alloc, &types, func, flats, answer, callee, caller, blocks, back,
-        )
-    }
+/// The second half.
+pub fn leave(
+    held: &Target,
+    alloc: Global,
+    number: u32,
+    flats: &[Value],
+    answer: &[Value],
+    callee: &mut [u8],
+    caller: &mut [u8],
+    blocks: &[Block],
+    back: &mut [Value],
+) -> Result<usize, CallError>
+    ensures done { CallsFunction (package_of (option_map (λ held. held.value) held.now)) number
+        (λ f done. LeaveDone f flats.now callee.old answer.now caller.old blocks.now back.old done caller.new back.new)
+        ((caller.new ≡ caller.old) × (back.new ≡ back.old)) result }
+    ensures same_callee { callee.new ≡ callee.old }
+{
+    let (types, func) = function(held, number)?;
+    host_calls::leave(
+        alloc, &types, func, flats, answer, callee, caller, blocks, back,
+    )
+}
 
-    /// What the first half will ask for.
-    pub fn enter_requests(
-        &self,
-        number: u32,
-        flats: &[Value],
-        caller: &mut [u8],
-        requests: &mut [Request],
-    ) -> Result<usize, CallError>
-        ensures done { CallsFunction self.now.opened number
-            (λ f done. EnterAsks f flats.now caller.old requests.old done requests.new) (requests.new ≡ requests.old) result }
-        ensures same_caller { caller.new ≡ caller.old }
-    {
-        let (types, func) = self.function(number)?;
-        host_calls::enter_requests(&types, func, flats, caller, requests)
-    }
+/// What the first half will ask for.
+pub fn enter_requests(
+    held: &Target,
+    number: u32,
+    flats: &[Value],
+    caller: &mut [u8],
+    requests: &mut [Request],
+) -> Result<usize, CallError>
+    ensures done { CallsFunction (package_of (option_map (λ held. held.value) held.now)) number
+        (λ f done. EnterAsks f flats.now caller.old requests.old done requests.new) (requests.new ≡ requests.old) result }
+    ensures same_caller { caller.new ≡ caller.old }
+{
+    let (types, func) = function(held, number)?;
+    host_calls::enter_requests(&types, func, flats, caller, requests)
+}
 
-    /// What the second half will ask for.
-    pub fn leave_requests(
-        &self,
-        number: u32,
-        answer: &[Value],
-        callee: &mut [u8],
-        requests: &mut [Request],
-    ) -> Result<usize, CallError>
-        ensures done { CallsFunction self.now.opened number
-            (λ f done. LeaveAsks f answer.now callee.old requests.old done requests.new) (requests.new ≡ requests.old) result }
-        ensures same_callee { callee.new ≡ callee.old }
-    {
-        let (types, func) = self.function(number)?;
-        host_calls::leave_requests(&types, func, answer, callee, requests)
-    }
+/// What the second half will ask for.
+pub fn leave_requests(
+    held: &Target,
+    number: u32,
+    answer: &[Value],
+    callee: &mut [u8],
+    requests: &mut [Request],
+) -> Result<usize, CallError>
+    ensures done { CallsFunction (package_of (option_map (λ held. held.value) held.now)) number
+        (λ f done. LeaveAsks f answer.now callee.old requests.old done requests.new) (requests.new ≡ requests.old) result }
+    ensures same_callee { callee.new ≡ callee.old }
+{
+    let (types, func) = function(held, number)?;
+    host_calls::leave_requests(&types, func, answer, callee, requests)
+}
 
-    /// How the parameters lie in memory.
-    pub fn parameter_parts(&self, number: u32, out: &mut [Part]) -> Result<usize, CallError>
-        ensures { CallsFunction self.now.opened number (λ f done. PartsDone f.params out.old done out.new) (out.new ≡ out.old) result }
-    {
-        let (types, func) = self.function(number)?;
-        host_calls::parameter_parts(&types, func, out)
-    }
+/// How the parameters lie in memory.
+pub fn parameter_parts(held: &Target, number: u32, out: &mut [Part]) -> Result<usize, CallError>
+    ensures { CallsFunction (package_of (option_map (λ held. held.value) held.now)) number (λ f done. PartsDone f.params out.old done out.new) (out.new ≡ out.old) result }
+{
+    let (types, func) = function(held, number)?;
+    host_calls::parameter_parts(&types, func, out)
+}
 
-    /// How the result lies in memory.
-    pub fn result_part(&self, number: u32, out: &mut [Part]) -> Result<usize, CallError>
-        ensures { CallsFunction self.now.opened number (λ f done. PartsDone (result_fields f.result) out.old done out.new) (out.new ≡ out.old) result }
-    {
-        let (types, func) = self.function(number)?;
-        host_calls::result_part(&types, func, out)
-    }
+/// How the result lies in memory.
+pub fn result_part(held: &Target, number: u32, out: &mut [Part]) -> Result<usize, CallError>
+    ensures { CallsFunction (package_of (option_map (λ held. held.value) held.now)) number (λ f done. PartsDone (result_fields f.result) out.old done out.new) (out.new ≡ out.old) result }
+{
+    let (types, func) = function(held, number)?;
+    host_calls::result_part(&types, func, out)
+}
 
-    /// The kinds of the parameters of the callee's core function.
-    pub fn lifted_params(&self, number: u32, out: &mut [u32]) -> Result<usize, CallError>
-        ensures { CallsFunction self.now.opened number (λ f done. KindsDone (lifted_signature f).params out.old done out.new) (out.new ≡ out.old) result }
-    {
-        let (types, func) = self.function(number)?;
-        host_calls::lifted_params(&types, func, out)
-    }
+/// The kinds of the parameters of the callee's core function.
+pub fn lifted_params(held: &Target, number: u32, out: &mut [u32]) -> Result<usize, CallError>
+    ensures { CallsFunction (package_of (option_map (λ held. held.value) held.now)) number (λ f done. KindsDone (lifted_signature f).params out.old done out.new) (out.new ≡ out.old) result }
+{
+    let (types, func) = function(held, number)?;
+    host_calls::lifted_params(&types, func, out)
+}
 
-    /// The kind of its result, if it has one.
-    pub fn lifted_result(&self, number: u32, out: &mut [u32]) -> Result<usize, CallError>
-        ensures { CallsFunction self.now.opened number (λ f done. KindsDone (lifted_signature f).results out.old done out.new) (out.new ≡ out.old) result }
-    {
-        let (types, func) = self.function(number)?;
-        host_calls::lifted_result(&types, func, out)
-    }
+/// The kind of its result, if it has one.
+pub fn lifted_result(held: &Target, number: u32, out: &mut [u32]) -> Result<usize, CallError>
+    ensures { CallsFunction (package_of (option_map (λ held. held.value) held.now)) number (λ f done. KindsDone (lifted_signature f).results out.old done out.new) (out.new ≡ out.old) result }
+{
+    let (types, func) = function(held, number)?;
+    host_calls::lifted_result(&types, func, out)
+}
 
-    /// The kinds of the parameters of the caller's import.
-    pub fn lowered_params(&self, number: u32, out: &mut [u32]) -> Result<usize, CallError>
-        ensures { CallsFunction self.now.opened number (λ f done. KindsDone (lowered_signature f).params out.old done out.new) (out.new ≡ out.old) result }
-    {
-        let (types, func) = self.function(number)?;
-        host_calls::lowered_params(&types, func, out)
-    }
+/// The kinds of the parameters of the caller's import.
+pub fn lowered_params(held: &Target, number: u32, out: &mut [u32]) -> Result<usize, CallError>
+    ensures { CallsFunction (package_of (option_map (λ held. held.value) held.now)) number (λ f done. KindsDone (lowered_signature f).params out.old done out.new) (out.new ≡ out.old) result }
+{
+    let (types, func) = function(held, number)?;
+    host_calls::lowered_params(&types, func, out)
+}
 
-    /// The kind of its result, if it has one.
-    pub fn lowered_result(&self, number: u32, out: &mut [u32]) -> Result<usize, CallError>
-        ensures { CallsFunction self.now.opened number (λ f done. KindsDone (lowered_signature f).results out.old done out.new) (out.new ≡ out.old) result }
-    {
-        let (types, func) = self.function(number)?;
-        host_calls::lowered_result(&types, func, out)
-    }
+/// The kind of its result, if it has one.
+pub fn lowered_result(held: &Target, number: u32, out: &mut [u32]) -> Result<usize, CallError>
+    ensures { CallsFunction (package_of (option_map (λ held. held.value) held.now)) number (λ f done. KindsDone (lowered_signature f).results out.old done out.new) (out.new ≡ out.old) result }
+{
+    let (types, func) = function(held, number)?;
+    host_calls::lowered_result(&types, func, out)
 }

@@ -1,14 +1,17 @@
 //! What the header declares: each export takes what a handle stands for, makes one call of it, and gives it back.
-ghost use Rattle.std.specs.Prelude.{◌≡◌, ◌≢◌, None};
+ghost use Rattle.std.specs.Prelude.{◌≡◌, ◌∷◌, [], ℕ, None, Result, length};
 ghost use Rattle.canonical_abi.specs.Layout.{lifted_signature, lowered_signature};
 ghost use Rattle.canonical_abi.specs.Types.{result_fields};
 ghost use Rattle.host_calls.specs.Calling.{EnterDone, LeaveDone, EnterAsks, LeaveAsks};
 ghost use Rattle.host_calls.specs.Parts.{PartsDone};
 ghost use Rattle.host_calls.specs.Signatures.{KindsDone};
-ghost use Rattle.witcall_c.specs.Calls.{CallsFunction, FindsFunction, Opens, TellsOf};
+ghost use Rattle.host_calls.specs.Status.{status_of};
+ghost use Rattle.host_calls.specs.declared.error.CallError.{CallError};
+ghost use Rattle.witcall_c.specs.Calls.{FindsFunction, LineDone, LineOf, Opens, CallsOf, TellsOf, package_of, stands_for};
 
-use crate::handle::Kept;
-use crate::held::Held;
+use crate::calls;
+use crate::handle::Handle;
+use crate::held::{Held, find, line_of};
 use crate::line::tell_line;
 use adapter::Request;
 use host_calls::{CallError, Part, Status};
@@ -16,12 +19,12 @@ use lending::Value;
 use memory::Block;
 use std::alloc::Global;
 
-/// Opens a package. The handle is written in any case, and stands for nothing where there was no memory for it (66).
+/// Opens a package. The handle is written in any case, and stands for nothing where there was no memory for it (66). What it stood for is forgotten.
 #[unsafe(no_mangle)]
-pub extern "C" fn witcall_open(alloc: Global, bytes: &[u8], handle: &mut Kept) -> Status
-    ensures { Opens bytes.now handle.new.held result }
+pub extern "C" fn witcall_open(alloc: Global, bytes: &[u8], handle: &mut Handle) -> Status
+    ensures { Opens (bytes.now ∷ []) (stands_for handle.new) result }
 {
-    let held = Held::open(alloc, bytes);
+    let held = Held::open(alloc, &[bytes]);
     let status = held.status();
     match Box::new(alloc, held) {
         Ok(held) => {
@@ -35,32 +38,30 @@ pub extern "C" fn witcall_open(alloc: Global, bytes: &[u8], handle: &mut Kept) -
     }
 }
 
-/// Frees what a handle stands for.
+/// Frees what a handle stands for, if anything, so that it stands for nothing.
 #[unsafe(no_mangle)]
-pub extern "C" fn witcall_close(alloc: Global, handle: Kept)
-    requires { handle.held ≢ None }
+pub extern "C" fn witcall_close(alloc: Global, handle: &mut Handle)
+    ensures { stands_for handle.new ≡ None }
 {
-    drop(handle.into_box(alloc));
+    drop(handle.take(alloc));
 }
 
 /// The line of the refusal of what a handle stands for, as the program writes it, with no line end; 0 bytes where it is open.
 #[unsafe(no_mangle)]
-pub extern "C" fn witcall_line(alloc: Global, handle: &mut Kept, line: &mut [u8]) -> Status
-    requires open { handle.old.held ≢ None }
-    ensures { handle.new.held ≡ handle.old.held }
+pub extern "C" fn witcall_line(alloc: Global, handle: &mut Handle, line: &mut [u8]) -> Status
+    ensures { TellsOf (stands_for handle.old) (stands_for handle.new) result (λ held done. LineOf held line.old line.new done) }
 {
     let held = handle.take(alloc);
-    let done = match held.refusal() {
-        Some(refusal) => tell_line(refusal, line),
-        None => Ok(0),
-    };
-    handle.put(held);
+    let done = line_of(&held, line);
+    handle.give(held);
     Status::of(done)
 }
 
 /// The line of a status; 0 bytes of one that is done.
 #[unsafe(no_mangle)]
-pub extern "C" fn witcall_status_line(status: Status, line: &mut [u8]) -> Status {
+pub extern "C" fn witcall_status_line(status: Status, line: &mut [u8]) -> Status
+    ensures { (done : Result ℕ CallError) × (result ≡ status_of done) × LineDone (length line.old) done }
+{
     Status::of(tell_line(&status, line))
 }
 
@@ -68,16 +69,15 @@ pub extern "C" fn witcall_status_line(status: Status, line: &mut [u8]) -> Status
 #[unsafe(no_mangle)]
 pub extern "C" fn witcall_find(
     alloc: Global,
-    handle: &mut Kept,
+    handle: &mut Handle,
     interface: &[u8],
     function: &[u8],
 ) -> Status
-    requires open { handle.old.held ≢ None }
-    ensures { TellsOf handle.old.held handle.new.held result (λ opened done. FindsFunction opened interface.now function.now done) }
+    ensures { TellsOf (stands_for handle.old) (stands_for handle.new) result (λ held done. FindsFunction (package_of held) interface.now function.now done) }
 {
     let held = handle.take(alloc);
-    let done = held.find(interface, function);
-    handle.put(held);
+    let done = find(&held, interface, function);
+    handle.give(held);
     Status::of(done)
 }
 
@@ -85,7 +85,7 @@ pub extern "C" fn witcall_find(
 #[unsafe(no_mangle)]
 pub extern "C" fn witcall_enter(
     alloc: Global,
-    handle: &mut Kept,
+    handle: &mut Handle,
     func: u32,
     flats: &[Value],
     caller: &mut [u8],
@@ -93,14 +93,13 @@ pub extern "C" fn witcall_enter(
     blocks: &[Block],
     handed: &mut [Value],
 ) -> Status
-    requires open { handle.old.held ≢ None }
-    ensures done { TellsOf handle.old.held handle.new.held result (λ opened done. CallsFunction opened func
-        (λ f d. EnterDone f flats.now caller.old callee.old blocks.now handed.old d callee.new handed.new) ((callee.new ≡ callee.old) × (handed.new ≡ handed.old)) done) }
+    ensures done { CallsOf (stands_for handle.old) (stands_for handle.new) func result
+        (λ f d. EnterDone f flats.now caller.old callee.old blocks.now handed.old d callee.new handed.new) ((callee.new ≡ callee.old) × (handed.new ≡ handed.old)) }
     ensures same { caller.new ≡ caller.old }
 {
     let held = handle.take(alloc);
-    let done = held.enter(alloc, func, flats, caller, callee, blocks, handed);
-    handle.put(held);
+    let done = calls::enter(&held, alloc, func, flats, caller, callee, blocks, handed);
+    handle.give(held);
     Status::of(done)
 }
 
@@ -108,7 +107,7 @@ pub extern "C" fn witcall_enter(
 #[unsafe(no_mangle)]
 pub extern "C" fn witcall_leave(
     alloc: Global,
-    handle: &mut Kept,
+    handle: &mut Handle,
     func: u32,
     flats: &[Value],
     answer: &[Value],
@@ -117,14 +116,15 @@ pub extern "C" fn witcall_leave(
     blocks: &[Block],
     back: &mut [Value],
 ) -> Status
-    requires open { handle.old.held ≢ None }
-    ensures done { TellsOf handle.old.held handle.new.held result (λ opened done. CallsFunction opened func
-        (λ f d. LeaveDone f flats.now callee.old answer.now caller.old blocks.now back.old d caller.new back.new) ((caller.new ≡ caller.old) × (back.new ≡ back.old)) done) }
+    ensures done { CallsOf (stands_for handle.old) (stands_for handle.new) func result
+        (λ f d. LeaveDone f flats.now callee.old answer.now caller.old blocks.now back.old d caller.new back.new) ((caller.new ≡ caller.old) × (back.new ≡ back.old)) }
     ensures same { callee.new ≡ callee.old }
 {
     let held = handle.take(alloc);
-    let done = held.leave(alloc, func, flats, answer, callee, caller, blocks, back);
-    handle.put(held);
+    let done = calls::leave(
+        &held, alloc, func, flats, answer, callee, caller, blocks, back,
+    );
+    handle.give(held);
     Status::of(done)
 }
 
@@ -132,20 +132,19 @@ pub extern "C" fn witcall_leave(
 #[unsafe(no_mangle)]
 pub extern "C" fn witcall_enter_requests(
     alloc: Global,
-    handle: &mut Kept,
+    handle: &mut Handle,
     func: u32,
     flats: &[Value],
     caller: &mut [u8],
     requests: &mut [Request],
 ) -> Status
-    requires open { handle.old.held ≢ None }
-    ensures done { TellsOf handle.old.held handle.new.held result (λ opened done. CallsFunction opened func
-        (λ f d. EnterAsks f flats.now caller.old requests.old d requests.new) (requests.new ≡ requests.old) done) }
+    ensures done { CallsOf (stands_for handle.old) (stands_for handle.new) func result
+        (λ f d. EnterAsks f flats.now caller.old requests.old d requests.new) (requests.new ≡ requests.old) }
     ensures same { caller.new ≡ caller.old }
 {
     let held = handle.take(alloc);
-    let done = held.enter_requests(func, flats, caller, requests);
-    handle.put(held);
+    let done = calls::enter_requests(&held, func, flats, caller, requests);
+    handle.give(held);
     Status::of(done)
 }
 
@@ -153,20 +152,19 @@ pub extern "C" fn witcall_enter_requests(
 #[unsafe(no_mangle)]
 pub extern "C" fn witcall_leave_requests(
     alloc: Global,
-    handle: &mut Kept,
+    handle: &mut Handle,
     func: u32,
     answer: &[Value],
     callee: &mut [u8],
     requests: &mut [Request],
 ) -> Status
-    requires open { handle.old.held ≢ None }
-    ensures done { TellsOf handle.old.held handle.new.held result (λ opened done. CallsFunction opened func
-        (λ f d. LeaveAsks f answer.now callee.old requests.old d requests.new) (requests.new ≡ requests.old) done) }
+    ensures done { CallsOf (stands_for handle.old) (stands_for handle.new) func result
+        (λ f d. LeaveAsks f answer.now callee.old requests.old d requests.new) (requests.new ≡ requests.old) }
     ensures same { callee.new ≡ callee.old }
 {
     let held = handle.take(alloc);
-    let done = held.leave_requests(func, answer, callee, requests);
-    handle.put(held);
+    let done = calls::leave_requests(&held, func, answer, callee, requests);
+    handle.give(held);
     Status::of(done)
 }
 
@@ -174,17 +172,16 @@ pub extern "C" fn witcall_leave_requests(
 #[unsafe(no_mangle)]
 pub extern "C" fn witcall_parameters(
     alloc: Global,
-    handle: &mut Kept,
+    handle: &mut Handle,
     func: u32,
     parts: &mut [Part],
 ) -> Status
-    requires open { handle.old.held ≢ None }
-    ensures done { TellsOf handle.old.held handle.new.held result (λ opened done. CallsFunction opened func
-        (λ f d. PartsDone f.params parts.old d parts.new) (parts.new ≡ parts.old) done) }
+    ensures done { CallsOf (stands_for handle.old) (stands_for handle.new) func result
+        (λ f d. PartsDone f.params parts.old d parts.new) (parts.new ≡ parts.old) }
 {
     let held = handle.take(alloc);
-    let done = held.parameter_parts(func, parts);
-    handle.put(held);
+    let done = calls::parameter_parts(&held, func, parts);
+    handle.give(held);
     Status::of(done)
 }
 
@@ -192,17 +189,16 @@ pub extern "C" fn witcall_parameters(
 #[unsafe(no_mangle)]
 pub extern "C" fn witcall_result(
     alloc: Global,
-    handle: &mut Kept,
+    handle: &mut Handle,
     func: u32,
     parts: &mut [Part],
 ) -> Status
-    requires open { handle.old.held ≢ None }
-    ensures done { TellsOf handle.old.held handle.new.held result (λ opened done. CallsFunction opened func
-        (λ f d. PartsDone (result_fields f.result) parts.old d parts.new) (parts.new ≡ parts.old) done) }
+    ensures done { CallsOf (stands_for handle.old) (stands_for handle.new) func result
+        (λ f d. PartsDone (result_fields f.result) parts.old d parts.new) (parts.new ≡ parts.old) }
 {
     let held = handle.take(alloc);
-    let done = held.result_part(func, parts);
-    handle.put(held);
+    let done = calls::result_part(&held, func, parts);
+    handle.give(held);
     Status::of(done)
 }
 
@@ -210,17 +206,16 @@ pub extern "C" fn witcall_result(
 #[unsafe(no_mangle)]
 pub extern "C" fn witcall_lifted_params(
     alloc: Global,
-    handle: &mut Kept,
+    handle: &mut Handle,
     func: u32,
     kinds: &mut [u32],
 ) -> Status
-    requires open { handle.old.held ≢ None }
-    ensures done { TellsOf handle.old.held handle.new.held result (λ opened done. CallsFunction opened func
-        (λ f d. KindsDone (lifted_signature f).params kinds.old d kinds.new) (kinds.new ≡ kinds.old) done) }
+    ensures done { CallsOf (stands_for handle.old) (stands_for handle.new) func result
+        (λ f d. KindsDone (lifted_signature f).params kinds.old d kinds.new) (kinds.new ≡ kinds.old) }
 {
     let held = handle.take(alloc);
-    let done = held.lifted_params(func, kinds);
-    handle.put(held);
+    let done = calls::lifted_params(&held, func, kinds);
+    handle.give(held);
     Status::of(done)
 }
 
@@ -228,17 +223,16 @@ pub extern "C" fn witcall_lifted_params(
 #[unsafe(no_mangle)]
 pub extern "C" fn witcall_lifted_result(
     alloc: Global,
-    handle: &mut Kept,
+    handle: &mut Handle,
     func: u32,
     kinds: &mut [u32],
 ) -> Status
-    requires open { handle.old.held ≢ None }
-    ensures done { TellsOf handle.old.held handle.new.held result (λ opened done. CallsFunction opened func
-        (λ f d. KindsDone (lifted_signature f).results kinds.old d kinds.new) (kinds.new ≡ kinds.old) done) }
+    ensures done { CallsOf (stands_for handle.old) (stands_for handle.new) func result
+        (λ f d. KindsDone (lifted_signature f).results kinds.old d kinds.new) (kinds.new ≡ kinds.old) }
 {
     let held = handle.take(alloc);
-    let done = held.lifted_result(func, kinds);
-    handle.put(held);
+    let done = calls::lifted_result(&held, func, kinds);
+    handle.give(held);
     Status::of(done)
 }
 
@@ -246,17 +240,16 @@ pub extern "C" fn witcall_lifted_result(
 #[unsafe(no_mangle)]
 pub extern "C" fn witcall_lowered_params(
     alloc: Global,
-    handle: &mut Kept,
+    handle: &mut Handle,
     func: u32,
     kinds: &mut [u32],
 ) -> Status
-    requires open { handle.old.held ≢ None }
-    ensures done { TellsOf handle.old.held handle.new.held result (λ opened done. CallsFunction opened func
-        (λ f d. KindsDone (lowered_signature f).params kinds.old d kinds.new) (kinds.new ≡ kinds.old) done) }
+    ensures done { CallsOf (stands_for handle.old) (stands_for handle.new) func result
+        (λ f d. KindsDone (lowered_signature f).params kinds.old d kinds.new) (kinds.new ≡ kinds.old) }
 {
     let held = handle.take(alloc);
-    let done = held.lowered_params(func, kinds);
-    handle.put(held);
+    let done = calls::lowered_params(&held, func, kinds);
+    handle.give(held);
     Status::of(done)
 }
 
@@ -264,16 +257,15 @@ pub extern "C" fn witcall_lowered_params(
 #[unsafe(no_mangle)]
 pub extern "C" fn witcall_lowered_result(
     alloc: Global,
-    handle: &mut Kept,
+    handle: &mut Handle,
     func: u32,
     kinds: &mut [u32],
 ) -> Status
-    requires open { handle.old.held ≢ None }
-    ensures done { TellsOf handle.old.held handle.new.held result (λ opened done. CallsFunction opened func
-        (λ f d. KindsDone (lowered_signature f).results kinds.old d kinds.new) (kinds.new ≡ kinds.old) done) }
+    ensures done { CallsOf (stands_for handle.old) (stands_for handle.new) func result
+        (λ f d. KindsDone (lowered_signature f).results kinds.old d kinds.new) (kinds.new ≡ kinds.old) }
 {
     let held = handle.take(alloc);
-    let done = held.lowered_result(func, kinds);
-    handle.put(held);
+    let done = calls::lowered_result(&held, func, kinds);
+    handle.give(held);
     Status::of(done)
 }

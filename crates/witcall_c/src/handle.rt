@@ -1,76 +1,68 @@
 //! Handles on what the library holds, for C.
-ghost use Rattle.std.specs.Prelude.{◌≡◌, ◌≢◌, Option, Some, None};
-ghost use Rattle.witcall_c.specs.Handle.{holds};
-ghost use Rattle.witcall_c.specs.declared.held.Held.{Held};
+ghost use Rattle.std.specs.Prelude.{◌≡◌, ◌↔◌, Some, None};
+ghost use Rattle.std.specs.Option.{option_map};
 
 use crate::held::Held;
+use crate::kept::Kept;
 use std::alloc::Global;
-use std::marker::Model;
 use std::mem::replace;
-use std::ptr::null_mut;
 
-/// A handle: the address of what it stands for, or of nothing.
+/// A handle: where what it stands for is kept, if `is_open` is not 0. One of zeros alone stands for nothing.
 #[repr(C)]
 #[derive(Drop)]
-pub struct Kept {
-    at: *mut (),
-    ghost held: { Option Held },
+pub struct Handle {
+    kept: Kept,
+    is_open: u32,
+    ghost closed: { (is_open ≡ 0) ↔ (kept.held ≡ None) },
 }
 
-impl Model for Kept {
-    ghost use Rattle.witcall_c.specs.Handle.{holds};
-    ghost use Rattle.witcall_c.specs.declared.held.Held.{Held};
-    ghost use Rattle.std.specs.Prelude.{Option};
-
-    ghost also_owns = { λ k. holds k.at k.held };
-}
-
-impl Kept {
+impl Handle {
     /// A handle on nothing.
-    pub fn none() -> Kept
-        ensures { result.held ≡ None }
+    pub fn none() -> Handle
+        ensures { result.kept.held ≡ None }
     {
-        Kept { at: null_mut() }
-    }
-
-    /// A handle on this, which is kept where it is.
-    pub fn of(held: Box<Held>) -> Kept
-        ensures { result.held ≡ Some held.value }
-    {
-        Kept {
-            at: Box::into_raw(held) as *mut (),
+        Handle {
+            kept: Kept::none(),
+            is_open: 0,
         }
     }
 
-    /// What it stands for.
-    pub fn into_box(self, alloc: Global) -> Box<Held>
-        requires { self.held ≢ None }
-        ensures { self.held ≡ Some result.value }
+    /// Takes what it stands for, if anything, and leaves a handle on nothing.
+    pub fn take(&mut self, alloc: Global) -> Option<Box<Held>>
+        ensures taken { option_map (λ held. held.value) result ≡ self.old.kept.held }
+        ensures left { self.new.kept.held ≡ None }
     {
-        let Kept { at } = self;
-        unsafe { Box::from_raw(alloc, at as *mut Held) }
-    }
-
-    /// Takes what it stands for, and leaves a handle on nothing.
-    pub fn take(&mut self, alloc: Global) -> Box<Held>
-        requires { self.old.held ≢ None }
-        ensures taken { self.old.held ≡ Some result.value }
-        ensures left { self.new.held ≡ None }
-    {
-        replace(self, Kept::none()).into_box(alloc)
+        let Handle { kept, is_open } = replace(self, Handle::none());
+        if is_open == 0 {
+            return None;
+        }
+        Some(kept.into_box(alloc))
     }
 
     /// Lets it stand for this. What it stood for is forgotten.
     pub fn put(&mut self, held: Box<Held>)
-        ensures { self.new.held ≡ Some held.value }
+        ensures { self.new.kept.held ≡ Some held.value }
     {
-        *self = Kept::of(held);
+        *self = Handle {
+            kept: Kept::of(held),
+            is_open: 1,
+        };
     }
 
-    /// Lets it stand for nothing.
-    pub fn clear(&mut self)
-        ensures { self.new.held ≡ None }
+    /// Lets it stand for this, if anything, again.
+    pub fn give(&mut self, held: Option<Box<Held>>)
+        ensures { self.new.kept.held ≡ option_map (λ held. held.value) held }
     {
-        *self = Kept::none();
+        match held {
+            Some(held) => self.put(held),
+            None => self.clear(),
+        }
+    }
+
+    /// Lets it stand for nothing. What it stood for is forgotten.
+    pub fn clear(&mut self)
+        ensures { self.new.kept.held ≡ None }
+    {
+        *self = Handle::none();
     }
 }

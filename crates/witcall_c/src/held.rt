@@ -1,13 +1,16 @@
 //! What a handle stands for.
-ghost use Rattle.std.specs.Prelude.{◌≡◌, IfOk, IfErr};
-ghost use Rattle.witcall_c.specs.Calls.{IsOpening, opening_status, FindsFunction, HasFunction, HasNoFunction};
+ghost use Rattle.std.specs.Prelude.{◌≡◌, ◌<◌, IfOk, IfErr, length};
+ghost use Rattle.std.specs.Option.{option_map};
+ghost use Rattle.opening.specs.Sets.{all_bytes};
+ghost use Rattle.witcall_c.specs.Calls.{IsOpening, opening_status, FindsFunction, HasFunction, HasNoFunction, LineOf, package_of};
 
-use crate::refusal::open_number;
-use host_calls::{CallError, Status, function_of, refused};
+use crate::line::tell_line;
+use crate::refusal::{is_out_of_memory, open_number};
+use host_calls::{CallError, Status, function_of, out_of_memory, refused};
 use lift_lower::Types;
+use opening::{OpenError, Package, open_set};
 use std::alloc::Global;
 use tables::FunctionId;
-use witcall::{OpenError, Package};
 
 /// A package, or why the bytes are none.
 #[derive(Drop)]
@@ -16,12 +19,13 @@ pub struct Held {
 }
 
 impl Held {
-    /// What these bytes are opened as.
-    pub fn open(alloc: Global, bytes: &[u8]) -> Held
-        ensures { IsOpening bytes.now result.opened }
+    /// What these inputs are opened as: the last, behind those before it.
+    pub fn open(alloc: Global, inputs: &[&[u8]]) -> Held
+        requires { 0 < length inputs.now }
+        ensures { IsOpening (all_bytes inputs.now) result.opened }
     {
         Held {
-            opened: witcall::open(alloc, bytes),
+            opened: open_set(alloc, inputs),
         }
     }
 
@@ -29,50 +33,73 @@ impl Held {
     pub fn status(&self) -> Status
         ensures { result ≡ opening_status self.now.opened }
     {
-        match &self.opened {
-            Ok(_) => Status::of(Ok(0)),
-            Err(error) => refused(open_number(error), 0),
-        }
-    }
-
-    /// Why it is not open.
-    pub fn refusal(&self) -> Option<&OpenError> {
-        match &self.opened {
-            Ok(_) => None,
-            Err(error) => Some(error),
-        }
-    }
-
-    /// The number of a function by the full name of its interface and its own: 70 where nothing is open, 63 where no function is called so.
-    pub fn find(&self, interface: &[u8], name: &[u8]) -> Result<usize, CallError>
-        ensures { FindsFunction self.now.opened interface.now name.now result }
-    {
-        let Ok(package) = &self.opened else {
-            return Err(CallError::NotOpen);
+        let Err(error) = &self.opened else {
+            return Status::of(Ok(0));
         };
-        let (Ok(interface), Ok(name)) = (str::from_utf8(interface), str::from_utf8(name)) else {
-            return Err(CallError::NoFunction);
-        };
-        match package.resolve().function(interface, name) {
-            Some(func) => Ok(func.0 as usize),
-            None => Err(CallError::NoFunction),
+        let number = open_number(error);
+        if is_out_of_memory(number) {
+            return out_of_memory(number);
         }
+        refused(number, 0)
     }
+}
 
-    /// The function of this number, with the types of its package: 70 where nothing is open, 63 where no function has this number.
-    pub fn function(&self, number: u32) -> Result<(Types<'_>, FunctionId), CallError>
-        ensures ok { IfOk result (λ x. HasFunction self.now.opened number x.0 x.1) }
-        ensures err { IfErr result (HasNoFunction self.now.opened number) }
-    {
-        match &self.opened {
-            Ok(package) => {
-                let types = package.types();
-                match function_of(&types, number) {
-                    Ok(func) => Ok((types, func)),
-                    Err(error) => Err(error),
-                }
-            }
-            Err(_) => Err(CallError::NotOpen),
-        }
+/// What a handle stands for, if anything.
+pub type Target = Option<Box<Held>>;
+
+/// The line of why no package is open, 0 bytes where one is: 70 where the handle stands for nothing.
+pub fn line_of(held: &Target, line: &mut [u8]) -> Result<usize, CallError>
+    ensures { LineOf (option_map (λ held. held.value) held.now) line.old line.new result }
+{
+    let Some(held) = held else {
+        return Err(CallError::NotOpen);
+    };
+    match &held.opened {
+        Ok(_) => Ok(0),
+        Err(error) => tell_line(error, line),
+    }
+}
+
+/// The number of a function by the full name of its interface and its own: 70 where nothing is open, 63 where no function is called so.
+pub fn find(held: &Target, interface: &[u8], name: &[u8]) -> Result<usize, CallError>
+    ensures { FindsFunction (package_of (option_map (λ held. held.value) held.now)) interface.now name.now result }
+{
+    let Some(package) = package(held) else {
+        return Err(CallError::NotOpen);
+    };
+    let (Ok(interface), Ok(name)) = (str::from_utf8(interface), str::from_utf8(name)) else {
+        return Err(CallError::NoFunction);
+    };
+    match package.resolve().function(interface, name) {
+        Some(func) => Ok(func.0 as usize),
+        None => Err(CallError::NoFunction),
+    }
+}
+
+/// The package, if one is open.
+pub fn package(held: &Target) -> Option<&Package>
+    ensures { option_map (λ p. p.now) result ≡ package_of (option_map (λ held. held.value) held.now) }
+{
+    match held {
+        Some(held) => match &held.opened {
+            Ok(package) => Some(package),
+            Err(_) => None,
+        },
+        None => None,
+    }
+}
+
+/// The function of this number, with the types of its package: 70 where nothing is open, 63 where no function has this number.
+pub fn function(held: &Target, number: u32) -> Result<(Types<'_>, FunctionId), CallError>
+    ensures ok { IfOk result (λ x. HasFunction (package_of (option_map (λ held. held.value) held.now)) number x.0 x.1) }
+    ensures err { IfErr result (HasNoFunction (package_of (option_map (λ held. held.value) held.now)) number) }
+{
+    let Some(package) = package(held) else {
+        return Err(CallError::NotOpen);
+    };
+    let types = package.types();
+    match function_of(&types, number) {
+        Ok(func) => Ok((types, func)),
+        Err(error) => Err(error),
     }
 }

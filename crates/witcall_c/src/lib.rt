@@ -1,7 +1,7 @@
 //! The library for hosts in C: what `include/witcall.h` declares.
 //!
-//! An export takes numbers, slices of them, and a handle on a package that the library holds (`Kept`), and answers a `Status`. It is a
-//! thin call of what stands below: `witcall` opens packages, and `host_calls` carries the two halves of a call and tells how values lie in
+//! An export takes numbers, slices of them, and a handle on a package that the library holds (`Handle`), and answers a `Status`. It is a
+//! thin call of what stands below: `opening` opens packages, and `host_calls` carries the two halves of a call and tells how values lie in
 //! memory. Whatever the header does not ask of a caller is tested there.
 #![tactic(auto)]
 
@@ -9,5 +9,6 @@ mod calls;
 mod exports;
 mod handle;
 mod held;
+mod kept;
 mod line;
 mod refusal;

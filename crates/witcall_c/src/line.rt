@@ -1,5 +1,6 @@
 //! Lines of text in arrays of bytes.
-ghost use Rattle.std.specs.Prelude.{◌≤◌, IfOk, length};
+ghost use Rattle.std.specs.Prelude.{length};
+ghost use Rattle.witcall_c.specs.Calls.{LineDone};
 
 use host_calls::CallError;
 use std::fmt::{self, Display, Write};
@@ -25,7 +26,7 @@ impl<'a> fmt::Write for Line<'a> {
 
 /// Tells what is displayed, with no line end, and answers how many bytes it has: 71 where there is no room for them.
 pub fn tell_line<T: Display>(shown: &T, out: &mut [u8]) -> Result<usize, CallError>
-    ensures { IfOk result (λ count. count ≤ length out.old) }
+    ensures { LineDone (length out.old) result }
 {
     let room = out.len();
     let mut line = Line { out, count: 0 };

@@ -1,13 +1,13 @@
 //! The number of a refusal of a package.
 ghost use Rattle.std.specs.Prelude.{◌≡◌};
-ghost use Rattle.witcall_c.specs.Refusals.{text_number, fault_number, binary_number, resolve_number, attach_number, layout_number, open_number};
+ghost use Rattle.witcall_c.specs.Refusals.{text_number, fault_number, binary_number, resolve_number, attach_number, layout_number, open_number, is_out_of_memory};
 
 use ctype_format::{BinError, Fault};
 use layout::LayoutError;
+use opening::OpenError;
 use package_sets::AttachError;
 use tables::ResolveError;
 use wit_tokens::TextError;
-use witcall::OpenError;
 
 fn text_number(error: &TextError) -> u32
     ensures { result ≡ text_number error.now }
@@ -104,4 +104,11 @@ pub fn open_number(error: &OpenError) -> u32
         OpenError::NotUtf8(_) => 60,
         OpenError::NoMemory => 66,
     }
+}
+
+/// Whether this is the number of want of memory.
+pub fn is_out_of_memory(number: u32) -> bool
+    ensures { result ≡ is_out_of_memory number }
+{
+    matches!(number, 21 | 35 | 46 | 52 | 66)
 }

@@ -39,6 +39,7 @@ pub struct Block {
 #[repr(C)]
 pub struct Handle {
     pub at: *mut c_void,
+    pub is_open: u32,
 }
 
 /// What a call of the library answers.
@@ -53,7 +54,7 @@ pub struct Status {
 
 extern "C" {
     pub fn witcall_open(bytes: *const u8, bytes_len: usize, package: *mut Handle) -> Status;
-    pub fn witcall_close(package: Handle);
+    pub fn witcall_close(package: *mut Handle);
     pub fn witcall_line(package: *mut Handle, line: *mut u8, line_len: usize) -> Status;
     pub fn witcall_status_line(status: Status, line: *mut u8, line_len: usize) -> Status;
     pub fn witcall_find(

@@ -80,7 +80,7 @@ pub struct Function(u32);
 impl Package {
     /// Opens a text or a binary.
     pub fn open(bytes: &[u8]) -> Result<Package, Error> {
-        let mut handle = Handle { at: ptr::null_mut() };
+        let mut handle = Handle { at: ptr::null_mut(), is_open: 0 };
         // SAFETY: the pointer and the length are those of one slice, and the handle is a place of this function's own.
         let status = unsafe { header::witcall_open(bytes.as_ptr(), bytes.len(), &mut handle) };
         let mut package = Package { handle };
@@ -201,10 +201,8 @@ impl Package {
 
 impl Drop for Package {
     fn drop(&mut self) {
-        if !self.handle.at.is_null() {
-            // SAFETY: the handle is that of `witcall_open`, and is closed this once: after it the package is gone.
-            unsafe { header::witcall_close(Handle { at: self.handle.at }) }
-        }
+        // SAFETY: the handle is that of `witcall_open`.
+        unsafe { header::witcall_close(&mut self.handle) }
     }
 }
 

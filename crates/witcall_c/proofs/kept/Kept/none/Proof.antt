@@ -12,9 +12,9 @@ use denote.Triple.Entry.{on_entry}
 use denote.Triple.Walked.{walk_of, says, ends_at}
 use Rattle.std.proofs.raw_atomic.Walks.{proved}
 use Rattle.witcall_c.proofs.Handles.{handle_value, handle_in}
-use Rattle.witcall_c.specs.contracts.handle.Kept.none as f
-use Rattle.witcall_c.proofs.handle.Kept.none.Statement.{statement}
-use Rattle.witcall_c.proofs.handle.Kept.none.Code as code
+use Rattle.witcall_c.specs.contracts.kept.Kept.none as f
+use Rattle.witcall_c.proofs.kept.Kept.none.Statement.{statement}
+use Rattle.witcall_c.proofs.kept.Kept.none.Code as code
 
 pub none_spec : {M : Type 1} → statement M
 none_spec 𝓤 𝓛 𝓜 𝓡 wired =

@@ -41,9 +41,9 @@ use Rattle.std_alloc.proofs.boxed.Box.into_raw.Met.{met}
 use Rattle.witcall_c.proofs.Handles.{handle_value, handle_in, Item, item_laws, item_drop, item_glue, Heap, heap_laws, no_drop, no_glue}
 use Rattle.witcall_c.specs.contracts.held.Held as held
 use Rattle.witcall_c.proofs.held.Held.TheLaws as held_laws
-use Rattle.witcall_c.specs.contracts.handle.Kept.of as f
-use Rattle.witcall_c.proofs.handle.Kept.of.Statement.{statement}
-use Rattle.witcall_c.proofs.handle.Kept.of.Code as code
+use Rattle.witcall_c.specs.contracts.kept.Kept.of as f
+use Rattle.witcall_c.proofs.kept.Kept.of.Statement.{statement}
+use Rattle.witcall_c.proofs.kept.Kept.of.Code as code
 
 abbrev stayed : Stays f.ended.signature.params f.ended.kept
 stayed = (stay_dropped _ yes, tt)

@@ -35,11 +35,11 @@ use Rattle.std_alloc.proofs.boxed.Box.from_raw.Met.{met}
 use Rattle.witcall_c.proofs.Handles.{handle_value, opens_box, Item, item_laws, Heap, heap_laws, no_drop, no_glue}
 use Rattle.witcall_c.specs.contracts.held.Held as held
 use Rattle.witcall_c.proofs.held.Held.TheLaws as held_laws
-use Rattle.witcall_c.specs.contracts.handle.Kept as handle
-use Rattle.witcall_c.proofs.handle.Kept.TheLaws as handle_laws
-use Rattle.witcall_c.specs.contracts.handle.Kept.into_box as f
-use Rattle.witcall_c.proofs.handle.Kept.into_box.Statement.{statement}
-use Rattle.witcall_c.proofs.handle.Kept.into_box.Code as code
+use Rattle.witcall_c.specs.contracts.kept.Kept as handle
+use Rattle.witcall_c.proofs.kept.Kept.TheLaws as handle_laws
+use Rattle.witcall_c.specs.contracts.kept.Kept.into_box as f
+use Rattle.witcall_c.proofs.kept.Kept.into_box.Statement.{statement}
+use Rattle.witcall_c.proofs.kept.Kept.into_box.Code as code
 
 abbrev stayed : Stays f.ended.signature.params f.ended.kept
 stayed = (stay_dropped _ yes, (stay_dropped _ yes, tt))
