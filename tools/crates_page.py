@@ -4,7 +4,7 @@
 usage: tools/crates_page.py [--check]
 
 The crates and what they depend on are those of crates.txt. What a crate holds is the head (`//!`) of its src/lib.rt or src/main.rt. The
-groups and what is proved are the lines of docs/crates.txt. With --check nothing is written, and the exit status is 1 if the page is not
+groups and what is proved are the lines of docs/crate-facts.txt. With --check nothing is written, and the exit status is 1 if the page is not
 current. It is 1 as well if a crate has no head or no line.
 """
 import fnmatch
@@ -20,7 +20,7 @@ HEAD = """\
 # Crates
 
 This page says of each crate what it holds, what is proved of it, and by which calls. It is for people who look for the
-crate of a thing, or who check a claim. `tools/crates_page.py` makes the page: change `docs/crates.txt` or the head of a
+crate of a thing, or who check a claim. `tools/crates_page.py` makes the page: change `docs/crate-facts.txt` or the head of a
 crate, and run it.
 
 How to read what is proved:
@@ -46,7 +46,7 @@ def crates():
 
 
 def facts(names):
-    """The groups of docs/crates.txt, each a title with the facts of its crates, and the crates that have no line."""
+    """The groups of docs/crate-facts.txt, each a title with the facts of its crates, and the crates that have no line."""
     groups, missing = [], set(names)
     own = {line.partition(":")[0] for line in lines() if not line.startswith("=")}
     for line in lines():
@@ -62,8 +62,8 @@ def facts(names):
 
 
 def lines():
-    """The lines of docs/crates.txt but its comments."""
-    for line in (ROOT / "docs" / "crates.txt").read_text().splitlines():
+    """The lines of docs/crate-facts.txt but its comments."""
+    for line in (ROOT / "docs" / "crate-facts.txt").read_text().splitlines():
         if line.strip() and not line.startswith("#"):
             yield line
 
@@ -117,7 +117,7 @@ def page():
     below = crates()
     groups, missing = facts(below)
     if missing:
-        sys.exit("tools/crates_page.py: docs/crates.txt has no line of " + ", ".join(sorted(missing)))
+        sys.exit("tools/crates_page.py: docs/crate-facts.txt has no line of " + ", ".join(sorted(missing)))
     parts = [HEAD.strip()]
     parts.append("| group | crates |\n|---|---|\n" + "\n".join(
         f"| {title} | {', '.join(f'[`{name}`](#{name})' for name in found)} |" for title, found in groups if found))

@@ -6,7 +6,7 @@ usage: tools/pictures.py [--check] [--program WITCALL]
 - way.svg (docs/PROMISE.md): the way from a text to a call. The words are what the program prints of examples/c.wit, the stored run of
   crates/program and the first row of crates/vectors. Each clause on an arrow has to be one of its function's contract.
 - bytes.svg (docs/LIBRARY.md): the bytes of a call with a list of records, in both memories: a row of crates/vectors.
-- crates.svg (docs/ARCHITECTURE.md): which crates depend on which, of crates.txt, in the groups of docs/crates.txt.
+- crates.svg (docs/ARCHITECTURE.md): which crates depend on which, of crates.txt, in the groups of docs/crate-facts.txt.
 
 With --check nothing is written, and the exit status is 1 if a picture is not current. The program is the one that was built,
 crates/program/out/program, if no other is named.
@@ -30,7 +30,7 @@ WIDTH = 800
 # light and dark: fill, line and text of a page, then of each group in turn
 PLAIN = (("#ffffff", "#57606a", "#1f2328"), ("#0d1117", "#8b949e", "#e6edf3"))
 HUES = (210, 130, 30, 280, 60, 330, 175, 0, 245, 95, 15, 300)
-# groups of docs/crates.txt that the picture of crates leaves out, since nothing depends on them
+# groups of docs/crate-facts.txt that the picture of crates leaves out, since nothing depends on them
 TESTS = ("Programs that answer rows", "Tests")
 ROW = "lists: padding of the target stays too"
 
@@ -308,7 +308,7 @@ def graph():
     everything = crates_page.crates()
     groups, missing = crates_page.facts(everything)
     if missing:
-        sys.exit("tools/pictures.py: docs/crates.txt has no line of " + ", ".join(sorted(missing)))
+        sys.exit("tools/pictures.py: docs/crate-facts.txt has no line of " + ", ".join(sorted(missing)))
     group = {name: number % len(HUES) for number, (title, found) in enumerate(groups) for name in found if title not in TESTS}
     below = reduced(bottom_up({name: [it for it in parts if it in group] for name, parts in everything.items() if name in group}))
     rows, edges = chains(below, levels(below))
