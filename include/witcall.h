@@ -11,7 +11,7 @@
  *   - Each pointer is good for its length, and of length 0 it may be null. A pointer to a handle is not null. (A pointer doesn't tell
  *     what it points to.)
  *   - No two arrays of one call overlap, the memories too. (The library writes one while it reads another, and compares no addresses.)
- *   - A handle is WITCALL_NONE, or was written by witcall_open or witcall_open_set. Of copies of a handle one is used. (An address tells
+ *   - A handle is WITCALL_NONE, or was written by witcall_open. Of copies of a handle one is used. (An address tells
  *     nothing of who wrote it.)
  *   - A handle stays on the thread that opened it; see below. (A call doesn't tell its thread.)
  *   - Each block was free in the memory that it is in. (Only that memory's allocator knows which bytes are free.)
@@ -61,7 +61,6 @@ extern "C" {
 #define WITCALL_NO_ROOM 71     /* an array has less room than count */
 #define WITCALL_BAD_BLOCK 72   /* a block is misaligned, outside, or meets another one or the return area; nothing was written */
 #define WITCALL_OTHER_BLOCK 73 /* the block of index count has another size or alignment than was asked for */
-#define WITCALL_BAD_LENGTHS 76 /* the lengths of a set's inputs are not together that of their bytes */
 
 typedef struct {
     uint32_t code;

@@ -71,9 +71,6 @@ EnterRefuses f flats caller old blocks handed error.BadBlock new = KindsFit f (m
 EnterRefuses f flats caller old blocks handed error.NoMemory new = (rise 0 blocks ≡ false) × (new ≡ old)
 EnterRefuses f flats caller old blocks handed error.NoFunction new = ⊥
 EnterRefuses f flats caller old blocks handed error.NotOpen new = ⊥
-EnterRefuses f flats caller old blocks handed error.NoInterface new = ⊥
-EnterRefuses f flats caller old blocks handed error.NoType new = ⊥
-EnterRefuses f flats caller old blocks handed error.BadLengths new = ⊥
 
 -- why the answer did not return, and what the caller has then, in the same order
 abbrev pub LeaveRefuses : FunctionType → List Value → List ℕ → List Value → List ℕ → List Block → List Value → CallError → List ℕ → Type 0
@@ -87,9 +84,6 @@ LeaveRefuses f flats callee answer old blocks back error.BadBlock new = KindsFit
 LeaveRefuses f flats callee answer old blocks back error.NoMemory new = (rise 0 blocks ≡ false) × (new ≡ old)
 LeaveRefuses f flats callee answer old blocks back error.NoFunction new = ⊥
 LeaveRefuses f flats callee answer old blocks back error.NotOpen new = ⊥
-LeaveRefuses f flats callee answer old blocks back error.NoInterface new = ⊥
-LeaveRefuses f flats callee answer old blocks back error.NoType new = ⊥
-LeaveRefuses f flats callee answer old blocks back error.BadLengths new = ⊥
 
 -- what the first half answers, and what the callee and the array of values have then
 abbrev pub EnterDone : FunctionType → List Value → List ℕ → List ℕ → List Block → List Value → Result ℕ CallError → List ℕ → List Value → Type 0

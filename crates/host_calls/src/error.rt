@@ -21,13 +21,6 @@ pub enum CallError {
     /// The index of a block that has another size or alignment than the one that was asked for.
     #[error("error 73 other block {0}")]
     OtherBlock(usize),
-    #[error("error 74 no interface")]
-    NoInterface,
-    #[error("error 75 no type")]
-    NoType,
-    /// The lengths of inputs are not together that of the bytes.
-    #[error("error 76 bad lengths")]
-    BadLengths,
     #[error("{0}")]
     Fault(Fault),
 }

@@ -98,9 +98,6 @@ impl Status {
             Err(CallError::NoRoom(count)) => refused(71, told(count)),
             Err(CallError::BadBlock) => refused(72, 0),
             Err(CallError::OtherBlock(index)) => refused(73, told(index)),
-            Err(CallError::NoInterface) => refused(74, 0),
-            Err(CallError::NoType) => refused(75, 0),
-            Err(CallError::BadLengths) => refused(76, 0),
             Err(CallError::NoMemory | CallError::Fault(Fault::NoMemory)) => out_of_memory(66),
             Err(CallError::Fault(Fault::Trap(trap))) => Status {
                 code: 2,
@@ -154,9 +151,6 @@ fn numbered_error(number: u32, count: u32) -> Option<CallError> {
         71 => Some(CallError::NoRoom(count as usize)),
         72 => Some(CallError::BadBlock),
         73 => Some(CallError::OtherBlock(count as usize)),
-        74 => Some(CallError::NoInterface),
-        75 => Some(CallError::NoType),
-        76 => Some(CallError::BadLengths),
         _ => None,
     }
 }
