@@ -1,14 +1,34 @@
 #!/bin/sh
-# Builds the C library, and builds and runs what stands on it: the programs in C, a host over a WebAssembly engine, and a host in plain
-# Rust. What each prints is compared with its expected file.
+# Installs witcall into a folder, and builds and runs hosts over what is there. What each prints is compared with its expected file.
 #
-# usage: examples/run.sh [BUILD]      BUILD is the folder that it builds in, else a temporary one
+# usage: examples/run.sh [--all] [--released | --built] [BUILD]
 #
-# It needs clang, lld, Node with its headers, Rust and Python (Debian: clang lld nodejs libnode-dev rustc cargo python3), and `rt`, which
-# proves the library where that was not done before. Each step says `ok`; the exit status is 1 where one fails or something differs.
+# BUILD is the folder that it builds in, else a temporary one. --released and --built are those of tools/install.sh.
+#
+# | host           | is                                                | needs                                               |
+# |----------------|---------------------------------------------------|-----------------------------------------------------|
+# | host           | examples/c/host.c, built with pkg-config          | a C compiler, pkg-config                            |
+# | cmake          | the same, built with CMake                        | CMake, make                                         |
+# | rust           | examples/rust, whose build script asks pkg-config | cargo                                               |
+# | faults         | wrong calls in C, under the sanitizers            | the compiler's sanitizers                           |
+# | vectors        | the stored calls of crates/vectors, in C          | python3                                             |
+# | bindings       | examples/c/shop.h, made anew                      | python3                                             |
+# | engine         | two core modules in Node's engine                 | clang, lld, Node with its headers                   |
+#
+# Debian's packages are gcc, pkg-config, cmake, make, cargo, python3, clang, lld, nodejs and libnode-dev. A host whose tools are missing is
+# skipped, which is a failure with --all. CC names the C compiler. Each step says `ok`; the exit status is 1 if one fails.
 set -eu
 root=$(cd "$(dirname "$0")/.." && pwd)
 here="$root/examples"
+all='' origin=''
+while :; do
+    case "${1-}" in
+        --all) all=yes ;;
+        --released | --built) origin=$1 ;;
+        *) break ;;
+    esac
+    shift
+done
 if [ $# -gt 0 ]; then
     mkdir -p "$1"
     build=$(cd "$1" && pwd)
@@ -16,8 +36,11 @@ else
     build=$(mktemp -d)
     trap 'rm -rf "$build"' EXIT
 fi
-library="$root/crates/witcall_c/out/libwitcall_c.a"
-kit=$(dirname "$(rt doc)")
+CC=${CC:-cc}
+prefix="$build/installed"
+PKG_CONFIG_PATH="$prefix/lib/pkgconfig"
+CMAKE_PREFIX_PATH=$prefix
+export CC PKG_CONFIG_PATH CMAKE_PREFIX_PATH
 failed=0
 
 # Runs a command, whose output goes to a file, and says whether it went well.
@@ -48,14 +71,40 @@ same() {
     fi
 }
 
-build_library() (
-    cd "$root/crates/witcall_c" && rt lib
-)
+# Whether a host's tools are there.
+has() {
+    name=$1
+    shift
+    for tool; do
+        command -v "$tool" >/dev/null && continue
+        echo "skipped $name: no $tool"
+        [ -z "$all" ] || failed=1
+        return 1
+    done
+}
 
+install_witcall() {
+    # shellcheck disable=SC2086 # no word where none was given
+    "$root/tools/install.sh" --prefix "$prefix" $origin
+}
+
+# shellcheck disable=SC2046 # the flags are words
 c_program() {
     source=$1 program=$2
     shift 2
-    clang -std=gnu11 -O2 -Wall -Wextra -Werror "$@" -I"$root/include" -o "$program" "$source" "$library" "$kit/c/liblibc_c.a"
+    "$CC" -std=gnu11 -O2 -Wall -Wextra -Werror "$@" -o "$program" "$source" $(pkg-config --cflags --libs witcall)
+}
+
+checked_c_program() {
+    c_program "$@" -g -fsanitize=address,undefined -fno-sanitize-recover=all
+}
+
+cmake_program() {
+    cmake -S "$here/c" -B "$1" -DCMAKE_BUILD_TYPE=Release -DCMAKE_C_FLAGS="-Wall -Wextra -Werror" && cmake --build "$1"
+}
+
+rust_host() {
+    cargo build --quiet --offline --manifest-path "$here/rust/Cargo.toml" --target-dir "$build/cargo"
 }
 
 wasm_module() {
@@ -65,30 +114,40 @@ wasm_module() {
 
 node_addon() {
     node_headers=$(dirname "$(dirname "$(command -v node)")")/include/node
-    clang -std=gnu11 -O2 -Wall -Wextra -Werror -shared -fPIC -I"$root/include" -I"$node_headers" -o "$1" "$here/engine/addon.c" \
-        "$library" "$kit/c/liblibc_c.a"
+    c_program "$here/engine/addon.c" "$1" -shared -fPIC -I"$node_headers"
 }
 
-rust_host() {
-    WITCALL_LIBRARIES="$root/crates/witcall_c/out:$kit/c" cargo build --quiet --offline --manifest-path "$here/rust/Cargo.toml" \
-        --target-dir "$build/cargo"
-}
-
-checked="-g -fsanitize=address,undefined -fno-sanitize-recover=all"
-
-step library build_library
-step build-host c_program "$here/c/host.c" "$build/host"
-same host "$here/c/host.expected" "$build/host"
-step build-faults c_program "$here/c/faults.c" "$build/faults" $checked
-same faults "$here/c/faults.expected" "$build/faults"
-step build-vectors c_program "$here/c/vectors.c" "$build/vectors"
-same vectors "$here/c/vectors.expected" python3 "$here/c/vectors.py" "$build/vectors"
-step build-vectors-checked c_program "$here/c/vectors.c" "$build/vectors-checked" $checked
-same vectors-checked "$here/c/vectors.expected" python3 "$here/c/vectors.py" "$build/vectors-checked"
-step build-callee wasm_module "$here/engine/callee.c" "$build/callee.wasm" 131072
-step build-caller wasm_module "$here/engine/caller.c" "$build/caller.wasm" 196608
-step build-addon node_addon "$build/witcall.node"
-same engine "$here/engine/host.expected" node "$here/engine/host.mjs" "$build"
-step build-rust rust_host
-same rust "$here/rust/host.expected" "$build/cargo/debug/host"
+step install install_witcall
+[ $failed = 0 ] || exit 1
+if has host "$CC" pkg-config; then
+    step build-host c_program "$here/c/host.c" "$build/host"
+    same host "$here/c/host.expected" "$build/host"
+fi
+if has cmake cmake make; then
+    step build-cmake cmake_program "$build/cmake"
+    same cmake "$here/c/host.expected" "$build/cmake/host"
+fi
+if has rust cargo; then
+    step build-rust rust_host
+    same rust "$here/rust/host.expected" "$build/cargo/debug/host"
+fi
+if has faults "$CC"; then
+    step build-faults checked_c_program "$here/c/faults.c" "$build/faults"
+    same faults "$here/c/faults.expected" "$build/faults"
+fi
+if has vectors python3; then
+    step build-vectors c_program "$here/c/vectors.c" "$build/vectors"
+    same vectors "$here/c/vectors.expected" python3 "$here/c/vectors.py" "$build/vectors"
+    step build-vectors-checked checked_c_program "$here/c/vectors.c" "$build/vectors-checked"
+    same vectors-checked "$here/c/vectors.expected" python3 "$here/c/vectors.py" "$build/vectors-checked"
+fi
+if has bindings python3; then
+    same bindings "$here/c/shop.h" python3 -B "$root/tools/bindings.py" --program "$prefix/bin/witcall" "$here/c/shop.wit"
+fi
+if has engine clang wasm-ld node; then
+    step build-callee wasm_module "$here/engine/callee.c" "$build/callee.wasm" 131072
+    step build-caller wasm_module "$here/engine/caller.c" "$build/caller.wasm" 196608
+    step build-addon node_addon "$build/witcall.node"
+    same engine "$here/engine/host.expected" node "$here/engine/host.mjs" "$build"
+fi
 exit $failed

@@ -49,7 +49,7 @@ def known():
             if "out" not in path.parts:
                 words.update(WORD.findall(path.name))
             # what the programs of hosts name
-            if folder == "examples" and path.suffix in (".c", ".mjs", ".rs"):
+            if folder == "examples" and path.suffix in (".c", ".h", ".mjs", ".rs"):
                 words.update(WORD.findall(path.read_text()))
     return words, labels
 

@@ -9,7 +9,7 @@ set -eu
 cd "$(dirname "$0")/.."
 
 [ -f release/sources ] || { echo "no release"; exit 0; }
-for file in witcall libwitcall_c.a; do
+for file in witcall libwitcall_c.a liblibc_c.a; do
     sum=$(gzip -dc "release/$file.gz" | sha256sum | cut -d ' ' -f 1)
     grep -q "^$sum  $file\$" release/SHA256SUMS || { echo "release/$file.gz isn't what release/SHA256SUMS says"; exit 1; }
 done

@@ -3,8 +3,12 @@
 #
 # usage: tools/release.sh
 #
-# release/ has witcall.gz and libwitcall_c.a.gz, `sources` and `library-sources`, the checksums of what they were built from as
-# tools/sources.sh prints them, SHA256SUMS of the two unpacked, and `toolchain`, the toolchain's own name for itself.
+# release/ has
+#   witcall.gz, libwitcall_c.a.gz         the program and the library
+#   liblibc_c.a.gz                        the toolchain's archive that the library calls; tools/install.sh makes one archive of both
+#   SHA256SUMS                            the checksums of these three, unpacked
+#   sources, library-sources              the checksums of what the first two were built from, as tools/sources.sh prints them
+#   toolchain, version                    the toolchain's own name for itself; the version of VERSION
 set -eu
 cd "$(dirname "$0")/.."
 
@@ -14,11 +18,15 @@ rm -f release/sources
 (cd crates/witcall_c && rt lib)
 gzip -9nc crates/program/out/program >release/witcall.gz
 gzip -9nc crates/witcall_c/out/libwitcall_c.a >release/libwitcall_c.a.gz
+kit=$(dirname "$(rt doc)")
+gzip -9nc "$kit/c/liblibc_c.a" >release/liblibc_c.a.gz
 tools/sources.sh program >release/sources
 tools/sources.sh witcall_c >release/library-sources
 rt version >release/toolchain
+cp VERSION release/version
 {
     sha256sum <crates/program/out/program | sed 's/-$/witcall/'
     sha256sum <crates/witcall_c/out/libwitcall_c.a | sed 's/-$/libwitcall_c.a/'
+    sha256sum <"$kit/c/liblibc_c.a" | sed 's/-$/liblibc_c.a/'
 } >release/SHA256SUMS
 cat release/SHA256SUMS

@@ -5,23 +5,19 @@
  *   2. witcall_enter puts the arguments into these blocks, and answers the values for the core function.
  *   3. The core function runs.
  *   4. witcall_leave_requests and witcall_leave carry what it answered into the caller in the same way.
+ *
+ * shop.h has the package's types as they lie in a memory. It is made of shop.wit by tools/bindings.py.
  */
+#include "shop.h"
 #include "witcall.h"
 #include <stdio.h>
 #include <stdlib.h>
 #include <string.h>
 
-static const char TEXT[] =
-    "package demo:shop;"
-    "interface desk {"
-    "  record line { item: string, count: u16 }"
-    "  record receipt { number: u32, lines: list<line>, note: string }"
-    "  order: func(customer: string, lines: list<line>) -> receipt;"
-    "}";
-
-/* Where things stand in a `line` and in a `receipt`, as `witcall layout` prints it. */
-enum { ITEM = 0, COUNT = 8, LINE_SIZE = 12 };
-enum { NUMBER = 0, LINES = 4, NOTE = 12, RECEIPT_SIZE = 20 };
+typedef demo_shop_desk_line line;
+typedef demo_shop_desk_receipt receipt;
+typedef wit_list_demo_shop_desk_line line_list;
+typedef demo_shop_desk_order_parameters arguments;
 
 /* A string constant as bytes and their number. */
 #define BYTES(text) (const uint8_t *)(text), strlen(text)
@@ -46,68 +42,51 @@ static uint32_t callee_alloc(uint32_t align, uint32_t size) {
     return callee_top = (callee_top - size) / align * align;
 }
 
-static void put(uint8_t *memory, uint32_t at, uint32_t number) {
-    memcpy(memory + at, &number, 4);
+static void print_text(const uint8_t *memory, wit_string text) {
+    printf("%.*s", (int)text.length, (const char *)memory + text.address);
 }
 
-static uint32_t word(const uint8_t *memory, uint32_t at) {
-    uint32_t number;
-    memcpy(&number, memory + at, 4);
-    return number;
-}
-
-/* Prints the string whose address and length stand there. */
-static void print_text(const uint8_t *memory, uint32_t at) {
-    printf("%.*s", (int)word(memory, at + 4), memory + word(memory, at));
-}
-
-/* Prints the list of lines whose address and length stand there. */
-static void print_lines(const uint8_t *memory, uint32_t at) {
-    for (uint32_t i = 0; i < word(memory, at + 4); i++) {
-        uint32_t line = word(memory, at) + i * LINE_SIZE;
-        printf("  %u ", word(memory, line + COUNT) & 0xffff);
-        print_text(memory, line + ITEM);
+static void print_lines(const uint8_t *memory, line_list lines) {
+    for (uint32_t i = 0; i < lines.length; i++) {
+        line one = wit_list_demo_shop_desk_line_get(memory, lines, i);
+        printf("  %u ", one.count);
+        print_text(memory, one.item);
         printf("\n");
     }
 }
 
 /* ---- the two components ---- */
 
-/* Puts a text into a block of the caller's, and its address and length where it is told. */
-static void put_text(uint32_t at, const char *text) {
-    uint32_t length = strlen(text), block = caller_alloc(1, length);
-    memcpy(caller + block, text, length);
-    put(caller, at, block);
-    put(caller, at + 4, length);
+/* Puts a text into a block of the caller's. */
+static wit_string put_text(const char *text) {
+    wit_string put = {.address = caller_alloc(1, strlen(text)), .length = strlen(text)};
+    memcpy(caller + put.address, text, put.length);
+    return put;
 }
 
-/* The caller's arguments, and its place for the result: the five values that its call hands in. */
-static void make_arguments(witcall_value flats[5]) {
-    uint32_t name = caller_alloc(4, 8), lines = caller_alloc(4, 2 * LINE_SIZE), area = caller_alloc(4, RECEIPT_SIZE);
-    put_text(name, "M\303\274ller");
-    put_text(lines + ITEM, "tea");
-    put(caller, lines + COUNT, 2);
-    put_text(lines + LINE_SIZE + ITEM, "coffee");
-    put(caller, lines + LINE_SIZE + COUNT, 1);
-    uint32_t numbers[5] = {word(caller, name), word(caller, name + 4), lines, 2, area};
-    for (int i = 0; i < 5; i++)
-        flats[i] = (witcall_value){.bits = numbers[i]};
+/* The caller's arguments: a name, and two lines in a block of their own. */
+static arguments make_arguments(void) {
+    arguments made = {.customer = put_text("M\303\274ller"), .lines = {.length = 2}};
+    made.lines.address = caller_alloc(alignof(line), 2 * sizeof(line));
+    wit_list_demo_shop_desk_line_set(caller, made.lines, 0, (line){.item = put_text("tea"), .count = 2});
+    wit_list_demo_shop_desk_line_set(caller, made.lines, 1, (line){.item = put_text("coffee"), .count = 1});
+    return made;
 }
 
-/* The callee's core function: (customer, its length, lines, their number) to the address of a receipt, on which each
-   line is there once more. */
-static uint32_t order(uint32_t customer, uint32_t customer_length, uint32_t lines, uint32_t count) {
-    uint32_t receipt = callee_alloc(4, RECEIPT_SIZE), note = callee_alloc(1, 8 + customer_length);
-    memcpy(callee + note, "Thanks, ", 8);
-    memcpy(callee + note + 8, callee + customer, customer_length);
-    for (uint32_t i = 0; i < count; i++)
-        callee[lines + i * LINE_SIZE + COUNT] += 1;
-    put(callee, receipt + NUMBER, 4711);
-    put(callee, receipt + LINES, lines);
-    put(callee, receipt + LINES + 4, count);
-    put(callee, receipt + NOTE, note);
-    put(callee, receipt + NOTE + 4, 8 + customer_length);
-    return receipt;
+/* The callee's core function, of customer and lines as they are flat. It returns the address of a receipt, on which each line is
+   there once more. */
+static uint32_t order(wit_string customer, line_list lines) {
+    uint32_t at = callee_alloc(alignof(receipt), sizeof(receipt));
+    wit_string note = {callee_alloc(1, 8 + customer.length), 8 + customer.length};
+    memcpy(callee + note.address, "Thanks, ", 8);
+    memcpy(callee + note.address + 8, callee + customer.address, customer.length);
+    for (uint32_t i = 0; i < lines.length; i++) {
+        line one = wit_list_demo_shop_desk_line_get(callee, lines, i);
+        one.count += 1;
+        wit_list_demo_shop_desk_line_set(callee, lines, i, one);
+    }
+    demo_shop_desk_receipt_store(callee, at, (receipt){.number = 4711, .lines = lines, .note = note});
+    return at;
 }
 
 /* ---- the host ---- */
@@ -133,21 +112,22 @@ static void grant(
 }
 
 /* The arguments, from the caller into the callee: the values for the core function. */
-static void enter(witcall_package *package, uint32_t func, const witcall_value flats[5], witcall_value handed[WITCALL_MAX_VALUES]) {
+static void enter(witcall_package *package, uint32_t func, const witcall_value *flats, witcall_value *handed) {
     witcall_request asked[MOST_BLOCKS];
     witcall_block blocks[MOST_BLOCKS];
-    witcall_status status = witcall_enter_requests(package, func, flats, 5, caller, LENGTH, asked, MOST_BLOCKS);
+    witcall_status status = witcall_enter_requests(
+        package, func, flats, DEMO_SHOP_DESK_ORDER_FLATS, caller, LENGTH, asked, MOST_BLOCKS);
     check(status);
     if (status.count > MOST_BLOCKS)
         exit(1);
     grant("callee", callee_alloc, asked, status.count, blocks);
     check(witcall_enter(
-        package, func, flats, 5, caller, LENGTH, callee, LENGTH, blocks, status.count, handed,
+        package, func, flats, DEMO_SHOP_DESK_ORDER_FLATS, caller, LENGTH, callee, LENGTH, blocks, status.count, handed,
         WITCALL_MAX_VALUES));
 }
 
 /* The answer, from the callee into the caller's blocks and its place for the result. */
-static void leave(witcall_package *package, uint32_t func, const witcall_value flats[5], witcall_value answer) {
+static void leave(witcall_package *package, uint32_t func, const witcall_value *flats, witcall_value answer) {
     witcall_request asked[MOST_BLOCKS];
     witcall_block blocks[MOST_BLOCKS];
     witcall_status status = witcall_leave_requests(package, func, &answer, 1, callee, LENGTH, asked, MOST_BLOCKS);
@@ -157,8 +137,8 @@ static void leave(witcall_package *package, uint32_t func, const witcall_value f
     grant("caller", caller_alloc, asked, status.count, blocks);
     witcall_value back[WITCALL_MAX_VALUES];
     check(witcall_leave(
-        package, func, flats, 5, &answer, 1, callee, LENGTH, caller, LENGTH, blocks, status.count, back,
-        WITCALL_MAX_VALUES));
+        package, func, flats, DEMO_SHOP_DESK_ORDER_FLATS, &answer, 1, callee, LENGTH, caller, LENGTH, blocks, status.count,
+        back, WITCALL_MAX_VALUES));
 }
 
 /* Prints how the parameters and the result lie in memory, and the kinds of the callee's core function. */
@@ -181,22 +161,25 @@ static void print_layout(witcall_package *package, uint32_t func) {
 
 int main(void) {
     witcall_package package;
-    check(witcall_open(BYTES(TEXT), &package));
-    witcall_status found = witcall_find(&package, BYTES("demo:shop/desk"), BYTES("order"));
+    check(witcall_open(BYTES(demo_shop_text), &package));
+    witcall_status found = witcall_find(&package, BYTES(DEMO_SHOP_DESK_INTERFACE), BYTES(DEMO_SHOP_DESK_ORDER_NAME));
     check(found);
     uint32_t func = found.count;
     print_layout(&package, func);
 
-    witcall_value flats[5], handed[WITCALL_MAX_VALUES];
-    make_arguments(flats);
+    arguments given = make_arguments();
+    uint32_t area = caller_alloc(alignof(receipt), sizeof(receipt));
+    witcall_value flats[DEMO_SHOP_DESK_ORDER_FLATS], handed[WITCALL_MAX_VALUES];
+    demo_shop_desk_order_fill(flats, &given, area);
     enter(&package, func, flats, handed);
-    uint32_t receipt = order(handed[0].bits, handed[1].bits, handed[2].bits, handed[3].bits);
-    leave(&package, func, flats, (witcall_value){.bits = receipt});
+    uint32_t answer = order(
+        (wit_string){handed[0].bits, handed[1].bits}, (line_list){handed[2].bits, handed[3].bits});
+    leave(&package, func, flats, (witcall_value){.bits = answer});
 
-    uint32_t area = flats[4].bits;
-    printf("number %u\n", word(caller, area + NUMBER));
-    print_lines(caller, area + LINES);
-    print_text(caller, area + NOTE);
+    receipt back = demo_shop_desk_order_read(caller, area);
+    printf("number %u\n", back.number);
+    print_lines(caller, back.lines);
+    print_text(caller, back.note);
     printf("\n");
     witcall_close(package);
     return 0;

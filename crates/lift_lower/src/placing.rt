@@ -1,9 +1,10 @@
 //! The caller's side of a typed call: arguments and return area are put into its memory, and the result is
 //! taken from there.
-ghost use Rattle.std.specs.Prelude.{◌≡◌, ◌≢◌, ◌≤◌, Err, length, map, IfOk, IfErr, IfSome, option_map};
+ghost use Rattle.std.specs.Prelude.{◌≡◌, ◌≢◌, ◌≤◌, ◌↔◌, ℕ, List, IsTrue, Err, length, map, IfOk, IfErr, IfSome, option_map};
 ghost use Rattle.canonical_abi.specs.Types.{record_type, record_fields, result_fields, AreStandardFields, IsPlain};
 ghost use Rattle.canonical_abi.specs.Values.{HaveTypes};
-ghost use Rattle.canonical_abi.specs.Layout.{fits_flat};
+ghost use Rattle.canonical_abi.specs.Layout.{fits_flat, align, size};
+ghost use Rattle.canonical_abi.specs.Memory.{BlockHolds};
 ghost use Rattle.canonical_abi.specs.Lowering.{PassesParams, SpilledLower};
 ghost use Rattle.canonical_abi.specs.Session.{as_list, HasResult, HasResultFault};
 ghost use Rattle.canonical_abi.specs.declared.trap.Step.TheVariants.{Take};
@@ -16,6 +17,7 @@ ghost use Rattle.lift_lower.specs.Scripts.{IsDone, HasEnded};
 ghost use Rattle.lift_lower.specs.Types.{IsInside};
 ghost use Rattle.lift_lower.specs.Val.{value_of};
 
+use crate::bytes::test_block;
 use crate::guest_blocks::ask_block;
 use crate::lifting::lift_result;
 use crate::loading::load;
@@ -144,6 +146,37 @@ pub fn ask_area<G: Guest>(
         };
     };
     Ok(None)
+}
+
+/// Whether a block of the type begins at the address, inside a memory of so many bytes.
+fn is_block(table: &Types, ty: ValType, at: u32, len: u32) -> bool
+    requires { IsInside table.now ty }
+    ensures { (m : List ℕ) → length m ≡ len
+        → IsTrue result ↔ BlockHolds m at (align (closed_type table.now ty)) (size (closed_type table.now ty)) }
+{
+    test_block(
+        len as usize,
+        at as usize,
+        table.align_of(ty),
+        table.size_of(ty),
+    )
+    .is_ok()
+}
+
+/// Whether the result of a call goes where `area` says: into flat values, or to the address of a block of its type's size and alignment
+/// inside the memory. What `take_result` asks for.
+pub fn is_area<G: Guest>(table: &Types, ty: Option<ValType>, area: Option<u32>, guest: &G) -> bool
+    requires { IfSome ty (IsInside table.now) }
+    ensures { IsTrue result ↔ IsAreaIn (result_fields (option_map (closed_type table.now) ty)) (G.memory guest.now).bytes area }
+{
+    let Some(ty) = ty else {
+        return area.is_none();
+    };
+    match (table.kinds_within(&[ty], 1), area) {
+        (Some(_), None) => true,
+        (None, Some(at)) => is_block(table, ty, at, guest.len()),
+        _ => false,
+    }
 }
 
 /// The result of a call that came back with flat values: what they denote, or what stands in the return area;

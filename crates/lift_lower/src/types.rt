@@ -1,6 +1,6 @@
 //! The types of a package as the ABI sees them, with their layouts: names are followed, a tuple is a record,
 //! and an enum, an option or a result is a variant.
-ghost use Rattle.std.specs.Prelude.{◌≡◌, ◌<◌, ◌≤◌, ◌^◌, length, true, false, IfSome, IfNone, OnSome, option_map};
+ghost use Rattle.std.specs.Prelude.{◌≡◌, ◌<◌, ◌≤◌, ◌^◌, ◌↔◌, IsTrue, length, true, false, IfSome, IfNone, OnSome, option_map};
 ghost use Rattle.canonical_abi.specs.Layout.{size, align, flat_kinds, field_kinds, fits_flat};
 ghost use Rattle.canonical_abi.specs.Types.{record_type, record_fields, variant_cases, nth_field, nth_case};
 ghost use Rattle.layout.specs.Layout.{layouts_of};
@@ -15,6 +15,9 @@ use canonical_abi::CoreKind;
 use layout::{Kinds, Layouts, Shape};
 use std::marker::Model;
 use tables::{Resolve, ValType};
+
+/// The most bytes of types side by side, as of a type.
+const MAX_RECORD: usize = 16_777_216;
 
 /// The types of a package, with their layouts.
 #[derive(Drop)]
@@ -154,6 +157,39 @@ impl<'a> Types<'a> {
         }
     }
 
+    /// The size and the alignment of types side by side, as a record of at most 16,777,216 bytes.
+    fn extent_within(&self, types: &[ValType]) -> Option<(usize, usize)>
+        requires { AreAllInside self.now types.now }
+        ensures size { IfSome result (λ x. x.0 ≡ size (record_type (fields_of_types self.now types.now))) }
+        ensures align { IfSome result (λ x. x.1 ≡ align (record_type (fields_of_types self.now types.now))) }
+        ensures small { IfSome result (λ x. x.0 ≤ 16777216) }
+        ensures none { IfNone result (16777216 < size (record_type (fields_of_types self.now types.now))) }
+    {
+        let mut end: usize = 0;
+        let mut align = 1;
+        for index in 0..types.len() {
+            let member = self.align_of(types[index]);
+            end = end.next_multiple_of(member) + self.size_of(types[index]);
+            if end > MAX_RECORD {
+                return None;
+            }
+            align = align.max(member);
+        }
+        let size = end.next_multiple_of(align);
+        if size > MAX_RECORD {
+            return None;
+        }
+        Some((size, align))
+    }
+
+    /// Whether types side by side, as a record, have at most 16,777,216 bytes: what `record_extent` asks for.
+    pub fn fits_record(&self, types: &[ValType]) -> bool
+        requires { AreAllInside self.now types.now }
+        ensures { IsTrue result ↔ (size (record_type (fields_of_types self.now types.now)) ≤ 16777216) }
+    {
+        self.extent_within(types).is_some()
+    }
+
     /// The size and the alignment of types side by side, as a record.
     pub fn record_extent(&self, types: &[ValType]) -> (usize, usize)
         requires inside { AreAllInside self.now types.now }
@@ -161,13 +197,9 @@ impl<'a> Types<'a> {
         ensures size { result.0 ≡ size (record_type (fields_of_types self.now types.now)) }
         ensures align { result.1 ≡ align (record_type (fields_of_types self.now types.now)) }
     {
-        let mut end: usize = 0;
-        let mut align = 1;
-        for index in 0..types.len() {
-            let member = self.align_of(types[index]);
-            end = end.next_multiple_of(member) + self.size_of(types[index]);
-            align = align.max(member);
+        match self.extent_within(types) {
+            Some(extent) => extent,
+            None => unreachable!(),
         }
-        (end.next_multiple_of(align), align)
     }
 }

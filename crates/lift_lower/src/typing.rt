@@ -5,7 +5,8 @@ ghost use Rattle.canonical_abi.specs.Types.{ClosedType, variant_cases, variant_t
 ghost use Rattle.canonical_abi.specs.Values.{HasType, HaveTypes, HasPrimType};
 ghost use Rattle.layout.specs.Layout.{layouts_of};
 ghost use Rattle.tables.specs.Closed.{closed_type, function_type, IsFunction};
-ghost use Rattle.lift_lower.specs.Members.{AreInside, members_fields};
+ghost use Rattle.lift_lower.specs.Crossing.{fields_of_types};
+ghost use Rattle.lift_lower.specs.Members.{AreInside, AreAllInside, members_fields};
 ghost use Rattle.lift_lower.specs.Scalar.{prim_in, value_in};
 ghost use Rattle.lift_lower.specs.Types.{HasShapeIn, IsInside};
 ghost use Rattle.lift_lower.specs.Val.{value_of, variant_value};
@@ -35,7 +36,15 @@ pub fn has_arguments(table: &Types, func: FunctionId, values: &[Val]) -> bool
     // A function's row is the record of its parameters.
     let members = Members::Of(ValType::Id(TypeId(func.0)));
     let count = table.resolve().signature(func).params.len();
-    have_types(table, &members, count, values)
+    members_have_types(table, &members, count, values)
+}
+
+/// Whether these are values of these types, as many as types and each of its type. Takes no memory of the host.
+pub fn have_types(table: &Types, types: &[ValType], values: &[Val]) -> bool
+    requires { AreAllInside table.now types.now }
+    ensures { IsTrue result ↔ HaveTypes (map value_of values.now) (fields_of_types table.now types.now) }
+{
+    members_have_types(table, &Members::Listed(types), types.len(), values)
 }
 
 /// Whether a scalar is of a type of this shape.
@@ -74,7 +83,7 @@ fn is_of(table: &Types, ty: ValType, value: &Val) -> bool
         Val::Record(fields) => match shape {
             Shape::Record(count) => {
                 let members = Members::Of(ty);
-                have_types(table, &members, count, fields.as_slice())
+                members_have_types(table, &members, count, fields.as_slice())
             }
             _ => false,
         },
@@ -109,7 +118,12 @@ fn are_of(table: &Types, element: ValType, items: &[Val]) -> bool
 
 /// Whether there are as many values as members, each of its member's type.
 #[cycle(typing)]
-pub(crate) fn have_types(table: &Types, members: &Members, count: usize, values: &[Val]) -> bool
+pub(crate) fn members_have_types(
+    table: &Types,
+    members: &Members,
+    count: usize,
+    values: &[Val],
+) -> bool
     requires inside { AreInside table.now members.now }
     requires counted { field_count (members_fields table.now members.now) ≡ count }
     ensures { IsTrue result ↔ HaveTypes (map value_of values.now) (members_fields table.now members.now) }

@@ -1,5 +1,5 @@
 //! A host's own memory, lent for one way of a call, with the blocks that its allocator has granted before.
-ghost use Rattle.std.specs.Prelude.{◌≡◌, ◌<◌, IsTrue, length, drop};
+ghost use Rattle.std.specs.Prelude.{◌≡◌, ◌<◌, ◌≤◌, IsTrue, length, drop};
 ghost use Rattle.memory.specs.Blocks.{are_good};
 ghost use Rattle.memory.specs.Lent.{lent, LentAllocates, LentReleases};
 
@@ -14,6 +14,7 @@ pub struct Lent<'a> {
     blocks: &'a [Block],
     /// How many blocks were handed out.
     next: usize,
+    ghost some: { next ≤ length blocks.now },
     ghost limited: { length bytes.now < 4294967296 },
     ghost good: { IsTrue (are_good (length bytes.now) (drop next blocks.now)) },
 }
@@ -32,6 +33,14 @@ impl<'a> Lent<'a> {
             blocks,
             next: 0,
         }
+    }
+
+    /// The blocks that were not handed out.
+    pub fn left(&self) -> &[Block]
+        ensures { ⟦<Lent<'a> as Guest>⟧.memory self.now
+            ≡ lent self.now.bytes.ghost_name self.now.bytes.now result.now }
+    {
+        &self.blocks[self.next..]
     }
 }
 

@@ -15,7 +15,7 @@ use Rattle.package_adding.specs.declared.error.AddError.TheVariants as add
 use Rattle.package_sets.specs.Attached.{HasRoom}
 use Rattle.package_sets.specs.declared.error.AttachError.TheVariants as attach
 use Rattle.package_text.specs.Writable.{IsWritable}
-use Rattle.resolve.specs.Resolves.{file_fits}
+use Rattle.tree_meaning.specs.Resolves.{file_fits}
 use Rattle.tables.specs.declared.error.ResolveError.TheVariants as cause
 use Rattle.tables.specs.declared.tables.Resolve.{Resolve}
 use Rattle.wit_syntax.specs.Syntax.{File}

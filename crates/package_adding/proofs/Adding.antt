@@ -11,10 +11,10 @@ use Rattle.package_sets.specs.SetForm.{IsInSetForm}
 use Rattle.package_sets.specs.declared.error.AttachError.{AttachError}
 use Rattle.package_sets.specs.declared.error.AttachError.TheVariants as attach
 use Rattle.package_sets.proofs.Lists.{behind-get}
-use Rattle.resolve.specs.Declarations.{package_named}
-use Rattle.resolve.specs.ImportForms.{IsNamedBehind, AreReachedFrom}
-use Rattle.resolve.specs.Imports.{imports_of}
-use Rattle.resolve.specs.Resolves.{HasNoFaultsOf}
+use Rattle.tree_meaning.specs.Declarations.{package_named}
+use Rattle.tree_meaning.specs.ImportForms.{IsNamedBehind, AreReachedFrom}
+use Rattle.tree_meaning.specs.Imports.{imports_of}
+use Rattle.tree_meaning.specs.Resolves.{HasNoFaultsOf}
 use Rattle.tables.specs.PackageNames.{PackageParts}
 use Rattle.tables.specs.declared.error.ResolveError.{ResolveError}
 use Rattle.tables.specs.declared.error.ResolveError.TheVariants as cause

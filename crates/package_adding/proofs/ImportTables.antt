@@ -24,9 +24,9 @@ use Rattle.package_text.specs.Imports.{AreImportsOf}
 use Rattle.package_text.specs.Tree.{own_interfaces, own_parts}
 use Rattle.package_text.specs.Writable.{package_labels}
 use Rattle.package_text.proofs.Begins.{begins}
-use Rattle.resolve.specs.Imports.{nameless}
-use Rattle.resolve.specs.Resolves.{IsClosedPackageOf}
-use Rattle.resolve.proofs.ClosedForms.{last-end}
+use Rattle.tree_meaning.specs.Imports.{nameless}
+use Rattle.tree_meaning.specs.Resolves.{IsClosedPackageOf}
+use Rattle.tree_forms.proofs.ClosedForms.{last-end}
 use Rattle.package_adding.proofs.TreeBeginning.{begins-with}
 use Rattle.tables.specs.PackageNames.{PackageParts}
 use Rattle.tables.specs.declared.tables.Definition.{Definition}

@@ -22,11 +22,11 @@ use Rattle.package_sets.specs.SetForm.{HasNamesApart, IsInSetForm}
 use Rattle.package_sets.proofs.Closing.{kept-from}
 use Rattle.package_sets.proofs.ImportPackages.{kept-fewer}
 use Rattle.package_sets.proofs.Lists.{map-unget, get-contains}
-use Rattle.resolve.specs.Declarations.{interfaces, worlds, package_named}
-use Rattle.resolve.specs.ImportForms.{NamesImport, IsNamedBehind, AreReachedFrom}
-use Rattle.resolve.specs.Imports.{Import, Imports, AreApart, HasImport, nameless, no_import, import_at, import_of, interfaces_of, imports_of}
-use Rattle.resolve.specs.Resolves.{is_of_interfaces, AreImports, HasNoFaultsOf, HasKnownNamesOf, IsKnownUseOf, IsKnownIn, IsKnownItemOf, IsKnownWorldOf}
-use Rattle.resolve.proofs.Imported.{nowhere, imports-length, imports-at}
+use Rattle.tree_meaning.specs.Declarations.{interfaces, worlds, package_named}
+use Rattle.tree_meaning.specs.ImportForms.{NamesImport, IsNamedBehind, AreReachedFrom}
+use Rattle.tree_meaning.specs.Imports.{Import, Imports, AreApart, HasImport, nameless, no_import, import_at, import_of, interfaces_of, imports_of}
+use Rattle.tree_meaning.specs.Resolves.{is_of_interfaces, AreImports, HasNoFaultsOf, HasKnownNamesOf, IsKnownUseOf, IsKnownIn, IsKnownItemOf, IsKnownWorldOf}
+use Rattle.tree_meaning.proofs.Imported.{nowhere, imports-length, imports-at}
 use Rattle.tables.proofs.Earlier.{grouped-at}
 use Rattle.tables.proofs.Rows.{split, both}
 use Rattle.tables.specs.Names.{full_name, full_name_in}

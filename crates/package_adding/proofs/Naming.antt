@@ -9,10 +9,10 @@ use Rattle.package_form.specs.Closed.{is_same_package}
 use Rattle.package_form.proofs.Lists.{contains-here, contains-later, contains-map, contains-unmap, contains-flat}
 use Rattle.package_form.proofs.OwnPackage.{package-is, same-itself}
 use Rattle.package_sets.proofs.Lists.{map-get, contains-unflat}
-use Rattle.resolve.specs.Declarations.{UsedItem, path_package, path_interface, used_item, entry_uses, interface_tree, interface_of, InterfaceTree, WorldTree, ForeignNamed, item_tree, world_tree, world_of}
-use Rattle.resolve.specs.Imports.{nameless}
-use Rattle.resolve.proofs.FileEntries.{found}
-use Rattle.resolve.proofs.PathNames.{any-there, any-not}
+use Rattle.tree_meaning.specs.Declarations.{UsedItem, path_package, path_interface, used_item, entry_uses, interface_tree, interface_of, InterfaceTree, WorldTree, ForeignNamed, item_tree, world_tree, world_of}
+use Rattle.tree_meaning.specs.Imports.{nameless}
+use Rattle.tree_meaning.proofs.FileEntries.{found}
+use Rattle.tree_meaning.proofs.PathNames.{any-there, any-not}
 use Rattle.tables.proofs.Rows.{split, both}
 use Rattle.tables.specs.PackageNames.{PackageParts}
 use Rattle.tables.specs.declared.tables.Resolve.{Resolve}

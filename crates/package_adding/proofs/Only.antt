@@ -12,9 +12,9 @@ use Rattle.package_sets.specs.declared.error.AttachError.{AttachError}
 use Rattle.package_sets.specs.declared.error.AttachError.TheVariants as attach
 use Rattle.package_sets.proofs.Lists.{behind-get}
 use Rattle.package_sets.proofs.SameTables.{same-tables, same-is-prop}
-use Rattle.resolve.specs.Declarations.{package_named}
-use Rattle.resolve.specs.Imports.{imports_of}
-use Rattle.resolve.specs.Resolves.{file_fits, HasNoFaultsOf, IsClosedPackageOf, HasClosedPackage}
+use Rattle.tree_meaning.specs.Declarations.{package_named}
+use Rattle.tree_meaning.specs.Imports.{imports_of}
+use Rattle.tree_meaning.specs.Resolves.{file_fits, HasNoFaultsOf, IsClosedPackageOf, HasClosedPackage}
 use Rattle.tables.specs.PackageNames.{PackageParts}
 use Rattle.tables.specs.Same.{IsSamePackage}
 use Rattle.tables.specs.declared.error.ResolveError.{ResolveError}

@@ -24,24 +24,25 @@ use Rattle.package_sets.proofs.Beginning.{own-is, begins-count, begins-imports}
 use Rattle.package_sets.proofs.Behind.{own-behind}
 use Rattle.package_sets.proofs.Lists.{map-get, front-get, contains-unflat}
 use Rattle.package_sets.proofs.Renaming.{definitions-append}
-use Rattle.resolve.specs.Declarations.{UsedItem, InterfaceTree, ItemTree, InterfaceNamed, ForeignNamed, FunctionOf, WorldTree, interfaces, worlds, full_label, full_use, full_item, full_interface, full_interfaces, full_world, full_worlds, interface_at, no_interface, interface_name, interface_names, package_named, use_interface}
-use Rattle.resolve.specs.ImportForms.{UsesImport, HasImportItem}
-use Rattle.resolve.specs.Imports.{Import, HasImport, nameless, no_import, import_at, import_of, interfaces_of, imports_of}
-use Rattle.resolve.specs.Resolved.{use_meaning, type_meaning, function_meaning, in_order, interface_meaning, no_type, direction_meaning, item_meaning, world_meaning}
-use Rattle.resolve.specs.Resolves.{uses_of_interface, interface_uses, names_in_order, is_of_interfaces, AreImports, interfaces_behind, IsKnownIn, IsKnownUseOf, HasKnownNamesOf, IsKnownItemOf, IsKnownWorldOf, HasNoFaultsOf, IsClosedPackageOf}
-use Rattle.resolve.proofs.AllDefinitions.{all_of}
-use Rattle.resolve.proofs.Apart.{only}
-use Rattle.resolve.proofs.Blocks.{references-append, used-inner}
-use Rattle.resolve.proofs.ClosedForms.{last-end}
-use Rattle.resolve.proofs.Forming.{IsTable}
-use Rattle.resolve.proofs.FullNames.{interface-full}
-use Rattle.resolve.proofs.Homes.{IsPlace}
-use Rattle.resolve.proofs.Imported.{nowhere, get_or-append-right, imports-length, imports-at, import-within}
-use Rattle.resolve.proofs.NamePlaces.{own-some}
-use Rattle.resolve.proofs.Packaging.{ordered-has}
-use Rattle.resolve.proofs.Placing.{among-at}
-use Rattle.resolve.proofs.Reaching.{defined-by, item-reaches}
-use Rattle.resolve.proofs.Trees.{definitions-within}
+use Rattle.tree_meaning.specs.Declarations.{UsedItem, InterfaceTree, ItemTree, InterfaceNamed, ForeignNamed, FunctionOf, WorldTree, interfaces, worlds, full_label, full_use, full_item, full_interface, full_interfaces, full_world, full_worlds, interface_at, no_interface, interface_name, interface_names, package_named, use_interface}
+use Rattle.tree_meaning.specs.ImportForms.{UsesImport, HasImportItem}
+use Rattle.tree_meaning.specs.Imports.{Import, HasImport, nameless, no_import, import_at, import_of, interfaces_of, imports_of}
+use Rattle.tree_meaning.specs.Resolved.{use_meaning, type_meaning, function_meaning, in_order, interface_meaning, no_type, direction_meaning, item_meaning, world_meaning}
+use Rattle.tree_meaning.specs.Resolves.{uses_of_interface, interface_uses, names_in_order, is_of_interfaces, AreImports, interfaces_behind, IsKnownIn, IsKnownUseOf, HasKnownNamesOf, IsKnownItemOf, IsKnownWorldOf, HasNoFaultsOf, IsClosedPackageOf}
+use Rattle.tree_meaning.proofs.AllDefinitions.{all_of}
+use Rattle.tree_meaning.proofs.Apart.{only}
+use Rattle.tree_meaning.proofs.TableRows.{references-append}
+use Rattle.tree_meaning.proofs.Owning.{used-inner}
+use Rattle.tree_forms.proofs.ClosedForms.{last-end}
+use Rattle.tree_forms.proofs.Forming.{IsTable}
+use Rattle.tree_meaning.proofs.FullNames.{interface-full}
+use Rattle.tree_forms.proofs.Homes.{IsPlace}
+use Rattle.tree_meaning.proofs.Imported.{nowhere, get_or-append-right, imports-length, imports-at, import-within}
+use Rattle.tree_forms.proofs.NamePlaces.{own-some}
+use Rattle.tree_meaning.proofs.OrderedNames.{ordered-has}
+use Rattle.tree_meaning.proofs.Placing.{among-at}
+use Rattle.tree_forms.proofs.Reaching.{defined-by, item-reaches}
+use Rattle.tree_meaning.proofs.Trees.{definitions-within}
 use Rattle.tables.specs.Names.{full_name, full_name_in, world_name}
 use Rattle.tables.specs.Package.{Tree, Reference, Key, IsUse, NamedDefinition, WithInterface, WorldMeaning, interface_names as names_in, trees as trees_in, worlds as worlds_in, definitions, definition_of, definitions_from, references, reference, item_meaning as meaning_of_item, world_meaning as meaning_in}
 use Rattle.tables.specs.PackageNames.{PackageParts, own_name}

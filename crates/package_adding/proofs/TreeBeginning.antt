@@ -2,8 +2,8 @@
 use Rattle.std.proofs.Common.{ap, length, sym}
 use Rattle.package_form.proofs.Lists.{contains-unmap}
 use Rattle.package_sets.specs.Imports.{BeginsWith}
-use Rattle.resolve.specs.Declarations.{package_named}
-use Rattle.resolve.specs.Resolves.{in_package, IsClosedPackageOf}
+use Rattle.tree_meaning.specs.Declarations.{package_named}
+use Rattle.tree_meaning.specs.Resolves.{in_package, IsClosedPackageOf}
 use Rattle.tables.specs.declared.tables.Interface.{Interface}
 use Rattle.tables.specs.declared.tables.Resolve.{Resolve}
 use Rattle.wit_syntax.specs.Syntax.{File}

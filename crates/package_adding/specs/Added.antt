@@ -9,9 +9,9 @@ use Rattle.package_sets.specs.declared.error.AttachError.{AttachError}
 use Rattle.package_sets.specs.declared.error.AttachError.TheVariants as attach
 use Rattle.tables.specs.declared.tables.Resolve.{Resolve}
 use Rattle.package_sets.specs.Imports.{IsImportsOf}
-use Rattle.resolve.specs.Declarations.{package_named}
-use Rattle.resolve.specs.Imports.{imports_of}
-use Rattle.resolve.specs.Resolves.{HasEntries, HasNoFaultsOf, IsClosedPackageOf, ResolveRefusesOf}
+use Rattle.tree_meaning.specs.Declarations.{package_named}
+use Rattle.tree_meaning.specs.Imports.{imports_of}
+use Rattle.tree_meaning.specs.Resolves.{HasEntries, HasNoFaultsOf, IsClosedPackageOf, ResolveRefusesOf}
 use Rattle.tables.specs.declared.error.ResolveError.{ResolveError}
 use Rattle.tables.specs.declared.error.ResolveError.TheVariants as cause
 use Rattle.wit_syntax.specs.Syntax.{File}

@@ -4,8 +4,8 @@ use Rattle.std.specs.Borrow.{Bor}
 use Rattle.std.specs.List.{list_any}
 use Rattle.std.specs.Str.{bytes_eq}
 use Rattle.package_form.specs.Closed.{is_same_package}
-use Rattle.resolve.specs.ImportForms.{UsesImport, HasImportItem}
-use Rattle.resolve.specs.Imports.{nameless}
+use Rattle.tree_meaning.specs.ImportForms.{UsesImport, HasImportItem}
+use Rattle.tree_meaning.specs.Imports.{nameless}
 use Rattle.tables.specs.PackageNames.{PackageParts}
 use Rattle.tables.specs.declared.tables.Interface.{Interface}
 use Rattle.tables.specs.declared.tables.Resolve.{Resolve}

@@ -11,10 +11,10 @@ ghost use Rattle.package_sets.specs.declared.error.AttachError.TheVariants.{SetL
 ghost use Rattle.package_adding.specs.Added.{AddsComponent, ComponentNotAdded, IsRefusedBehind, AddsTree, IsNewName, HasName, TreeNotAdded, IsWantOfMemory};
 ghost use Rattle.package_adding.specs.BehindImports.{IsBehindImports};
 ghost use Rattle.package_text.specs.Writable.{IsWritable};
-ghost use Rattle.resolve.specs.Resolves.{file_fits};
+ghost use Rattle.tree_meaning.specs.Resolves.{file_fits};
 ghost use Rattle.tables.specs.Same.{IsSamePackage};
 ghost use Rattle.tables.specs.declared.tables.Resolve.{Resolve};
-ghost use Rattle.resolve.specs.Declarations.{package_named};
+ghost use Rattle.tree_meaning.specs.Declarations.{package_named};
 ghost use Rattle.wit_syntax.specs.FullNames.{has_full_names};
 ghost use Rattle.wit_syntax.specs.View.{file_view};
 

@@ -164,7 +164,7 @@ inner-not-used (kind.Variant cs) t h e = cc
 inner-not-used (kind.Enum ns) t h e = cc
 inner-not-used (kind.Flags ns) t h e = cc
 
-used-named : (rows : List Definition) (unused : List ℕ) → Leaves rows unused → (k : ℕ) (d : Definition) (t : TypeId) → slice_get rows k ≡ Some d → used_in d ≡ Some t → is_unnamed d ≡ true → ⊥
+pub used-named : (rows : List Definition) (unused : List ℕ) → Leaves rows unused → (k : ℕ) (d : Definition) (t : TypeId) → slice_get rows k ≡ Some d → used_in d ≡ Some t → is_unnamed d ≡ true → ⊥
 used-named _ _ begin k d t e u n = cc
 used-named _ _ (inner rows unused kk i l) k d t e u n = elim (push-get rows (inner_row kk) d k e) [
   | inl g ↦ used-named rows (unused ++ parts rows kk) l k d t g u n
@@ -230,7 +230,7 @@ earlier-not rows i t w h q = by (slice_get rows t.0) refl h
         name None g y = true≢false (sym y)
         name (Some x) g y = named-not rows t.0 x d.kind d.name w e g q
 
-nameless-unnamed : (rows : List Definition) (t : TypeId) → is_nameless rows t ≡ true → is_unnamed_row (slice_get rows t.0) ≡ true
+pub nameless-unnamed : (rows : List Definition) (t : TypeId) → is_nameless rows t ≡ true → is_unnamed_row (slice_get rows t.0) ≡ true
 nameless-unnamed rows t h = by (slice_get rows t.0) refl h
   where
     by : (o : Option Definition) → slice_get rows t.0 ≡ o → is_nameless_type (type_of o) ≡ true → is_unnamed_row (slice_get rows t.0) ≡ true

@@ -1,5 +1,5 @@
--- An interface that is imported was given, or a used name of another stands for a type of it.
-use Rattle.std.proofs.Common.{◌≡◌, ◌<◌, ◌⊎◌, inl, inr, ℕ, zero, suc, ◌+◌, Bool, true, false, not, List, [], ◌∷◌, length, get_or, slice_get, Option, None, Some, refl, ap, sym, subst, ◌∙◌, arith, true≢false, eqb-true}
+-- An interface that is reached is one where reaching starts, or a used name of another stands for a type of it.
+use Rattle.std.proofs.Common.{◌≡◌, ◌<◌, ◌⊎◌, inl, inr, ℕ, ◌+◌, Bool, true, false, not, List, [], ◌∷◌, length, get_or, slice_get, Option, None, Some, refl, ap, sym, subst, ◌∙◌, arith, true≢false, eqb-true}
 use Rattle.std.specs.Prelude.{Contains, flat_map, is_some}
 use Rattle.std.specs.Option.{option_map}
 use Rattle.std.specs.List.{list_all}
@@ -7,8 +7,8 @@ use Rattle.std.proofs.lemmas.List.{get_or_default}
 use Rattle.std.proofs.lemmas.Option.{slice_get_within}
 use Rattle.package_form.specs.Postfix.{is_unnamed_row, IsPostfix}
 use Rattle.package_form.specs.References.{row_references}
-use Rattle.package_form.specs.Reached.{used_by, used_in, name_of, name_at, interface_of, reached_by_row, reached}
-use Rattle.package_form.specs.Form.{is_own_name, is_own_type, is_own, is_earlier_name, is_earlier_type, is_earlier, uses_earlier, is_owned, is_local}
+use Rattle.package_form.specs.Reached.{used_by, used_in, name_of, name_at, interface_of, reached_by_row, reached_by_world, reached}
+use Rattle.package_form.specs.Form.{is_own_name, is_own_type, is_own, is_earlier_name, is_earlier_type, is_earlier, uses_earlier, is_owned, is_local, is_nameless, is_of_world, is_world_row}
 use Rattle.package_form.proofs.Lists.{contains-here, contains-left, contains-unmap, contains-flat}
 use Rattle.tables.specs.Tables.{type_of}
 use Rattle.tables.proofs.Rows.{split}
@@ -22,30 +22,20 @@ use Rattle.tables.specs.declared.tables.Owner.TheVariants as owner
 use Rattle.tables.specs.declared.tables.Definition.{Definition}
 use Rattle.tables.specs.declared.tables.Definition.TheVariants as row
 use Rattle.tables.specs.declared.tables.Resolve.{Resolve}
-use Rattle.package_sets.specs.Imports.{IsImported}
 use Rattle.package_sets.specs.Moved.{Renaming, put_id, put_kind, put_name, put_row}
 use Rattle.package_sets.specs.Owners.{owners, names}
-use Rattle.package_sets.specs.Part.{IsTableOf, of_world}
+use Rattle.package_sets.specs.Part.{IsPart, IsTableOf, of_world}
 use Rattle.package_sets.specs.Places.{kept, place}
-use Rattle.package_sets.specs.Reaches.{OfInterfaces, IsStart, Reaches, of_start, of_row, owner_at, is_marked, padded}
+use Rattle.package_sets.specs.Reaches.{Start, IsStart, Reaches, of_start, of_row, owner_at, is_marked, AreReached}
 use Rattle.package_sets.specs.Renamed.{renaming}
 use Rattle.package_sets.specs.Set.{IsSet}
 use Rattle.package_sets.specs.declared.moved.Moved.{Moved}
-use Rattle.package_sets.proofs.Apart.{named-as, used-earlier, part-owner}
+use Rattle.package_sets.proofs.Apart.{named-as, used-earlier, used-named, nameless-unnamed, part-owner}
 use Rattle.package_sets.proofs.Belonging.{owner-some, belongs, IsOfInterface, IsOfWorld}
 use Rattle.package_sets.proofs.Keeping.{kept-at}
 use Rattle.package_sets.proofs.Kept.{list-at}
 use Rattle.package_sets.proofs.Lists.{map-get, contains-get, get-contains}
-use Rattle.package_sets.proofs.Parts.{interfaces-part, none-reached}
 use Rattle.package_sets.proofs.Restricting.{mark-at}
-
--- what isn't given has no mark
-given-there : (n : ℕ) (bs : List Bool) (j : ℕ) → j < n → get_or (padded n bs) j true ≡ true → get_or bs j false ≡ true
-given-there zero bs j l h = absurd (omega (arith, l))
-given-there (suc n) [] zero l h = h
-given-there (suc n) [] (suc j) l h = given-there n [] j (omega (arith, l)) h
-given-there (suc n) (b ∷ bs) zero l h = h
-given-there (suc n) (b ∷ bs) (suc j) l h = given-there n bs j (omega (arith, l)) h
 
 -- a used name stays one
 put-used-by : (to : Renaming) (k : TypeDefKind) (u : TypeId) → used_by k ≡ Some u → used_by (put_kind to k) ≡ Some (put_id to u)
@@ -108,7 +98,29 @@ own-row rows x u h = by (slice_get rows u.0) refl h
             let same : m.interface.0 ≡ x = eqb-true m.interface.0 x y in
             inr (name-owned rows u.0 (record { type = d; name = m; stands = e; named = g }) ∙ ap (λ (n : ℕ). Some (owner.Interface (record { 0 = n }))) same)
 
-module _ (s : Resolve) (packages interfaces : List Bool) (to : Moved) (n : IsImported s packages interfaces to) (r : Resolve) (t : IsTableOf s to r) (set : IsSet s) (postfix : IsPostfix s.definitions) where
+-- a row of a world names no row of an interface
+of-world-alone : (s : Resolve) → IsPostfix s.definitions → (k b j : ℕ) (d : Definition) (u : TypeId) → slice_get s.definitions k ≡ Some d → is_world_row s.definitions b d ≡ true → get_or (owners s.definitions) k None ≡ of_world b
+    → Contains (names d) u → get_or (owners s.definitions) u.0 None ≡ Some (owner.Interface (record { 0 = j })) → ⊥
+of-world-alone s postfix k b j d u e local owned c of = by (named-as d u c)
+  where
+    p : (is_of_world b d ≡ true) × (list_all (is_nameless s.definitions) (row_references d) ≡ true)
+    p = split (is_of_world b d) (list_all (is_nameless s.definitions) (row_references d)) local
+
+    used : (x : Definition) → slice_get s.definitions k ≡ Some x → is_of_world b x ≡ true → used_in x ≡ Some u → ⊥
+    used (row.Function f) f-at y z = cc
+    used (row.Type x) x-at y z = used-named s.definitions [] postfix k (row.Type x) u x-at z y
+
+    by : Contains (row_references d) u ⊎ (used_in d ≡ Some u) → ⊥
+    by (inr z) = used d e p.0 z
+    by (inl z) =
+        let at = contains-get (row_references d) u z in
+        let unnamed = nameless-unnamed s.definitions u (list-at (is_nameless s.definitions) (row_references d) at.0 u p.1 at.1) in
+        let is : of_world b ≡ Some (owner.Interface (record { 0 = j })) = sym owned ∙ (sym (part-owner s.definitions postfix s.earlier k d u e z unnamed) ∙ of) in
+        cc
+
+-- From where reaching starts: an interface of which it starts is one that is reached by what is kept, or given.
+module _ (s : Resolve) (from : Start) (to : Moved) (p : IsPart s to) (a : AreReached s from p.marks) (r : Resolve) (t : IsTableOf s to r) (set : IsSet s) (postfix : IsPostfix s.definitions) (Given : ℕ → Type 0)
+    (starts : (j : ℕ) → j < length s.interfaces → IsStart s from (Some (owner.Interface (record { 0 = j }))) → Contains (reached r.definitions r.worlds) (place to.interfaces j) ⊎ Given j) where
   abbrev os : List (Option Owner)
   os = owners s.definitions
 
@@ -116,8 +128,8 @@ module _ (s : Resolve) (packages interfaces : List Bool) (to : Moved) (n : IsImp
   of_interface j = Some (owner.Interface (record { 0 = j }))
 
   -- what is reached is kept
-  row-kept : (k j : ℕ) → k < length s.definitions → get_or os k None ≡ of_interface j → Reaches s (OfInterfaces interfaces) (of_interface j) → get_or to.rows k false ≡ true
-  row-kept k j l e h = mark-at s to (interfaces-part s packages interfaces to n) k l ∙ (ap (is_marked n.marks) e ∙ n.are_reached.complete (of_interface j) h)
+  row-kept : (k j : ℕ) → k < length s.definitions → get_or os k None ≡ of_interface j → Reaches s from (of_interface j) → get_or to.rows k false ≡ true
+  row-kept k j l e h = mark-at s to p k l ∙ (ap (is_marked p.marks) e ∙ a.complete (of_interface j) h)
 
   row-there : (k : ℕ) (d : Definition) → slice_get s.definitions k ≡ Some d → get_or to.rows k false ≡ true → slice_get r.definitions (place to.rows k) ≡ Some (put_row (renaming to) d)
   row-there k d e h =
@@ -126,9 +138,9 @@ module _ (s : Resolve) (packages interfaces : List Bool) (to : Moved) (n : IsImp
 
   -- a used name that is kept reaches what it did
   use-reaches : (k : ℕ) (d : Definition) (u : TypeId) (h : HasName s.definitions u.0) → slice_get s.definitions k ≡ Some d → used_in d ≡ Some u → get_or to.rows k false ≡ true → get_or to.rows u.0 false ≡ true
-      → Contains (reached r.definitions []) (place to.interfaces h.name.interface.0)
+      → Contains (reached r.definitions r.worlds) (place to.interfaces h.name.interface.0)
   use-reaches k d u h e q kept named =
-      contains-left (flat_map (reached_by_row r.definitions) r.definitions) [] (place to.interfaces h.name.interface.0)
+      contains-left (flat_map (reached_by_row r.definitions) r.definitions) (flat_map reached_by_world r.worlds) (place to.interfaces h.name.interface.0)
       (contains-flat (reached_by_row r.definitions) r.definitions (put_row (renaming to) d) (place to.interfaces h.name.interface.0)
       (get-contains r.definitions (place to.rows k) (put_row (renaming to) d) (row-there k d e kept))
       (subst (λ (ns : List ℕ). Contains ns (place to.interfaces h.name.interface.0)) (sym is) (contains-here (place to.interfaces h.name.interface.0) [])))
@@ -140,44 +152,44 @@ module _ (s : Resolve) (packages interfaces : List Bool) (to : Moved) (n : IsImp
           ∙ ap (λ (o : Option TypeName). interface_of (option_map (put_name (renaming to)) o)) h.named)
 
   abbrev IsCited : ℕ → Type 0
-  IsCited j = Contains (reached r.definitions []) (place to.interfaces j) ⊎ (get_or interfaces j false ≡ true)
+  IsCited j = Contains (reached r.definitions r.worlds) (place to.interfaces j) ⊎ Given j
 
   -- a row that is reached and names one of the interface: it's of the interface itself, or a used name
   row-cites : (k : ℕ) (d : Definition) (j x : ℕ) (u : TypeId) → slice_get s.definitions k ≡ Some d → is_local s.definitions x d ≡ true → get_or os k None ≡ of_interface x
-      → Reaches s (OfInterfaces interfaces) (of_interface x) → Reaches s (OfInterfaces interfaces) (of_interface j) → Contains (names d) u → get_or os u.0 None ≡ of_interface j
+      → Reaches s from (of_interface x) → Reaches s from (of_interface j) → Contains (names d) u → get_or os u.0 None ≡ of_interface j
       → (get_or os k None ≡ of_interface j → IsCited j) → IsCited j
   row-cites k d j x u e local owned h there c of rest = by (named-as d u c)
     where
-      p : (is_owned s.definitions x d ≡ true) × (list_all (is_own s.definitions x) (row_references d) ≡ true)
-      p = split (is_owned s.definitions x d) (list_all (is_own s.definitions x) (row_references d)) local
+      both : (is_owned s.definitions x d ≡ true) × (list_all (is_own s.definitions x) (row_references d) ≡ true)
+      both = split (is_owned s.definitions x d) (list_all (is_own s.definitions x) (row_references d)) local
 
       by : Contains (row_references d) u ⊎ (used_in d ≡ Some u) → IsCited j
       by (inl z) =
           let at = contains-get (row_references d) u z in
-          elim (own-row s.definitions x u (list-at (is_own s.definitions x) (row_references d) at.0 u p.1 at.1)) [
+          elim (own-row s.definitions x u (list-at (is_own s.definitions x) (row_references d) at.0 u both.1 at.1)) [
             | inl m ↦ rest (sym (part-owner s.definitions postfix s.earlier k d u e z m) ∙ of)
             | inr m ↦ rest (owned ∙ (sym m ∙ of))
           ]
       by (inr z) =
-          let name = use-named s.definitions x d u p.0 z in
+          let name = use-named s.definitions x d u both.0 z in
           let is : Some (owner.Interface name.name.interface) ≡ of_interface j = sym (name-owned s.definitions u.0 name) ∙ of in
           let same : name.name.interface.0 ≡ j = cc in
-          inl (subst (λ (m : ℕ). Contains (reached r.definitions []) (place to.interfaces m)) same (use-reaches k d u name e z (row-kept k x (slice_get_within s.definitions k d e) owned h) (row-kept u.0 j (slice_get_within s.definitions u.0 (row.Type name.type) name.stands) of there)))
+          inl (subst (λ (m : ℕ). Contains (reached r.definitions r.worlds) (place to.interfaces m)) same (use-reaches k d u name e z (row-kept k x (slice_get_within s.definitions k d e) owned h) (row-kept u.0 j (slice_get_within s.definitions u.0 (row.Type name.type) name.stands) of there)))
 
-  cites : (o : Option Owner) → Reaches s (OfInterfaces interfaces) o → (j : ℕ) → o ≡ of_interface j → j < length s.interfaces → IsCited j
-  cites o (of_start _ h) j q l = inr (given-there (length s.interfaces) interfaces j l (subst (IsStart s (OfInterfaces interfaces)) q h))
+  cites : (o : Option Owner) → Reaches s from o → (j : ℕ) → o ≡ of_interface j → j < length s.interfaces → IsCited j
+  cites o (of_start _ h) j q l = starts j l (subst (IsStart s from) q h)
   cites o (of_row k d _ e h c) j q l = by (λ g. cites (get_or os k None) h j g l) (belongs s.definitions 0 0 s.interfaces 0 s.worlds set.stands k d (omega arith) e)
     where
-      by : (get_or os k None ≡ of_interface j → IsCited j) → IsOfInterface s.definitions 0 (0 + length s.interfaces) k d ⊎ IsOfWorld s.definitions 0 (0 + length s.worlds) k d → IsCited j
-      by rest (inl b) =
-          let u = contains-unmap (owner_at os) (names d) o c in
-          row-cites k d j b.interface u.0 e b.local b.owned (subst (Reaches s (OfInterfaces interfaces)) b.owned h) (subst (Reaches s (OfInterfaces interfaces)) q (of_row k d o e h c)) u.1 (u.2 ∙ q) rest
-      by rest (inr b) =
-          absurd (none-reached s packages interfaces to n set.apart b.world (omega (arith, b.ends)) (n.are_reached.complete (of_world b.world) (subst (Reaches s (OfInterfaces interfaces)) b.owned h)))
+      u : (x : TypeId) × Contains (names d) x × (owner_at os x ≡ o)
+      u = contains-unmap (owner_at os) (names d) o c
 
-  -- an interface that is kept was given, or a used name reaches it
+      by : (get_or os k None ≡ of_interface j → IsCited j) → IsOfInterface s.definitions 0 (0 + length s.interfaces) k d ⊎ IsOfWorld s.definitions 0 (0 + length s.worlds) k d → IsCited j
+      by rest (inl b) = row-cites k d j b.interface u.0 e b.local b.owned (subst (Reaches s from) b.owned h) (subst (Reaches s from) q (of_row k d o e h c)) u.1 (u.2 ∙ q) rest
+      by rest (inr b) = absurd (of-world-alone s postfix k b.world j d u.0 e b.local b.owned u.1 (u.2 ∙ q))
+
+  -- an interface that is kept was given, or what is kept reaches it
   pub kept-cited : (j : ℕ) → j < length s.interfaces → get_or to.interfaces j false ≡ true → IsCited j
-  kept-cited j l h = cites (of_interface j) (n.are_reached.sound (of_interface j) marked) j refl l
+  kept-cited j l h = cites (of_interface j) (a.sound (of_interface j) marked) j refl l
     where
-      marked : is_marked n.marks (of_interface j) ≡ true
-      marked = get_or_default n.marks.interfaces j true false (omega (arith, l, n.are_reached.count)) ∙ (ap (λ (bs : List Bool). get_or bs j false) (sym n.interfaces_are) ∙ h)
+      marked : is_marked p.marks (of_interface j) ≡ true
+      marked = get_or_default p.marks.interfaces j true false (omega (arith, l, p.count)) ∙ (ap (λ (bs : List Bool). get_or bs j false) (sym p.interfaces_are) ∙ h)

@@ -1,4 +1,4 @@
--- The packages of what is imported from a set.
+-- The packages of what is kept of a set.
 use Rattle.std.proofs.Common.{◌≡◌, ◌≤◌, ◌<◌, ◌⊎◌, inl, inr, ℕ, zero, suc, ◌+◌, Bool, true, false, not, ◌||◌, ◌&&◌, nat_le, nat_lt, List, [], ◌∷◌, length, get_or, slice_get, Some, refl, ap, sym, subst, ◌∙◌, arith, true≢false, IsTrue}
 use Rattle.std.specs.List.{list_all, list_any}
 use Rattle.std.proofs.lemmas.Bool.{leb-true, le-leb, ltb-true}
@@ -15,7 +15,6 @@ use Rattle.package_sets.specs.Places.{kept, place}
 use Rattle.package_sets.specs.Renamed.{renaming}
 use Rattle.package_sets.specs.Moved.{put_interface}
 use Rattle.package_sets.specs.Restricted.{IsReachedIn}
-use Rattle.package_sets.specs.Imports.{IsImported}
 use Rattle.package_sets.specs.Part.{IsPart, IsTableOf}
 use Rattle.package_sets.specs.declared.moved.Moved.{Moved}
 use Rattle.package_sets.proofs.Lists.{map-get, not-is}
@@ -87,8 +86,8 @@ grouped-first count first (x ∷ is) g k i e = by k e (λ h. grouped-first count
     by zero e r = let same : x ≡ i = cc in subst (λ (y : Interface). first ≤ y.«package».0) same low
     by (suc m) e r = omega (arith, low, r m e)
 
-pub each-package : (last first next : ℕ) (is : List Interface) → are_grouped last first is ≡ true → next ≤ first + 1 → HasEach last next is → has_each_package last next is ≡ true
-each-package last first next [] g w h = by (cut last next)
+pub each-package : (last count first next : ℕ) (is : List Interface) → count ≤ last + 1 → are_grouped count first is ≡ true → next ≤ first + 1 → HasEach last next is → has_each_package last next is ≡ true
+each-package last count first next [] few g w h = by (cut last next)
   where
     cut : (n m : ℕ) → (n ≤ m) ⊎ (m < n)
     cut n m = grind arith
@@ -99,31 +98,31 @@ each-package last first next [] g w h = by (cut last next)
     by : (last ≤ next) ⊎ (next < last) → nat_le last next ≡ true
     by (inl a) = le-leb last next a
     by (inr a) = let x = h next (omega arith) a in absurd (none x.0 x.1 x.2)
-each-package last first next (x ∷ is) g w h =
-    both (nat_le x.«package».0 next) (has_each_package last (x.«package».0 + 1) is) (le-leb x.«package».0 next (before (cut last next))) (each-package last x.«package».0 (x.«package».0 + 1) is p.1 (omega arith) later)
+each-package last count first next (x ∷ is) few g w h =
+    both (nat_le x.«package».0 next) (has_each_package last (x.«package».0 + 1) is) (le-leb x.«package».0 next (before (cut last next))) (each-package last count x.«package».0 (x.«package».0 + 1) is few p.1 (omega arith) later)
   where
-    p : IsTrue (nat_le first x.«package».0 && nat_lt x.«package».0 last) × IsTrue (are_grouped last x.«package».0 is)
-    p = split (nat_le first x.«package».0 && nat_lt x.«package».0 last) (are_grouped last x.«package».0 is) g
+    p : IsTrue (nat_le first x.«package».0 && nat_lt x.«package».0 count) × IsTrue (are_grouped count x.«package».0 is)
+    p = split (nat_le first x.«package».0 && nat_lt x.«package».0 count) (are_grouped count x.«package».0 is) g
 
     low : first ≤ x.«package».0
-    low = leb-true first x.«package».0 (split (nat_le first x.«package».0) (nat_lt x.«package».0 last) p.0).0
+    low = leb-true first x.«package».0 (split (nat_le first x.«package».0) (nat_lt x.«package».0 count) p.0).0
 
-    within : x.«package».0 < last
-    within = ltb-true x.«package».0 last (split (nat_le first x.«package».0) (nat_lt x.«package».0 last) p.0).1
+    within : x.«package».0 < count
+    within = ltb-true x.«package».0 count (split (nat_le first x.«package».0) (nat_lt x.«package».0 count) p.0).1
 
     cut : (n m : ℕ) → (n ≤ m) ⊎ (m < n)
     cut n m = grind arith
 
     here : (k : ℕ) (i : Interface) → slice_get (x ∷ is) k ≡ Some i → x.«package».0 ≤ i.«package».0
     here zero i e = let same : x ≡ i = cc in subst (λ (y : Interface). x.«package».0 ≤ y.«package».0) same (omega arith)
-    here (suc k) i e = grouped-first last x.«package».0 is p.1 k i e
+    here (suc k) i e = grouped-first count x.«package».0 is p.1 k i e
 
     first-is : (i : Interface) → slice_get (x ∷ is) 0 ≡ Some i → x.«package».0 ≡ i.«package».0
     first-is i e = let same : x ≡ i = cc in ap (λ (y : Interface). y.«package».0) same
 
     before : (last ≤ next) ⊎ (next < last) → x.«package».0 ≤ next
     before (inr a) = let y = h next (omega arith) a in omega (arith, here y.0 y.1 y.2, y.3)
-    before (inl a) = omega (arith, within, a)
+    before (inl a) = omega (arith, within, a, few)
 
     behind : (q : ℕ) → x.«package».0 < q → (k : ℕ) (i : Interface) → slice_get (x ∷ is) k ≡ Some i → i.«package».0 ≡ q → (k : ℕ) × (i : Interface) × (slice_get is k ≡ Some i) × (i.«package».0 ≡ q)
     behind q l zero i e f = absurd (omega (arith, l, f, first-is i e))
@@ -136,18 +135,20 @@ each-package last first next (x ∷ is) g w h =
     later : HasEach last (x.«package».0 + 1) is
     later q a b = found q b (omega arith) (cut next q)
 
--- ---- of what is imported
+-- ---- of what is kept
 
-module _ (s : Resolve) (packages interfaces : List Bool) (to : Moved) (n : IsImported s packages interfaces to) (p : IsPart s to) (r : Resolve) (t : IsTableOf s to r) (reached : (k : ℕ) → k < length s.packages → get_or packages k false ≡ true → IsReachedIn s n.marks k) where
-  one-of-each : HasEach (length r.packages) 0 r.interfaces
+-- each of the first packages is kept for an interface that is reached
+module _ (s : Resolve) (to : Moved) (p : IsPart s to) (r : Resolve) (t : IsTableOf s to r) (last : ℕ) (few : last ≤ length r.packages) (near : length r.packages ≤ last + 1)
+    (reached : (k : ℕ) → k < length s.packages → get_or to.packages k false ≡ true → place to.packages k < last → IsReachedIn s p.marks k) where
+  one-of-each : HasEach last 0 r.interfaces
   one-of-each q a b =
-      let at = package-there r.packages q b in
+      let at = package-there r.packages q (omega (arith, b, few)) in
       let w = was-kept to.packages s.packages q at.0 (ap (λ (ps : List PackageParts). slice_get ps q) (sym t.packages) ∙ at.1) in
-      place-of w.from w.is (elim (n.packages_are.only w.from w.marked) [ inl g ↦ reached w.from (slice_get_within s.packages w.from at.0 w.stood) g | inr g ↦ g ])
+      place-of w.from w.is (reached w.from (slice_get_within s.packages w.from at.0 w.stood) w.marked (omega (arith, w.is, b)))
     where
-      place-of : (k : ℕ) → place to.packages k ≡ q → IsReachedIn s n.marks k → (m : ℕ) × (i : Interface) × (slice_get r.interfaces m ≡ Some i) × (i.«package».0 ≡ q)
+      place-of : (k : ℕ) → place to.packages k ≡ q → IsReachedIn s p.marks k → (m : ℕ) × (i : Interface) × (slice_get r.interfaces m ≡ Some i) × (i.«package».0 ≡ q)
       place-of k e (i, x, at, m, is) =
-          let marked : get_or to.interfaces i false ≡ true = ap (λ (bs : List Bool). get_or bs i false) n.interfaces_are ∙ (get_or_default n.marks.interfaces i false true (omega (arith, n.are_reached.count, slice_get_within s.interfaces i x at)) ∙ m) in (
+          let marked : get_or to.interfaces i false ≡ true = ap (λ (bs : List Bool). get_or bs i false) p.interfaces_are ∙ (get_or_default p.marks.interfaces i false true (omega (arith, p.count, slice_get_within s.interfaces i x at)) ∙ m) in (
             place to.interfaces i,
             put_interface (renaming to) x,
             ap (λ (is : List Interface). slice_get is (place to.interfaces i)) t.interfaces
@@ -155,5 +156,5 @@ module _ (s : Resolve) (packages interfaces : List Bool) (to : Moved) (n : IsImp
             ap (place to.packages) is ∙ e,
           )
 
-  pub has-each : has_each_package (length r.packages) 0 r.interfaces ≡ true
-  has-each = each-package (length r.packages) 0 0 r.interfaces r.grouped (omega arith) one-of-each
+  pub has-each : has_each_package last 0 r.interfaces ≡ true
+  has-each = each-package last (length r.packages) 0 0 r.interfaces near r.grouped (omega arith) one-of-each

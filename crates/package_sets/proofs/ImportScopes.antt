@@ -1,18 +1,16 @@
--- The names of what is imported from a set differ in each scope.
-use Rattle.std.proofs.Common.{◌≡◌, ◌<◌, inl, inr, ℕ, ◌+◌, Bool, true, false, ◌++◌, List, [], length, map, flat_map, get_or, slice_get, Some, All, refl, ap, sym, subst, ◌∙◌, arith, append-nil}
+-- The names of what is kept of a set differ in each scope.
+use Rattle.std.proofs.Common.{◌≡◌, ◌<◌, inl, inr, ℕ, ◌+◌, Bool, true, false, ◌++◌, List, [], ◌∷◌, length, map, flat_map, get_or, slice_get, Some, All, ap, sym, subst, ◌∙◌, arith}
 use Rattle.std.proofs.lemmas.List.{map-append}
 use Rattle.std.proofs.lemmas.Option.{slice_get_within, get_or_from_slice_get}
 use Rattle.std.proofs.lemmas.List.Elements.{Contains-append_left, Contains-append_right}
 use Rattle.package_form.specs.Scope.{AreDistinct}
-use Rattle.package_form.specs.Naming.{interface_labels_of, world_labels_of, interfaces_scopes, world_scopes, of_each, package_scopes}
+use Rattle.package_form.specs.Naming.{interface_label_of, world_label_of, interface_labels_of, world_labels_of, interfaces_scopes, world_scopes, of_each, package_scopes}
 use Rattle.package_form.specs.Form.{ids_of}
 use Rattle.package_form.specs.Postfix.{IsPostfix}
 use Rattle.package_form.proofs.EachPackage.{each-distinct}
-use Rattle.package_form.proofs.Lists.{all-append, all-none, compared, contains-map}
-use Rattle.package_form.proofs.OneRow.{distinct-front}
+use Rattle.package_form.proofs.Lists.{all-append, all-left, all-right, all-none, compared, contains-map}
 use Rattle.package_form.proofs.OwnPackage.{package-there}
-use Rattle.tables.specs.Names.{world_name}
-use Rattle.tables.specs.Package.{worlds, world_meaning, interface_names, trees}
+use Rattle.tables.specs.Package.{WorldMeaning, worlds}
 use Rattle.tables.specs.PackageNames.{PackageParts}
 use Rattle.tables.specs.declared.tables.TypeId.{TypeId}
 use Rattle.tables.specs.declared.tables.FunctionId.{FunctionId}
@@ -22,7 +20,7 @@ use Rattle.tables.specs.declared.tables.World.{World}
 use Rattle.tables.specs.declared.tables.Resolve.{Resolve}
 use Rattle.package_sets.specs.Places.{kept, place}
 use Rattle.package_sets.specs.Renamed.{renaming}
-use Rattle.package_sets.specs.Moved.{put_id, put_function_id, put_row, put_interface, has_type, has_function, put_types, put_functions}
+use Rattle.package_sets.specs.Moved.{put_id, put_function_id, put_row, put_interface, has_type, has_function, put_types, put_functions, put_world}
 use Rattle.package_sets.specs.Part.{IsPart, IsTableOf}
 use Rattle.package_sets.specs.Set.{IsSet, HasRowsInForm}
 use Rattle.package_sets.specs.SetScopes.{interface_scopes, HasDistinctScopes}
@@ -32,7 +30,7 @@ use Rattle.package_sets.proofs.Keeping.{kept-at, place-before}
 use Rattle.package_sets.proofs.Standing.{filter-all, all-from, list-ids, list-function-ids}
 use Rattle.package_sets.proofs.Scopes.{all-by-rows}
 use Rattle.package_sets.proofs.SetScopes.{scopes-put, placed-id, placed-in}
-use Rattle.package_sets.proofs.Subnames.{distinct-none, within-distinct, labels-within}
+use Rattle.package_sets.proofs.Subnames.{IsWithin, distinct-none, within-distinct, within-append, names-within, label-within}
 use Rattle.package_sets.proofs.MarkedPlaces.{was-kept}
 use Rattle.package_sets.proofs.Found.{ids-kept}
 
@@ -43,7 +41,14 @@ place-one bs k l a b e = elim (compared k l) [
   | inr q ↦ elim q [ inl p ↦ absurd (omega (arith, e, place-before bs l k p b)) | inr p ↦ p ]
 ]
 
-module _ (s : Resolve) (to : Moved) (n : IsPart s to) (set : IsSet s) (r : Resolve) (t : IsTableOf s to r) (no-worlds : r.worlds ≡ []) (form : HasRowsInForm r) (postfix : IsPostfix r.definitions) (old : HasDistinctScopes s) where
+-- what holds of all that elements tell holds of what those that are kept do
+all-kept : {A B : Type 0} (P : B → Type 0) (f : A → List B) (bs : List Bool) (xs : List A) → All P (flat_map f xs) → All P (flat_map f (kept bs xs))
+all-kept P f [] xs h = all-none P
+all-kept P f (b ∷ bs) [] h = all-none P
+all-kept P f (true ∷ bs) (x ∷ xs) h = all-append P (f x) (flat_map f (kept bs xs)) (all-left P (f x) (flat_map f xs) h) (all-kept P f bs xs (all-right P (f x) (flat_map f xs) h))
+all-kept P f (false ∷ bs) (x ∷ xs) h = all-kept P f bs xs (all-right P (f x) (flat_map f xs) h)
+
+module _ (s : Resolve) (to : Moved) (n : IsPart s to) (set : IsSet s) (r : Resolve) (t : IsTableOf s to r) (meanings : worlds r ≡ kept to.worlds (worlds s)) (form : HasRowsInForm r) (postfix : IsPostfix r.definitions) (old : HasDistinctScopes s) where
   -- the ids of an interface that is kept
   ids-there : (k : ℕ) (i : Interface) → slice_get s.interfaces k ≡ Some i → get_or to.interfaces k false ≡ true → ids_of (put_interface (renaming to) i) ≡ map (place to.rows) (ids_of i)
   ids-there k i e h =
@@ -83,14 +88,20 @@ module _ (s : Resolve) (to : Moved) (n : IsPart s to) (set : IsSet s) (r : Resol
       ))))
       (old.interfaces u.0 (w.from, slice_get_within s.interfaces w.from u.0 w.stood, get_or_from_slice_get s.interfaces w.from u.0 u.0 w.stood)))
 
-  labels-distinct : (k : ℕ) → k < length r.packages → AreDistinct (interface_labels_of r.interfaces k)
+  labels-distinct : (k : ℕ) → k < length r.packages → AreDistinct (interface_labels_of r.interfaces k ++ world_labels_of r.worlds k)
   labels-distinct k l =
       let at = package-there r.packages k l in
       let w = was-kept to.packages s.packages k at.0 (ap (λ (ps : List PackageParts). slice_get ps k) (sym t.packages) ∙ at.1) in
-      subst (λ (is : List Interface). AreDistinct (interface_labels_of is k)) (sym t.interfaces)
-      (within-distinct (interface_labels_of (map (put_interface (renaming to)) (kept to.interfaces s.interfaces)) k) (interface_labels_of s.interfaces w.from)
-      (labels-within (put_interface (renaming to)) w.from k (λ i. refl) to.interfaces s.interfaces (λ m i h e f. place-one to.packages i.«package».0 w.from (n.interfaces_needed m i h e) w.marked (f ∙ sym w.is)))
-      (distinct-front (interface_labels_of s.interfaces w.from) (world_labels_of s.worlds w.from) (old.labels w.from (slice_get_within s.packages w.from at.0 w.stood))))
+      let same : (m : ℕ) → get_or to.packages m false ≡ true → place to.packages m ≡ k → m ≡ w.from = λ m h f. place-one to.packages m w.from h w.marked (f ∙ sym w.is) in
+      within-distinct (interface_labels_of r.interfaces k ++ world_labels_of r.worlds k) (interface_labels_of s.interfaces w.from ++ world_labels_of s.worlds w.from)
+      (within-append (interface_labels_of r.interfaces k) (interface_labels_of s.interfaces w.from) (world_labels_of r.worlds k) (world_labels_of s.worlds w.from)
+      (subst (λ (is : List Interface). IsWithin (interface_labels_of is k) (interface_labels_of s.interfaces w.from)) (sym t.interfaces)
+      (names-within (put_interface (renaming to)) (interface_label_of k) (interface_label_of w.from) to.interfaces s.interfaces
+      (λ m i h e. label-within (place to.packages i.«package».0) i.«package».0 w.from k i.name (same i.«package».0 (n.interfaces_needed m i h e)))))
+      (subst (λ (ws : List World). IsWithin (world_labels_of ws k) (world_labels_of s.worlds w.from)) (sym t.worlds)
+      (names-within (put_world (renaming to)) (world_label_of k) (world_label_of w.from) to.worlds s.worlds
+      (λ m v h e. label-within (place to.packages v.«package».0) v.«package».0 w.from k v.name (same v.«package».0 (n.worlds_needed m v h e))))))
+      (old.labels w.from (slice_get_within s.packages w.from at.0 w.stood))
 
   pub table-scopes : All AreDistinct (package_scopes r)
   table-scopes =
@@ -98,12 +109,10 @@ module _ (s : Resolve) (to : Moved) (n : IsPart s to) (set : IsSet s) (r : Resol
       all-append AreDistinct (of_each labels 0 r.packages) (interfaces_scopes r.definitions 0 r.interfaces ++ flat_map world_scopes (worlds r)) (each-distinct labels 0 r.packages (λ k l. each k l))
       (all-append AreDistinct (interfaces_scopes r.definitions 0 r.interfaces) (flat_map world_scopes (worlds r))
       (all-by-rows r.definitions r.worlds postfix distinct-none 0 0 r.interfaces form.interfaces form.parted interface-distinct)
-      (subst (λ (ws : List World). All AreDistinct (flat_map world_scopes (map (λ w. world_meaning (interface_names r) (trees r) r.definitions (world_name r w) w) ws))) (sym no-worlds) (all-none AreDistinct)))
+      (subst (λ (ws : List WorldMeaning). All AreDistinct (flat_map world_scopes ws)) (sym meanings) (all-kept AreDistinct world_scopes to.worlds (worlds s) old.worlds)))
     where
       none-plus : (k : ℕ) → 0 + k ≡ k
       none-plus k = omega arith
 
       each : (k : ℕ) → k < length r.packages → AreDistinct (interface_labels_of r.interfaces (0 + k) ++ world_labels_of r.worlds (0 + k))
-      each k l =
-          subst (λ m. AreDistinct (interface_labels_of r.interfaces m ++ world_labels_of r.worlds m)) (sym (none-plus k))
-          (subst (λ (ws : List World). AreDistinct (interface_labels_of r.interfaces k ++ world_labels_of ws k)) (sym no-worlds) (subst AreDistinct (sym (append-nil (interface_labels_of r.interfaces k))) (labels-distinct k l)))
+      each k l = subst (λ m. AreDistinct (interface_labels_of r.interfaces m ++ world_labels_of r.worlds m)) (sym (none-plus k)) (labels-distinct k l)

@@ -1,5 +1,5 @@
 -- The table of what interfaces reach is as its definition says.
-use Rattle.std.proofs.Common.{◌≡◌, ◌⊎◌, ℕ, Bool, true, false, List, [], length, get_or, slice_get, map, Option, None, Some, refl, ap, sym, subst, ◌∙◌, arith, ◌∷◌, eqb-true}
+use Rattle.std.proofs.Common.{◌≡◌, ◌<◌, ◌⊎◌, inl, inr, zero, suc, ℕ, Bool, true, false, List, [], length, get_or, slice_get, map, Option, None, Some, refl, ap, sym, subst, ◌∙◌, arith, ◌∷◌, eqb-true}
 use Rattle.std.specs.Prelude.{Contains}
 use Rattle.std.proofs.lemmas.Option.{slice_get_within, get_or_from_slice_get}
 use Rattle.package_form.specs.Postfix.{IsPostfix}
@@ -17,6 +17,7 @@ use Rattle.package_sets.specs.Places.{kept, place}
 use Rattle.package_sets.specs.Renamed.{renaming}
 use Rattle.package_sets.specs.Moved.{put_interface, put_world}
 use Rattle.package_sets.specs.Part.{IsTableOf}
+use Rattle.package_sets.specs.Reaches.{OfInterfaces, padded}
 use Rattle.package_sets.specs.Imports.{IsImported, imported, IsOfInterfaces, IsImportsOf}
 use Rattle.package_sets.specs.Set.{IsSet, HasRowsInForm}
 use Rattle.package_sets.specs.SetForm.{HasNamesApart}
@@ -36,7 +37,7 @@ use Rattle.package_sets.proofs.Forming.{AreBefore, rows-in-form}
 use Rattle.package_sets.proofs.Owning.{IsOwnedFrom, rows-owned, parted-worlds}
 use Rattle.package_sets.proofs.Parts.{interfaces-part, no-world}
 use Rattle.package_sets.proofs.Postfixing.{postfix-kept, blocks}
-use Rattle.package_sets.proofs.Telling.{interfaces-same, definitions-same}
+use Rattle.package_sets.proofs.Telling.{interfaces-same, definitions-same, worlds-same}
 
 empty-list : {A : Type 0} (xs : List A) → ((x : A) → Contains xs x → ⊥) → xs ≡ []
 empty-list [] h = refl
@@ -46,6 +47,14 @@ of-interfaces : (count : ℕ) (o : Option Owner) → IsOwnedFrom 0 count o → I
 of-interfaces count None h = tt
 of-interfaces count (Some (owner.World w)) h = h
 of-interfaces count (Some (owner.Interface i)) h = h.1
+
+-- what isn't given has no mark
+given-there : (n : ℕ) (bs : List Bool) (j : ℕ) → j < n → get_or (padded n bs) j true ≡ true → get_or bs j false ≡ true
+given-there zero bs j l h = absurd (omega (arith, l))
+given-there (suc n) [] zero l h = h
+given-there (suc n) [] (suc j) l h = given-there n [] j (omega (arith, l)) h
+given-there (suc n) (b ∷ bs) zero l h = h
+given-there (suc n) (b ∷ bs) (suc j) l h = given-there n bs j (omega (arith, l)) h
 
 module _ (s : Resolve) (packages interfaces : List Bool) (to : Moved) (n : IsImported s packages interfaces to) where
   no-worlds : kept to.worlds s.worlds ≡ []
@@ -109,8 +118,10 @@ module _ (s : Resolve) (packages interfaces : List Bool) (to : Moved) (n : IsImp
     used h p apart k j x i e f of name =
         let a = kept-one k x e in
         let same : a.1 ≡ j = apart.each a.1 j a.0 i a.2 f (sym a.5 ∙ of) (a.4 ∙ name) in
+        let cited = kept-cited s (OfInterfaces interfaces) to (interfaces-part s packages interfaces to n) n.are_reached r t h p (λ m. get_or interfaces m false ≡ true)
+        (λ m l given. inr (given-there (length s.interfaces) interfaces m l given)) j (slice_get_within s.interfaces j i f) (subst (λ (m : ℕ). get_or to.interfaces m false ≡ true) same a.6) in
         subst (λ (m : ℕ). Contains (reached r.definitions []) m ⊎ (get_or interfaces j false ≡ true)) (ap (place to.interfaces) (sym same) ∙ a.3)
-        (kept-cited s packages interfaces to n r t h p j (slice_get_within s.interfaces j i f) (subst (λ (m : ℕ). get_or to.interfaces m false ≡ true) same a.6))
+        (subst (λ (ws : List World). Contains (reached r.definitions ws) (place to.interfaces j) ⊎ (get_or interfaces j false ≡ true)) worlds-none cited)
 
     pub imports-are : IsImportsOf s packages interfaces r
     imports-are =
@@ -131,8 +142,8 @@ module _ (s : Resolve) (packages interfaces : List Bool) (to : Moved) (n : IsImp
           used = used;
           packages_of_set = λ h. subst (λ (ps : List PackageParts). are_of_a_set ps ≡ true) (sym t.packages) (kept-set to.packages s.packages h);
           names = λ h. subst (λ (ps : List PackageParts). list_all is_package_name ps ≡ true) (sym t.packages) (kept-names to.packages s.packages h);
-          each_package = has-each s packages interfaces to n p r t;
-          scopes = λ h k d. table-scopes s to p h r t worlds-none (form h) (subst IsPostfix (sym t.definitions) (postfix-kept to s.definitions (blocks s to p) k)) d;
+          each_package = λ given. has-each s to p r t (length r.packages) (omega arith) (omega arith) (λ k l e b. elim (n.packages_are.only k e) [ inl g ↦ given k l g | inr g ↦ g ]);
+          scopes = λ h k d. table-scopes s to p h r t (worlds-same s to p r t.packages t.interfaces t.worlds t.definitions) (form h) (subst IsPostfix (sym t.definitions) (postfix-kept to s.definitions (blocks s to p) k)) d;
           found = λ h k c b. record { have = has-all s to p h k (no-world s packages interfaces to n) r t worlds-none (form h) c b; fits = fits-there s to p h k (no-world s packages interfaces to n) r t worlds-none (form h) c b };
           postfix = λ h. subst IsPostfix (sym t.definitions) (postfix-kept to s.definitions (blocks s to p) h);
         }

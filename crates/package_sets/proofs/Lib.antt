@@ -42,6 +42,8 @@ pub mod SameTables
 pub mod Scopes
 pub mod SetForm
 pub mod SetScopes
+pub mod KeptEntries
+pub mod TowerForm
 pub mod Standing
 pub mod Subnames
 pub mod Telling

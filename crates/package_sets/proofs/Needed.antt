@@ -22,7 +22,7 @@ use Rattle.package_sets.proofs.Postfixing.{postfix-kept, blocks}
 use Rattle.package_sets.proofs.Telling.{interfaces-same, definitions-same, worlds-same, name-same}
 
 module _ (s : Resolve) (own : ℕ) (to : Moved) (n : IsNeeded s own to) where
-  before-there : NamesEarlierPackages s → AreBefore (map (put_interface (renaming to)) (kept to.interfaces s.interfaces)) (map (put_world (renaming to)) (kept to.worlds s.worlds))
+  pub before-there : NamesEarlierPackages s → AreBefore (map (put_interface (renaming to)) (kept to.interfaces s.interfaces)) (map (put_world (renaming to)) (kept to.worlds s.worlds))
   before-there h a b i w e f =
       let u = contains-unmap (put_interface (renaming to)) (kept to.interfaces s.interfaces) i (a, slice_get_within _ a i e, get_or_from_slice_get _ a i i e) in
       let x = kept-from to.interfaces s.interfaces u.0 u.1 in

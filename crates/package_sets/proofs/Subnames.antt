@@ -1,11 +1,9 @@
 -- Some of the names of a scope differ where all do.
-use Rattle.std.proofs.Common.{◌≡◌, ◌<◌, ℕ, zero, suc, Bool, true, false, cond, ◌==◌, List, [], ◌∷◌, ◌++◌, map, flat_map, length, get_or, slice_get, Some, Contains, refl, ap, sym, subst, ◌∙◌, arith, true≢false, eqb-true, eq-eqb}
+use Rattle.std.proofs.Common.{◌≡◌, ◌<◌, ◌⊎◌, inl, inr, ℕ, zero, suc, Bool, true, false, cond, ◌==◌, List, [], ◌∷◌, ◌++◌, map, flat_map, length, get_or, slice_get, Some, Contains, refl, ap, sym, subst, ◌∙◌, arith, eqb-true, eq-eqb}
 use Rattle.std.proofs.lemmas.List.{get_or_default}
 use Rattle.package_form.specs.Scope.{lowered, AreDistinct, IsMetBefore}
-use Rattle.package_form.specs.Naming.{interface_label_of}
 use Rattle.package_form.proofs.Lists.{contains-later}
 use Rattle.package_form.proofs.OneRow.{distinct-back}
-use Rattle.tables.specs.declared.tables.Interface.{Interface}
 use Rattle.package_sets.specs.Places.{kept}
 
 -- some of these names, in their order
@@ -43,34 +41,38 @@ within-distinct _ _ none d = d
 within-distinct _ _ (taken n xs ys w) d = distinct-cons n xs (within-distinct xs ys w (distinct-back (n ∷ []) ys d)) (λ m c. distinct-head n ys d m (within-contains xs ys w m c))
 within-distinct _ _ (over n xs ys w) d = within-distinct xs ys w (distinct-back (n ∷ []) ys d)
 
--- ---- the names of the interfaces of a package, of those that are kept
+-- ---- the names that elements tell, of those that are kept
 
-module _ (put : Interface → Interface) (p q : ℕ) (named : (i : Interface) → (put i).name ≡ i.name) where
-  all-over : (xs : List Interface) → IsWithin [] (flat_map (interface_label_of p) xs)
-  all-over [] = none
-  all-over (x ∷ xs) = by (x.«package».0 == p) (all-over xs)
-    where
-      by : (b : Bool) → IsWithin [] (flat_map (interface_label_of p) xs) → IsWithin [] (cond b (x.name ∷ []) [] ++ flat_map (interface_label_of p) xs)
-      by true w = over x.name [] (flat_map (interface_label_of p) xs) w
-      by false w = w
+none-of : (ys : List (List ℕ)) → IsWithin [] ys
+none-of [] = none
+none-of (y ∷ ys) = over y [] ys (none-of ys)
 
-  pub labels-within : (bs : List Bool) (is : List Interface) → ((k : ℕ) (i : Interface) → get_or bs k false ≡ true → slice_get is k ≡ Some i → (put i).«package».0 ≡ q → i.«package».0 ≡ p)
-      → IsWithin (flat_map (interface_label_of q) (map put (kept bs is))) (flat_map (interface_label_of p) is)
-  labels-within [] is h = all-over is
-  labels-within (b ∷ bs) [] h = none
-  labels-within (false ∷ bs) (x ∷ xs) h = by (x.«package».0 == p) (labels-within bs xs (λ k i e f. h (suc k) i e f))
-    where
-      by : (b : Bool) → IsWithin (flat_map (interface_label_of q) (map put (kept bs xs))) (flat_map (interface_label_of p) xs)
-          → IsWithin (flat_map (interface_label_of q) (map put (kept bs xs))) (cond b (x.name ∷ []) [] ++ flat_map (interface_label_of p) xs)
-      by true w = over x.name (flat_map (interface_label_of q) (map put (kept bs xs))) (flat_map (interface_label_of p) xs) w
-      by false w = w
-  labels-within (true ∷ bs) (x ∷ xs) h = by ((put x).«package».0 == q) (x.«package».0 == p) refl refl (labels-within bs xs (λ k i e f. h (suc k) i e f))
-    where
-      by : (a b : Bool) → ((put x).«package».0 == q) ≡ a → (x.«package».0 == p) ≡ b → IsWithin (flat_map (interface_label_of q) (map put (kept bs xs))) (flat_map (interface_label_of p) xs)
-          → IsWithin (cond a ((put x).name ∷ []) [] ++ flat_map (interface_label_of q) (map put (kept bs xs))) (cond b (x.name ∷ []) [] ++ flat_map (interface_label_of p) xs)
-      by true true e f w =
-          subst (λ (n : List ℕ). IsWithin (n ∷ flat_map (interface_label_of q) (map put (kept bs xs))) (x.name ∷ flat_map (interface_label_of p) xs)) (sym (named x))
-          (taken x.name (flat_map (interface_label_of q) (map put (kept bs xs))) (flat_map (interface_label_of p) xs) w)
-      by true false e f w = absurd (true≢false (sym (eq-eqb x.«package».0 p (h 0 x refl refl (eqb-true (put x).«package».0 q e))) ∙ f))
-      by false true e f w = over x.name (flat_map (interface_label_of q) (map put (kept bs xs))) (flat_map (interface_label_of p) xs) w
-      by false false e f w = w
+all-of : (ys : List (List ℕ)) → IsWithin ys ys
+all-of [] = none
+all-of (y ∷ ys) = taken y ys ys (all-of ys)
+
+pub within-append : (xs ys vs ws : List (List ℕ)) → IsWithin xs ys → IsWithin vs ws → IsWithin (xs ++ vs) (ys ++ ws)
+within-append _ _ vs ws none w = w
+within-append _ _ vs ws (taken n xs ys a) w = taken n (xs ++ vs) (ys ++ ws) (within-append xs ys vs ws a w)
+within-append _ _ vs ws (over n xs ys a) w = over n (xs ++ vs) (ys ++ ws) (within-append xs ys vs ws a w)
+
+-- where each element tells in one scope what it did in another, or nothing
+pub names-within : {A : Type 0} (put : A → A) (f g : A → List (List ℕ)) (bs : List Bool) (xs : List A)
+    → ((k : ℕ) (x : A) → get_or bs k false ≡ true → slice_get xs k ≡ Some x → (f (put x) ≡ []) ⊎ (f (put x) ≡ g x)) → IsWithin (flat_map f (map put (kept bs xs))) (flat_map g xs)
+names-within put f g [] xs h = none-of (flat_map g xs)
+names-within put f g (b ∷ bs) [] h = none
+names-within put f g (false ∷ bs) (x ∷ xs) h = within-append [] (g x) (flat_map f (map put (kept bs xs))) (flat_map g xs) (none-of (g x)) (names-within put f g bs xs (λ k y e i. h (suc k) y e i))
+names-within put f g (true ∷ bs) (x ∷ xs) h =
+    within-append (f (put x)) (g x) (flat_map f (map put (kept bs xs))) (flat_map g xs) (one (h 0 x refl refl)) (names-within put f g bs xs (λ k y e i. h (suc k) y e i))
+  where
+    one : (f (put x) ≡ []) ⊎ (f (put x) ≡ g x) → IsWithin (f (put x)) (g x)
+    one (inl e) = subst (λ (ns : List (List ℕ)). IsWithin ns (g x)) (sym e) (none-of (g x))
+    one (inr e) = subst (λ (ns : List (List ℕ)). IsWithin ns (g x)) (sym e) (all-of (g x))
+
+-- the name of one of a package, in the scope of the package as it is numbered elsewhere
+pub label-within : (a b p q : ℕ) (name : List ℕ) → (a ≡ q → b ≡ p) → (cond (a == q) (name ∷ []) [] ≡ []) ⊎ (cond (a == q) (name ∷ []) [] ≡ cond (b == p) (name ∷ []) [])
+label-within a b p q name h = by (a == q) refl
+  where
+    by : (c : Bool) → (a == q) ≡ c → (cond (a == q) (name ∷ []) [] ≡ []) ⊎ (cond (a == q) (name ∷ []) [] ≡ cond (b == p) (name ∷ []) [])
+    by false e = inl (ap (λ (c : Bool). cond c (name ∷ []) []) e)
+    by true e = inr (ap (λ (c : Bool). cond c (name ∷ []) []) e ∙ sym (ap (λ (c : Bool). cond c (name ∷ []) []) (eq-eqb b p (h (eqb-true a q e)))))

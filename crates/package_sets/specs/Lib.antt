@@ -14,3 +14,4 @@ pub mod Restricted
 pub mod Set
 pub mod SetForm
 pub mod SetScopes
+pub mod Tower

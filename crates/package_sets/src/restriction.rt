@@ -2,6 +2,7 @@
 ghost use Rattle.std.specs.Prelude.{◌≡◌, IfOk, IfErr};
 ghost use Rattle.tables.specs.declared.error.ResolveError.TheVariants.{NoMemory};
 ghost use Rattle.package_sets.specs.Restricted.{AreNeeded, IsNeeded, IsRestricted};
+ghost use Rattle.package_sets.specs.Tower.{IsFormedOf};
 
 use crate::moved::Moved;
 use crate::owners::owners;
@@ -50,6 +51,7 @@ impl Moved {
 /// those that it names, so that the own one is the last.
 pub fn restricted(alloc: Global, set: &Resolve, id: PackageId) -> Result<Resolve, ResolveError>
     ensures ok { IfOk result (IsRestricted set.now id.0) }
+    ensures form { IfOk result (IsFormedOf set.now id.0) }
     ensures err { IfErr result (λ e. e ≡ NoMemory) }
 {
     let to = Moved::of(alloc, set, id)?;

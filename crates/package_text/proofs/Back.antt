@@ -7,7 +7,7 @@ use Rattle.tables.specs.declared.tables.Primitive.{Primitive}
 use Rattle.tables.specs.declared.tables.Primitive.TheVariants as primitive
 use Rattle.tables.specs.Package.{Tree, PrimTree, TextTree, Reference, ListTree, RecordTree, VariantTree, FlagsTree, Choices, Plain, AsEnum, read_enum}
 use Rattle.package_form.proofs.Lists.{all-head, all-tail}
-use Rattle.resolve.specs.Resolved.{primitive_tree, Labelled, Choice, fields_of, unlabelled, choice, choices_of, option_tree, result_tree, tuple_tree, resolved, resolved_all, resolved_if, member_meaning, case_meaning, definition_meaning}
+use Rattle.tree_meaning.specs.Resolved.{primitive_tree, Labelled, Choice, fields_of, unlabelled, choice, choices_of, option_tree, result_tree, tuple_tree, resolved, resolved_all, resolved_if, member_meaning, case_meaning, definition_meaning}
 use Rattle.package_text.specs.Written.{ty_of, tys_in, members_in, cases_in, labels_in, body_of, keyword_for}
 
 -- ---- types

@@ -26,9 +26,9 @@ use Rattle.package_form.specs.Ids.{is_owned_by}
 use Rattle.package_form.specs.References.{row_references}
 use Rattle.package_form.specs.Form.{is_own_name, is_own, uses_earlier, is_owned, is_local, IsInPackageForm}
 use Rattle.package_form.proofs.Lists.{all-right, list-grows}
-use Rattle.resolve.specs.Resolves.{is_name_of, is_owned_among, is_of_interfaces}
-use Rattle.resolve.specs.Imports.{nameless}
-use Rattle.resolve.proofs.Imported.{get_or-append-right}
+use Rattle.tree_meaning.specs.Resolves.{is_name_of, is_owned_among, is_of_interfaces}
+use Rattle.tree_meaning.specs.Imports.{nameless}
+use Rattle.tree_meaning.proofs.Imported.{get_or-append-right}
 use Rattle.package_text.specs.Tree.{other_package, name_here, own_names, own_interfaces, own_parts}
 use Rattle.package_text.proofs.Regions.{AreRegions, no_region, and_region, home, regions-from}
 

@@ -14,9 +14,9 @@ use Rattle.package_form.specs.Ends.{end_of, interfaces_end, are_worlds_parted, i
 use Rattle.package_form.specs.References.{row_references}
 use Rattle.package_form.specs.Form.{is_named, is_local, is_nameless, is_world_row, functions_of, have_items, IsInPackageForm}
 use Rattle.package_form.proofs.Lists.{list-grows}
-use Rattle.resolve.specs.Resolves.{is_behind, HasWorldsBehind, HasItems}
-use Rattle.resolve.proofs.Parting.{places-append}
-use Rattle.resolve.proofs.AllDefinitions.{no-place}
+use Rattle.tree_meaning.specs.Resolves.{is_behind, HasWorldsBehind, HasItems}
+use Rattle.tree_meaning.proofs.TableRows.{places-append}
+use Rattle.tree_meaning.proofs.AllDefinitions.{no-place}
 use Rattle.package_text.proofs.Regions.{is_behind_row, AreRegions, no_region, and_region, world-behind, AreWorldRegions, no_world, and_world, worlds-from}
 use Rattle.package_text.proofs.Owned.{local-unworldly}
 

@@ -23,8 +23,8 @@ use Rattle.tables.specs.declared.tables.Definition.TheVariants as row
 use Rattle.tables.proofs.Rows.{both}
 use Rattle.package_form.specs.Ids.{type_id}
 use Rattle.package_form.specs.Postfix.{is_unnamed_row, one_if, unnamed, unnamed_if, unnamed_field, unnamed_case, unnamed_parameter, parts, aliased, is_inner}
-use Rattle.resolve.proofs.Owning.{is_inner_row}
-use Rattle.resolve.proofs.Weighed.{name-tree}
+use Rattle.tree_meaning.proofs.Owning.{is_inner_row}
+use Rattle.tree_meaning.proofs.TableRows.{name-tree}
 use Rattle.package_text.specs.Written.{labels_in}
 use Rattle.package_text.proofs.Loose.{loose, loose-at, val-loose}
 

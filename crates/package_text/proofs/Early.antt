@@ -11,14 +11,14 @@ use Rattle.std.proofs.lemmas.Slice.Eq.{bytes_eq-Decides}
 use Rattle.package_form.specs.Scope.{lowered}
 use Rattle.package_form.proofs.Lists.{all-head, all-tail, all-mono, all-contained, contains-left, contains-either, contains-map}
 use Rattle.tables.specs.PackageNames.{PackageParts}
-use Rattle.resolve.specs.Declarations.{UsedItem, InterfaceTree, interface_at, interface_name, interface_names, no_interface, used_names, own_types, named_definition}
-use Rattle.resolve.specs.Resolved.{no_type}
-use Rattle.resolve.specs.Imports.{Imports}
-use Rattle.resolve.specs.Resolves.{place_of, places, own_uses, uses_of_interface, interface_uses, uses_of_type, type_uses, IsKnownIn, IsKnownUseOf}
-use Rattle.resolve.proofs.Apart.{every-contained, AreOthers, AreApart, only}
-use Rattle.resolve.proofs.Finding.{place-has}
-use Rattle.resolve.proofs.Uses.{own-uses-all}
-use Rattle.resolve.proofs.ItemNames.{function_name, HasDistinctParts}
+use Rattle.tree_meaning.specs.Declarations.{UsedItem, InterfaceTree, interface_at, interface_name, interface_names, no_interface, used_names, own_types, named_definition}
+use Rattle.tree_meaning.specs.Resolved.{no_type}
+use Rattle.tree_meaning.specs.Imports.{Imports}
+use Rattle.tree_meaning.specs.Resolves.{place_of, places, own_uses, uses_of_interface, interface_uses, uses_of_type, type_uses, IsKnownIn, IsKnownUseOf}
+use Rattle.tree_meaning.proofs.Apart.{every-contained, AreOthers, AreApart, only}
+use Rattle.tree_meaning.proofs.Finding.{place-has}
+use Rattle.tree_meaning.proofs.Uses.{own-uses-all}
+use Rattle.tree_meaning.proofs.ItemNames.{function_name, HasDistinctParts}
 use Rattle.package_text.proofs.Orders.{UsesEarlier, NamesEarlier}
 use Rattle.package_text.proofs.Knowing.{IsKnownTree, AreKnownTrees, known-at}
 

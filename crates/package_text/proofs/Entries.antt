@@ -33,7 +33,7 @@ use Rattle.package_form.specs.Reached.{used_by, name_at}
 use Rattle.package_form.specs.Form.{ids_of}
 use Rattle.package_form.proofs.Lists.{flat_map-append, list-grows}
 use Rattle.package_form.proofs.Meeting.{split-at}
-use Rattle.resolve.proofs.Blocks.{at-true}
+use Rattle.tree_meaning.proofs.TableRows.{at-true}
 use Rattle.package_text.specs.Tree.{path_at, name_path, row_path, own_names, own_trees, local_of, use_entry, entry_by, entry_of, row_entries, entries_at}
 use Rattle.package_text.specs.Pieces.{is_item}
 use Rattle.package_text.proofs.Standing.{name-at}

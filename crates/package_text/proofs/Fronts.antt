@@ -20,8 +20,7 @@ use Rattle.tables.specs.declared.tables.Definition.{Definition}
 use Rattle.tables.specs.declared.tables.Definition.TheVariants as row
 use Rattle.package_form.specs.Form.{is_named}
 use Rattle.package_form.specs.Ids.{places_where}
-use Rattle.resolve.proofs.Weighed.{trees-kept}
-use Rattle.resolve.proofs.Blocks.{references-append, references-length}
+use Rattle.tree_meaning.proofs.TableRows.{trees-kept, references-append, references-length}
 use Rattle.package_text.specs.Tree.{definitions_in}
 
 module _ (ns : List (List ℕ)) (front rest : List Definition) where

@@ -30,11 +30,11 @@ use Rattle.package_form.specs.Postfix.{is_unnamed, Leaves, begin, whole, IsPostf
 use Rattle.package_form.specs.Form.{is_named, ids_of}
 use Rattle.package_form.proofs.Lists.{all-contained, contains-map, contains-unmap, contains-here, contains-later, contains-left, contains-right, contains-either, get-front}
 use Rattle.package_form.proofs.OwnPackage.{package-there, labelled-interfaces}
-use Rattle.resolve.specs.Declarations.{path_package, path_interface, item_tree}
-use Rattle.resolve.specs.Imports.{Import, nameless, no_import, import_at, import_of, AreApart, name_within, type_within, types_within, interfaces_of, imports_of}
-use Rattle.resolve.specs.Resolves.{IsKnownIn, IsKnownItemOf, is_of_interfaces, AreImports}
-use Rattle.resolve.proofs.FileEntries.{found}
-use Rattle.resolve.proofs.Imported.{imports-length, imports-at, at-itself, import-named}
+use Rattle.tree_meaning.specs.Declarations.{path_package, path_interface, item_tree}
+use Rattle.tree_meaning.specs.Imports.{Import, nameless, no_import, import_at, import_of, AreApart, name_within, type_within, types_within, interfaces_of, imports_of}
+use Rattle.tree_meaning.specs.Resolves.{IsKnownIn, IsKnownItemOf, is_of_interfaces, AreImports}
+use Rattle.tree_meaning.proofs.FileEntries.{found}
+use Rattle.tree_meaning.proofs.Imported.{imports-length, imports-at, at-itself, import-named}
 use Rattle.package_text.specs.Tree.{other_package, path_in, path_if, name_here, own_names, own_interfaces, own_parts}
 use Rattle.package_text.specs.Writable.{IsWritable}
 use Rattle.package_text.specs.Imports.{AreImportsOf}

@@ -7,12 +7,12 @@ use Rattle.std.proofs.lemmas.List.{map-append, length-map}
 use Rattle.package_form.proofs.Lists.{flat_map-append}
 use Rattle.wit_syntax.specs.Syntax.{Entry, FileEntry, AnInterface}
 use Rattle.tables.specs.Package.{Tree, Reference, Key, IsUse, IsType, IsFunction, NamedDefinition}
-use Rattle.resolve.specs.Order.{IsPlacement}
+use Rattle.placement.specs.Order.{IsPlacement}
 use Rattle.tables.specs.Names.{full_name_in}
-use Rattle.resolve.specs.Declarations.{path_package, path_interface, TypeItem, InterfaceTree, entry_uses, entry_types, entry_functions, name_or, interface_tree, interface_of, interface_names, own_types}
-use Rattle.resolve.specs.Resolved.{Labelled, fields_of, use_meaning, type_meaning, function_meaning, interface_meaning, in_order, no_type, resolved_if}
-use Rattle.resolve.specs.Resolves.{interface_uses, uses_of_interface, type_uses, uses_of_type}
-use Rattle.resolve.proofs.Places.{same-bytes}
+use Rattle.tree_meaning.specs.Declarations.{path_package, path_interface, TypeItem, InterfaceTree, entry_uses, entry_types, entry_functions, name_or, interface_tree, interface_of, interface_names, own_types}
+use Rattle.tree_meaning.specs.Resolved.{Labelled, fields_of, use_meaning, type_meaning, function_meaning, interface_meaning, in_order, no_type, resolved_if}
+use Rattle.tree_meaning.specs.Resolves.{interface_uses, uses_of_interface, type_uses, uses_of_type}
+use Rattle.tree_meaning.proofs.Finding.{same-bytes}
 use Rattle.package_text.proofs.Back.{Anything, MaybeExpressed, FieldsExpressed, Defined, members-back, maybe-back, body-back}
 use Rattle.package_text.proofs.Orders.{UsesEarlier, NamesEarlier, places_of, map-places, own-placement}
 use Rattle.package_text.specs.Written.{ty_of}

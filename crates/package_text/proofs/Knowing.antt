@@ -5,11 +5,11 @@ use Rattle.std.proofs.lemmas.List.{get_or_default}
 use Rattle.tables.specs.PackageNames.{PackageParts}
 use Rattle.tables.specs.Package.{Reference, Key, Meaning, IsUse, IsType, IsFunction, NamedDefinition}
 use Rattle.package_form.proofs.Lists.{all-none, all-cons, all-mono, contains-left, contains-right, contains-either, flat_map-append}
-use Rattle.resolve.specs.Declarations.{path_package, path_interface, TypeItem, FunctionItem, InterfaceTree, entry_uses, entry_types, entry_functions, interface_tree, no_interface, use_local, type_name, used_names, own_types, type_names, named_definition, named_function}
-use Rattle.resolve.specs.Resolved.{no_type}
-use Rattle.resolve.specs.Imports.{Imports}
-use Rattle.resolve.specs.Resolves.{IsKnownIn, IsKnownUseOf, HasKnownNamesOf}
-use Rattle.resolve.proofs.Referring.{Every, every-mono}
+use Rattle.tree_meaning.specs.Declarations.{path_package, path_interface, TypeItem, FunctionItem, InterfaceTree, entry_uses, entry_types, entry_functions, interface_tree, no_interface, use_local, type_name, used_names, own_types, type_names, named_definition, named_function}
+use Rattle.tree_meaning.specs.Resolved.{no_type}
+use Rattle.tree_meaning.specs.Imports.{Imports}
+use Rattle.tree_meaning.specs.Resolves.{IsKnownIn, IsKnownUseOf, HasKnownNamesOf}
+use Rattle.tree_meaning.proofs.Referring.{Every, every-mono}
 use Rattle.package_text.specs.Written.{body_of}
 use Rattle.package_text.specs.Tree.{function_by}
 use Rattle.package_text.proofs.Paths.{path_named}

@@ -20,12 +20,12 @@ use Rattle.package_form.specs.Postfix.{unnamed_if, unnamed_parameter, parts, par
 use Rattle.package_form.specs.Ids.{is_use, is_owned_by, is_of_worlds}
 use Rattle.package_form.specs.Form.{is_own_name, is_earlier_name}
 use Rattle.package_form.proofs.Lists.{all-append}
-use Rattle.resolve.specs.Building.{read_parameter}
-use Rattle.resolve.specs.Declarations.{named_if, named_member, named_definition, named_function as function_names}
-use Rattle.resolve.specs.Resolved.{fields_of}
-use Rattle.resolve.proofs.Lowering.{parameters-read}
-use Rattle.resolve.proofs.Referring.{Every}
-use Rattle.resolve.proofs.Weighed.{name-tree}
+use Rattle.tree_meaning.specs.Building.{read_parameter}
+use Rattle.tree_meaning.specs.Declarations.{named_if, named_member, named_definition, named_function as function_names}
+use Rattle.tree_meaning.specs.Resolved.{fields_of}
+use Rattle.tree_meaning.proofs.Staying.{parameters-read}
+use Rattle.tree_meaning.proofs.Referring.{Every}
+use Rattle.tree_meaning.proofs.TableRows.{name-tree}
 use Rattle.package_text.specs.Written.{ty_of, members_in, body_of}
 use Rattle.package_text.specs.Tree.{function_by}
 use Rattle.package_text.proofs.Names.{maybe-names, members-names, body-names}

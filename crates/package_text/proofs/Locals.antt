@@ -20,7 +20,7 @@ use Rattle.package_form.specs.Ids.{is_owned_by, is_of_worlds, is_use}
 use Rattle.package_form.specs.References.{references, references_if, field_references, case_references, parameter_references, kind_references, row_references}
 use Rattle.package_form.specs.Form.{is_own_name, is_own_type, is_own, is_earlier_type, uses_earlier, is_owned, is_local, is_nameless_type, is_nameless}
 use Rattle.tables.specs.declared.tables.TypeDef.{TypeDef}
-use Rattle.resolve.proofs.Owning.{is_inner_row}
+use Rattle.tree_meaning.proofs.Owning.{is_inner_row}
 use Rattle.package_text.proofs.Regions.{is_behind_row}
 use Rattle.package_form.proofs.Lists.{list-grows, get-front}
 use Rattle.package_text.proofs.Rows.{is_own_row, is_earlier_row, is_local_kind}

@@ -21,9 +21,8 @@ use Rattle.tables.specs.declared.tables.Definition.{Definition}
 use Rattle.tables.specs.declared.tables.Definition.TheVariants as row
 use Rattle.package_form.specs.Postfix.{is_unnamed_row, one_if, unnamed, unnamed_if, unnamed_field, unnamed_case, unnamed_parameter, parts, parts_of, aliased, aliased_by, is_inner}
 use Rattle.package_form.proofs.Lists.{all-get}
-use Rattle.resolve.proofs.Blocks.{references-append, references-length}
-use Rattle.resolve.proofs.Owning.{is_inner_row}
-use Rattle.resolve.proofs.Weighed.{name-tree, trees-kept, tree-here}
+use Rattle.tree_meaning.proofs.TableRows.{references-append, references-length, name-tree, trees-kept, tree-here}
+use Rattle.tree_meaning.proofs.Owning.{is_inner_row}
 use Rattle.package_text.proofs.Parts.{stands-at}
 
 -- ---- types without names in trees

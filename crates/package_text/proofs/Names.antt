@@ -4,8 +4,8 @@ use Rattle.std.specs.Prelude.{All, Option, None, Some}
 use Rattle.std.specs.Option.{option_map}
 use Rattle.tables.specs.Package.{Tree, Choices}
 use Rattle.package_form.proofs.Lists.{all-none, all-cons, all-head, all-tail, all-append, all-mono}
-use Rattle.resolve.specs.Declarations.{named, named_all, named_if, named_member, named_case, named_definition}
-use Rattle.resolve.specs.Resolved.{Labelled, Choice, fields_of, unlabelled, choice, choices_of}
+use Rattle.tree_meaning.specs.Declarations.{named, named_all, named_if, named_member, named_case, named_definition}
+use Rattle.tree_meaning.specs.Resolved.{Labelled, Choice, fields_of, unlabelled, choice, choices_of}
 use Rattle.package_text.specs.Written.{ty_of, tys_in, members_in, cases_in, body_of}
 use Rattle.package_text.proofs.Back.{Expressed, a_primitive, a_string, a_name, a_list, an_option, a_tuple, a_result, AllExpressed, no_more, one_more, MaybeExpressed, not_there, is_there, FieldExpressed, CaseExpressed, FieldsExpressed, CasesExpressed, Defined, an_alias, a_record, a_variant, an_enum, a_flags, alias-body}
 

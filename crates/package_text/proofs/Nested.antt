@@ -37,10 +37,9 @@ use Rattle.package_form.specs.Form.{ids_of}
 use Rattle.package_form.proofs.Postfix.{postfix-used}
 use Rattle.package_form.proofs.Lists.{all-get}
 use Rattle.wit_syntax.specs.Syntax.{Ty, Prim, depth, depth_all, PathTo}
-use Rattle.resolve.specs.Resolves.{fits, fits_if, member_fits, case_fits, body_fits, signature_fits, entry_fits, world_entry_fits, interface_fits, file_fits}
-use Rattle.resolve.proofs.Owning.{is_inner_row}
-use Rattle.resolve.proofs.Blocks.{used-inner}
-use Rattle.resolve.proofs.Weighed.{name-tree}
+use Rattle.tree_meaning.specs.Resolves.{fits, fits_if, member_fits, case_fits, body_fits, signature_fits, entry_fits, world_entry_fits, interface_fits, file_fits}
+use Rattle.tree_meaning.proofs.Owning.{is_inner_row, used-inner}
+use Rattle.tree_meaning.proofs.TableRows.{name-tree}
 use Rattle.package_text.specs.Written.{ty_of, tys_in, members_in, cases_in, body_of}
 use Rattle.package_text.specs.Tree.{row_path, item_path, use_entry, function_by, entry_by, entry_of, own_names, own_trees, row_entries, entries_at, interface_entry, own_interfaces, item_entry, item_written, world_entry, file_of}
 use Rattle.package_text.specs.Laws.{IsShallow}

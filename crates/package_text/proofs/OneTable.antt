@@ -34,14 +34,14 @@ use Rattle.package_form.proofs.Lists.{all-left, all-contained, contains-map}
 use Rattle.atoms.specs.Label.{IsLabel}
 use Rattle.package_form.proofs.DistinctTypes.{types-apart}
 use Rattle.wit_syntax.specs.Syntax.{File}
-use Rattle.resolve.specs.Declarations.{package_named, full_interfaces, full_worlds}
-use Rattle.resolve.specs.Resolves.{is_behind, in_package, interfaces_behind, is_world_in, IsPackageOf, IsClosedPackageOf}
-use Rattle.resolve.proofs.Blocks.{used-inner}
-use Rattle.resolve.proofs.Placed.{one-behind}
-use Rattle.resolve.proofs.Reading.{get-end}
-use Rattle.resolve.proofs.TypedRows.{earlier-typed}
-use Rattle.resolve.proofs.AllDefinitions.{all_from}
-use Rattle.resolve.proofs.WorldMeanings.{worlds_definitions, all-told}
+use Rattle.tree_meaning.specs.Declarations.{package_named, full_interfaces, full_worlds}
+use Rattle.tree_meaning.specs.Resolves.{is_behind, in_package, interfaces_behind, is_world_in, IsPackageOf, IsClosedPackageOf}
+use Rattle.tree_meaning.proofs.Owning.{used-inner}
+use Rattle.tree_meaning.proofs.Placed.{one-behind}
+use Rattle.tree_meaning.proofs.Reading.{get-end}
+use Rattle.tree_meaning.proofs.TypedRows.{earlier-typed}
+use Rattle.tree_meaning.proofs.AllDefinitions.{all_from}
+use Rattle.tree_meaning.proofs.WorldMeanings.{worlds_definitions, all-told}
 use Rattle.package_text.proofs.Regions.{home}
 use Rattle.package_text.proofs.Rows.{IsOwned, is_own, is_earlier_row, is_local_kind}
 use Rattle.package_text.proofs.Owned.{rows-owned}

@@ -6,9 +6,9 @@ use Rattle.std.proofs.lemmas.Bool.{and_parts, ltb-true, ltb-false, eq-eqb, ne_eq
 use Rattle.std.proofs.lemmas.List.Folds.{list_any-append}
 use Rattle.std.proofs.Math.Seq.{take-suc}
 use Rattle.std.proofs.lemmas.List.{take_all}
-use Rattle.resolve.specs.Order.{is_among, IsNext, IsPlacement}
-use Rattle.resolve.specs.Declarations.{InterfaceTree, interface_at}
-use Rattle.resolve.specs.Resolves.{interface_uses, type_uses}
+use Rattle.placement.specs.Order.{is_among, IsNext, IsPlacement}
+use Rattle.tree_meaning.specs.Declarations.{InterfaceTree, interface_at}
+use Rattle.tree_meaning.specs.Resolves.{interface_uses, type_uses}
 
 -- each uses earlier ones alone
 abbrev pub UsesEarlier : List (List ℕ) → Type 0

@@ -19,9 +19,9 @@ use Rattle.package_form.specs.References.{row_references}
 use Rattle.package_form.specs.Form.{is_own_name, is_own, uses_earlier, is_owned, is_local, is_named, is_use_type, is_use_at, is_nameless}
 use Rattle.package_form.specs.Reached.{is_interface_of}
 use Rattle.package_form.proofs.Lists.{list-grows}
-use Rattle.resolve.proofs.Parting.{places-append}
+use Rattle.tree_meaning.proofs.TableRows.{places-append}
 use Rattle.package_text.proofs.Fronts.{get-there}
-use Rattle.resolve.specs.Resolves.{is_behind, in_package, interfaces_behind}
+use Rattle.tree_meaning.specs.Resolves.{is_behind, in_package, interfaces_behind}
 use Rattle.package_text.proofs.SameRows.{append-same}
 use Rattle.package_text.proofs.Regions.{is_behind_row, AreRegions, no_region, and_region}
 

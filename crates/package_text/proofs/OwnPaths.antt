@@ -17,7 +17,7 @@ use Rattle.package_form.specs.Closed.{own_package}
 use Rattle.package_form.specs.Reached.{is_interface_of, used_in, name_at}
 use Rattle.package_form.specs.Form.{ids_of}
 use Rattle.package_form.proofs.Lists.{all-none, all-cons, all-append, flat_map-append, get-front}
-use Rattle.resolve.specs.Declarations.{path_packages, entry_packages, world_entry_packages, file_entry_packages, other_packages}
+use Rattle.tree_meaning.specs.Declarations.{path_packages, entry_packages, world_entry_packages, file_entry_packages, other_packages}
 use Rattle.package_text.specs.Tree.{path_in, path_to, path_if, name_path, row_path, definitions_in, own_names, own_trees, use_entry, entry_by, entry_of, entries_at, interface_entry, own_interfaces, item_path, item_entry, own_item, item_written, world_entry, own_parts, file_of}
 use Rattle.package_text.proofs.Walk.{contains-got}
 

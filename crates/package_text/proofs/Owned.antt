@@ -20,9 +20,8 @@ use Rattle.package_form.proofs.Lists.{get-front, all-get}
 use Rattle.package_text.proofs.Fronts.{row-below, get-there}
 use Rattle.package_form.specs.Postfix.{IsPostfix}
 use Rattle.package_form.proofs.Postfix.{postfix-used}
-use Rattle.resolve.proofs.Owning.{is_inner_row}
-use Rattle.resolve.proofs.Blocks.{at-true, used-inner}
-use Rattle.resolve.proofs.Parting.{behind}
+use Rattle.tree_meaning.proofs.Owning.{is_inner_row, used-inner}
+use Rattle.tree_meaning.proofs.TableRows.{at-true, behind}
 use Rattle.package_text.proofs.Locals.{local-here, world-here}
 use Rattle.package_text.proofs.Rows as by_front
 use Rattle.package_text.proofs.Regions.{is_behind_row, AreRegions, no_region, and_region}

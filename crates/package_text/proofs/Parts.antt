@@ -20,14 +20,14 @@ use Rattle.tables.specs.declared.tables.TypeName.{TypeName}
 use Rattle.tables.specs.declared.tables.Owner.{Owner}
 use Rattle.tables.specs.declared.tables.Owner.TheVariants as owner
 use Rattle.package_form.proofs.Lists.{flat_map-append}
-use Rattle.resolve.proofs.Blocks.{references-append}
+use Rattle.tree_meaning.proofs.TableRows.{references-append}
 use Rattle.package_text.specs.Tree.{definitions_in}
 use Rattle.package_text.proofs.Named.{entry_of}
 use Rattle.package_text.proofs.InPlace.{Each, none_left, and_next, each-append, each-map, UseOf, TypeOf, FunctionOf, AreParts, no_part, and_part}
 use Rattle.package_text.proofs.Rows.{IsOwned, each-front, each-back}
 use Rattle.package_text.proofs.Ordered.{is_use_row, is_type_row, is_function_row, definitions-split, use-means, type-means, function-means}
 use Rattle.package_text.proofs.Fronts.{definition-front, row-below, places-mean}
-use Rattle.resolve.specs.Resolves.{is_behind}
+use Rattle.tree_meaning.specs.Resolves.{is_behind}
 use Rattle.package_text.proofs.Regions.{is_behind_row, AreRegions, no_region, and_region}
 
 -- a row that is got stands behind those before it

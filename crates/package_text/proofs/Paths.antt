@@ -17,7 +17,7 @@ use Rattle.package_form.specs.Reached.{is_interface_of}
 use Rattle.package_form.specs.Entries.{labels_of}
 use Rattle.package_form.specs.Form.{is_package_name, has_full_names}
 use Rattle.package_form.proofs.Lists.{all-head, all-tail, all-get}
-use Rattle.resolve.specs.Declarations.{path_package, path_interface}
+use Rattle.tree_meaning.specs.Declarations.{path_package, path_interface}
 use Rattle.package_text.specs.Tree.{other_package, path_in, path_to, path_if, path_at, name_here, own_names}
 use Rattle.package_text.proofs.Versions.{version-printable}
 

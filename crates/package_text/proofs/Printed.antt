@@ -38,9 +38,9 @@ use Rattle.package_form.specs.Form.{ids_of, is_own_name, is_nameless}
 use Rattle.package_form.specs.References.{row_references}
 use Rattle.package_form.specs.Naming.{field_name, case_name, parameter_name, kind_members, name_if}
 use Rattle.package_form.proofs.Lists.{all-get, all-head, all-tail}
-use Rattle.resolve.specs.Resolves.{fits, fits_if, member_fits, case_fits, body_fits, entry_fits, interface_fits}
-use Rattle.resolve.proofs.Blocks.{references-append}
-use Rattle.resolve.proofs.Referring.{Every, every-append}
+use Rattle.tree_meaning.specs.Resolves.{fits, fits_if, member_fits, case_fits, body_fits, entry_fits, interface_fits, is_behind}
+use Rattle.tree_meaning.proofs.TableRows.{references-append}
+use Rattle.tree_meaning.proofs.Referring.{Every, every-append}
 use Rattle.package_text.specs.Written.{ty_of, members_in, cases_in, labels_in, body_of}
 use Rattle.package_text.specs.Tree.{local_of}
 use Rattle.package_text.proofs.Paths.{path_named}
@@ -51,7 +51,6 @@ use Rattle.package_text.proofs.Parts.{stands-at, got, written}
 use Rattle.package_text.proofs.Fronts.{places-mean}
 use Rattle.package_text.proofs.Known.{IsTold, row-told}
 use Rattle.package_text.proofs.Walk.{home-here}
-use Rattle.resolve.specs.Resolves.{is_behind}
 use Rattle.package_text.proofs.Regions.{is_behind_row, AreRegions, no_region, and_region, home}
 use Rattle.package_text.proofs.Owned.{inside}
 use Rattle.package_text.proofs.Scopes.{alias-written}

@@ -17,7 +17,7 @@ use Rattle.package_form.specs.Form.{is_named, ids_of, is_use_at, has_ids, is_loc
 use Rattle.std.proofs.lemmas.List.Folds.{list_all-append}
 use Rattle.tables.specs.Tables.{is_owner_world}
 use Rattle.tables.specs.declared.tables.World.{World}
-use Rattle.resolve.specs.Resolves.{is_behind}
+use Rattle.tree_meaning.specs.Resolves.{is_behind}
 use Rattle.tables.specs.declared.tables.Owner.{Owner}
 use Rattle.tables.specs.declared.tables.Owner.TheVariants as owner
 use Rattle.tables.specs.declared.tables.Definition.TheVariants as row

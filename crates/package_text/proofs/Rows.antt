@@ -24,13 +24,11 @@ use Rattle.tables.specs.declared.tables.Definition.TheVariants as row
 use Rattle.package_form.specs.Postfix.{is_unnamed, is_unnamed_row, one_if, unnamed, unnamed_if, unnamed_field, unnamed_case, unnamed_parameter, parts, parts_of, aliased, is_inner, inner_row, Leaves, begin, inner, whole}
 use Rattle.package_form.specs.Ids.{is_owned_by, is_of_worlds, is_use}
 use Rattle.package_form.specs.Form.{is_own_name, is_earlier_name}
-use Rattle.resolve.specs.Building.{read_field, read_parameter, read_case}
-use Rattle.resolve.specs.Resolved.{result_tree}
+use Rattle.tree_meaning.specs.Building.{read_field, read_parameter, read_case}
+use Rattle.tree_meaning.specs.Resolved.{result_tree}
 use Rattle.package_form.proofs.Lists.{all-cons, all-none}
-use Rattle.resolve.proofs.Lowering.{tuple-reads, fields-read, parameters-read, cases-read}
-use Rattle.resolve.proofs.Weighed.{name-tree, trees-kept, tree-here}
-use Rattle.resolve.proofs.Blocks.{references-append, references-length}
-use Rattle.resolve.proofs.StandardRows.{not-use}
+use Rattle.tree_meaning.proofs.Staying.{tuple-reads, fields-read, parameters-read, cases-read}
+use Rattle.tree_meaning.proofs.TableRows.{name-tree, trees-kept, tree-here, references-append, references-length, not-use}
 use Rattle.package_text.proofs.Back.{Anything, Expressed, a_primitive, a_string, a_name, a_list, an_option, a_tuple, a_result, AllExpressed, no_more, one_more, MaybeExpressed, not_there, is_there, FieldExpressed, CaseExpressed, FieldsExpressed, CasesExpressed, Defined, an_alias, a_record, a_variant, an_enum, a_flags}
 use Rattle.package_text.proofs.Names.{expressed-more, maybe-more, fields-more, defined-more}
 use Rattle.package_text.proofs.InPlace.{each-append, each-map, Each, none_left, and_next, UseOf, a_use, TypeOf, a_type, FunctionOf, a_function}

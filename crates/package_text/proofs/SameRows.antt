@@ -23,9 +23,9 @@ use Rattle.tables.specs.declared.tables.Definition.{Definition}
 use Rattle.tables.specs.declared.tables.Definition.TheVariants as row
 use Rattle.package_form.specs.Postfix.{is_unnamed, unnamed, parts, parts_of, aliased_by, is_inner, inner_row, Leaves, begin, inner, whole}
 use Rattle.package_form.proofs.Lists.{flat_map-append}
-use Rattle.resolve.proofs.Owning.{is_inner_row}
-use Rattle.resolve.proofs.AllDefinitions.{owner_name, all_of, all_from}
-use Rattle.resolve.proofs.Weighed.{IsTyped, definitions-append, tree-here}
+use Rattle.tree_meaning.proofs.Owning.{is_inner_row}
+use Rattle.tree_meaning.proofs.AllDefinitions.{owner_name, all_of, all_from}
+use Rattle.tree_meaning.proofs.TableRows.{IsTyped, definitions-append, tree-here}
 use Rattle.package_text.proofs.Loose.{loose, loose_parts, loose_meaning, meaning_by, val-loose, inner-told, row-told}
 use Rattle.package_text.proofs.Decoding.{distinct-front, kind_from, kind_by, params_from, result_from, params-back, result-back, inner-back, kind-back}
 

@@ -20,7 +20,7 @@ use Rattle.package_form.specs.Form.{item_function, function_at, functions_of}
 use Rattle.package_form.specs.Naming.{item_direction}
 use Rattle.package_form.proofs.Lists.{flat_map-append}
 use Rattle.package_form.proofs.OnePackage.{one-full-name}
-use Rattle.resolve.specs.Resolves.{is_world_in}
+use Rattle.tree_meaning.specs.Resolves.{is_world_in}
 use Rattle.package_text.proofs.Fronts.{get-there}
 use Rattle.package_text.proofs.SameRows.{owner_world, row_world, world_owners}
 

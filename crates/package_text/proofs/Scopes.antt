@@ -32,17 +32,17 @@ use Rattle.package_form.proofs.OwnPackage.{some-package, own-worlds}
 use Rattle.package_form.specs.Naming.{field_name, case_name, parameter_name, interface_name, interface_labels_of, world_labels_of, kind_members, row_members, row_names, rows_scopes, interfaces_scopes, world_scopes, label_of, package_scopes}
 use Rattle.package_form.specs.Ids.{is_world_function}
 use Rattle.package_form.proofs.Lists.{list-grows, all-none, all-cons, all-head, all-tail, all-append, all-left, all-right, flat_map-append}
-use Rattle.resolve.specs.Resolved as tree
-use Rattle.resolve.specs.Declarations.{WorldTree, world_of, full_world, full_worlds, entry_names, entry_scopes, definition_scopes, member_name, case_name as member_case, package_named}
-use Rattle.resolve.specs.Scopes.{file_name, interface_scopes}
-use Rattle.resolve.proofs.RowNames.{key_name, names-defined}
-use Rattle.resolve.proofs.Blocks.{references-append}
-use Rattle.resolve.proofs.AllDefinitions.{all-are}
+use Rattle.tree_meaning.specs.Resolved as tree
+use Rattle.tree_meaning.specs.Declarations.{WorldTree, world_of, full_world, full_worlds, entry_names, entry_scopes, definition_scopes, member_name, case_name as member_case, package_named}
+use Rattle.tree_meaning.specs.Scopes.{file_name, interface_scopes}
+use Rattle.tree_meaning.proofs.RowNames.{key_name, names-defined}
+use Rattle.tree_meaning.proofs.TableRows.{references-append}
+use Rattle.tree_meaning.proofs.AllDefinitions.{all-are}
 use Rattle.package_text.specs.Written.{ty_of, members_in, cases_in, labels_in, body_of}
 use Rattle.package_text.proofs.Named.{entry_of, entry_by, use_entry}
 use Rattle.package_form.specs.Postfix.{unnamed, aliased, IsPostfix}
 use Rattle.package_form.specs.Form.{is_own_name, ids_of, is_local, IsInPackageForm}
-use Rattle.resolve.specs.Resolves.{HasDistinctNames}
+use Rattle.tree_meaning.specs.Resolves.{HasDistinctNames}
 use Rattle.package_text.specs.Tree.{own_names, own_interfaces}
 use Rattle.package_text.proofs.Named.{interface_entry, world_entry, file_of}
 use Rattle.package_text.proofs.Back.{alias-body}

@@ -9,7 +9,7 @@ use Rattle.wit_syntax.specs.Syntax.{Ty, Prim, Named, ListOf, OptionOf, TupleOf, 
 use Rattle.wit_print.specs.Words.{Word, text_of, mark_word}
 use Rattle.wit_print.specs.Canonical.{blank, ty_words, tys_words, listed_words, lined_words, braced_words}
 use Rattle.wit_print.specs.Printable.{types_count, is_spelt, are_spelt}
-use Rattle.resolve.proofs.Referring.{Every}
+use Rattle.tree_meaning.proofs.Referring.{Every}
 
 -- how many bytes words have, without blanks
 abbrev pub weight : List Word → ℕ

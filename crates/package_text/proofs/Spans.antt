@@ -5,11 +5,11 @@ use Rattle.std.specs.List.{list_all}
 use Rattle.wit_syntax.specs.Syntax.{Entry, Uses, Defines, Declares, WorldEntry, Whole, Single, FileEntry, AnInterface, AWorld, File}
 use Rattle.package_form.specs.Scope.{AreDistinct}
 use Rattle.package_form.specs.Naming.{world_scopes}
-use Rattle.resolve.specs.Declarations.{InterfaceTree, WorldTree, ItemTree, entry_packages, world_entry_packages, file_entry_packages, other_packages, entry_uses, entry_types, entry_functions, entry_names, entry_scopes, interface_tree, interface_of, interfaces, item_tree, world_of, worlds, package_named, full_interface, full_interfaces, full_world, full_worlds, interface_names}
-use Rattle.resolve.specs.Resolved.{world_meaning}
-use Rattle.resolve.specs.Scopes.{file_name, interface_scopes, scopes}
-use Rattle.resolve.specs.Imports.{Imports, imports_of}
-use Rattle.resolve.specs.Resolves.{ResolvesBehind, KnowsPackagesOf, HasKnownNamesOf, IsKnownWorldOf, HasNoFaultsOf, IsClosedPackageOf, body_fits, signature_fits, entry_fits, world_entry_fits, interface_fits, file_fits}
+use Rattle.tree_meaning.specs.Declarations.{InterfaceTree, WorldTree, ItemTree, entry_packages, world_entry_packages, file_entry_packages, other_packages, entry_uses, entry_types, entry_functions, entry_names, entry_scopes, interface_tree, interface_of, interfaces, item_tree, world_of, worlds, package_named, full_interface, full_interfaces, full_world, full_worlds, interface_names}
+use Rattle.tree_meaning.specs.Resolved.{world_meaning}
+use Rattle.tree_meaning.specs.Scopes.{file_name, interface_scopes, scopes}
+use Rattle.tree_meaning.specs.Imports.{Imports, imports_of}
+use Rattle.tree_meaning.specs.Resolves.{ResolvesBehind, KnowsPackagesOf, HasKnownNamesOf, IsKnownWorldOf, HasNoFaultsOf, IsClosedPackageOf, body_fits, signature_fits, entry_fits, world_entry_fits, interface_fits, file_fits}
 use Rattle.tables.specs.Package.{package_of}
 use Rattle.tables.specs.PackageNames.{PackageParts}
 use Rattle.tables.specs.declared.tables.Resolve.{Resolve}

@@ -20,8 +20,7 @@ use Rattle.tables.specs.declared.tables.Definition.TheVariants as row
 use Rattle.package_form.specs.Form.{is_own_name}
 use Rattle.package_form.specs.Naming.{row_names, row_members, name_if}
 use Rattle.package_form.proofs.Lists.{all-head, all-left, all-right, flat_map-append}
-use Rattle.resolve.proofs.Blocks.{at-true}
-use Rattle.resolve.proofs.Weighed.{tree-here}
+use Rattle.tree_meaning.proofs.TableRows.{at-true, tree-here}
 use Rattle.package_text.specs.Written.{ty_of, tys_in, some_of}
 use Rattle.package_text.specs.Writable.{row_labels}
 use Rattle.package_text.proofs.Sized.{is_worded, are_worded}

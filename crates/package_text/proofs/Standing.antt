@@ -16,7 +16,7 @@ use Rattle.tables.proofs.Earlier.{definition-both}
 use Rattle.package_form.specs.Reached.{name_of}
 use Rattle.package_form.proofs.Lists.{all-get}
 use Rattle.package_form.proofs.Meeting.{split-at}
-use Rattle.resolve.proofs.Weighed.{tree-here}
+use Rattle.tree_meaning.proofs.TableRows.{tree-here}
 use Rattle.package_text.specs.Tree.{own_names, own_trees}
 use Rattle.package_text.proofs.Fronts.{kind-front, params-front, row-below}
 

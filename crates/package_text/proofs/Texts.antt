@@ -25,7 +25,7 @@ use Rattle.package_form.specs.Naming.{label_of}
 use Rattle.package_form.proofs.Lists.{all-get, all-head, all-tail, all-left, all-right}
 use Rattle.package_form.proofs.Forms.{rows-few}
 use Rattle.package_form.proofs.OwnPackage.{some-package}
-use Rattle.resolve.specs.Resolves.{interface_fits, file_fits, is_behind}
+use Rattle.tree_meaning.specs.Resolves.{interface_fits, file_fits, is_behind, signature_fits, world_entry_fits}
 use Rattle.package_text.specs.Tree.{own_names, own_interfaces, own_parts}
 use Rattle.package_text.proofs.Named.{interface_entry, world_entry, file_of}
 use Rattle.package_text.specs.Writable.{row_labels, IsWritable}
@@ -53,7 +53,6 @@ use Rattle.tables.specs.Tables.{function_of, is_function_of, is_placed_item, is_
 use Rattle.tables.specs.Package.{IsFunction, IsType, function_item, item_meaning}
 use Rattle.wit_print.specs.Canonical.{blank, path_words, world_entry_words, braced_words}
 use Rattle.wit_print.specs.Printable.{IsPrintableWorldEntry}
-use Rattle.resolve.specs.Resolves.{signature_fits, world_entry_fits}
 use Rattle.std.proofs.lemmas.List.Folds.{list_all-append}
 use Rattle.std.specs.Prelude.{slice_get}
 

@@ -21,11 +21,11 @@ use Rattle.package_form.specs.Form.{IsInPackageForm}
 use Rattle.package_form.proofs.Lists.{all-left}
 use Rattle.package_form.proofs.OnePackage.{all-first}
 use Rattle.package_form.proofs.OwnPackage.{own-part}
-use Rattle.resolve.specs.Imports.{imports_of}
-use Rattle.resolve.specs.Declarations.{interfaces, interface_names, worlds, package_named}
-use Rattle.resolve.proofs.ItemNames.{HasDistinctParts, interfaces-distinct}
-use Rattle.resolve.specs.Resolves.{KnowsPackagesOf, IsKnownWorldOf, HasEntries, HasNoFaultsOf, IsClosedPackageOf, file_fits}
-use Rattle.resolve.proofs.Alone.{no-faults, is-package}
+use Rattle.tree_meaning.specs.Imports.{imports_of}
+use Rattle.tree_meaning.specs.Declarations.{interfaces, interface_names, worlds, package_named}
+use Rattle.tree_meaning.proofs.ItemNames.{HasDistinctParts, interfaces-distinct}
+use Rattle.tree_meaning.specs.Resolves.{KnowsPackagesOf, IsKnownWorldOf, HasEntries, HasNoFaultsOf, IsClosedPackageOf, file_fits}
+use Rattle.tree_meaning.proofs.Alone.{no-faults, is-package}
 use Rattle.package_text.specs.Tree.{own_interfaces, own_parts}
 use Rattle.package_text.specs.Tree as tree
 use Rattle.package_text.specs.Writable.{IsWritable}

@@ -23,11 +23,11 @@ use Rattle.package_form.specs.Form.{is_own_name, ids_of}
 use Rattle.package_form.proofs.Lists.{all-head, all-tail, all-mono, contains-here, contains-later, contains-left, contains-right, contains-flat, flat_map-append, flat_map-one, get-front}
 use Rattle.atoms.specs.Label.{IsLabel}
 use Rattle.wit_syntax.specs.Syntax.{PathTo, Local}
-use Rattle.resolve.specs.Imports.{Imports}
-use Rattle.resolve.specs.Resolves.{IsKnownIn}
-use Rattle.resolve.specs.Declarations.{path_package, path_interface, InterfaceTree, interface_of, interface_tree, type_names, named_definition, named_function as function_names}
-use Rattle.resolve.proofs.Blocks.{references-append}
-use Rattle.resolve.proofs.Referring.{every-mono}
+use Rattle.tree_meaning.specs.Imports.{Imports}
+use Rattle.tree_meaning.specs.Resolves.{IsKnownIn}
+use Rattle.tree_meaning.specs.Declarations.{path_package, path_interface, InterfaceTree, interface_of, interface_tree, type_names, named_definition, named_function as function_names}
+use Rattle.tree_meaning.proofs.TableRows.{references-append}
+use Rattle.tree_meaning.proofs.Referring.{every-mono}
 use Rattle.package_text.specs.Written.{body_of}
 use Rattle.package_text.specs.Tree.{function_by}
 use Rattle.package_text.proofs.Named.{entry_of}

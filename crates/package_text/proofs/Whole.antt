@@ -19,16 +19,16 @@ use Rattle.package_form.specs.Reached.{is_interface_of}
 use Rattle.package_form.specs.Entries.{Table, labels_of}
 use Rattle.package_form.specs.Form.{IsInPackageForm}
 use Rattle.package_form.proofs.OwnPackage.{some-package, own-worlds}
-use Rattle.resolve.specs.Order.{IsPlacement}
-use Rattle.resolve.specs.Imports.{imports_of}
-use Rattle.resolve.specs.Declarations.{InterfaceTree, full_world, full_worlds, interface_of, interfaces, world_of, worlds, full_interface, full_interfaces, no_interface, interface_at, interface_name, interface_names}
-use Rattle.resolve.specs.Resolved.{interface_meaning}
-use Rattle.resolve.specs.Resolved as tree
-use Rattle.resolve.specs.Resolves.{ResolvesBehind, KnowsPackagesOf, HasKnownNamesOf, IsKnownWorldOf, type_uses, names_in_order, package_behind, interfaces_behind, IsClosedPackageOf}
-use Rattle.resolve.specs.Building.{package_meaning, start_table, table_definitions}
-use Rattle.resolve.specs.WorldRows.{world_reads}
-use Rattle.resolve.proofs.Placed.{same-flat}
-use Rattle.resolve.proofs.Trees.{own_table, table-resolves}
+use Rattle.placement.specs.Order.{IsPlacement}
+use Rattle.tree_meaning.specs.Imports.{imports_of}
+use Rattle.tree_meaning.specs.Declarations.{InterfaceTree, full_world, full_worlds, interface_of, interfaces, world_of, worlds, full_interface, full_interfaces, no_interface, interface_at, interface_name, interface_names}
+use Rattle.tree_meaning.specs.Resolved.{interface_meaning}
+use Rattle.tree_meaning.specs.Resolved as tree
+use Rattle.tree_meaning.specs.Resolves.{ResolvesBehind, KnowsPackagesOf, HasKnownNamesOf, IsKnownWorldOf, type_uses, names_in_order, package_behind, interfaces_behind, IsClosedPackageOf}
+use Rattle.tree_meaning.specs.Building.{package_meaning, start_table, table_definitions}
+use Rattle.tree_meaning.specs.WorldRows.{world_reads}
+use Rattle.tree_meaning.proofs.Placed.{same-flat}
+use Rattle.tree_meaning.proofs.Trees.{own_table, table-resolves}
 use Rattle.package_text.specs.Tree.{own_names, own_interfaces, own_parts}
 use Rattle.package_text.specs.Writable.{IsWritable}
 use Rattle.package_text.specs.Imports.{AreImportsOf}

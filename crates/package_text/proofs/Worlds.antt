@@ -21,11 +21,11 @@ use Rattle.tables.specs.declared.tables.Resolve.{Resolve}
 use Rattle.package_form.specs.Ids.{is_of_worlds, is_world_function}
 use Rattle.package_form.specs.Form.{is_local, IsInPackageForm}
 use Rattle.package_form.proofs.Lists.{all-none, all-cons, all-head, all-get}
-use Rattle.resolve.specs.Declarations.{world_of, worlds, item_tree, named_function}
+use Rattle.tree_meaning.specs.Declarations.{world_of, worlds, item_tree, named_function}
 use Rattle.wit_syntax.specs.Syntax.{Whole}
 use Rattle.wit_syntax.specs.declared.ast.Direction.{Direction as Way}
-use Rattle.resolve.specs.Imports.{Imports}
-use Rattle.resolve.specs.Resolves.{IsKnownItemOf, IsKnownWorldOf}
+use Rattle.tree_meaning.specs.Imports.{Imports}
+use Rattle.tree_meaning.specs.Resolves.{IsKnownItemOf, IsKnownWorldOf}
 use Rattle.package_text.specs.Tree.{function_by}
 use Rattle.package_text.specs.Written.{direction_for}
 use Rattle.package_text.specs.Tree.{own_names, own_trees, own_item}

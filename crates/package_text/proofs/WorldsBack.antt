@@ -23,12 +23,12 @@ use Rattle.package_form.specs.Form.{IsInPackageForm}
 use Rattle.tables.specs.Names.{full_name_in}
 use Rattle.wit_syntax.specs.declared.ast.Direction.{Direction as Way}
 use Rattle.wit_syntax.specs.Syntax.{PathTo, Local, Foreign, Whole}
-use Rattle.resolve.specs.Declarations.{path_package, path_interface, world_of, worlds, item_tree}
-use Rattle.resolve.specs.Resolved.{direction_meaning, fields_of, resolved_if, member_meaning}
-use Rattle.resolve.specs.Resolved as tree
-use Rattle.resolve.specs.Building.{table_trees, read_parameter}
-use Rattle.resolve.specs.WorldRows.{world_reads}
-use Rattle.resolve.proofs.Lowering.{parameters-read}
+use Rattle.tree_meaning.specs.Declarations.{path_package, path_interface, world_of, worlds, item_tree}
+use Rattle.tree_meaning.specs.Resolved.{direction_meaning, fields_of, resolved_if, member_meaning}
+use Rattle.tree_meaning.specs.Resolved as tree
+use Rattle.tree_meaning.specs.Building.{table_trees, read_parameter}
+use Rattle.tree_meaning.specs.WorldRows.{world_reads}
+use Rattle.tree_meaning.proofs.Staying.{parameters-read}
 use Rattle.package_text.specs.Written.{ty_of, members_in, direction_for}
 use Rattle.package_text.specs.Tree.{name_here, own_names, own_trees, own_item}
 use Rattle.package_text.proofs.Paths.{path_named, named-back}

@@ -13,8 +13,8 @@ use Rattle.package_form.specs.Form.{IsInPackageForm}
 use Rattle.wit_tokens.specs.Lexing.{limit}
 use Rattle.wit_syntax.specs.Syntax.{File}
 use Rattle.wit_text.specs.Reading.{IsRead}
-use Rattle.resolve.specs.Imports.{imports_of}
-use Rattle.resolve.specs.Resolves.{file_fits, HasNoFaults, HasNoFaultsOf, IsPackageOf, AreImports, IsClosedPackageOf, HasPackage, HasClosedPackage}
+use Rattle.tree_meaning.specs.Imports.{imports_of}
+use Rattle.tree_meaning.specs.Resolves.{file_fits, HasNoFaults, HasNoFaultsOf, IsPackageOf, AreImports, IsClosedPackageOf, HasPackage, HasClosedPackage}
 use Rattle.package_text.specs.Tree.{file_of}
 use Rattle.package_text.specs.Text.{text_of}
 use Rattle.package_text.specs.Writable.{IsWritable}

@@ -19,7 +19,7 @@ use Rattle.wit_print.specs.Unplaced.{nowhere}
 use Rattle.package_form.specs.Closed.{own_package}
 use Rattle.package_form.specs.Reached.{used_in, name_at, is_interface_of}
 use Rattle.package_form.specs.Form.{ids_of}
-use Rattle.resolve.specs.Imports.{nameless}
+use Rattle.tree_meaning.specs.Imports.{nameless}
 use Rattle.package_text.specs.Written.{ty_of, members_in, body_of, direction_for}
 
 -- ---- paths

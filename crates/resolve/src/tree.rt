@@ -1,35 +1,32 @@
 //! The package of a syntax tree.
-ghost use Rattle.std.specs.Prelude.{◌≡◌, true, map, filter_map, All, IsTrue, IfOk, IfErr, OnOk};
+ghost use Rattle.std.specs.Prelude.{◌≡◌, ◌<◌, ℕ, true, [], map, filter_map, length, slice_index_or, All, IsTrue, IfOk, IfErr, OnOk};
 ghost use Rattle.atoms.specs.Label.{IsLabel};
 ghost use Rattle.wit_syntax.specs.View.{item_view, file_view};
 ghost use Rattle.wit_syntax.specs.FullNames.{has_full_names};
+ghost use Rattle.placement.specs.Order.{IsPlacement};
 ghost use Rattle.package_form.specs.Closed.{is_closed};
 ghost use Rattle.package_form.specs.Form.{IsInPackageForm};
 ghost use Rattle.package_form.specs.Naming.{package_scopes};
 ghost use Rattle.package_form.specs.Scope.{AreDistinct};
-ghost use Rattle.resolve.specs.Declarations.{interface_of, interfaces, interface_names, package_named};
-ghost use Rattle.resolve.specs.ImportForms.{IsNamedBehind, AreReachedFrom};
-ghost use Rattle.resolve.specs.Imports.{imports_of};
-ghost use Rattle.resolve.specs.Resolves.{AreImports, IsPackageOf, IsClosedPackageOf, ResolveRefuses, ResolveRefusesOf, HasNoFaults, HasNoFaultsOf, AnswersOnly, AnswersOnlyBehind, file_fits};
-ghost use Rattle.resolve.specs.Building.{AreImportScopes};
-ghost use Rattle.resolve.specs.Sources.{declared_tree};
+ghost use Rattle.tree_meaning.specs.Declarations.{interface_of, interface_at, interfaces, interface_names, package_named};
+ghost use Rattle.tree_meaning.specs.ImportForms.{IsNamedBehind, AreReachedFrom};
+ghost use Rattle.tree_meaning.specs.Imports.{imports_of};
+ghost use Rattle.tree_meaning.specs.Resolves.{interface_uses, type_uses, names_in_order, AreImports, IsPackageOf, IsClosedPackageOf, ResolveRefuses, ResolveRefusesOf, HasNoFaults, HasNoFaultsOf, AnswersOnly, AnswersOnlyBehind, file_fits};
+ghost use Rattle.tree_scopes.specs.KnownScopes.{AreImportScopes};
+ghost use Rattle.tree_scopes.specs.Sources.{declared_tree};
 
-use crate::assembly::{define_package, ordered_index, ordered_names};
-use crate::builder::Builder;
-use crate::declared::Declarations;
-use crate::duplicates::distinct_names;
-use crate::finish::{copied_parts, finish, package_id, package_name};
-use crate::graphs::{interface_order, type_orders};
-use crate::imports::{import_scopes, no_imports};
-use crate::keys::keyed_by_tree;
-use crate::known::KnownTypes;
-use crate::nested::are_nested;
-use crate::paths::known_packages;
-use crate::unknown::known_names;
-use crate::worlds::define_worlds;
-use atoms::KeyedState;
+use atoms::{KeyedState, Label};
 use std::alloc::{AllocError, Global};
-use tables::{PackageName, Resolve, ResolveError};
+use tables::{PackageName, Resolve, ResolveError, Sequence};
+use tree_names::{
+    are_nested, distinct_names, interface_order, keyed_by_tree, known_names, known_packages,
+    type_orders,
+};
+use tree_rows::{
+    Builder, copied_parts, define_package, define_worlds, finish, ordered_index, ordered_names,
+    package_id,
+};
+use tree_scopes::{Declarations, KnownTypes, Names, import_scopes, no_imports, package_name};
 use wit_syntax::{Ast, Item};
 
 fn all_declarations<'a>(
@@ -78,6 +75,55 @@ fn declarations<'a>(
     Ok(all)
 }
 
+/// The closed table of a tree, of these declarations, whose interfaces are defined in this order, and the types of each in
+/// its own. The names are those of the interfaces in that order.
+fn closed_table(
+    alloc: Global,
+    keyed: KeyedState,
+    imports: &Resolve,
+    scopes: Vec<KnownTypes>,
+    package: PackageName,
+    all: &[Declarations],
+    order: &[usize],
+    types: &[Sequence<usize>],
+    names: &Names,
+    labels: &[Label],
+    ast: &Ast,
+) -> Result<Resolve, ResolveError>
+    requires imports { AreImports imports.now }
+    requires scopes { AreImportScopes imports.now scopes.items }
+    requires named { «package» ≡ package_named (file_view ast.now) }
+    requires all { map declared_tree all.now ≡ interfaces (file_view ast.now) }
+    requires faults { HasNoFaultsOf (imports_of imports.now) (file_view ast.now) }
+    requires labelled { All IsLabel (interface_names (interfaces (file_view ast.now))) }
+    requires placed { IsPlacement (interface_uses (map declared_tree all.now)) order.now }
+    requires count { length types.now ≡ length all.now }
+    requires types { (k : ℕ) → k < length all.now → IsPlacement (type_uses (interface_at (map declared_tree all.now) k)) (slice_index_or types.now k []) }
+    requires names { names.now ≡ names_in_order (map declared_tree all.now) order.now }
+    requires labels { labels.now ≡ names_in_order (map declared_tree all.now) order.now }
+    ensures ok { IfOk result (IsClosedPackageOf imports.now (file_view ast.now)) }
+    ensures err { IfErr result (ResolveRefusesOf (imports_of imports.now) (file_view ast.now)) }
+{
+    let (packages, interfaces, rows) = copied_parts(alloc, imports)?;
+    let own = package_id(packages.len())?;
+    let mut builder = Builder::new(imports, labels, rows);
+    define_package(
+        alloc,
+        keyed,
+        imports,
+        &mut builder,
+        scopes,
+        names,
+        all,
+        order,
+        types,
+    )?;
+    let worlds = define_worlds(alloc, keyed, &mut builder, imports, names, own, &ast.items)?;
+    finish(
+        alloc, imports, packages, interfaces, labels, builder, worlds, package,
+    )
+}
+
 /// The closed table of a tree, of these declarations.
 fn defined(
     alloc: Global,
@@ -98,26 +144,21 @@ fn defined(
     ensures err { IfErr result (ResolveRefusesOf (imports_of imports.now) (file_view ast.now)) }
 {
     let order = interface_order(alloc, keyed, all)?;
-    let orders = type_orders(alloc, keyed, all)?;
+    let types = type_orders(alloc, keyed, all)?;
     let names = ordered_index(alloc, keyed, all, order.as_slice())?;
     let labels = ordered_names(alloc, all, order.as_slice())?;
-    let (packages, interfaces, rows) = copied_parts(alloc, imports)?;
-    let own = package_id(packages.len())?;
-    let mut builder = Builder::new(imports, &labels, rows);
-    define_package(
+    closed_table(
         alloc,
         keyed,
         imports,
-        &mut builder,
         scopes,
-        &names,
+        package,
         all,
         order.as_slice(),
-        &orders,
-    )?;
-    let worlds = define_worlds(alloc, keyed, &mut builder, imports, &names, own, &ast.items)?;
-    finish(
-        alloc, imports, packages, interfaces, &labels, builder, worlds, package,
+        &types,
+        &names,
+        &labels,
+        ast,
     )
 }
 

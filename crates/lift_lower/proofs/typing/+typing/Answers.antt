@@ -28,17 +28,17 @@ are_of-loop-item-preserved t c =
     let below : c.loop-item.item-index < length vs = omega (arith, length-map c.args.items.now value_of, c.loop-item-test.true) in
     all-step P vs c.loop-item.item-index (value_of c.item-item.result) below c.loop-item.invariant (subst P (sym here) (c.if-not-is_of.ensures.0 refl))
 
-pub have_types-returns-then-values-count : goal.have_types-returns-then-values-count
-have_types-returns-then-values-count t c =
+pub members_have_types-returns-then-values-count : goal.members_have_types-returns-then-values-count
+members_have_types-returns-then-values-count t c =
     let fs = members_fields c.args.table.now c.args.members.now in
     (λ no. cc, λ have. absurd (c.if-values-count.true (sym (length-map c.args.values.now value_of) ∙ typed-count fs (map value_of c.args.values.now) have ∙ c.requires.counted)))
 
-pub have_types-unreachable-requires : goal.have_types-unreachable-requires
-have_types-unreachable-requires t c =
+pub members_have_types-unreachable-requires : goal.members_have_types-unreachable-requires
+members_have_types-unreachable-requires t c =
     nth_field-some (members_fields c.args.table.now c.args.members.now) c.loop-index.index (omega (arith, c.requires.counted)) (sym c.in_default.ensures.found)
 
-pub have_types-returns-then-not-is_of : goal.have_types-returns-then-not-is_of
-have_types-returns-then-not-is_of t c =
+pub members_have_types-returns-then-not-is_of : goal.members_have_types-returns-then-not-is_of
+members_have_types-returns-then-not-is_of t c =
     let fs = members_fields c.args.table.now c.args.members.now in
     let vs = map value_of c.args.values.now in
     let u = closed_type c.args.table.now c.in-Some.member in
@@ -49,8 +49,8 @@ have_types-returns-then-not-is_of t c =
     let below : c.loop-index.index < length vs = omega (arith, length-map c.args.values.now value_of, at) in
     (λ no. cc, λ have. c.if-not-is_of.ensures.1 (subst P here (have-first fs vs c.loop-index.index u (value_of v) (sym c.in-Some.ensures.found) below (c.loop-index.invariant.0 have))))
 
-pub have_types-loop-index-preserved : goal.have_types-loop-index-preserved
-have_types-loop-index-preserved t c =
+pub members_have_types-loop-index-preserved : goal.members_have_types-loop-index-preserved
+members_have_types-loop-index-preserved t c =
     let fs = members_fields c.args.table.now c.args.members.now in
     let vs = map value_of c.args.values.now in
     let u = closed_type c.args.table.now c.in-Some.member in
@@ -64,8 +64,8 @@ have_types-loop-index-preserved t c =
       λ rest. c.loop-index.invariant.1 (have-both fs vs c.loop-index.index u (value_of v) next below (subst P (sym here) (c.if-not-is_of.ensures.0 refl)) rest),
     )
 
-pub have_types-returns : goal.have_types-returns
-have_types-returns t c =
+pub members_have_types-returns : goal.members_have_types-returns
+members_have_types-returns t c =
     let fs = members_fields c.args.table.now c.args.members.now in
     let vs = map value_of c.args.values.now in
     let i : c.args.count ≡ c.loop-index.index = omega arith in
@@ -110,8 +110,8 @@ is_of-returns-in-Record-shape t c =
     let P : List Value → Type 0 = λ xs. HaveTypes xs (record_fields T) in
     let same = ap (map value_of) c.as_slice-in-Record-shape.ensures.value in
     rw (c.in-Record.is, value_of-Record) (
-      λ yes. record-is vs T shaped.0 shaped.1 (subst P same (c.have_types.ensures.0 yes)),
-      λ typed. c.have_types.ensures.1 (subst P (sym same) (is-record vs T shaped.0 shaped.1 typed)),
+      λ yes. record-is vs T shaped.0 shaped.1 (subst P same (c.members_have_types.ensures.0 yes)),
+      λ typed. c.members_have_types.ensures.1 (subst P (sym same) (is-record vs T shaped.0 shaped.1 typed)),
     )
 
 pub is_of-returns-in_default-shape-2 : goal.is_of-returns-in_default-shape-2

@@ -10,8 +10,8 @@ use Rattle.lift_lower.proofs.typing.+typing.Given as goal
 abbrev pub invariant-are_of-loop-item : goal.invariant-are_of-loop-item
 invariant-are_of-loop-item l = AllByRecursion (λ w. HasType w (closed_type l.table l.element)) (take l.item-index (map value_of l.items))
 
-abbrev pub invariant-have_types-loop-index : goal.invariant-have_types-loop-index
-invariant-have_types-loop-index l =
+abbrev pub invariant-members_have_types-loop-index : goal.invariant-members_have_types-loop-index
+invariant-members_have_types-loop-index l =
     let fs = members_fields l.table l.members in
     let vs = map value_of l.values in
     HaveTypes vs fs ↔ HaveTypes (drop l.index vs) (fields_from l.index fs)

@@ -6,11 +6,11 @@ use Rattle.lift_lower.specs.Val.{value_of}
 use Rattle.lift_lower.proofs.Placings.{closed-row, count-params}
 use Rattle.lift_lower.proofs.typing.has_arguments.Goals as goal
 
-pub have_types-requires-clause-counted : goal.have_types-requires-clause-counted
-have_types-requires-clause-counted c =
+pub members_have_types-requires-clause-counted : goal.members_have_types-requires-clause-counted
+members_have_types-requires-clause-counted c =
     count-params c.args.table.now c.args.func c.signature.result.now c.requires (rw c.resolve.ensures at c.signature.ensures) ∙ sym c.len-count.ensures
 
 pub returns : goal.returns
 returns c =
     let own = ap record_fields (closed-row c.args.table.now c.args.func c.requires) in
-    subst (λ ts. IsTrue c.have_types.result ↔ HaveTypes (map value_of c.args.values.now) ts) own c.have_types.ensures
+    subst (λ ts. IsTrue c.members_have_types.result ↔ HaveTypes (map value_of c.args.values.now) ts) own c.members_have_types.ensures

@@ -1,8 +1,8 @@
 use Rattle.std.proofs.Common.{◌≡◌, ◌<◌, ◌∙◌, ◌++◌, ◌∷◌, [], List, Bool, Some, length, get_or, ap, sym, arith}
 use Rattle.std.proofs.lemmas.List.{get_or_default}
 use Rattle.package_form.proofs.Lists.{map-more}
-use Rattle.resolve.specs.Imports.{nameless}
-use Rattle.resolve.proofs.Imported.{import-within}
+use Rattle.tree_meaning.specs.Imports.{nameless}
+use Rattle.tree_meaning.proofs.Imported.{import-within}
 use Rattle.tables.specs.PackageNames.{PackageParts}
 use Rattle.tables.specs.declared.tables.Interface.{Interface}
 use Rattle.package_adding.specs.Named.{items_name, is_interface_named}

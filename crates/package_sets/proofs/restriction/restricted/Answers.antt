@@ -1,5 +1,6 @@
 use Rattle.package_sets.proofs.Parts.{package-part}
 use Rattle.package_sets.proofs.Needed.{restricts}
+use Rattle.package_sets.proofs.TowerForm.{table-form, table-distinct}
 use Rattle.package_sets.proofs.restriction.restricted.Goals as goal
 
 pub table-requires : goal.table-requires
@@ -7,3 +8,9 @@ table-requires c = package-part c.args.set.now c.args.id.0 c.in_ok-to.to c.in_ok
 
 pub returns-clause-ok : goal.returns-clause-ok
 returns-clause-ok c = restricts c.args.set.now c.args.id.0 c.in_ok-to.to c.in_ok-to.ensures _ c.in_ok-table.ensures
+
+pub returns-clause-form : goal.returns-clause-form
+returns-clause-form c = λ tower within. (
+  table-form c.args.set.now c.args.id.0 c.in_ok-to.to c.in_ok-to.ensures tower within _ c.in_ok-table.ensures,
+  table-distinct c.args.set.now c.args.id.0 c.in_ok-to.to c.in_ok-to.ensures tower within _ c.in_ok-table.ensures,
+)

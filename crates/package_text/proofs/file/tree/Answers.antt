@@ -8,7 +8,7 @@ use Rattle.tables.specs.PackageNames.{PackageParts}
 use Rattle.package_form.specs.Closed.{own_package}
 use Rattle.package_form.specs.Reached.{is_interface_of}
 use Rattle.package_form.proofs.OwnPackage.{some-package}
-use Rattle.resolve.specs.Imports.{nameless}
+use Rattle.tree_meaning.specs.Imports.{nameless}
 use Rattle.package_text.specs.Tree.{interface_entry, world_entry, own_interfaces, own_parts}
 use Rattle.package_text.proofs.file.tree.Goals as goal
 

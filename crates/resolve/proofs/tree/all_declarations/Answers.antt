@@ -2,10 +2,11 @@ use Rattle.std.proofs.Common.{◌++◌, [], Vec, Global, map, take, ap, sym, ◌
 use Rattle.std.specs.List.{cons_option, filter_map}
 use Rattle.wit_syntax.specs.View.{item_view}
 use Rattle.wit_syntax.specs.declared.ast.Item.{Item}
-use Rattle.resolve.specs.Declarations.{interface_of}
-use Rattle.resolve.specs.Sources.{declared_tree}
-use Rattle.resolve.specs.declared.declared.Declarations.{Declarations}
-use Rattle.resolve.proofs.FileEntries.{given-next, declared-more}
+use Rattle.tree_meaning.specs.Declarations.{interface_of}
+use Rattle.tree_scopes.specs.Sources.{declared_tree}
+use Rattle.tree_scopes.specs.declared.declared.Declarations.{Declarations}
+use Rattle.tree_meaning.proofs.FileEntries.{given-next}
+use Rattle.tree_scopes.proofs.DeclaredTrees.{declared-more}
 use Rattle.resolve.proofs.tree.all_declarations.Goals as goal
 use Rattle.resolve.proofs.tree.all_declarations.Goals.{in-Interface+in_ok-of+in_ok-push, in_default}
 

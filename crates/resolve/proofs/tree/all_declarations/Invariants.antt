@@ -1,8 +1,8 @@
 use Rattle.std.proofs.Common.{◌≡◌, map, take}
 use Rattle.std.specs.List.{filter_map}
 use Rattle.wit_syntax.specs.View.{item_view}
-use Rattle.resolve.specs.Declarations.{interface_of}
-use Rattle.resolve.specs.Sources.{declared_tree}
+use Rattle.tree_meaning.specs.Declarations.{interface_of}
+use Rattle.tree_scopes.specs.Sources.{declared_tree}
 use Rattle.resolve.proofs.tree.all_declarations.Given as goal
 
 abbrev pub invariant-loop-item : goal.invariant-loop-item

@@ -1,9 +1,9 @@
 use Rattle.wit_syntax.specs.View.{file_view}
-use Rattle.resolve.proofs.ClosedTables.{closes}
-use Rattle.resolve.proofs.Only.{answers-behind}
-use Rattle.resolve.proofs.PackageScopes.{has-distinct-names}
-use Rattle.resolve.proofs.TreeForms.{has-form}
-use Rattle.resolve.proofs.Trees.{ok-both}
+use Rattle.tree_forms.proofs.ClosedTables.{closes}
+use Rattle.tree_forms.proofs.Only.{answers-behind}
+use Rattle.tree_forms.proofs.PackageScopes.{has-distinct-names}
+use Rattle.tree_forms.proofs.TreeForms.{has-form}
+use Rattle.tree_forms.proofs.FinishedTrees.{ok-both}
 use Rattle.resolve.proofs.tree.closed_from_ast.Goals as goal
 
 pub returns-clause-form : goal.returns-clause-form

@@ -8,13 +8,13 @@ use Rattle.wit_syntax.specs.View.{item_view, file_view}
 use Rattle.wit_syntax.specs.declared.ast.Item.{Item}
 use Rattle.package_form.specs.Scope.{AreDistinct}
 use Rattle.package_form.specs.Distinct.{RefusesScopes}
-use Rattle.resolve.specs.Declarations.{InterfaceTree, WorldTree, file_entry_packages, interface_of, world_of, interfaces, worlds, interface_names, package_named}
-use Rattle.resolve.specs.Knowing.{RefusesPackage, RefusesUnknown}
-use Rattle.resolve.specs.Imports.{imports_of}
-use Rattle.resolve.specs.Resolves.{HasKnownNamesOf, IsKnownWorldOf, interface_fits}
-use Rattle.resolve.specs.Scopes.{scopes_in}
-use Rattle.resolve.specs.Sources.{declared_tree}
-use Rattle.resolve.proofs.Trees.{has-entries, refuses-duplicate, refuses-package, refuses-unknown}
+use Rattle.tree_meaning.specs.Declarations.{InterfaceTree, WorldTree, file_entry_packages, interface_of, world_of, interfaces, worlds, interface_names, package_named}
+use Rattle.tree_meaning.specs.Knowing.{RefusesPackage, RefusesUnknown}
+use Rattle.tree_meaning.specs.Imports.{imports_of}
+use Rattle.tree_meaning.specs.Resolves.{HasKnownNamesOf, IsKnownWorldOf, interface_fits}
+use Rattle.tree_meaning.specs.Scopes.{scopes_in}
+use Rattle.tree_scopes.specs.Sources.{declared_tree}
+use Rattle.tree_forms.proofs.FinishedTrees.{has-entries, refuses-duplicate, refuses-package, refuses-unknown}
 use Rattle.resolve.proofs.tree.declarations.Goals as goal
 
 pub returns-then-not-are_nested-clause-err : goal.returns-then-not-are_nested-clause-err

@@ -1,7 +1,7 @@
 use Rattle.wit_syntax.specs.View.{file_view}
-use Rattle.resolve.proofs.AloneForms.{has-form, has-distinct-names}
-use Rattle.resolve.proofs.Trees.{ok-both}
-use Rattle.resolve.proofs.Only.{answers-only}
+use Rattle.tree_forms.proofs.AloneForms.{has-form, has-distinct-names}
+use Rattle.tree_forms.proofs.FinishedTrees.{ok-both}
+use Rattle.tree_forms.proofs.Only.{answers-only}
 use Rattle.resolve.proofs.tree.from_ast.Goals as goal
 
 pub returns-clause-form : goal.returns-clause-form

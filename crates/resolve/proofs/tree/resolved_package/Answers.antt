@@ -1,6 +1,6 @@
 use Rattle.wit_syntax.specs.View.{file_view}
-use Rattle.resolve.proofs.Trees.{ok-map, err-map}
-use Rattle.resolve.proofs.Alone.{are-imports, no-faults, refuses, is-package}
+use Rattle.tree_meaning.proofs.Trees.{ok-map, err-map}
+use Rattle.tree_meaning.proofs.Alone.{are-imports, no-faults, refuses, is-package}
 use Rattle.resolve.proofs.tree.resolved_package.Goals as goal
 
 pub resolved_behind-requires : goal.resolved_behind-requires

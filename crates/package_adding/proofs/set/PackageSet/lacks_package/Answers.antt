@@ -3,8 +3,8 @@ use Rattle.std.proofs.Common.{◌≡◌, ◌∙◌, true, List, ap, sym, subst, 
 use Rattle.std.specs.List.{list_any}
 use Rattle.package_form.specs.Closed.{is_same_package}
 use Rattle.package_sets.specs.declared.error.AttachError.TheVariants.{SamePackage}
-use Rattle.resolve.specs.Finished.{header}
-use Rattle.resolve.proofs.PathNames.{parts-are}
+use Rattle.tree_meaning.specs.Finished.{header}
+use Rattle.tree_meaning.proofs.PathNames.{parts-are}
 use Rattle.tables.specs.PackageNames.{PackageParts}
 use Rattle.package_adding.proofs.Naming.{same-there}
 use Rattle.package_adding.proofs.set.PackageSet.lacks_package.Goals as goal

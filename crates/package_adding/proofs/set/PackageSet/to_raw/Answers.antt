@@ -1,6 +1,6 @@
 -- The component is that of the package's table.
 use Rattle.std.proofs.Common.{inl, inr}
-use Rattle.resolve.proofs.Trees.{ok-map, err-map}
+use Rattle.tree_meaning.proofs.Trees.{ok-map, err-map}
 use Rattle.package_adding.proofs.set.PackageSet.to_raw.Goals as goal
 
 pub returns-clause-ok : goal.returns-clause-ok

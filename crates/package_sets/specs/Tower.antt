@@ -1,0 +1,38 @@
+-- A set as one table, in which each package is a place: what is asked of it so that each package's own table is one that packages have.
+use Rattle.std.specs.Prelude.{◌≡◌, ◌≤◌, ◌<◌, ℕ, ◌+◌, Bool, true, List, ◌||◌, map, sum, length, All}
+use Rattle.std.specs.List.{list_any}
+use Rattle.package_form.specs.Entries.{entries_of, world_entries}
+use Rattle.package_form.specs.Form.{IsInPackageForm}
+use Rattle.package_form.specs.Naming.{package_scopes}
+use Rattle.package_form.specs.Scope.{AreDistinct}
+use Rattle.package_sets.specs.Owners.{owners}
+use Rattle.package_sets.specs.Places.{kept}
+use Rattle.package_sets.specs.Reaches.{Marks, is_marked, is_own_interface, is_own_world, OfPackage, AreReached}
+use Rattle.package_sets.specs.SetForm.{IsInSetForm}
+use Rattle.tables.specs.declared.tables.Resolve.{Resolve}
+
+-- the type entries of what is kept of a set
+abbrev pub kept_entries : Resolve → List Bool → List Bool → List Bool → ℕ
+kept_entries set interfaces worlds rows =
+    1 + length (kept interfaces set.interfaces) + (sum (map world_entries (kept worlds set.worlds)) + sum (map entries_of (kept rows set.definitions)))
+
+-- .. of what the package at this place reaches, by its marks
+abbrev pub package_entries : Resolve → ℕ → Marks → ℕ
+package_entries set id m = kept_entries set m.interfaces (map (is_own_world id) set.worlds) (map (is_marked m) (owners set.definitions))
+
+-- the package has an interface or a world
+abbrev pub has_entry : Resolve → ℕ → Bool
+has_entry set id = list_any (is_own_interface id) set.interfaces || list_any (is_own_world id) set.worlds
+
+abbrev pub IsFew : Resolve → ℕ → Type 0
+IsFew set id = (m : Marks) → AreReached set (OfPackage id) m → package_entries set id m ≤ 65535
+
+-- a set's form, in which no package is empty, and none passes the limit of type entries with what it reaches
+pub record IsInTower (r : Resolve) : Type 0 where
+  pub form : IsInSetForm r
+  pub entered : (id : ℕ) → id < length r.packages → has_entry r id ≡ true
+  pub few : (id : ℕ) → id < length r.packages → IsFew r id
+
+-- in a tower the table of one package is one that packages have, whose names differ in each scope
+abbrev pub IsFormedOf : Resolve → ℕ → Resolve → Type 0
+IsFormedOf set own r = IsInTower set → own < length set.packages → IsInPackageForm r × All AreDistinct (package_scopes r)

@@ -1,0 +1,5 @@
+use Rattle.placement.proofs.Settling.{AllPending}
+use Rattle.placement.proofs.queue.Queue.new.Given as goal
+
+abbrev pub invariant-loop-node : goal.invariant-loop-node
+invariant-loop-node l = AllPending l.node l.nodes.items l.waiting.items

@@ -1,7 +1,0 @@
-use Rattle.std.proofs.Common.{map}
-use Rattle.resolve.specs.Sources.{declared_tree}
-use Rattle.resolve.proofs.Packaging.{PackageSoFar}
-use Rattle.resolve.proofs.assembly.define_package.Given as goal
-
-abbrev pub invariant-loop-place : goal.invariant-loop-place
-invariant-loop-place l = PackageSoFar l.imports l.place (map declared_tree l.all) l.order l.type_orders l.initial.builder l.builder l.scopes.items

@@ -1,9 +1,0 @@
-use Rattle.std.proofs.Common.{map, take}
-use Rattle.wit_syntax.specs.View.{case_view}
-use Rattle.resolve.specs.Resolved.{case_meaning}
-use Rattle.resolve.specs.Building.{LowersCases, scope_name}
-use Rattle.resolve.proofs.bodies.lower_cases.Given as goal
-
-abbrev pub invariant-loop-item : goal.invariant-loop-item
-invariant-loop-item l =
-    LowersCases l.initial.builder l.builder l.cases.items (map (case_meaning (scope_name l.initial.builder l.scope)) (map case_view (take l.item-index l.items)))

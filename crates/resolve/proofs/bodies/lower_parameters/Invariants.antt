@@ -1,9 +1,0 @@
-use Rattle.std.proofs.Common.{map, take}
-use Rattle.wit_syntax.specs.View.{field_view}
-use Rattle.resolve.specs.Resolved.{member_meaning}
-use Rattle.resolve.specs.Building.{LowersParameters, scope_name}
-use Rattle.resolve.proofs.bodies.lower_parameters.Given as goal
-
-abbrev pub invariant-loop-member : goal.invariant-loop-member
-invariant-loop-member l =
-    LowersParameters l.initial.builder l.builder l.parameters.items (map (member_meaning (scope_name l.initial.builder l.scope)) (map field_view (take l.member-index l.members)))

@@ -1,7 +1,0 @@
-use Rattle.std.proofs.Common.{◌≡◌, ◌++◌, map, take}
-use Rattle.resolve.specs.Declarations.{type_name}
-use Rattle.resolve.specs.Lent.{lent, declared_type}
-use Rattle.resolve.proofs.declare.push_types.Given as goal
-
-abbrev pub invariant-loop-definition : goal.invariant-loop-definition
-invariant-loop-definition l = lent l.names.items ≡ lent l.initial.names.items ++ map type_name (map declared_type (take l.definition-index l.types))

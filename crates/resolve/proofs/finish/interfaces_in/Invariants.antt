@@ -1,6 +1,0 @@
-use Rattle.std.proofs.Common.{◌≡◌, take}
-use Rattle.resolve.specs.Resolves.{interfaces_behind}
-use Rattle.resolve.proofs.finish.interfaces_in.Given as goal
-
-abbrev pub invariant-loop-place : goal.invariant-loop-place
-invariant-loop-place l = l.interfaces.items ≡ interfaces_behind l.fn.«package».0 l.first (take l.place l.rows) l.names

@@ -1,7 +1,0 @@
-use Rattle.std.proofs.Common.{map, ◌∙◌}
-use Rattle.resolve.specs.Sources.{declared_tree}
-use Rattle.resolve.proofs.Using.{interface_graph-below}
-use Rattle.resolve.proofs.graphs.interface_order.Goals as goal
-
-pub ordered-requires : goal.ordered-requires
-ordered-requires c = interface_graph-below (map declared_tree c.args.all.now) c.deref.result.now (c.deref.ensures.value ∙ c.in_ok-graph.ensures)

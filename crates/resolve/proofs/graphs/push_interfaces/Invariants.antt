@@ -1,8 +1,0 @@
-use Rattle.std.proofs.Common.{◌≡◌, ◌++◌, map, take}
-use Rattle.std.specs.List.{filter_map}
-use Rattle.resolve.specs.Declarations.{own_use}
-use Rattle.resolve.specs.Lent.{lent, used_item_of}
-use Rattle.resolve.proofs.graphs.push_interfaces.Given as goal
-
-abbrev pub invariant-loop-used : goal.invariant-loop-used
-invariant-loop-used l = lent l.names.items ≡ lent l.initial.names.items ++ filter_map own_use (map used_item_of (take l.used-index l.uses))

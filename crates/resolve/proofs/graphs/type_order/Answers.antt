@@ -1,7 +1,0 @@
-use Rattle.std.proofs.Common.{◌∙◌}
-use Rattle.resolve.specs.Sources.{declared_tree}
-use Rattle.resolve.proofs.Using.{type_graph-below}
-use Rattle.resolve.proofs.graphs.type_order.Goals as goal
-
-pub ordered-requires : goal.ordered-requires
-ordered-requires c = type_graph-below (declared_tree c.args.declared.now) c.deref.result.now (c.deref.ensures.value ∙ c.in_ok-graph.ensures)

@@ -1,5 +1,0 @@
-use Rattle.resolve.proofs.Using.{OrdersBelow}
-use Rattle.resolve.proofs.graphs.type_orders.Given as goal
-
-abbrev pub invariant-loop-declared : goal.invariant-loop-declared
-invariant-loop-declared l = OrdersBelow l.declared-index l.all l.orders.items

@@ -1,8 +1,0 @@
-use Rattle.std.proofs.Common.{◌≡◌, ◌++◌, map, flat_map, take}
-use Rattle.wit_syntax.specs.View.{case_view}
-use Rattle.resolve.specs.Declarations.{named_case}
-use Rattle.resolve.specs.Lent.{lent}
-use Rattle.resolve.proofs.named.push_named_cases.Given as goal
-
-abbrev pub invariant-loop-case : goal.invariant-loop-case
-invariant-loop-case l = lent l.names.items ≡ lent l.initial.names.items ++ flat_map named_case (map case_view (take l.case-index l.cases))

@@ -1,7 +1,0 @@
-use Rattle.std.proofs.Common.{take, All}
-use Rattle.atoms.specs.Label.{IsLabel}
-use Rattle.resolve.specs.Lent.{lent}
-use Rattle.resolve.proofs.names.are_labels.Given as goal
-
-abbrev pub invariant-loop-name : goal.invariant-loop-name
-invariant-loop-name l = All IsLabel (lent (take l.name-index l.names))

@@ -1,9 +1,0 @@
-use Rattle.std.proofs.Common.{sym, ◌∙◌, arith}
-use Rattle.wit_syntax.specs.View.{case_view}
-use Rattle.resolve.specs.Resolves.{case_fits}
-use Rattle.resolve.proofs.Nesting.{all_false-at}
-use Rattle.resolve.proofs.nested.are_cases_nested.Goals as goal
-
-pub returns-then-not-is_optional_nested : goal.returns-then-not-is_optional_nested
-returns-then-not-is_optional_nested c =
-    sym (all_false-at case_fits case_view c.args.cases.now c.loop-case.case-index c.case-item.result (omega arith) c.case-item.is (sym c.is_optional_nested.ensures ∙ c.if-not-is_optional_nested.true))

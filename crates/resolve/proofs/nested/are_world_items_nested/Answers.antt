@@ -1,9 +1,0 @@
-use Rattle.std.proofs.Common.{sym, ◌∙◌, arith}
-use Rattle.wit_syntax.specs.View.{world_entry_view}
-use Rattle.resolve.specs.Resolves.{world_entry_fits}
-use Rattle.resolve.proofs.Nesting.{all_false-at}
-use Rattle.resolve.proofs.nested.are_world_items_nested.Goals as goal
-
-pub returns-then-not-is_world_item_nested : goal.returns-then-not-is_world_item_nested
-returns-then-not-is_world_item_nested c =
-    sym (all_false-at world_entry_fits world_entry_view c.args.items.now c.loop-item.item-index c.item-item.result (omega arith) c.item-item.is (sym c.is_world_item_nested.ensures ∙ c.if-not-is_world_item_nested.true))

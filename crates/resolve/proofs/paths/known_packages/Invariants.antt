@@ -1,7 +1,0 @@
-use Rattle.std.proofs.Common.{All, Contains, map, flat_map, take}
-use Rattle.wit_syntax.specs.View.{item_view}
-use Rattle.resolve.specs.Declarations.{file_entry_packages}
-use Rattle.resolve.proofs.paths.known_packages.Given as goal
-
-abbrev pub invariant-loop-item : goal.invariant-loop-item
-invariant-loop-item l = All (Contains l.packages) (flat_map file_entry_packages (map item_view (take l.item-index l.items)))

@@ -1,7 +1,0 @@
-use Rattle.std.proofs.Common.{All, Contains, map, flat_map, take}
-use Rattle.wit_syntax.specs.View.{entry_view}
-use Rattle.resolve.specs.Declarations.{entry_packages}
-use Rattle.resolve.proofs.paths.lacking_in_items.Given as goal
-
-abbrev pub invariant-loop-item : goal.invariant-loop-item
-invariant-loop-item l = All (Contains l.packages) (flat_map entry_packages (map entry_view (take l.item-index l.items)))

@@ -1,5 +1,0 @@
-use Rattle.resolve.proofs.Settling.{AllPending}
-use Rattle.resolve.proofs.queue.Queue.new.Given as goal
-
-abbrev pub invariant-loop-node : goal.invariant-loop-node
-invariant-loop-node l = AllPending l.node l.nodes.items l.waiting.items

@@ -1,6 +1,0 @@
-use Rattle.std.proofs.Common.{All, Contains, take}
-use Rattle.resolve.specs.Lent.{lent}
-use Rattle.resolve.proofs.unknown.first_unknown.Given as goal
-
-abbrev pub invariant-loop-name : goal.invariant-loop-name
-invariant-loop-name l = All (Contains l.known) (lent (take l.name-index l.names))

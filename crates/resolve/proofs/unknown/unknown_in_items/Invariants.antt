@@ -1,9 +1,0 @@
-use Rattle.std.proofs.Common.{All, map, take}
-use Rattle.wit_syntax.specs.View.{entry_view}
-use Rattle.resolve.specs.Imports.{imports_of}
-use Rattle.resolve.specs.Sources.{declared_tree}
-use Rattle.resolve.specs.Knowing.{KnowsEntry}
-use Rattle.resolve.proofs.unknown.unknown_in_items.Given as goal
-
-abbrev pub invariant-loop-item : goal.invariant-loop-item
-invariant-loop-item l = All (KnowsEntry (imports_of l.imports) (map declared_tree l.all) (declared_tree l.declared)) (map entry_view (take l.item-index l.items))

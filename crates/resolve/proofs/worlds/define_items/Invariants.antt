@@ -1,8 +1,0 @@
-use Rattle.std.proofs.Common.{map, take}
-use Rattle.resolve.specs.Resolved.{item_meaning}
-use Rattle.resolve.specs.Sources.{declared_item}
-use Rattle.resolve.specs.WorldRows.{DefinesItems}
-use Rattle.resolve.proofs.worlds.define_items.Given as goal
-
-abbrev pub invariant-loop-item : goal.invariant-loop-item
-invariant-loop-item l = DefinesItems l.initial.builder l.builder l.world.0 l.defined.items (map item_meaning (map declared_item (take l.item-index l.items)))

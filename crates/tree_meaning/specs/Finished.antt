@@ -1,0 +1,52 @@
+-- A package that was made of a table.
+use Rattle.std.specs.Prelude.{◌≡◌, ◌≤◌, ℕ, List, [], ◌∷◌, ◌++◌, length, Option, None, Some}
+use Rattle.std.specs.Option.{option_map}
+use Rattle.std.specs.String.{string_bytes}
+use Rattle.tables.specs.PackageNames.{PackageParts}
+use Rattle.wit_syntax.specs.declared.ast.PackageId.{PackageId}
+use Rattle.package_form.specs.Entries.{Table, type_entries}
+use Rattle.package_form.specs.Ids.{type_id, function_id}
+use Rattle.tree_meaning.specs.Resolves.{interfaces_behind}
+use Rattle.tables.specs.declared.tables.Owner.{Owner}
+use Rattle.tables.specs.declared.tables.Owner.TheVariants as owner
+use Rattle.tables.specs.declared.tables.TypeName.{TypeName}
+use Rattle.tables.specs.declared.tables.TypeDefKind.{TypeDefKind}
+use Rattle.tables.specs.declared.tables.TypeDefKind.TheVariants as kind
+use Rattle.tables.specs.declared.tables.Definition.{Definition}
+use Rattle.tables.specs.declared.tables.Definition.TheVariants as row
+use Rattle.tables.specs.declared.tables.Interface.{Interface}
+use Rattle.tables.specs.declared.tables.Resolve.{Resolve}
+
+-- the interface that a row has a name in
+abbrev pub named_in : Option TypeName → Option ℕ
+named_in None = None
+named_in (Some n) = Some n.interface.0
+
+abbrev pub owned_in : Owner → Option ℕ
+owned_in (owner.Interface i) = Some i.0
+owned_in (owner.World w) = None
+
+abbrev pub interface_of : Definition → Option ℕ
+interface_of (row.Type d) = named_in d.name
+interface_of (row.Function f) = owned_in f.owner
+
+-- the interface with one more definition, which stands at place k
+abbrev pub with_type : ℕ → TypeDefKind → Interface → Interface
+with_type k (kind.Use t) i = record { «package» = i.«package»; name = i.name; uses = i.uses ++ type_id k ∷ []; types = i.types; functions = i.functions }
+with_type k _ i = record { «package» = i.«package»; name = i.name; uses = i.uses; types = i.types ++ type_id k ∷ []; functions = i.functions }
+
+abbrev pub with_row : ℕ → Definition → Interface → Interface
+with_row k (row.Type d) i = with_type k d.kind i
+with_row k (row.Function f) i = record { «package» = i.«package»; name = i.name; uses = i.uses; types = i.types; functions = i.functions ++ function_id k ∷ [] }
+
+-- the name of the package that a header gives
+abbrev pub header : PackageId → PackageParts
+header p = record { namespace = p.namespace; name = p.name; version = option_map string_bytes p.version }
+
+-- .. behind its imports, with own interfaces of these names
+pub record IsFinished (imports : Resolve) (p : PackageParts) (names : List (List ℕ)) (t : Table) (r : Resolve) : Type 0 where
+  pub packages : r.packages ≡ imports.packages ++ p ∷ []
+  pub worlds : r.worlds ≡ t.worlds
+  pub interfaces : r.interfaces ≡ imports.interfaces ++ interfaces_behind (length imports.packages) (length imports.interfaces) t.rows names
+  pub definitions : r.definitions ≡ t.rows
+  pub within : type_entries t ≤ 65535

@@ -1,0 +1,10 @@
+pub mod Declarations
+pub mod Resolved
+pub mod Scopes
+pub mod Resolves
+pub mod Building
+pub mod WorldRows
+pub mod Knowing
+pub mod Finished
+pub mod Imports
+pub mod ImportForms

@@ -1,0 +1,6 @@
+//! What a syntax tree means: the definitions, and what follows of them alone.
+//!
+//! `specs/Resolves.antt` says which package a tree resolves to, and when it is refused; `specs/Declarations.antt` what
+//! its interfaces and worlds declare, `specs/Resolved.antt` what each definition means, `specs/Building.antt` what a
+//! table keeps while it is made. Nothing here runs. It stands on `wit_syntax` and `package_form`.
+#![tactic(auto)]

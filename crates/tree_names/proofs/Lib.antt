@@ -1,0 +1,3 @@
+pub mod Nesting
+pub mod Using
+pub mod WorldScopes

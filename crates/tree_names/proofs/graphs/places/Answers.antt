@@ -1,0 +1,16 @@
+use Rattle.std.proofs.Common.{sym, ◌∙◌, arith, refl}
+use Rattle.tree_names.proofs.Using.{places-some, places-none}
+use Rattle.tree_meaning.proofs.Finding.{none-of}
+use Rattle.tree_names.proofs.graphs.places.Goals as goal
+use Rattle.tree_names.proofs.graphs.places.Goals.{in-Some+in_ok-push, in_default}
+
+pub loop-name-preserved : goal.loop-name-preserved
+loop-name-preserved c = elim c.match-place_of.branch [
+  | in-Some+in_ok-push w ↦
+      let more = places-some c.args.names.now c.args.wanted.now c.loop-name.name-index c.name-item.result (omega arith) c.name-item.is w.in-Some.place (sym c.place_of.ensures ∙ w.in-Some.is) in
+      rw (w.found-is, w.in_ok-push.ensures.items, c.loop-name.invariant, more) refl
+  | in_default w ↦
+      let none = none-of c.place_of.result (λ j e. w.in_default.not-Some j e) in
+      let same = places-none c.args.names.now c.args.wanted.now c.loop-name.name-index c.name-item.result (omega arith) c.name-item.is (sym c.place_of.ensures ∙ none) in
+      rw (w.found-is, c.loop-name.invariant, same) refl
+]

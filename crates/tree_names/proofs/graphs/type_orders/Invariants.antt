@@ -1,0 +1,5 @@
+use Rattle.tree_names.proofs.Using.{OrdersBelow}
+use Rattle.tree_names.proofs.graphs.type_orders.Given as goal
+
+abbrev pub invariant-loop-declared : goal.invariant-loop-declared
+invariant-loop-declared l = OrdersBelow l.declared-index l.all l.orders.items

@@ -1,0 +1,9 @@
+pub mod MoreRows
+pub mod Lowering
+pub mod Growing
+pub mod DefinedWorlds
+pub mod Packaging
+pub mod Finishing
+pub mod Closing
+pub mod PlacedWorlds
+pub mod PathRows

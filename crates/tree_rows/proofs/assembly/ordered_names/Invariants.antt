@@ -1,0 +1,7 @@
+use Rattle.std.proofs.Common.{◌≡◌, map, take}
+use Rattle.tree_meaning.specs.Resolves.{names_in_order}
+use Rattle.tree_scopes.specs.Sources.{declared_tree}
+use Rattle.tree_rows.proofs.assembly.ordered_names.Given as goal
+
+abbrev pub invariant-loop-place : goal.invariant-loop-place
+invariant-loop-place l = l.names.items ≡ names_in_order (map declared_tree l.all) (take l.place-index l.order)

@@ -1,0 +1,10 @@
+use Rattle.std.proofs.Common.{map, take}
+use Rattle.wit_syntax.specs.View.{field_view}
+use Rattle.tree_meaning.specs.Resolved.{member_meaning}
+use Rattle.tree_meaning.specs.Building.{LowersParameters}
+use Rattle.tree_scopes.specs.KnownScopes.{scope_name}
+use Rattle.tree_rows.proofs.bodies.lower_parameters.Given as goal
+
+abbrev pub invariant-loop-member : goal.invariant-loop-member
+invariant-loop-member l =
+    LowersParameters l.initial.builder l.builder l.parameters.items (map (member_meaning (scope_name l.initial.builder l.scope)) (map field_view (take l.member-index l.members)))

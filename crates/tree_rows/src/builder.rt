@@ -1,0 +1,70 @@
+//! The table of definitions while it is made.
+ghost use Rattle.std.specs.Prelude.{◌≡◌, ◌≢◌, ◌<◌, ◌++◌, ◌∷◌, [], length, IfOk};
+ghost use Rattle.std.specs.Bool.{OnTrue, OnFalse};
+ghost use Rattle.tables.specs.Package.{Tree, interface_names};
+ghost use Rattle.package_form.specs.Entries.{Table};
+ghost use Rattle.tree_meaning.specs.Building.{Lowers, LowersInner, name_at};
+
+use atoms::Label;
+use std::alloc::{AllocError, Global};
+use std::marker::Model;
+use tables::{Definition, Resolve, TypeDef, TypeDefKind, TypeId, ValType};
+
+/// The imports and the names of the own interfaces in package order, and the definitions so far.
+#[derive(Drop)]
+pub struct Builder<'a> {
+    imports: &'a Resolve,
+    own: &'a [Label],
+    rows: Vec<Definition>,
+}
+
+impl<'a> Model for Builder<'a> {
+    ghost use Rattle.std.specs.Prelude.{◌++◌, []};
+    ghost use Rattle.package_form.specs.Entries.{Table};
+    ghost use Rattle.tables.specs.Package.{interface_names};
+
+    ghost Value = { Table };
+
+    ghost view = { λ b. record { interfaces = interface_names b.imports.now ++ b.own.now; worlds = []; rows = b.rows.items } };
+}
+
+impl<'a> Builder<'a> {
+    /// A table of these definitions, those of the imports, which go by their full names.
+    pub fn new(imports: &'a Resolve, own: &'a [Label], rows: Vec<Definition>) -> Self
+        ensures { result ≡ record { interfaces = interface_names imports.now ++ own.now; worlds = []; rows = rows.items } }
+    {
+        Builder { imports, own, rows }
+    }
+
+    /// The definitions.
+    pub fn into_rows(self) -> Vec<Definition>
+        ensures { result.items ≡ self.entry.rows }
+    {
+        self.rows
+    }
+
+    /// Puts a definition at the end of the table. No memory, too, where an id can't tell its place.
+    pub fn define(&mut self, definition: Definition) -> Result<TypeId, AllocError>
+        ensures { IfOk result (λ id. (id.0 ≡ length self.old.rows)
+            × (self.new ≡ record { interfaces = self.old.interfaces; worlds = self.old.worlds; rows = self.old.rows ++ definition ∷ [] })) }
+    {
+        let Ok(place) = u32::try_from(self.rows.len()) else {
+            return Err(AllocError);
+        };
+        self.rows.push(definition)?;
+        Ok(TypeId(place))
+    }
+
+    /// A type of this kind inside another: a row of its own, but for a name or a primitive.
+    pub fn inner(&mut self, kind: TypeDefKind) -> Result<ValType, AllocError>
+        ensures { IfOk result (λ v. (first : Table) (tree : Tree) → LowersInner first self.old kind tree → Lowers first self.new v tree) }
+    {
+        match kind {
+            TypeDefKind::Alias(target) => Ok(target),
+            kind => {
+                let id = self.define(Definition::Type(TypeDef { name: None, kind }))?;
+                Ok(ValType::Id(id))
+            }
+        }
+    }
+}

@@ -1,0 +1,185 @@
+//! A package of a table of definitions: the ids of its interfaces, and its limits.
+ghost use Rattle.std.specs.Prelude.{◌≡◌, ◌<◌, ◌≤◌, ◌⊎◌, ◌+◌, ◌++◌, nat_lt, true, List, [], map, sum, length, IsTrue, IfOk, IfErr, OnOk, IfSome, IfNone, Some, ℕ};
+ghost use Rattle.tables.specs.Tables.{are_earlier, name_types};
+ghost use Rattle.tables.specs.Package.{interface_names};
+ghost use Rattle.tree_meaning.specs.Resolves.{PassesLimit, interfaces_behind};
+ghost use Rattle.package_form.specs.Entries.{world_entries, entries_of};
+ghost use Rattle.tree_meaning.specs.Finished.{IsFinished, interface_of, with_row};
+ghost use Rattle.tree_meaning.specs.WorldRows.{worlds_stand, with_worlds};
+
+use crate::builder::Builder;
+use atoms::Label;
+use package_form::passes_entries;
+use std::alloc::{AllocError, Global};
+use tables::{
+    Definition, FunctionId, Interface, Owner, PackageId, PackageName, Resolve, ResolveError,
+    Sequence, TypeDefKind, TypeId, World, are_standard,
+};
+use tree_scopes::place_behind;
+
+/// The most type entries of a package, its imports counted.
+const MAX_ENTRIES: usize = 65535;
+
+/// The interface that a row has a name in.
+fn interface_of(row: &Definition) -> Option<usize>
+    ensures { result ≡ interface_of row.now }
+{
+    match row {
+        Definition::Type(definition) => match &definition.name {
+            Some(name) => Some(name.interface.0 as usize),
+            None => None,
+        },
+        Definition::Function(function) => match function.owner {
+            Owner::Interface(owner) => Some(owner.0 as usize),
+            Owner::World(_) => None,
+        },
+    }
+}
+
+/// The place among so many interfaces, the first of which stands at this place, of that which a row has a name in.
+fn own_place(first: usize, count: usize, row: &Definition) -> Option<usize>
+    ensures none { IfNone result ((j : ℕ) → j < count → interface_of row.now ≡ Some (first + j) → ⊥) }
+    ensures some { IfSome result (λ j. (j < count) × (interface_of row.now ≡ Some (first + j))) }
+{
+    let index = interface_of(row)?;
+    let place = index.checked_sub(first)?;
+    if place < count { Some(place) } else { None }
+}
+
+/// Puts the id of the row at this place behind the interface's ids of its kind.
+fn push_id(interface: &mut Interface, place: usize, row: &Definition) -> Result<(), AllocError>
+    requires { place ≤ 65535 }
+    ensures { OnOk result (interface.new ≡ with_row place row.now interface.old) }
+{
+    match row {
+        Definition::Type(definition) => match definition.kind {
+            TypeDefKind::Use(_) => interface.uses.push(TypeId(place as u32))?,
+            _ => interface.types.push(TypeId(place as u32))?,
+        },
+        Definition::Function(_) => interface.functions.push(FunctionId(place as u32))?,
+    }
+    Ok(())
+}
+
+/// Interfaces of these names in this package, without definitions. The first of them stands at this place.
+fn empty_interfaces(
+    alloc: Global,
+    package: PackageId,
+    first: usize,
+    names: &[Label],
+) -> Result<Vec<Interface>, AllocError>
+    ensures { IfOk result (λ is. is.items ≡ interfaces_behind «package».0 first [] names.now) }
+{
+    let mut interfaces = Vec::new(alloc);
+    for name in names {
+        interfaces.push(Interface {
+            package,
+            name: name.copy(alloc)?,
+            uses: Sequence::new(Vec::new(alloc)),
+            types: Sequence::new(Vec::new(alloc)),
+            functions: Sequence::new(Vec::new(alloc)),
+        })?;
+    }
+    Ok(interfaces)
+}
+
+/// The interfaces of these names, with the ids of their definitions.
+fn interfaces_in(
+    alloc: Global,
+    rows: &[Definition],
+    package: PackageId,
+    first: usize,
+    names: &[Label],
+) -> Result<Vec<Interface>, AllocError>
+    requires { length rows.now ≤ 65535 }
+    ensures { IfOk result (λ is. is.items ≡ interfaces_behind «package».0 first rows.now names.now) }
+{
+    let mut interfaces = empty_interfaces(alloc, package, first, names)?;
+    for (place, row) in rows.iter().enumerate() {
+        if let Some(index) = own_place(first, interfaces.len(), row) {
+            push_id(&mut interfaces[index], place, row)?;
+        }
+    }
+    Ok(interfaces)
+}
+
+/// Whether a package of so many interfaces, of these worlds and of these rows has too many type entries.
+fn passes_limit(interfaces: usize, worlds: &[World], rows: &[Definition]) -> bool
+    ensures { result ≡ nat_lt 65535 (1 + interfaces + (sum (map world_entries worlds.now) + sum (map entries_of rows.now))) }
+{
+    if interfaces > MAX_ENTRIES {
+        return true;
+    }
+    passes_entries(interfaces, worlds, rows)
+}
+
+/// The parts of a copy of the imports: their packages, their interfaces and their definitions.
+pub fn copied_parts(
+    alloc: Global,
+    imports: &Resolve,
+) -> Result<(Vec<PackageName>, Vec<Interface>, Vec<Definition>), AllocError>
+    ensures packages { IfOk result (λ r. r.0.items ≡ imports.now.packages) }
+    ensures interfaces { IfOk result (λ r. r.1.items ≡ imports.now.interfaces) }
+    ensures definitions { IfOk result (λ r. r.2.items ≡ imports.now.definitions) }
+{
+    let Resolve {
+        packages,
+        interfaces,
+        worlds: _,
+        definitions,
+    } = imports.copy(alloc)?;
+    Ok((
+        packages.into_vec(),
+        interfaces.into_vec(),
+        definitions.into_vec(),
+    ))
+}
+
+/// The id of the package behind so many. No memory where an id can't tell it.
+pub fn package_id(place: usize) -> Result<PackageId, AllocError>
+    ensures { IfOk result (λ id. id.0 ≡ place) }
+{
+    match u32::try_from(place) {
+        Ok(place) => Ok(PackageId(place)),
+        Err(_) => Err(AllocError),
+    }
+}
+
+/// The closed table of these definitions with these worlds, under this name, behind its imports, whose packages and
+/// interfaces these are.
+pub fn finish(
+    alloc: Global,
+    imports: &Resolve,
+    mut packages: Vec<PackageName>,
+    mut interfaces: Vec<Interface>,
+    names: &[Label],
+    builder: Builder,
+    worlds: Vec<World>,
+    package: PackageName,
+) -> Result<Resolve, ResolveError>
+    requires packages { packages.items ≡ imports.now.packages }
+    requires interfaces { interfaces.items ≡ imports.now.interfaces }
+    requires names { builder.interfaces ≡ interface_names imports.now ++ names.now }
+    requires rows { (own : List Definition) × (builder.rows ≡ imports.now.definitions ++ own) }
+    requires earlier { IsTrue (are_earlier 0 builder.rows) }
+    requires typed { IsTrue (name_types builder.rows) }
+    requires worlds { worlds_stand (length imports.now.packages) builder 0 worlds.items ≡ true }
+    ensures ok { IfOk result (IsFinished imports.now «package» names.now (with_worlds builder.entry worlds.items)) }
+    ensures err { IfErr result (λ e. (e ≡ ResolveError.NoMemory) ⊎ ((e ≡ ResolveError.Limit) × PassesLimit (with_worlds builder.entry worlds.items))) }
+{
+    let rows = builder.into_rows();
+    let count = place_behind(imports, names.len())?;
+    if passes_limit(count, &worlds, &rows) || !are_standard(&rows) {
+        return Err(ResolveError::Limit);
+    }
+    let id = package_id(packages.len())?;
+    let mut own = interfaces_in(alloc, &rows, id, interfaces.len(), names)?;
+    interfaces.append(&mut own)?;
+    packages.push(package)?;
+    Ok(Resolve {
+        packages: Sequence::new(packages),
+        interfaces: Sequence::new(interfaces),
+        worlds: Sequence::new(worlds),
+        definitions: Sequence::new(rows),
+    })
+}

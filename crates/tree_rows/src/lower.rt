@@ -1,0 +1,139 @@
+//! Types of the syntax as types of the table.
+ghost use Rattle.std.specs.Prelude.{◌≡◌, map, IfOk};
+ghost use Rattle.wit_syntax.specs.Syntax.{tys_of};
+ghost use Rattle.wit_syntax.specs.View.{ty_view, boxed_view, optional_view};
+ghost use Rattle.tree_meaning.specs.Declarations.{named, named_all, named_maybe, named_if};
+ghost use Rattle.tree_meaning.specs.Resolved.{resolved, resolved_all, resolved_maybe, resolved_if, val_of_primitive};
+ghost use Rattle.tree_meaning.specs.Building.{Lowers, LowersInner, LowersIf, LowersAll};
+ghost use Rattle.tree_scopes.specs.KnownScopes.{IsScope, KnowsNames, scope_name};
+
+use crate::builder::Builder;
+use std::alloc::{AllocError, Global};
+use tables::{Primitive, Sequence, TypeDefKind, ValType};
+use tree_scopes::KnownTypes;
+use wit_syntax::TypeExpression;
+
+fn lower_primitive(primitive: wit_syntax::Primitive) -> ValType
+    ensures { result ≡ val_of_primitive primitive }
+{
+    match primitive {
+        wit_syntax::Primitive::Bool => ValType::Primitive(Primitive::Bool),
+        wit_syntax::Primitive::S8 => ValType::Primitive(Primitive::S8),
+        wit_syntax::Primitive::U8 => ValType::Primitive(Primitive::U8),
+        wit_syntax::Primitive::S16 => ValType::Primitive(Primitive::S16),
+        wit_syntax::Primitive::U16 => ValType::Primitive(Primitive::U16),
+        wit_syntax::Primitive::S32 => ValType::Primitive(Primitive::S32),
+        wit_syntax::Primitive::U32 => ValType::Primitive(Primitive::U32),
+        wit_syntax::Primitive::S64 => ValType::Primitive(Primitive::S64),
+        wit_syntax::Primitive::U64 => ValType::Primitive(Primitive::U64),
+        wit_syntax::Primitive::Char => ValType::Primitive(Primitive::Char),
+        wit_syntax::Primitive::String => ValType::String,
+    }
+}
+
+/// What an expression is: types that stand inside it get rows of their own.
+#[cycle(lower)]
+#[tactic(auto, using(crate::proofs::Lowering::lowering))]
+pub fn lower_kind(
+    alloc: Global,
+    builder: &mut Builder,
+    scope: &KnownTypes,
+    expression: &TypeExpression,
+) -> Result<TypeDefKind, AllocError>
+    requires known { KnowsNames scope.now (named (ty_view expression.now)) }
+    requires scoped { IsScope builder.old scope.now }
+    ensures { IfOk result (λ k. LowersInner builder.old builder.new k (resolved (scope_name builder.old scope.now) (ty_view expression.now))) }
+{
+    match expression {
+        TypeExpression::Primitive(primitive) => Ok(TypeDefKind::Alias(lower_primitive(*primitive))),
+        TypeExpression::Named(name) => Ok(TypeDefKind::Alias(ValType::Id(scope.entries.get(name)))),
+        TypeExpression::List(element) => {
+            let element = lower_kind(alloc, builder, scope, element)?;
+            Ok(TypeDefKind::List(builder.inner(element)?))
+        }
+        TypeExpression::Option(payload) => {
+            let payload = lower_kind(alloc, builder, scope, payload)?;
+            Ok(TypeDefKind::Option(builder.inner(payload)?))
+        }
+        TypeExpression::Tuple(members) => {
+            let members = lower_all(alloc, builder, scope, members)?;
+            Ok(TypeDefKind::Tuple(members))
+        }
+        TypeExpression::Result { ok, error } => {
+            let ok = lower_boxed(alloc, builder, scope, ok)?;
+            let error = lower_boxed(alloc, builder, scope, error)?;
+            Ok(TypeDefKind::Result(ok, error))
+        }
+    }
+}
+
+#[cycle(lower)]
+fn lower_boxed(
+    alloc: Global,
+    builder: &mut Builder,
+    scope: &KnownTypes,
+    expression: &Option<Box<TypeExpression>>,
+) -> Result<Option<ValType>, AllocError>
+    requires known { KnowsNames scope.now (named_maybe (boxed_view expression.now)) }
+    requires scoped { IsScope builder.old scope.now }
+    ensures { IfOk result (λ v. LowersIf builder.old builder.new v (resolved_maybe (scope_name builder.old scope.now) (boxed_view expression.now))) }
+{
+    match expression {
+        None => Ok(None),
+        Some(expression) => {
+            let kind = lower_kind(alloc, builder, scope, expression)?;
+            Ok(Some(builder.inner(kind)?))
+        }
+    }
+}
+
+#[cycle(lower)]
+#[tactic(auto, using(crate::proofs::Lowering::lowering))]
+fn lower_all(
+    alloc: Global,
+    builder: &mut Builder,
+    scope: &KnownTypes,
+    expressions: &Vec<TypeExpression>,
+) -> Result<Sequence<ValType>, AllocError>
+    requires known { KnowsNames scope.now (named_all (tys_of (map ty_view expressions.now.items))) }
+    requires scoped { IsScope builder.old scope.now }
+    ensures { IfOk result (λ vs. LowersAll builder.old builder.new vs (resolved_all (scope_name builder.old scope.now) (tys_of (map ty_view expressions.now.items)))) }
+{
+    let mut types = Vec::with_capacity(alloc, expressions.len())?;
+    for expression in expressions {
+        let kind = lower_kind(alloc, builder, scope, expression)?;
+        types.push(builder.inner(kind)?)?;
+    }
+    Ok(Sequence::new(types))
+}
+
+/// The type that an expression stands for.
+pub fn lower_type(
+    alloc: Global,
+    builder: &mut Builder,
+    scope: &KnownTypes,
+    expression: &TypeExpression,
+) -> Result<ValType, AllocError>
+    requires known { KnowsNames scope.now (named (ty_view expression.now)) }
+    requires scoped { IsScope builder.old scope.now }
+    ensures { IfOk result (λ v. Lowers builder.old builder.new v (resolved (scope_name builder.old scope.now) (ty_view expression.now))) }
+{
+    let kind = lower_kind(alloc, builder, scope, expression)?;
+    builder.inner(kind)
+}
+
+pub fn lower_optional(
+    alloc: Global,
+    builder: &mut Builder,
+    scope: &KnownTypes,
+    expression: &Option<TypeExpression>,
+) -> Result<Option<ValType>, AllocError>
+    requires known { KnowsNames scope.now (named_if (optional_view expression.now)) }
+    requires scoped { IsScope builder.old scope.now }
+    ensures { IfOk result (λ v. LowersIf builder.old builder.new v (resolved_if (scope_name builder.old scope.now) (optional_view expression.now))) }
+{
+    match expression {
+        None => Ok(None),
+        Some(expression) => Ok(Some(lower_type(alloc, builder, scope, expression)?)),
+    }
+}

@@ -1,0 +1,17 @@
+use Rattle.std.proofs.Common.{◌+◌, ℕ, Option, Some, length, ap, sym, ◌∙◌}
+use Rattle.std.specs.Option.{option_map}
+use Rattle.wit_syntax.specs.View.{path_view}
+use Rattle.wit_syntax.specs.declared.ast.Path.{Path}
+use Rattle.tree_meaning.specs.Imports.{interfaces_of}
+use Rattle.tree_meaning.specs.Resolves.{path_place}
+use Rattle.tree_meaning.proofs.Imported.{imports-length}
+use Rattle.tree_scopes.proofs.paths.interface_place.Goals as goal
+
+pub returns-in_ok-place_behind-in-Some : goal.returns-in_ok-place_behind-in-Some
+returns-in_ok-place_behind-in-Some c =
+    let r = c.args.imports.now in
+    let ks = interfaces_of r in
+    let found = ap (λ (o : Option ℕ). option_map (λ j. length ks + j) o) (sym c.place_of.ensures ∙ c.in-Some.is) in
+    let same = ap (λ (n : ℕ). Some (n + c.in-Some.place)) (imports-length r.packages r.definitions 0 r.interfaces) in
+    let at = ap (λ (n : ℕ). Some n) c.in_ok-place_behind-in-Some.ensures in
+    at ∙ sym same ∙ sym found ∙ sym (ap (λ (q : Path). path_place ks c.args.names.now (path_view q)) c.in-Local.is)

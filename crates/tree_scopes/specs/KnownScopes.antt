@@ -1,0 +1,31 @@
+-- The types that names stand for in the scopes of a table.
+use Rattle.std.specs.Prelude.{ℕ, ◌<◌, ◌≡◌, List, map, length, slice_index_or, All, Contains}
+use Rattle.package_form.specs.Entries.{Table}
+use Rattle.tree_meaning.specs.Imports.{interfaces_of}
+use Rattle.tables.specs.declared.tables.Resolve.{Resolve}
+use Rattle.tree_scopes.specs.declared.known.KnownTypes.{KnownTypes}
+use Rattle.tree_meaning.specs.Building.{name_at, IsEntry}
+
+pub record IsScope (t : Table) (s : KnownTypes) : Type 0 where
+  pub each : All (IsEntry t (name_at t s.interface.0)) s.entries
+
+-- the name of a scope's interface
+abbrev pub scope_name : Table → KnownTypes → List ℕ
+scope_name t s = name_at t s.interface.0
+
+abbrev pub scope_names : KnownTypes → List (List ℕ)
+scope_names s = map (λ e. e.name) s.entries
+
+-- these names are known
+abbrev pub KnowsNames : KnownTypes → List (List ℕ) → Type 0
+KnowsNames s ns = All (Contains (scope_names s)) ns
+
+-- the scope at each place is that of the interface of this place
+abbrev pub ArePlaced : List KnownTypes → Type 0
+ArePlaced scopes = (m : ℕ) (d : KnownTypes) → m < length scopes → (slice_index_or scopes m d).interface.0 ≡ m
+
+-- a scope for each import, with the names of its types
+pub record AreImportScopes (r : Resolve) (scopes : List KnownTypes) : Type 0 where
+  pub names : map scope_names scopes ≡ map (λ k. k.types) (interfaces_of r)
+  pub placed : ArePlaced scopes
+  pub scoped : (t : Table) → t.rows ≡ r.definitions → All (IsScope t) scopes

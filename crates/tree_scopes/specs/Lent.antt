@@ -1,0 +1,27 @@
+-- Parts of a syntax tree that are lent.
+use Rattle.std.specs.Prelude.{ℕ, List, map}
+use Rattle.std.specs.Borrow.{Bor}
+use Rattle.wit_syntax.specs.View.{definition_view, path_view}
+use Rattle.wit_syntax.specs.declared.ast.TypeDef.{TypeDef}
+use Rattle.tree_meaning.specs.Declarations.{UsedItem, TypeItem, path_package, path_interface}
+use Rattle.tree_scopes.specs.declared.declared.UsedType.{UsedType}
+
+abbrev pub lent_name : Bor (List ℕ) → List ℕ
+lent_name b = b.now
+
+abbrev pub lent : List (Bor (List ℕ)) → List (List ℕ)
+lent ns = map lent_name ns
+
+abbrev pub used_item_of : UsedType → UsedItem
+used_item_of u = record {
+  «package» = path_package (path_view u.path.now);
+  interface = path_interface (path_view u.path.now);
+  name = u.name.now;
+  local = u.local.now;
+}
+
+abbrev pub type_item : TypeDef → TypeItem
+type_item t = record { name = t.name; definition = definition_view t.kind }
+
+abbrev pub declared_type : Bor TypeDef → TypeItem
+declared_type t = type_item t.now

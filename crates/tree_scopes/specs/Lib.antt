@@ -1,0 +1,3 @@
+pub mod KnownScopes
+pub mod Sources
+pub mod Lent

@@ -1,0 +1,123 @@
+//! The declarations of an interface of a syntax tree.
+ghost use Rattle.std.specs.Prelude.{◌≡◌, ◌++◌, map, All, OnOk, IfOk};
+ghost use Rattle.atoms.specs.Label.{IsLabel};
+ghost use Rattle.wit_syntax.specs.View.{entry_view, path_view, used_view};
+ghost use Rattle.tree_meaning.specs.Declarations.{interface_tree, interface_name, interface_names, path_uses, local_name, use_local, type_name};
+ghost use Rattle.tree_scopes.specs.Lent.{declared_type, used_item_of, lent};
+ghost use Rattle.tree_scopes.specs.Sources.{declared_tree};
+
+use crate::declared::{Declarations, UsedType};
+use crate::names::Names;
+use atoms::{KeyedState, Label};
+use std::alloc::{AllocError, Global};
+use wit_syntax::{Interface, InterfaceItem, Path, TypeDef, Use, UsedName};
+
+/// The name that a used type gets.
+pub fn local_name(used: &UsedName) -> &Label
+    ensures { result.now ≡ local_name (used_view used.now) }
+{
+    match &used.local {
+        Some(local) => local,
+        None => &used.name,
+    }
+}
+
+/// Appends names that are used of an interface.
+fn push_used<'a>(
+    uses: &mut Vec<UsedType<'a>>,
+    path: &'a Path,
+    names: &'a [UsedName],
+) -> Result<(), AllocError>
+    ensures { OnOk result (map used_item_of uses.new.items ≡ map used_item_of uses.old.items ++ path_uses (path_view path.now) (map used_view names.now)) }
+{
+    for used in names {
+        uses.push(UsedType {
+            path,
+            name: &used.name,
+            local: local_name(used),
+        })?;
+    }
+    Ok(())
+}
+
+/// Appends the names of a use.
+fn push_use<'a>(uses: &mut Vec<UsedType<'a>>, used: &'a Use) -> Result<(), AllocError>
+    ensures { OnOk result (map used_item_of uses.new.items ≡ map used_item_of uses.old.items ++ path_uses (path_view used.now.interface) (map used_view used.now.names.items)) }
+{
+    push_used(uses, &used.interface, &used.names)
+}
+
+fn push_locals<'a>(names: &mut Vec<&'a Label>, uses: &[UsedType<'a>]) -> Result<(), AllocError>
+    ensures { OnOk result (lent names.new.items ≡ lent names.old.items ++ map use_local (map used_item_of uses.now)) }
+{
+    for used in uses {
+        names.push(used.local)?;
+    }
+    Ok(())
+}
+
+/// Appends the names of types.
+pub fn push_types<'a>(names: &mut Vec<&'a Label>, types: &[&'a TypeDef]) -> Result<(), AllocError>
+    ensures { OnOk result (lent names.new.items ≡ lent names.old.items ++ map type_name (map declared_type types.now)) }
+{
+    for definition in types {
+        names.push(&definition.name)?;
+    }
+    Ok(())
+}
+
+/// Appends the names of interfaces.
+fn push_names<'a>(names: &mut Vec<&'a Label>, all: &[Declarations<'a>]) -> Result<(), AllocError>
+    ensures { OnOk result (lent names.new.items ≡ lent names.old.items ++ map interface_name (map declared_tree all.now)) }
+{
+    for declared in all {
+        names.push(declared.name)?;
+    }
+    Ok(())
+}
+
+/// The names of the interfaces.
+pub fn interface_names<'a>(
+    alloc: Global,
+    keyed: KeyedState,
+    all: &[Declarations<'a>],
+) -> Result<Names<'a>, AllocError>
+    ensures names { IfOk result (λ ns. ns ≡ interface_names (map declared_tree all.now)) }
+    ensures labels { IfOk result (λ ns. All IsLabel ns) }
+{
+    let mut names = Vec::new(alloc);
+    push_names(&mut names, all)?;
+    Names::of(alloc, keyed, names)
+}
+
+impl<'a> Declarations<'a> {
+    /// What an interface declares.
+    pub fn of(
+        alloc: Global,
+        keyed: KeyedState,
+        interface: &'a Interface,
+    ) -> Result<Declarations<'a>, AllocError>
+        ensures { IfOk result (λ d. declared_tree d ≡ interface_tree interface.now.name (map entry_view interface.now.items.items)) }
+    {
+        let mut uses = Vec::new(alloc);
+        let mut types = Vec::new(alloc);
+        let mut functions = Vec::new(alloc);
+        for item in &interface.items {
+            match item {
+                InterfaceItem::Use(used) => push_use(&mut uses, used)?,
+                InterfaceItem::TypeDef(definition) => types.push(definition)?,
+                InterfaceItem::Func(function) => functions.push(function)?,
+            }
+        }
+        let mut names = Vec::new(alloc);
+        push_locals(&mut names, &uses)?;
+        push_types(&mut names, &types)?;
+        Ok(Declarations {
+            name: &interface.name,
+            uses,
+            types,
+            functions,
+            names: Names::of(alloc, keyed, names)?,
+        })
+    }
+}

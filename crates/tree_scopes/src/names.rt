@@ -1,0 +1,99 @@
+//! Names that are found by their bytes.
+ghost use Rattle.std.specs.Prelude.{◌≡◌, All, IfOk};
+ghost use Rattle.atoms.specs.Label.{IsLabel};
+ghost use Rattle.tree_scopes.specs.Lent.{lent};
+ghost use Rattle.tree_meaning.specs.Resolves.{place_of};
+ghost use Rattle.tree_meaning.specs.Knowing.{TellsPlaces};
+
+use atoms::{KeyedState, Label};
+use indexmap::IndexMap;
+use package_form::FEW;
+use std::alloc::{AllocError, Global};
+use std::marker::Model;
+
+/// Names in order, each with its first place. Few are compared one by one, more are found in a table.
+#[derive(Drop)]
+pub struct Names<'a> {
+    names: Vec<&'a Label>,
+    places: IndexMap<Vec<u8>, usize, KeyedState>,
+}
+
+impl<'a> Model for Names<'a> {
+    ghost use Rattle.std.specs.Prelude.{◌<◌, List, ℕ, length};
+    ghost use Rattle.tree_scopes.specs.Lent.{lent};
+    ghost use Rattle.tree_meaning.specs.Knowing.{TellsPlaces};
+
+    ghost Value = { List (List ℕ) };
+
+    ghost view = { λ n. lent n.names.items };
+
+    ghost invariant = { λ n. 16 < length n.names.items → TellsPlaces (λ v. v.items) n.places.entries (lent n.names.items) };
+}
+
+/// The first place of a name among these.
+fn first_place(names: &[&Label], name: &Label) -> Option<usize>
+    ensures { result ≡ place_of (lent names.now) name.now }
+{
+    for (place, other) in names.iter().enumerate() {
+        if other.as_bytes() == name.as_bytes() {
+            return Some(place);
+        }
+    }
+    None
+}
+
+/// The names as a table, with the first place of each.
+fn places_of(
+    alloc: Global,
+    keyed: KeyedState,
+    names: &[&Label],
+) -> Result<IndexMap<Vec<u8>, usize, KeyedState>, AllocError>
+    ensures { IfOk result (λ m. TellsPlaces (λ v. v.items) m.entries (lent names.now)) }
+{
+    let mut places = IndexMap::with_capacity_and_hasher(alloc, names.len(), keyed)?;
+    for (place, name) in names.iter().enumerate() {
+        if !places.contains_key(name.as_bytes()) {
+            places.insert(Vec::from_slice(alloc, name.as_bytes())?, place)?;
+        }
+    }
+    Ok(places)
+}
+
+/// Names are labels.
+fn are_labels(names: &[&Label])
+    ensures { All IsLabel (lent names.now) }
+{
+    for name in names {
+        name.as_bytes();
+    }
+}
+
+impl<'a> Names<'a> {
+    /// The places of these names, which are told apart by hashers with this key, where they are more than a few.
+    pub fn of(
+        alloc: Global,
+        keyed: KeyedState,
+        names: Vec<&'a Label>,
+    ) -> Result<Names<'a>, AllocError>
+        ensures names { IfOk result (λ n. n ≡ lent names.entry.items) }
+        ensures labels { IfOk result (λ n. All IsLabel n) }
+    {
+        are_labels(&names);
+        if names.len() <= FEW {
+            let places = IndexMap::with_hasher(alloc, keyed);
+            return Ok(Names { names, places });
+        }
+        let places = places_of(alloc, keyed, &names)?;
+        Ok(Names { names, places })
+    }
+
+    /// The first place of a name.
+    pub fn place_of(&self, name: &Label) -> Option<usize>
+        ensures { result ≡ place_of self.now name.now }
+    {
+        if self.names.len() <= FEW {
+            return first_place(&self.names, name);
+        }
+        self.places.get(name.as_bytes()).copied()
+    }
+}

@@ -1,0 +1,475 @@
+#!/usr/bin/env python3
+"""Checks the headers that tools/bindings.py writes: of every package in examples/, of some with names that are hard for C, and of random ones.
+
+usage: tools/check_bindings.py [--program WITCALL] [N [SEED]]      N random packages or sets, 200 if it is not given
+
+Each header is compiled by gcc and by clang, as C11 and as C++17, with all warnings as errors; its asserts are those of sizes, alignments
+and offsets. Each function is then called with random values in a program in C or C++: the core values and the memory that its `fill`
+leaves are those of the model of the Canonical ABI (tools/models), and what its `read` reads is the value that the model put there.
+
+It prints each package that fails, and a line with the numbers of all. The exit status is 1 if one fails.
+"""
+import argparse
+import os
+import pathlib
+import random
+import subprocess
+import sys
+import tempfile
+from concurrent.futures import ThreadPoolExecutor
+
+ROOT = pathlib.Path(__file__).resolve().parent.parent
+sys.path.insert(0, str(ROOT))
+
+from tools import bindings  # noqa: E402
+from tools.models import abi  # noqa: E402
+from tools.models.cases.calls import STRINGS, Source  # noqa: E402
+from tools.models.crossing import Flat, Given, Stored, Way, value_at  # noqa: E402
+from tools.models.memory import Bump, Memory  # noqa: E402
+from tools.models.opening import opened  # noqa: E402
+
+EXAMPLES = ["c.wit", "clock.wit", "orders.wit", "shapes.wit", "text.wit", "c/shop.wit", "engine/press.wit"]
+WASI = [f"wasi/{name}.wit" for name in ("clocks", "random", "cli", "app")]
+STRICT = ["-Wall", "-Wextra", "-Werror", "-pedantic", f"-I{ROOT}/include"]
+DIALECTS = {"c": ["-x", "c", "-std=c11"], "c++": ["-x", "c++", "-std=c++17"]}
+SANITIZED = ["-g", "-fsanitize=address,undefined", "-fno-sanitize-recover=all"]
+CALLS = 3
+START, ROOM = 16, 1 << 16
+# packages of which two names become one in C, or a name one that C has
+COLLIDING = [
+    "package a:b; interface c { record d-e { x: u8, y: u16 } variant v { b-c(u8) } variant v-b { c(u8) } record f-parameters { z: u32 } "
+    "f: func(x: d-e, y: v) -> v-b; record g-load { a: u8 } record g { b: u64 } h: func(x: g-load, y: g, z: f-parameters) -> list<g-load>; } "
+    "interface c-d { record e { x: u64 } f: func(x: e); } interface wit { type %string = u8; }",
+    "package int:class; interface default { record NULL { %char: u8, INT-MAX: u8, errno: u16, %record: list<u8> } flags true { EOF, stdin } "
+    "enum false { %union, virtual } f: func(%list: NULL, return: true) -> false; }",
+    "package wit:%string; interface load { record store { a: string } option-u8: func(x: option<u8>) -> store; } "
+    "interface %list { type u8s = list<u8>; record %u8 { x: bool } f: func(x: list<u8>, y: list<%u8>) -> u8s; }",
+]
+# labels that are hard for C, of which each is another one in lower case
+LABELS = """a int class NULL errno two-words A1 x-Y default stdin true %bool %record %list %u8 INT-MAX tag %as address length memory value at area
+flats parameters kind bits f0 ok none some this namespace""".split()
+
+
+# ---- packages
+
+
+class Packages:
+    """Random packages."""
+
+    def __init__(self, seed):
+        self.random = random.Random(seed)
+        self.source = Source(seed, 0)
+
+    def set(self, number):
+        """The texts of a set: one package of the models' kind, one with hard names, or two of which one uses the other."""
+        if number % 3 == 0:
+            return [self.source.package()]
+        if number % 3 == 1:
+            return [self.package("hard:names@1.0.0-Rc.1", "types", "")]
+        low = self.package("low:level", "base", "")
+        return [low, self.package("top:level", "over", "use low:level/base.{t0, t1 as other-one};", ["t0", "other-one"])]
+
+    def members(self, count):
+        """So many labels."""
+        labels = LABELS + [f"more-x{number}" for number in range(count)]
+        return self.random.sample(labels[: max(count, len(LABELS))], count)
+
+    def definition(self, name, names):
+        """The definition of a type."""
+        shape = self.random.choice(["record", "variant", "enum", "flags", "type"])
+        if shape == "type":
+            return f"type {name} = {self.source.type(names)};"
+        if shape == "record":
+            parts = [f"{label}: {self.source.type(names)}" for label in self.members(self.random.choice([1, 2, 4, 18]))]
+        elif shape == "variant":
+            labels = self.members(self.random.choice([1, 2, 3, 5, 5, 300]))
+            parts = [label + (f"({self.source.type(names)})" if self.random.random() < 0.5 else "") for label in labels]
+        else:
+            parts = self.members(self.random.choice([1, 3, 8, 9, 16, 17, 32] + ([257] if shape == "enum" else [])))
+        return f"{shape} {name} {{ {', '.join(parts)} }}"
+
+    def package(self, name, interface, use, names=()):
+        """A package of an interface of types and functions, and one that uses it."""
+        names, items = list(names), []
+        for number in range(3):
+            own = f"t{number}" if not use else f"own-t{number}"
+            items.append(self.definition(own, names))
+            names.append(own)
+        functions = [self.function(f"{word}-call", names) for word in ("first", "other")]
+        after = f"interface after {{ use {interface}.{{{names[-1]} as last}}; {self.function('%list', ['last'])} }}"
+        return f"package {name}; interface {interface} {{ {use} {' '.join(items)} {' '.join(functions)} }} {after}"
+
+    def function(self, name, names):
+        """A function."""
+        count = self.random.choice([0, 1, 2, 3, 17])
+        parameters = ", ".join(f"{label}: {self.source.type(names)}" for label in self.members(count))
+        result = f" -> {self.source.type(names)}" if self.random.random() < 0.8 else ""
+        return f"{name}: func({parameters}){result};"
+
+
+# ---- values
+
+
+class Values:
+    """Random values of closed types."""
+
+    def __init__(self, seed):
+        self.random = random.Random(seed)
+
+    def scalar(self, t):
+        """A bool, a char or a number."""
+        if t.word == "bool":
+            return self.random.random() < 0.5
+        if t.word == "char":
+            return self.random.choice("a\u00e9\u20ac\U0001f600\U0010ffff")
+        bits = 8 * t.size
+        number = self.random.choice([0, 1, (1 << bits) - 1, 1 << bits - 1, self.random.getrandbits(bits)])
+        return number - (1 << bits) if t.word[0] == "s" and number >> bits - 1 else number
+
+    def of(self, t):
+        """A value."""
+        if isinstance(t, abi.Scalar):
+            return self.scalar(t)
+        if isinstance(t, abi.String):
+            return self.random.choice(STRINGS)
+        if isinstance(t, abi.List):
+            return [self.of(t.element) for _ in range(self.random.choice([0, 1, 2]))]
+        if isinstance(t, abi.Flags):
+            return self.random.getrandbits(len(t.labels))
+        if isinstance(t, abi.Record):
+            return tuple(map(self.of, t.fields))
+        case = self.random.randrange(len(t.payloads))
+        return case, t.payloads[case] and self.of(t.payloads[case])
+
+
+def shown(t, value):
+    """A value as the program in C prints it."""
+    if isinstance(t, abi.Scalar):
+        return str(ord(value) if t.word == "char" else int(value))
+    if isinstance(t, abi.String):
+        return f'"{value.encode().hex()}"'
+    if isinstance(t, abi.List):
+        return f"[{''.join(shown(t.element, item) + ';' for item in value)}]"
+    if isinstance(t, abi.Flags):
+        return str(value)
+    if isinstance(t, abi.Record):
+        return f"({''.join(shown(field, item) + ';' for field, item in zip(t.fields, value))})"
+    case, payload = value
+    return str(case) if t.payloads[case] is None else f"{case}({shown(t.payloads[case], payload)})"
+
+
+# ---- a program that calls the functions of a header
+
+PRELUDE = """
+#include "header.h"
+#include <inttypes.h>
+#include <stdio.h>
+
+static uint8_t memory[65536];
+static uint32_t top;
+
+static inline uint32_t block(uint32_t align, uint32_t size) {
+    uint32_t at = (top + align - 1) / align * align;
+    top = at + size;
+    return at;
+}
+
+static inline wit_string text(const char *bytes, uint32_t length) {
+    wit_string made;
+    made.address = block(1, length);
+    made.length = length;
+    memcpy(memory + made.address, bytes, length);
+    return made;
+}
+
+static inline void show_text(wit_string text) {
+    printf("\\"");
+    for (uint32_t i = 0; i < text.length; i++)
+        printf("%02x", memory[text.address + i]);
+    printf("\\"");
+}
+
+static inline void show_call(const witcall_value *flats, size_t count) {
+    for (size_t i = 0; i < count; i++)
+        printf("%s:%" PRIu64 " ", flats[i].kind ? "i64" : "i32", flats[i].bits);
+    printf("\\n");
+    for (uint32_t i = 0; i < top; i++)
+        printf("%02x", memory[i]);
+    printf("\\n");
+}
+"""
+
+
+class Program:
+    """Writes the program, and keeps what it is to print."""
+
+    def __init__(self, seed):
+        self.values, self.random = Values(seed), random.Random(seed)
+        self.lines, self.calls, self.checks, self.shows = ['#include "prelude.h"'], [], [], {}
+
+    # ---- how values are made
+
+    def literal(self, t, made, value):
+        """The C expression of a number."""
+        if made.form == "flags":
+            names = [part.constant for place, part in enumerate(made.parts) if value >> place & 1]
+            return f"({made.c})({' | '.join(names) or 0})"
+        number = ord(value) if isinstance(value, str) else int(value)
+        if isinstance(t, abi.Scalar) and t.word == "bool" and value:
+            number = self.random.choice([1, 2, 255])
+        return f"({made.c})UINT64_C({number % (1 << 8 * t.size)})"
+
+    def make(self, t, made, value, target):
+        """The lines that put a value into a C variable, blocks in the order of the model."""
+        if isinstance(t, abi.String):
+            data = value.encode()
+            octal = "".join(f"\\{byte:03o}" for byte in data)
+            return [f'{target} = text("{octal}", {len(data)});']
+        if isinstance(t, abi.List):
+            return self.make_list(t, made, value, target)
+        if isinstance(t, abi.Record):
+            return self.make_record(t, made, value, target)
+        if not isinstance(t, abi.Variant):
+            return [f"{target} = {self.literal(t, made, value)};"]
+        case, payload = value
+        part = made.parts[case]
+        if made.form == "enum":
+            return [f"{target} = {part.constant};"]
+        inner = self.make(t.payloads[case], part.type, payload, f"{target}.as.{part.label}") if part.type else []
+        return [f"{target}.tag = {part.constant};", *inner]
+
+    def make_list(self, t, made, value, target):
+        """The lines for a list."""
+        element = made.parts[0].type
+        lines = [f"{target}.address = block(alignof({element.c}), {len(value)} * (uint32_t)sizeof({element.c}));"]
+        lines.append(f"{target}.length = {len(value)};")
+        for place, item in enumerate(value):
+            lines += ["{", f"{made.c} list = {target};", f"{element.c} item;", "memset(&item, 0, sizeof item);"]
+            lines += self.make(t.element, element, item, "item")
+            lines += [f"{made.c}_set(memory, list, {place}, item);", "}"]
+        return lines
+
+    def make_record(self, t, made, value, target):
+        """The lines for a record."""
+        lines = []
+        for field, part, item in zip(t.fields, made.parts, value):
+            lines += self.make(field, part.type, item, f"{target}.{part.label}")
+        return lines
+
+    # ---- how values are shown
+
+    def show(self, t, made):
+        """The name of a C function that shows values of a type."""
+        key = made.c, t.word if isinstance(t, abi.Scalar) else ""
+        if key not in self.shows:
+            body = self.show_body(t, made)
+            self.shows[key] = name = f"show_{len(self.shows)}"
+            self.lines.append("\n".join([f"static void {name}({made.c} value) {{", *body, "}", ""]))
+        return self.shows[key]
+
+    def show_body(self, t, made):
+        """The lines of that function."""
+        if isinstance(t, abi.String):
+            return ["show_text(value);"]
+        if isinstance(t, abi.List):
+            show = self.show(t.element, made.parts[0].type)
+            each = [f"{show}({made.c}_get(memory, value, i));", 'printf(";");']
+            return ['printf("[");', "for (uint32_t i = 0; i < value.length; i++) {", *each, "}", 'printf("]");']
+        if isinstance(t, abi.Record):
+            lines = []
+            for field, part in zip(t.fields, made.parts):
+                lines += [f"{self.show(field, part.type)}(value.{part.label});", 'printf(";");']
+            return ['printf("(");', *lines, 'printf(")");']
+        if made.form == "variant":
+            return self.show_case(t, made)
+        if isinstance(t, abi.Scalar) and t.word == "bool":
+            return ['printf("%d", value != 0);']
+        sign = "PRId64, (int64_t)" if isinstance(t, abi.Scalar) and t.word[0] == "s" else "PRIu64, (uint64_t)"
+        return [f'printf("%" {sign}value);']
+
+    def show_case(self, t, made):
+        """The lines that show a variant."""
+        lines = ['printf("%u", (unsigned)value.tag);']
+        for payload, part in zip(t.payloads, made.parts):
+            if payload is not None:
+                show = self.show(payload, part.type)
+                lines += [f"if (value.tag == {part.constant}) {{", 'printf("(");', f"{show}(value.as.{part.label});", 'printf(")");', "}"]
+        return lines
+
+    # ---- calls
+
+    def call(self, t, made):
+        """Adds a call of a function, with what it is to show."""
+        name, arguments = f"call_{len(self.calls)}", self.values.of(t.params)
+        body = [f"witcall_value flats[{made.count} + 1];", "memset(memory, 0, sizeof memory);", f"top = {START};"]
+        given = ["flats"]
+        if t.is_spilled:
+            body.append(f"uint32_t at = block({t.params.align}, {t.params.size});")
+            given += ["memory", "at"]
+        if t.params.fields:
+            body += [f"{made.parameters.c} parameters;", "memset(&parameters, 0, sizeof parameters);"]
+            body += self.make(t.params, made.parameters, arguments, "parameters")
+            given.append("&parameters")
+        if t.has_area:
+            body.append(f"uint32_t area = block({t.result.align}, {t.result.size});")
+            given.append("area")
+        body += [f"{made.fill}({', '.join(given)});", f"show_call(flats, {made.count});"]
+        self.checks.append((t, arguments, filled(t, arguments)))
+        if t.result is not None:
+            body += self.read(t, made)
+        self.calls.append(name)
+        self.lines.append("\n".join([f"static void {name}(void) {{", *body, "}", ""]))
+
+    def read(self, t, made):
+        """The lines that read a result that the model put there, beside noise."""
+        value = self.values.of(t.result)
+        memory = Memory(Bump(ROOM, START), self.random.randbytes(ROOM))
+        if t.has_area:
+            at = memory.grant(t.result.align, t.result.size, "lower-result")
+            Way().cross(t.result, Given(value), Stored(memory, at, "lower-result"))
+            given, lines = f"memory, {at}", []
+        else:
+            into = [0]
+            Way().cross(t.result, Given(value), Flat(memory, into, 0, "lower-result"))
+            kind = int(t.result_kinds[0] == "i64")
+            noise = 0 if kind else self.random.getrandbits(32) << 32
+            given, lines = "&back", ["witcall_value back;", f"back.kind = {kind};", f"back.bits = UINT64_C({into[0] | noise});"]
+        image = ",".join(map(str, memory.bytes[: memory.allocator.top]))
+        lines += ["{", f"static const uint8_t image[] = {{{image}}};", "memcpy(memory, image, sizeof image);", "}"]
+        self.checks.append(shown(t.result, value))
+        return [*lines, f"{self.show(t.result, made.result)}({made.read}({given}));", 'printf("\\n");']
+
+    def text(self):
+        """The whole program."""
+        return "\n".join([*self.lines, "int main(void) {", *(f"{name}();" for name in self.calls), "return 0;", "}", ""])
+
+    def faults(self, printed):
+        """What was not printed as it is to be."""
+        lines = iter(printed.splitlines())
+        for check in self.checks:
+            if isinstance(check, str):
+                found = next(lines, "nothing")
+                if found != check:
+                    yield f"reads {found}, not {check}"
+            else:
+                t, arguments, wanted = check
+                flats, data = next(lines, "").split(), bytes.fromhex(next(lines, ""))
+                if flats != wanted:
+                    yield f"core values {flats}, not {wanted}"
+                elif lifted(t, flats, data) != arguments:
+                    yield f"arguments {lifted(t, flats, data)}, not {arguments}"
+
+
+def filled(t, arguments):
+    """The core values of a call as the model makes them, whose blocks are granted in the same order."""
+    memory = Memory(Bump(ROOM, START))
+    if t.is_spilled:
+        numbers = [memory.grant(t.params.align, t.params.size, "lower-args")]
+        Way().cross_fields(t.params, Given(arguments), Stored(memory, numbers[0], "lower-args"))
+    else:
+        numbers = [0] * len(t.params.kinds)
+        Way().cross_fields(t.params, Given(arguments), Flat(memory, numbers, 0, "lower-args"))
+    if t.has_area:
+        numbers.append(memory.grant(t.result.align, t.result.size, "lower-result"))
+    return [f"{kind}:{number}" for kind, number in zip(t.lowered[0], numbers)]
+
+
+def lifted(t, flats, data):
+    """The arguments as the model lifts them."""
+    memory, numbers = Memory(Bump(len(data)), data), [int(flat[4:]) for flat in flats]
+    if t.is_spilled:
+        return value_at(t.params, Stored(memory, numbers[0], "lift-args"))
+    return value_at(t.params, Flat(memory, numbers, 0, "lift-args"))
+
+
+# ---- one package
+
+
+def run(words):
+    """What a command prints; a fault where it fails."""
+    done = subprocess.run(words, capture_output=True, text=True, check=False)
+    if done.returncode:
+        raise bindings.Fault(f"{words[0]}: status {done.returncode}\n{(done.stdout + done.stderr)[:2000]}")
+    return done.stdout
+
+
+def compile_alone(folder):
+    """Compiles a header that nothing else is with, twice in a row."""
+    source = folder / "alone.h.c"
+    source.write_text('#include "header.h"\n#include "header.h"\nint main(void) { return 0; }\n')
+    for compiler in ("gcc", "clang"):
+        for dialect in DIALECTS.values():
+            run([compiler, *dialect, *STRICT, "-fsyntax-only", str(source)])
+
+
+def check(program, files, folder, number):
+    """Checks the header of a set of files; how many calls were compared."""
+    header = bindings.header_of(program, files)
+    (folder / "header.h").write_text("\n".join(header.lines) + "\n")
+    (folder / "prelude.h").write_text(PRELUDE)
+    compile_alone(folder)
+    model = opened([bindings.answer_of(program, "text", files[: place + 1]) for place in range(len(files))])
+    calls = Program(number)
+    for made in header.functions:
+        for _ in range(CALLS):
+            calls.call(model.function(made.full_name, made.name), made)
+    source, binary = folder / "calls.c", folder / "calls"
+    source.write_text(calls.text())
+    compiler, dialect = [("gcc", "c"), ("clang", "c"), ("g++", "c++"), ("clang++", "c++")][number % 4]
+    run([compiler, *DIALECTS[dialect], *STRICT, *SANITIZED, "-o", str(binary), str(source)])
+    for fault in calls.faults(run([str(binary)])):
+        raise bindings.Fault(fault)
+    return len(calls.calls)
+
+
+def written(folder, name, texts):
+    """The files of these texts."""
+    files = [folder / f"{name}-{place}.wit" for place in range(len(texts))]
+    for file, text in zip(files, texts):
+        file.write_text(text)
+    return files
+
+
+def packages_of(count, seed, folder):
+    """The sets of files, each with its title: those of examples/, those whose names collide, and random ones."""
+    for name in EXAMPLES:
+        yield name, [ROOT / "examples" / name]
+    for place in range(len(WASI)):
+        yield WASI[place], [ROOT / "examples" / name for name in WASI[: place + 1]]
+    for number, text in enumerate(COLLIDING):
+        yield f"colliding {number}", written(folder, f"colliding-{number}", [text])
+    for number in range(count):
+        yield f"random {seed}:{number}", written(folder, number, Packages(f"{seed}:{number}").set(number))
+
+
+def checked(program, folder, numbered):
+    """How many calls were compared of a set, and what is wrong or None."""
+    number, (title, files) = numbered
+    with tempfile.TemporaryDirectory(dir=folder) as own:
+        try:
+            return check(program, files, pathlib.Path(own), number), None
+        except bindings.Fault as fault:
+            return 0, f"FAILED {title}: {fault}\n" + "\n".join(file.read_text() for file in files)
+
+
+def main():
+    """Checks all packages."""
+    parser = argparse.ArgumentParser(usage="tools/check_bindings.py [--program WITCALL] [N [SEED]]", allow_abbrev=False)
+    parser.add_argument("--program", default=bindings.default_program())
+    parser.add_argument("count", nargs="?", type=int, default=200)
+    parser.add_argument("seed", nargs="?", default="1")
+    words = parser.parse_args()
+    with tempfile.TemporaryDirectory() as name, ThreadPoolExecutor(max(1, (os.cpu_count() or 1) // 2)) as pool:
+        folder = pathlib.Path(name)
+        sets = enumerate(packages_of(words.count, words.seed, folder))
+        results = list(pool.map(lambda numbered: checked(words.program, folder, numbered), sets))
+    faults = [fault for _, fault in results if fault]
+    calls = [count for count, _ in results]
+    for fault in faults:
+        print(fault)
+    print(f"{len(results)} packages, {sum(count > 0 for count in calls)} with calls, {sum(calls)} calls compared, {len(faults)} failed")
+    sys.exit(1 if faults else 0)
+
+
+if __name__ == "__main__":
+    main()

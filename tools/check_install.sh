@@ -1,0 +1,159 @@
+#!/bin/sh
+# Checks tools/install.sh and tools/deb.sh: what they install is there and works, and what they remove is gone.
+#
+# usage: tools/check_install.sh [--released | --built]
+#
+# The Debian package is installed and removed in a folder as the root. Without lintian the script looks itself for what lintian asks of such
+# a package. It needs a C compiler, pkg-config and dpkg; fakeroot too if it isn't run by root. Each check says `ok`; the exit status is 1 if
+# one fails.
+set -eu
+cd "$(dirname "$0")/.."
+origin=${1-}
+version=$(cat VERSION)
+work=$(mktemp -d)
+trap 'rm -rf "$work"' EXIT
+failed=0
+
+# Runs a command, and says whether it went well.
+check() {
+    name=$1
+    shift
+    if "$@" >"$work/log" 2>&1; then
+        echo "ok $name"
+    else
+        echo "FAILED $name"
+        cat "$work/log"
+        failed=1
+    fi
+}
+
+# Every file and folder below one.
+tree() {
+    (cd "$1" && find . | LC_ALL=C sort)
+}
+
+install_to() {
+    # shellcheck disable=SC2086 # no word where none was given
+    tools/install.sh --prefix "$@" $origin
+}
+
+# Whether the program in a folder makes its first call.
+calls() {
+    [ "$("$1" call examples/c.wit a:b/c f '[7]' '[8]')" = 8 ]
+}
+
+# Whether a program in C is built over what is installed, and needs only the C library.
+builds() {
+    printf '%s\n' '#include <witcall.h>' 'int main(void) {' \
+        '    witcall_status status = {WITCALL_REFUSED, 63, 0, 0};' \
+        '    return witcall_status_line(status, 0, 0).count != 20;' '}' >"$work/host.c"
+    # shellcheck disable=SC2046 # the flags are words
+    "${CC:-cc}" -o "$work/host" "$work/host.c" $(PKG_CONFIG_PATH="$1/lib/pkgconfig" pkg-config --cflags --libs witcall) &&
+        "$work/host" && [ "$(PKG_CONFIG_PATH="$1/lib/pkgconfig" pkg-config --modversion witcall)" = "$version" ]
+}
+
+# Whether the manifest lists what is there, and nothing else.
+is_listed() {
+    (cd "$1" && find . -type f | sed 's|^\./||' | LC_ALL=C sort) >"$work/found"
+    grep -v '/$' "$1/share/doc/witcall/manifest" | LC_ALL=C sort | diff - "$work/found"
+}
+
+# Whether an installation over another one has the same files.
+is_same_again() {
+    tree "$work/prefix" >"$work/before" && install_to "$work/prefix" && tree "$work/prefix" | diff "$work/before" -
+}
+
+# Whether a removal leaves what was there before, and a file that someone else put between.
+is_removed() {
+    mkdir -p "$work/shared/lib"
+    echo other >"$work/shared/lib/other"
+    install_to "$work/shared"
+    echo mine >"$work/shared/share/mine"
+    tools/install.sh --uninstall --prefix "$work/shared"
+    tree "$work/shared" >"$work/after"
+    printf '%s\n' . ./lib ./lib/other ./share ./share/mine | diff - "$work/after"
+}
+
+check install install_to "$work/prefix"
+check program calls "$work/prefix/bin/witcall"
+check library builds "$work/prefix"
+check manifest is_listed "$work/prefix"
+check again is_same_again
+check uninstall tools/install.sh --uninstall --prefix "$work/prefix"
+check nothing-left [ ! -e "$work/prefix" ]
+check others-files-stay is_removed
+check destdir install_to /opt/tools --destdir "$work/stage"
+check destdir-prefix grep -q '^prefix=/opt/tools$' "$work/stage/opt/tools/lib/pkgconfig/witcall.pc"
+check destdir-uninstall tools/install.sh --uninstall --prefix /opt/tools --destdir "$work/stage"
+
+# ---- the Debian package
+
+# shellcheck disable=SC2086 # no word where none was given
+if ! tools/deb.sh $origin "$work" >"$work/log" 2>&1; then
+    echo "FAILED deb"
+    cat "$work/log"
+    exit 1
+fi
+deb=$(tail -n 1 "$work/log")
+root="$work/root"
+
+# dpkg in a root of its own.
+dpkg_in() {
+    $as_root dpkg --root="$root" --force-depends --log="$work/dpkg.log" "$@"
+}
+
+as_root=''
+[ "$(id -u)" = 0 ] || as_root=fakeroot
+mkdir -p "$root/var/lib/dpkg/info" "$root/var/lib/dpkg/updates" "$root/var/lib/dpkg/triggers"
+: >"$root/var/lib/dpkg/status"
+: >"$root/var/lib/dpkg/available"
+
+# The files and modes of the package, as `dpkg-deb -c` has them, for which a pattern stands.
+listed() {
+    dpkg-deb -c "$deb" | grep -qE "$1"
+}
+
+# Whether each file has the mode that it is to have, and belongs to root.
+has_modes() {
+    dpkg-deb -c "$deb" | awk '
+        { wanted = $1 ~ /^d/ ? "drwxr-xr-x" : $6 ~ /^\.\/usr\/bin\// ? "-rwxr-xr-x" : "-rw-r--r--" }
+        $1 != wanted || $2 != "root/root" { print; wrong = 1 }
+        END { exit wrong }'
+}
+
+has_fields() {
+    for field in Package Version Architecture Maintainer Installed-Size Depends Section Priority Description; do
+        [ -n "$(dpkg-deb -f "$deb" "$field")" ] || { echo "no $field"; return 1; }
+    done
+}
+
+# Whether md5sums has each file of the package once, and no other.
+has_sums() {
+    (cd "$root" && md5sum --quiet -c var/lib/dpkg/info/witcall.md5sums) || return 1
+    dpkg-deb -c "$deb" | awk '$1 ~ /^-/ { print substr($6, 3) }' | LC_ALL=C sort >"$work/files"
+    sed 's/^[0-9a-f]*  //' "$root/var/lib/dpkg/info/witcall.md5sums" | LC_ALL=C sort | diff - "$work/files"
+}
+
+is_gone() {
+    [ -z "$(find "$root" -path "$root/var" -prune -o -type f -print)" ] && ! dpkg_in -s witcall
+}
+
+check deb-install dpkg_in -i "$deb"
+check deb-program calls "$root/usr/bin/witcall"
+check deb-fields has_fields
+check deb-modes has_modes
+check deb-sums has_sums
+for file in copyright changelog.gz changelog.Debian.gz; do
+    check "deb-$file" listed "\./usr/share/doc/witcall/$file\$"
+done
+check deb-man listed '\./usr/share/man/man1/witcall\.1\.gz$'
+check deb-licence grep -q 'has given no licence' "$root/usr/share/doc/witcall/copyright"
+check deb-manifest [ ! -e "$root/usr/share/doc/witcall/manifest" ]
+check deb-remove dpkg_in --purge witcall
+check deb-gone is_gone
+if command -v lintian >/dev/null; then
+    check lintian lintian --fail-on error,warning "$deb"
+else
+    echo "skipped lintian: it isn't there"
+fi
+exit $failed

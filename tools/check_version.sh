@@ -1,0 +1,30 @@
+#!/bin/sh
+# Compares the version in VERSION with those that stand in other files: the header, the library's sources, the man page, the changelog, and
+# the release if it was built from these sources. The other files of an installation take it from VERSION (tools/install.sh).
+#
+# usage: tools/check_version.sh
+#
+# It prints each file that has another one; the exit status is 1 then.
+set -eu
+cd "$(dirname "$0")/.."
+version=$(cat VERSION)
+status=0
+
+# Says that a file has these versions, each on a line, if one is another.
+compare() {
+    printf '%s\n' "$2" | while read -r found; do
+        [ -z "$found" ] || [ "$found" = "$version" ] || echo "$1 has the version $found, and VERSION $version"
+    done | grep . && status=1
+    return 0
+}
+
+echo "$version" | grep -qE '^[0-9]+\.[0-9]+\.[0-9]+$' || { echo "VERSION is no version of three numbers"; exit 1; }
+compare include/witcall.h "$(sed -n 's/^#define WITCALL_VERSION "\(.*\)".*/\1/p' include/witcall.h)"
+# in the library's sources, each text that is a version and nothing else
+compare crates/witcall_c/src "$(grep -rhoE '"[0-9]+\.[0-9]+\.[0-9]+(\\0)?"' crates/witcall_c/src | grep -oE '[0-9.]+[0-9]')"
+compare packaging/witcall.1 "$(sed -n 's/^\.TH .*"witcall \([^"]*\)".*/\1/p' packaging/witcall.1 | grep . || echo none)"
+compare CHANGELOG.md "$(sed -n 's/^## \([0-9][0-9.]*\).*/\1/p' CHANGELOG.md | head -n 1 | grep . || echo none)"
+if [ "$(cat release/sources 2>/dev/null)" = "$(tools/sources.sh program)" ]; then
+    compare release/version "$(cat release/version 2>/dev/null || echo none)"
+fi
+exit $status
