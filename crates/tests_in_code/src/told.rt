@@ -68,7 +68,7 @@ const USAGE: &str =
 
 const NO_MEMORY: &str = "error 66 no memory\n";
 
-static REFUSALS: [(&str, u8, Refused); 10] = [
+const REFUSALS: [(&str, u8, Refused); 10] = [
     (USAGE, 2, Refused::Words(WordsError::Usage)),
     ("error 64 file\n", 1, Refused::File),
     ("error 63 no function\n", 1, Refused::NoFunction),
@@ -87,7 +87,8 @@ static REFUSALS: [(&str, u8, Refused); 10] = [
 
 #[test]
 fn refusals(rt: HostRuntime) {
-    for (wanted, status, refused) in REFUSALS.as_slice() {
+    let refusals = REFUSALS;
+    for (wanted, status, refused) in &refusals {
         assert_told(&rt, rt.alloc(), refused, *wanted, *status);
     }
 }

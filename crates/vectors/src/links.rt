@@ -6,7 +6,7 @@ ghost use Rattle.tables.specs.Closed.{IsFunction};
 use crate::acting::Acting;
 use crate::logged::Logged;
 use crate::row::{body, field, flats, guest, list, package_bytes, text};
-use crate::telling::{all_given, first_given, memories_told, outcome_told};
+use crate::telling::{all_given, first_given, object_of, outcome_told, push_memories};
 use adapter::Link;
 use canonical_abi::{Fault, Flat};
 use lift_lower::Flats;
@@ -132,31 +132,46 @@ fn ended_of(alloc: Global, row: &Value, sides: &mut Sides) -> anyhow::Result<End
     })
 }
 
-/// What is told of the calls of a row.
-pub fn told_of(alloc: Global, row: &Value) -> anyhow::Result<String> {
-    let mut sides = Sides {
+/// What the bodies of the calls were given, as members.
+fn given_told(alloc: Global, ended: &Ended, body: &Acting) -> anyhow::Result<String> {
+    match &ended.other {
+        Some(_) => all_given(alloc, body),
+        None => first_given(alloc, body),
+    }
+}
+
+/// How a call ended, as a member.
+fn ended_told(alloc: Global, key: &str, ended: &Result<Flats, Refused>) -> anyhow::Result<String> {
+    let outcome = outcome_told(alloc, ended)?;
+    Ok(format!(in alloc; "\"{key}\":{outcome}")?)
+}
+
+/// What calls did that ended so.
+fn done_told(alloc: Global, sides: &Sides, ended: &Ended, are_cut: bool) -> anyhow::Result<String> {
+    let mut members = Vec::new(alloc);
+    let (there, back) = ended.nodes;
+    members.push(ended_told(alloc, "outcome", &ended.first)?)?;
+    members.push(given_told(alloc, ended, &sides.body)?)?;
+    members.push(format!(in alloc; "\"nodes\":[{there},{back}]")?)?;
+    push_memories(alloc, &mut members, &sides.caller, &sides.callee, are_cut)?;
+    if let Some(other) = &ended.other {
+        members.push(ended_told(alloc, "next", other)?)?;
+    }
+    Ok(object_of(alloc, members.as_slice())?)
+}
+
+/// The memories and the body of a row.
+fn sides_of(alloc: Global, row: &Value) -> anyhow::Result<Sides> {
+    Ok(Sides {
         caller: guest(alloc, row, 0)?,
         callee: guest(alloc, row, 1)?,
         body: body(alloc, row)?,
-    };
+    })
+}
+
+/// What is told of the calls of a row.
+pub fn told_of(alloc: Global, row: &Value) -> anyhow::Result<String> {
+    let mut sides = sides_of(alloc, row)?;
     let ended = ended_of(alloc, row, &mut sides)?;
-    let outcome = outcome_told(alloc, &ended.first)?;
-    let given = match &ended.other {
-        Some(_) => all_given(alloc, &sides.body)?,
-        None => first_given(alloc, &sides.body)?,
-    };
-    let memories = memories_told(
-        alloc,
-        &sides.caller,
-        &sides.callee,
-        field(row, "lens").is_some(),
-    )?;
-    let other = match &ended.other {
-        Some(other) => format!(in alloc; ",\"next\":{}", outcome_told(alloc, other)?)?,
-        None => String::new(alloc),
-    };
-    let (there, back) = ended.nodes;
-    Ok(format!(in alloc;
-        "{{\"outcome\":{outcome},{given},\"nodes\":[{there},{back}],{memories}{other}}}"
-    )?)
+    done_told(alloc, &sides, &ended, field(row, "lens").is_some())
 }

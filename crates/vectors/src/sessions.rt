@@ -4,9 +4,11 @@ ghost use Rattle.std.specs.Prelude.{◌≡◌, IfOk};
 ghost use Rattle.tables.specs.Closed.{IsFunction};
 ghost use Rattle.tables.specs.Standard.{IsTypeOf};
 
+use crate::acting::Acting;
 use crate::links::function;
+use crate::logged::Logged;
 use crate::row::{body, field, guest, list, number, package_bytes, text};
-use crate::telling::{all_given, list_of, memories_told};
+use crate::telling::{list_of, object_of, push_memories};
 use canonical_abi::Fault;
 use lift_lower::Val;
 use serde_json::Value;
@@ -201,34 +203,63 @@ fn answers_told(
     Ok(list_of(alloc, parts.as_slice())?)
 }
 
+/// What the steps answered, and again behind so many answers, and what both memories then hold.
+fn taken_told(
+    alloc: Global,
+    package: &Package,
+    steps: &[Step],
+    answers: &[Answer],
+    (caller, callee): (&Logged, &Logged),
+) -> anyhow::Result<String> {
+    let (front, behind) = answers.split_at(steps.len().min(answers.len()));
+    let mut members = Vec::new(alloc);
+    let told = answers_told(alloc, package, steps, front)?;
+    members.push(format!(in alloc; "\"answers\":{told}")?)?;
+    let told = answers_told(alloc, package, steps, behind)?;
+    members.push(format!(in alloc; "\"then\":{told}")?)?;
+    push_memories(alloc, &mut members, caller, callee, true)?;
+    Ok(object_of(alloc, members.as_slice())?)
+}
+
+/// A session over the memories and the body of a row.
+fn session_of<'a>(
+    alloc: Global,
+    row: &Value,
+    package: &'a Package,
+) -> anyhow::Result<Session<'a, Logged, Logged, Acting>>
+    ensures { IfOk result (λ s. s.package.now ≡ «package».now) }
+{
+    let (caller, callee) = (guest(alloc, row, 0)?, guest(alloc, row, 1)?);
+    Ok(Session::new(package, caller, callee, body(alloc, row)?))
+}
+
 /// Takes the steps, and takes them once more behind these answers if the row says so.
 fn taken(alloc: Global, row: &Value, package: &Package, steps: &[Step]) -> anyhow::Result<String> {
     if !takes_steps(package, steps) {
         return Err(anyhow::anyhow!("no steps of the package"));
     }
-    let (caller, callee) = (guest(alloc, row, 0)?, guest(alloc, row, 1)?);
-    let mut session = Session::new(package, caller, callee, body(alloc, row)?);
+    let mut session = session_of(alloc, row, package)?;
     let mut answers = Vec::new(alloc);
     session.run(alloc, steps, &mut answers)?;
-    let first = answers.len();
-    if field(row, "twice").is_some() {
+    if row.get("twice").is_some() {
         session.run(alloc, steps, &mut answers)?;
     }
-    let (front, behind) = answers.as_slice().split_at(first);
-    let told = answers_told(alloc, package, steps, front)?;
-    let told_too = answers_told(alloc, package, steps, behind)?;
-    let memories = memories_told(alloc, session.caller(), session.callee(), true)?;
-    Ok(format!(in alloc; "{{\"answers\":{told},\"then\":{told_too},{memories}}}")?)
+    let memories = (session.caller(), session.callee());
+    taken_told(alloc, package, steps, answers.as_slice(), memories)
+}
+
+/// How often the steps of a row are taken.
+fn times_of(row: &Value) -> anyhow::Result<u32> {
+    match field(row, "times") {
+        None => Ok(1),
+        times => number(times),
+    }
 }
 
 /// What is told of the steps of a row.
 pub fn told_of(alloc: Global, row: &Value) -> anyhow::Result<String> {
     let bytes = package_bytes(alloc, row)?;
     let package = open(alloc, bytes.as_slice())?;
-    let times = match field(row, "times") {
-        None => 1,
-        times => number(times)?,
-    };
-    let steps = steps_of(alloc, row, &package, times)?;
+    let steps = steps_of(alloc, row, &package, times_of(row)?)?;
     taken(alloc, row, &package, steps.as_slice())
 }

@@ -66,39 +66,56 @@ pub fn outcome_told(alloc: Global, ended: &Result<Flats, Refused>) -> anyhow::Re
     }
 }
 
-/// The bytes of both memories, and the requests to their allocators. Of lengths that the row says, the zeros at the end are left out.
-pub fn memories_told(
+/// Members of an object that are told already.
+pub fn object_of(alloc: Global, members: &[String]) -> Result<String, AllocError> {
+    format!(in alloc; "{{{}}}", members.join(alloc, ",")?)
+}
+
+/// The bytes of a memory, as a member.
+fn after_told(alloc: Global, key: &str, guest: &Logged, is_cut: bool) -> anyhow::Result<String> {
+    let bytes = bytes_told(alloc, guest, is_cut)?;
+    Ok(format!(in alloc; "\"{key}\":\"{bytes}\"")?)
+}
+
+/// The requests to a memory's allocator, as a member.
+fn log_told(alloc: Global, key: &str, guest: &Logged) -> anyhow::Result<String> {
+    match guest.requests() {
+        Some(requests) => Ok(format!(in alloc; "\"{key}\":{}", requests_told(alloc, requests)?)?),
+        None => Err(anyhow::anyhow!("no memory")),
+    }
+}
+
+/// Adds the bytes of both memories, and the requests to their allocators. Of lengths that the row says, the zeros at the end are left out.
+pub fn push_memories(
     alloc: Global,
+    members: &mut Vec<String>,
     caller: &Logged,
     callee: &Logged,
     are_cut: bool,
-) -> anyhow::Result<String> {
-    let (Some(asked), Some(asked_too)) = (caller.requests(), callee.requests()) else {
-        return Err(anyhow::anyhow!("no memory"));
-    };
-    let (front, other) = (
-        bytes_told(alloc, caller, are_cut)?,
-        bytes_told(alloc, callee, are_cut)?,
-    );
-    let (asked, asked_too) = (
-        requests_told(alloc, asked)?,
-        requests_told(alloc, asked_too)?,
-    );
-    Ok(format!(in alloc;
-        "\"caller_after\":\"{front}\",\"callee_after\":\"{other}\",\"caller_log\":{asked},\"callee_log\":{asked_too}"
-    )?)
+) -> anyhow::Result<()> {
+    members.push(after_told(alloc, "caller_after", caller, are_cut)?)?;
+    members.push(after_told(alloc, "callee_after", callee, are_cut)?)?;
+    members.push(log_told(alloc, "caller_log", caller)?)?;
+    members.push(log_told(alloc, "callee_log", callee)?)?;
+    Ok(())
+}
+
+/// How many bytes there are up to the last that is not 0.
+fn front_length(bytes: &[u8]) -> usize {
+    let mut length = 0;
+    for (place, byte) in bytes.iter().enumerate() {
+        if *byte != 0 {
+            length = place.saturating_add(1);
+        }
+    }
+    length
 }
 
 /// The bytes of a memory in hexadecimal digits.
 fn bytes_told(alloc: Global, guest: &Logged, is_cut: bool) -> anyhow::Result<String> {
     let mut bytes = guest.bytes();
     if is_cut {
-        while let Some((last, front)) = bytes.split_last() {
-            if *last != 0 {
-                break;
-            }
-            bytes = front;
-        }
+        bytes = bytes.get(..front_length(bytes)).unwrap_or(&[]);
     }
     Ok(hex::encode(alloc, bytes)?)
 }

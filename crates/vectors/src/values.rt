@@ -10,7 +10,7 @@ use crate::links::function;
 use crate::logged::Logged;
 use crate::row::{field, flats, guest, list, package_bytes, text};
 use crate::sessions::{fault_told, parameter, value_of, value_told};
-use crate::telling::{flats_told, memories_told};
+use crate::telling::{flats_told, object_of, push_memories};
 use canonical_abi::{Fault, Flat};
 use lift_lower::{Flats, Val, lift, lower};
 use serde_json::Value;
@@ -118,18 +118,30 @@ fn lowered_told(
     }
 }
 
+/// What is told of a value that is converted over the caller's memory.
+fn converted(
+    alloc: Global,
+    row: &Value,
+    package: &Package,
+    caller: &mut Logged,
+) -> anyhow::Result<String> {
+    match field(row, "lower") {
+        None => lifted_told(alloc, row, package, caller),
+        Some(json) => {
+            let ty = type_of(package, row)?;
+            lowered_told(alloc, json, package, ty, caller)
+        }
+    }
+}
+
 /// What is told of a row that lifts or lowers, and of the memories.
 pub fn told_of(alloc: Global, row: &Value) -> anyhow::Result<String> {
     let bytes = package_bytes(alloc, row)?;
     let package = open(alloc, bytes.as_slice())?;
     let (mut caller, callee) = (guest(alloc, row, 0)?, guest(alloc, row, 1)?);
-    let told = match field(row, "lower") {
-        None => lifted_told(alloc, row, &package, &caller)?,
-        Some(json) => {
-            let ty = type_of(&package, row)?;
-            lowered_told(alloc, json, &package, ty, &mut caller)?
-        }
-    };
-    let memories = memories_told(alloc, &caller, &callee, true)?;
-    Ok(format!(in alloc; "{{\"answers\":[{told}],{memories}}}")?)
+    let told = converted(alloc, row, &package, &mut caller)?;
+    let mut members = Vec::new(alloc);
+    members.push(format!(in alloc; "\"answers\":[{told}]")?)?;
+    push_memories(alloc, &mut members, &caller, &callee, true)?;
+    Ok(object_of(alloc, members.as_slice())?)
 }
