@@ -1,15 +1,16 @@
 #!/usr/bin/env python3
-"""Cuts and changes the texts of the call vectors and of examples/, and their binaries, by the program `suite_changes`.
+"""Cuts and changes the texts of the call vectors and of examples/, and their binaries, by the rows `fronts` and `changes` of `rows_texts`.
 
-usage: tools/changed_inputs.py [PROGRAM [CHANGES]]
+usage: tools/changed_inputs.py [PROGRAM [ROWS]]
 
-PROGRAM is crates/program/out/program, CHANGES is crates/suite_changes/out/suite_changes, as `rt run` in these crates leaves them. Each text is
+PROGRAM is crates/program/out/program, ROWS is crates/rows_texts/out/rows_texts, as `rt run` in these crates leaves them. Each text is
 cut after each byte; its binary too, and each of its bytes is changed to each of the 256 values. Two processes share the work, which takes
-some minutes. The exit status is 1 where an answer isn't as crates/suite_changes says.
+some minutes. The exit status is 1 where an answer isn't as crates/rows_texts/src/changes.rt says.
 """
 import concurrent.futures
 import json
 import pathlib
+import re
 import subprocess
 import sys
 import tempfile
@@ -44,40 +45,51 @@ def binary(program, text):
     return made.stdout if made.returncode == 0 else None
 
 
-def told(changes, line):
-    """What the program tells of one line."""
-    return subprocess.run([changes], input=line.encode() + b"\n", capture_output=True)
+def told(program, asked):
+    """What the program answers to a row."""
+    with tempfile.NamedTemporaryFile("w", suffix=".rows") as file:
+        file.write(f"row: {asked} =>\n")
+        file.flush()
+        ran = subprocess.run([program], input=f"{file.name}\n", capture_output=True, text=True)
+    return ran.stdout.partition("row: ")[2].strip() or ran.stderr
 
 
 def inputs(program):
-    """A line for each text, and for its binary."""
+    """A row for each text, and for its binary."""
     for text in texts():
-        yield f"text {text}"
+        yield f"fronts bytes {text.encode().hex()}"
         made = binary(program, text)
         if made is not None:
-            yield f"binary {made.hex()}"
+            yield f"changes bytes {made.hex()}"
 
 
-def counted(line, ran):
-    """How many fronts, changed binaries and packages among them a line had."""
-    words = ran.stdout.decode().split()
-    return (int(words[0]), int(words[5]), int(words[7])) if line.startswith("binary") else (int(words[0]), 0, 0)
+FRONTS = re.compile(r"(\d+) fronts: \d+ opened, \d+ refused, \d+ within a character; the whole: ")
+CHANGES = re.compile(r"(\d+) fronts told as cut, (\d+) changed: (\d+) packages")
+
+
+def counted(answer):
+    """How many fronts, changed binaries and packages among them an answer has; none where it is no such answer."""
+    if fronts := FRONTS.match(answer):
+        return int(fronts[1]), 0, 0
+    found = CHANGES.fullmatch(answer)
+    return found and tuple(map(int, found.groups()))
 
 
 def main():
     program = sys.argv[1] if len(sys.argv) > 1 else ROOT / "crates/program/out/program"
-    changes = sys.argv[2] if len(sys.argv) > 2 else ROOT / "crates/suite_changes/out/suite_changes"
-    begun, lines, counts, failed = time.monotonic(), list(inputs(program)), (0, 0, 0), 0
+    rows = sys.argv[2] if len(sys.argv) > 2 else ROOT / "crates/rows_texts/out/rows_texts"
+    begun, asked, counts, failed = time.monotonic(), list(inputs(program)), (0, 0, 0), 0
     with concurrent.futures.ThreadPoolExecutor(2) as pool:
-        for line, ran in zip(lines, pool.map(lambda line: told(changes, line), lines)):
-            if ran.returncode:
+        for row, answer in zip(asked, pool.map(lambda row: told(rows, row), asked)):
+            found = counted(answer)
+            if found is None:
                 failed += 1
-                print(f"{line[:100]}: status {ran.returncode} {ran.stderr[-200:]!r}")
+                print(f"{row[:100]}: {answer[-200:]!r}")
             else:
-                counts = [count + more for count, more in zip(counts, counted(line, ran))]
+                counts = [count + more for count, more in zip(counts, found)]
     fronts, changed, packages = counts
     told_of_all = f"{fronts} fronts, {changed} changed binaries, {packages} of them packages"
-    print(f"{len(lines)} inputs: {told_of_all}; {failed} inputs failed; {time.monotonic() - begun:.0f} seconds")
+    print(f"{len(asked)} inputs: {told_of_all}; {failed} inputs failed; {time.monotonic() - begun:.0f} seconds")
     sys.exit(failed > 0)
 
 

@@ -6,8 +6,9 @@ usage: tools/check_names.py
 A name is a word in backquotes, or words joined by `::`, that could be one of Rust or of a definition: with a capital letter within it, an
 underscore, or `::`. Each of its parts has to stand in a file of crates/ or in a header of include/, or be the name of a crate, of a file,
 of an edit or of a script. A clause that is named beside its function, as `open`: ok, written, has to be one of that function. Words in backquotes
-behind a crate `rows_..` are names of rows, and each has to be a line of the output of that crate. The exit status is 1 where one isn't there.
+behind a crate `rows_..` or `vectors` are names of rows, and each has to be a line of the output of that crate, or the name in a line of its input. The exit status is 1 where one isn't there.
 """
+import json
 import pathlib
 import re
 import sys
@@ -18,7 +19,7 @@ WORD = re.compile(r"[A-Za-z_][A-Za-z0-9_]*")
 # a row of a table that names functions and the clauses of their contracts
 CLAUSES = re.compile(r"\| ((?:`[A-Za-z_:]+`(?:, )?)+): ([a-z_0-9]+(?:, [a-z_0-9]+)*) \|")
 # names of rows behind their crate
-ROWS = re.compile(r"`(rows_[a-z]+)` ((?:`[^`]+`(?:, )?)+)")
+ROWS = re.compile(r"`(rows_[a-z]+|vectors)` ((?:`[^`]+`(?:, )?)+)")
 FUNCTION = re.compile(r"\bfn ([A-Za-z_0-9]+)(.*?)\n(?: *)\{", re.S)
 LABEL = re.compile(r"\bensures ([a-z_0-9]+) \{")
 
@@ -40,6 +41,9 @@ def known():
         if path.suffix == ".rt":
             for name, head in FUNCTION.findall(text):
                 labels.setdefault(name, set()).update(LABEL.findall(head))
+    for path in (ROOT / "crates").glob("rows_*/**/*"):
+        if path.suffix == ".rows" or path.name == "stdin":
+            words.update(WORD.findall(path.read_text()))
     for folder in ("crates", "edits", "tools", "bench", "examples", "docs"):
         for path in (ROOT / folder).rglob("*"):
             if "out" not in path.parts:
@@ -58,7 +62,11 @@ def is_told(name):
 def missing_rows(line):
     """The names of rows in a line that their crate doesn't have."""
     for crate, names in ROWS.findall(line):
-        there = (ROOT / "crates" / crate / "stdout").read_text().splitlines()
+        folder = ROOT / "crates" / crate
+        if crate == "vectors":
+            there = [json.loads(row)["name"] for row in (folder / "stdin").read_text().splitlines()]
+        else:
+            there = (folder / "stdout").read_text().splitlines()
         for name in re.findall(r"`([^`]+)`", names):
             if name not in there:
                 yield f"{crate} has no row {name}"

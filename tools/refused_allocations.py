@@ -1,16 +1,17 @@
 #!/usr/bin/env python3
-"""Makes each public call that takes memory of the host while one of its allocations is refused: its first, its second, and so on.
+"""Answers rows while one of the allocations that they make is refused: the first, the second, and so on.
 
 usage: tools/refused_allocations.py [CRATE ..]
 
-CRATE is `suite_wants`, `suite_wanted_values` or `program`, each as `rt run` in its folder leaves it; all three where none is named. A call of
-a suite, by its name in that crate's stdin, is run once for each allocation that it makes. It has to tell a want of memory in the words of
-one of the layers that it passes (WORDS), or `no memory` where it has no other refusal; to give what the stored run has when it is then
-made again; and to tell each of those words at least once. The program's commands are run in the same way: each ends with one line
-`error N no memory` and status 1, or as it does with all memory. Needs `cc`, which builds what stands before the C library's `malloc`.
-The exit status is 1 where an answer is another.
+CRATE is `rows_reading`, `rows_texts`, `vectors` or `program`, each as `rt run` in its folder leaves it; all four where none is named. Each of the
+rows below is asked twice in one run, and there is a run for each allocation that such a run makes. The row whose allocation was refused has to
+tell a want of memory in the words of one of the layers that it passes (WORDS), or `no memory` where it has no other refusal; the other one has to be
+answered as with all memory; and each of those words has to be told at least once. A refusal of what the program itself asks for, as for a line that it
+reads, ends the run with status 1. The program's commands are run in the same way: each ends with one line `error N no memory` and status 1, or as it
+does with all memory. Needs `cc`, which builds what stands before the C library's `malloc`. The exit status is 1 where an answer is another.
 """
 import collections
+import json
 import os
 import pathlib
 import subprocess
@@ -22,66 +23,68 @@ ROOT = pathlib.Path(__file__).resolve().parent.parent
 PLAIN = "no memory"
 STOPPED = "trap K7 body in body"
 OPENED = [35, 46, 52]
-# The words, by their number, that each call of the suites has to tell at least once.
+OPENED_BINARY = [21, 46, 52]
+TEXT = (
+    "package a:b@1.0.0; interface c { record r { a: u8, b: list<string> } variant v { p, q(r) } f: func(x: r, y: option<v>) -> result<r>; } "
+    "interface d { use c.{r as a-record-of-an-interface-before}; g: func(x: a-record-of-an-interface-before) -> list<u8>; } "
+    "world w { import c; export h: func(x: u8); }"
+)
+BINARY = "0061736d0d000100071e0141020142020140010178790079040001660100040005613a622f6305000b0d0100077061636b616765030000"
+USED = "package d:e@1.0.0; interface y { type t = u16; }"
+USING = "package a:b; interface x { use d:e/y@1.0.0.{t}; f: func(p: t) -> t; }"
+USING_BINARY = (
+    "0061736d0d000100074c014105014202017b0400017403000003000b643a652f7940312e302e30050002030000017401420402030201010400017403000001400101"
+    "70010001040001660102040005613a622f7805020b0d0100077061636b616765030000"
+)
+LABEL = "a-label-of-more-than-twenty-three-bytes"
+ITEMS_OF_JSON = "record t { a: u8, b: list<string> } f: func(x: t) -> result<t>;"
+VALUE, REPLY = '{"a":1,"b":["x","yz"]}', '[{"ok":{"a":3,"b":["w"]}}]'
+ROW = {
+    "text": f"package a:b; interface c {{ {ITEMS_OF_JSON} }}",
+    "func": "f",
+    "caller": "",
+    "callee": "",
+    "lens": [128, 128],
+    "kinds": ["first-fit", "bump"],
+    "body": [{"writes": [64, "00" * 8], "answer": [["i32", 64]]}],
+}
+STEPS = [["place", "f", json.loads(VALUE)], ["read", 0], ["call", "f", [json.loads(VALUE)]], ["release", 0, 12]]
+GROWN = {"lens": [65536, 65536], "max": [131072, 131072]}
+# Of each program its rows, and the words, by their number, that each has to tell at least once.
 WORDS = {
-    "suite_wants": {
-        "name label": [5],
-        "name label copied": [5, PLAIN],
-        "name full name": [5, PLAIN],
-        "name version": [PLAIN],
-        "name number": [5],
-        "name index": [5],
-        "name words": [66],
-        "text read": [PLAIN],
-        "text read all": [66],
-        "text tokens": [35],
-        "text parse": [35],
-        "text print file": [35, PLAIN],
-        "text decode": [21],
-        "text decode from": [21],
-        "text component": [21],
-        "tables of a tree": [35, 46],
-        "tables of a component": [21, 46, PLAIN],
-        "tables copy": [35, 46, PLAIN],
-        "tables form": [35, 46, PLAIN],
-        "tables component": [35, 46, 21],
-        "tables text": [35, 46, PLAIN],
-        "tables layouts": OPENED,
-        "tables shown": [35, 46, PLAIN],
-        "tables laid out": [*OPENED, PLAIN],
-        "package of a text": OPENED,
-        "package of a binary": [21, 46, 52],
-        "package of a set": OPENED,
-        "package of a set with a binary": [*OPENED, 21],
-        "package copy": [*OPENED, PLAIN],
-        "package binary": [*OPENED, 21],
-        "package text": OPENED,
-        "job show": [*OPENED, 66],
-        "job bin": [*OPENED, 66, 21],
-        "job text": [*OPENED, 66],
-        "job layout": [*OPENED, 66],
-        "job of a set": [*OPENED, 66],
-    },
-    "suite_wanted_values": {
-        "memory bump": [54],
-        "memory bump that grows": [54],
-        "memory first fit": [54],
-        "memory first fit that grows": [54],
-        "memory bump grown": [54],
-        "memory first fit grown": [54],
-        "memory scripted": [54],
-        "value from json": [*OPENED, 66],
-        "value to json": [*OPENED, 66, PLAIN],
-        "value clone": [*OPENED, 66, PLAIN],
-        "value load": [*OPENED, 54, 66],
-        "value lift": [*OPENED, 54, 66],
-        "value lift result": [*OPENED, 54, 66],
-        "session call": [*OPENED, 54, 66, STOPPED],
-        "session read": [*OPENED, 54, 66],
-        "session run": [*OPENED, 54, 66, PLAIN],
-        "call reply": [*OPENED, 66],
-        "call run": [*OPENED, 54, 66, STOPPED],
-    },
+    "rows_reading": [
+        (f"label {LABEL}", [5]),
+        ("full-name a-namespace-of-many-bytes:b/c@1.0.0-rc.1", [5, PLAIN]),
+        ("version 1.0.0-rc.1+build.5", [PLAIN]),
+        ("write-u32 4294967295", [5, PLAIN]),
+        ("write-s33 4294967295", [5, PLAIN]),
+        ("words witcall call --with other file a:b/c f [7] [8]", [66, PLAIN]),
+        (f"tokens {TEXT}", [35]),
+        (f"tree {TEXT}", [35]),
+        (f"print {TEXT}", [35, PLAIN]),
+        (f"decode {BINARY}", [21]),
+        (f"drip {BINARY}", [21]),
+        (f"encode {BINARY}", [21]),
+    ],
+    "rows_texts": [
+        (f'open "{TEXT}"', OPENED),
+        (f"open bytes {BINARY}", OPENED_BINARY),
+        (f'show "{TEXT}"', [*OPENED, 66]),
+        (f'bin "{TEXT}"', [*OPENED, 66, 21]),
+        (f'text "{TEXT}"', [*OPENED, 66]),
+        (f'layout "{TEXT}"', [*OPENED, 66]),
+        (f'copy "{TEXT}"', [*OPENED, PLAIN]),
+        (f'bin "{USED}", "{USING}"', [*OPENED, 21, 66]),
+        (f'open "{USED}", bytes {USING_BINARY}', [*OPENED, 21]),
+        (f"json {ITEMS_OF_JSON} | {VALUE}", [*OPENED, 66, PLAIN]),
+        (f"json-call {ITEMS_OF_JSON} | [{VALUE}] | {REPLY}", [*OPENED, 54, 66, STOPPED]),
+    ],
+    "vectors": [
+        (json.dumps({**ROW, "steps": STEPS}), [*OPENED, 54, 66]),
+        (json.dumps({**ROW, **GROWN, "steps": STEPS[:2]}), [*OPENED, 54, 66]),
+        (json.dumps({**ROW, "text": "package a:b; interface c { f: func(x: string); }", "lift": [["i32", 0], ["i32", 2]]}), [*OPENED, 54, 66]),
+        (json.dumps({**ROW, "lower": json.loads(VALUE)}), [*OPENED, 54, 66]),
+    ],
 }
 WITH = [word for name in ("clocks", "random", "cli") for word in ("--with", f"examples/wasi/{name}.wit")]
 ORDER = ["examples/orders.wit", "demo:orders/desk", "place"]
@@ -186,19 +189,24 @@ class Refuser:
         return not wrong
 
 
-def told_by_suite(name, allowed):
-    """How a run of a call of a suite is told, or none where it isn't right."""
+def told_by_rows(allowed):
+    """How a run of two rows is told, or none where it isn't right."""
     spelt = {words(word) for word in [*allowed, PLAIN]}
 
     def told(whole, ran):
-        if ran.returncode == 1 and not ran.stdout:
-            return "the suite's own streams"
-        if ran.returncode:
+        wanted, found = whole.stdout.splitlines(), ran.stdout.splitlines()
+        if ran.returncode == 1 and wanted[: len(found)] == found:
+            return "the program's own"
+        if ran.returncode or len(wanted) != len(found):
             return None
-        if ran.stdout == whole.stdout:
+        differing = [(line, other) for line, other in zip(wanted, found) if line != other]
+        if not differing:
             return "as with all memory"
-        found = ran.stdout.removeprefix(f"{name}: ")
-        return next((word for word in spelt if found == f"{word}, then {whole.stdout.removeprefix(f'{name}: ')}"), None)
+        if len(differing) > 1:
+            return None
+        (_, other), = differing
+        word = json.loads(other)["error"] if other.startswith('{"error"') else other.partition(": ")[2].split(" (")[0]
+        return word if word in spelt else None
 
     return told
 
@@ -217,15 +225,23 @@ def told_by_program(allowed):
     return told
 
 
-def suite_is_right(refuser, crate):
-    """Whether each call of a suite is answered as it has to be."""
-    folder, right = ROOT / "crates" / crate, True
-    lines = (folder / "stdin").read_text().splitlines()
-    if set(lines) != set(WORDS[crate]) or "no memory" in (folder / "stdout").read_text():
-        sys.exit(f"{crate}: its stored run has other calls, or a want of memory")
-    for line in lines:
-        allowed = WORDS[crate][line]
-        right &= refuser.tried(line, [folder / "out" / crate], line + "\n", told_by_suite(line, allowed), allowed)
+def asked_twice(crate, row, folder):
+    """The input in which a row is asked twice."""
+    if crate == "vectors":
+        return f"{row}\n{row}\n"
+    rows = f"first: {row} => \nagain: {row} => \n"
+    if crate == "rows_reading":
+        return rows
+    path = folder / "asked.rows"
+    path.write_text(rows)
+    return f"{path}\n"
+
+
+def rows_are_right(refuser, crate, folder):
+    """Whether each row of a program is answered as it has to be."""
+    program, right = ROOT / "crates" / crate / "out" / crate, True
+    for row, allowed in WORDS[crate]:
+        right &= refuser.tried(row[:60], [program], asked_twice(crate, row, folder), told_by_rows(allowed), allowed)
     return right
 
 
@@ -241,9 +257,10 @@ def program_is_right(refuser):
 def main():
     begun, right = time.monotonic(), True
     with tempfile.TemporaryDirectory() as folder:
-        refuser = Refuser(pathlib.Path(folder))
+        folder = pathlib.Path(folder)
+        refuser = Refuser(folder)
         for crate in sys.argv[1:] or [*WORDS, "program"]:
-            right &= program_is_right(refuser) if crate == "program" else suite_is_right(refuser, crate)
+            right &= program_is_right(refuser) if crate == "program" else rows_are_right(refuser, crate, folder)
     print(f"{refuser.calls} calls, {refuser.refused} allocations refused, {time.monotonic() - begun:.0f} seconds; {'all right' if right else 'not right'}")
     sys.exit(not right)
 

@@ -3,7 +3,7 @@
 usage: python3 -m tools.models check [FILE ..]        whether the stored answers are the models': of all files, or of these
        python3 -m tools.models write [FILE ..]        writes the stored inputs and answers anew
        python3 -m tools.models random NAME N [SEED]   prints N random inputs: NAME is vectors, steps, requests or layouts
-       python3 -m tools.models answer NAME            answers the lines of standard input: NAME is vectors, steps, requests or rows
+       python3 -m tools.models answer NAME            answers the lines of standard input: NAME is vectors, requests or rows
        python3 -m tools.models JOB FILE ..            prints what JOB (show, layout, text, bin) makes of the set of these texts
        python3 -m tools.models compare PROGRAM N [SEED]
                                                       runs N random calls through the program `vectors`, and compares
@@ -15,14 +15,14 @@ none of these.
 import pathlib
 import sys
 
-from . import programs, rows, stored
+from . import programs, stored, text_rows
 from .cases import calls, layouts, requests, steps
 from .faults import NotModelled, Refused
 from .jobs import JOBS
 from .opening import opened
 
 RANDOM = {"vectors": calls.lines, "steps": steps.lines, "requests": requests.lines, "layouts": layouts.lines}
-ANSWERS = {"rows": rows.answers, **{name: run.answers for name, run in stored.RUNS.items()}}
+ANSWERS = {"rows": lambda lines: text_rows.answers(lines, pathlib.Path()), **{name: run.answers for name, run in stored.RUNS.items()}}
 
 
 def print_lines(lines):

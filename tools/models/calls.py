@@ -3,7 +3,7 @@ import json
 
 from .crossing import Flat, Stored, Way
 from .faults import Refused, Stopped, Trap
-from .memory import Bump, Memory, Scripted
+from .memory import Bump, FirstFit, Memory, Scripted
 from .opening import opened
 
 
@@ -57,6 +57,7 @@ class Link:
 
 def numbers_of(flats, kinds, step):
     """The numbers of core values, which have to be of these kinds."""
+    flats = list(flats)
     if [kind for kind, _ in flats] != list(kinds):
         raise Trap("K8 coresignature", step)
     return [number for _, number in flats]
@@ -70,79 +71,110 @@ def run(code, memory, flats, step):
         raise Trap("K7 body", step) from None
 
 
-class Answering:
-    """A body that answers these core values, or stops, and keeps what it was given."""
+class Acting:
+    """A body that does what these acts say, run by run, and keeps what it was given."""
 
-    def __init__(self, answer, stop):
-        self.answer, self.stop = answer, stop
-        self.body_got = self.post_got = None
+    def __init__(self, acts):
+        self.acts, self.runs, self.posts = acts, [], []
 
-    def call(self, _memory, flats):
-        """The body."""
-        self.body_got = flats
-        if self.stop == "body":
+    def call(self, memory, flats):
+        """The body: asks for blocks, writes bytes, and answers core values or stops."""
+        self.runs.append(flats)
+        if len(self.runs) > len(self.acts):
             raise Stopped
-        return self.answer
+        act = self.acts[len(self.runs) - 1]
+        for align, size in act.get("asks") or []:
+            if memory.request(align, size) is None:
+                raise Stopped
+        at, data = act.get("writes") or (0, "")
+        if at + len(data) // 2 > len(memory.bytes):
+            raise Stopped
+        memory.write(at, bytes.fromhex(data))
+        if act.get("stop") == "body":
+            raise Stopped
+        return act.get("answer") or []
 
-    def post(self, _memory, flats):
-        """Its post-return."""
-        self.post_got = flats
-        if self.stop == "post":
+    def post(self, memory, flats):
+        """Its post-return: fills the front of its memory with ee, and may stop."""
+        self.posts.append(flats)
+        act = self.acts[len(self.runs) - 1]
+        fills = min(act.get("fills") or 0, len(memory.bytes))
+        memory.write(0, b"\xee" * fills)
+        if act.get("stop") == "post":
             raise Stopped
 
 
 # ---- lines
 
 
-def guest_of(data, top, answers):
-    """A memory of these bytes, whose allocator is scripted or a `Bump` above a top."""
-    allocator = Bump(len(data), top or 0) if answers is None else Scripted(len(data), answers)
-    return Memory(allocator, data)
+def of_side(call, key, side):
+    """What a pair has for the caller or for the callee; None if there is no pair."""
+    return (call.get(key) or [None, None])[side]
+
+
+def allocator_of(call, side, length):
+    """The allocator of a side: it gives the answers of a script, or grants blocks from a top on, or the lowest free ones."""
+    script, most = of_side(call, "script", side), of_side(call, "max", side)
+    if script is not None:
+        return Scripted(length, script)
+    if of_side(call, "kinds", side) == "first-fit":
+        return FirstFit(length, most)
+    return Bump(length, of_side(call, "tops", side) or 0, most)
 
 
 def guests_of(call):
     """The caller's memory and the callee's."""
-    tops, scripts = (call.get(key) or [None, None] for key in ("tops", "script"))
-    return [guest_of(bytes.fromhex(call[side]), top, script) for side, top, script in zip(("caller", "callee"), tops, scripts)]
+    guests = []
+    for side, key in enumerate(("caller", "callee")):
+        data = bytes.fromhex(call[key])
+        length = of_side(call, "lens", side)
+        guests.append(Memory(allocator_of(call, side, len(data) if length is None else length), data))
+    return guests
 
 
-def function_of(call):
-    """The function that is called."""
-    package = call["text"] if "text" in call else bytes.fromhex(call["binary"])
-    return opened([package]).function(call["iface"], call["func"])
+def package_of(call):
+    """The package of a row."""
+    return opened([call["text"] if "text" in call else bytes.fromhex(call["binary"])])
+
+
+def memories_told(caller, callee, are_cut):
+    """The bytes of both memories and the requests to their allocators; zeros at the end are left out if the row says lengths."""
+    front, behind = (bytes(memory.bytes).rstrip(b"\0") if are_cut else memory.bytes for memory in (caller, callee))
+    return {"caller_after": front.hex(), "callee_after": behind.hex(), "caller_log": caller.log, "callee_log": callee.log}
+
+
+def outcome_of(link, flats, body):
+    """How a call ended."""
+    try:
+        return {"ok": link.call(flats, body)}
+    except Trap as trap:
+        return {"trap": str(trap)}
+
+
+def made(call, caller, callee, body):
+    """How the call and the one behind it ended, and the nodes of the first."""
+    try:
+        package, others = package_of(call), [call["next"]] if call.get("next") else []
+        functions = [package.function(call["iface"], one["func"]) for one in [call, *others]]
+    except Refused as refused:
+        return {"refused": str(refused)}, [0, 0], []
+    links = [Link(function, caller, callee) for function in functions]
+    outcome = outcome_of(links[0], call["flats"], body)
+    return outcome, links[0].nodes, [outcome_of(link, other["flats"], body) for link, other in zip(links[1:], others)]
 
 
 def told(call):
-    """What a call does."""
+    """What a call does, and the one behind it if there is one."""
     caller, callee = guests_of(call)
-    body, nodes = Answering(call.get("answer") or [], call.get("stop")), [0, 0]
-    try:
-        link = Link(function_of(call), caller, callee)
-        try:
-            outcome = {"ok": link.call(call["flats"], body)}
-        except Trap as trap:
-            outcome = {"trap": str(trap)}
-        nodes = link.nodes
-    except Refused as refused:
-        outcome = {"refused": str(refused)}
-    return {
-        "outcome": outcome,
-        "body_got": body.body_got,
-        "post_got": body.post_got,
-        "nodes": nodes,
-        "caller_after": caller.bytes.hex(),
-        "callee_after": callee.bytes.hex(),
-        "caller_log": caller.log,
-        "callee_log": callee.log,
-    }
+    body = Acting(call.get("body") or [call])
+    outcome, nodes, others = made(call, caller, callee, body)
+    given = {"bodies_got": body.runs, "posts_got": body.posts}
+    if not call.get("next"):
+        given = {key: runs[0] if runs else None for key, runs in zip(("body_got", "post_got"), given.values())}
+    memories = memories_told(caller, callee, call.get("lens") is not None)
+    return {"outcome": outcome, **given, "nodes": nodes, **memories, **{"next": other for other in others}}
 
 
 def line_of(value):
     """A value as a line of JSON."""
-    return json.dumps(value, separators=(",", ":"))
-
-
-def answers(lines):
-    """The line that answers each call."""
-    for line in lines:
-        yield line_of(told(json.loads(line)))
+    return json.dumps(value, separators=(",", ":"), ensure_ascii=False)

@@ -6,16 +6,23 @@ PAGE = 65536
 
 
 class Bump:
-    """Grants blocks upwards from a top, and takes none back."""
+    """Grants blocks upwards from a top, and takes none back. It may grow by pages up to `most`, where it has one."""
 
-    def __init__(self, length, top=0):
-        self.length, self.top = length, top
+    def __init__(self, length, top=0, most=None):
+        self.length, self.top, self.most = length, top, most
+
+    def free(self, _at, _size):
+        """Takes nothing back."""
+        return False
 
     def alloc(self, align, size):
         """The address of a block, or None."""
         at = up(self.top, align)
         if at + size > self.length:
-            return None
+            length = up(at + size, PAGE)
+            if self.most is None or length > self.most:
+                return None
+            self.length = length
         self.top = at + size
         return at
 
@@ -25,6 +32,10 @@ class Scripted:
 
     def __init__(self, length, answers):
         self.length, self.answers = length, iter(answers)
+
+    def free(self, _at, _size):
+        """Takes nothing back."""
+        return False
 
     def alloc(self, _align, _size):
         """The next answer."""

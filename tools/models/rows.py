@@ -1,4 +1,4 @@
-"""Rows, which are lines `NAME: COMMAND ARGUMENTS => ANSWER` (docs/FORMATS.md, "Files of rows"): layouts, JSON values, and calls with JSON."""
+"""Rows whose input is one text (docs/FORMATS.md, "Layout rows" and "JSON rows"): layouts, JSON values, and calls with JSON."""
 import re
 
 from . import json_values, layouts, sessions
@@ -39,7 +39,7 @@ def call_row(arguments):
     return sessions.called(package_of(items).function("a:b/c", "f"), given, reply) or "nothing"
 
 
-COMMANDS = {"layout": layouts.told, "last": layouts.last, "json": json_row, "call": call_row}
+COMMANDS = {"layouts": layouts.told, "last": layouts.last, "json": json_row, "json-call": call_row}
 
 
 def answer(command, arguments):
@@ -48,19 +48,3 @@ def answer(command, arguments):
         return COMMANDS[command](expanded(arguments))
     except (Refused, Trap) as fault:
         return str(fault)
-
-
-def is_row(line):
-    """Whether a line is a row, and no comment."""
-    return bool(line) and not line.startswith("#")
-
-
-def answers(lines):
-    """The lines with their answers, which they may lack; comments and empty lines as they are."""
-    for line in lines:
-        if not is_row(line):
-            yield line
-            continue
-        front = line.split(" => ", 1)[0]
-        command, arguments = front.split(": ", 1)[1].split(" ", 1)
-        yield f"{front} => {answer(command, arguments)}"

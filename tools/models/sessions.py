@@ -1,31 +1,12 @@
-"""Sessions: typed values placed, read, released and passed by calls, and the lines of crates/suite_steps, which are lists of such steps."""
-from . import json_values
-from .calls import Link
-from .crossing import Flat, Given, Stored, Way, value_at
-from .faults import Refused, Stopped, Trap
-from .memory import PAGE, FirstFit, Memory
-from .opening import opened
+"""Sessions: typed values placed, read, released and passed by calls, and the rows of crates/vectors that are lists of such steps."""
+import json
 
-# The package of the lists of steps. Each function has one parameter.
-PACKAGE = """package a:b;
-interface c {
-  enum hue { red, green, blue }
-  variant shape { dot, far(u64), line(list<u16>), name(string) }
-  flags rights { r, w, x }
-  record point { name: string, place: option<u16>, hues: list<hue> }
-  record wide { a: point, rights: rights, b: point, shape: shape, c: point }
-  letter: func(x: u32) -> char;
-  tint: func(x: u32) -> hue;
-  words: func(x: string) -> string;
-  lists: func(x: list<string>) -> list<string>;
-  numbers: func(x: list<u64>) -> list<u64>;
-  fetch: func(x: u32) -> point;
-  draw: func(x: u32) -> shape;
-  keep: func(x: point);
-  show: func(x: shape);
-  whole: func(x: wide) -> wide;
-  lost: func(x: wide);
-}"""
+from . import calls, json_values
+from .calls import Acting, Link, guests_of, line_of, memories_told, package_of
+from .crossing import Flat, Given, Stored, Way, value_at
+from .faults import Stopped, Trap
+from .memory import PAGE, FirstFit, Memory
+
 MOST_MEMORY = 16 * PAGE
 
 
@@ -130,68 +111,104 @@ def called(function, arguments, reply):
     return "" if function.result is None else json_values.write(function.result, result)
 
 
-# ---- lists of steps
-
-
-def functions():
-    """The functions of the lists, by their names."""
-    return opened([PACKAGE]).functions("a:b/c")
+# ---- rows of steps
 
 
 class Steps:
-    """A list of steps. `held` has for each step so far the type and the address of what it placed, or None."""
+    """The steps of a row over its package and its memories. `held` has for each step so far the type and the address of what it placed, or None."""
 
-    def __init__(self, functions_of_lists, *lengths):
-        self.functions = functions_of_lists
-        self.session = Session(*(Memory(FirstFit(length)) for length in lengths), Echo())
+    def __init__(self, row):
+        self.row, self.package = row, package_of(row)
+        body = Echo() if row.get("body") == "echo" else Acting(row.get("body") or [row])
+        self.session = Session(*guests_of(row), body)
         self.held = []
 
-    def answer(self, line):
-        """The line of what a step answers."""
-        word, _, rest = line.partition(" ")
+    def answer(self, step, before=0):
+        """What a step answers, in a list behind so many other steps."""
+        word, *rest = step
         self.held.append(None)
         try:
-            return getattr(self, word)(*rest.split(" ", 1))
-        except (Trap, Refused) as fault:
-            return str(fault)
+            return self.read(before + rest[0]) if word == "read" else getattr(self, word)(*rest)
+        except Trap as trap:
+            return {"trap": str(trap)}
 
-    def argument(self, name, text):
-        """A function, and the value of its parameter that a text says."""
-        function = self.functions[name]
-        return function, json_values.read(function.params.fields[0], text)
+    def answers(self):
+        """What the steps of the row answer, as many times as it says."""
+        self.held, answers = [], []
+        for _ in range(self.row.get("times") or 1):
+            before = len(answers)
+            answers += [self.answer(step, before) for step in self.row["steps"]]
+        return answers
 
-    def place(self, name, text):
-        """Places a value of a function's parameter."""
-        function, value = self.argument(name, text)
-        t = function.params.fields[0]
+    def function(self, name):
+        """A function of the interface."""
+        return self.package.function("a:b/c", name)
+
+    def place(self, name, json_value):
+        """Places a value of a function's first parameter."""
+        t = self.function(name).params.fields[0]
+        value = json_values.read(t, line_of(json_value))
         self.held[-1] = t, self.session.place(t, value)
-        return f"placed {self.held[-1][1]}"
+        return {"placed": self.held[-1][1]}
 
     def read(self, number):
         """Reads what a step before placed."""
-        held = self.held[int(number)] if int(number) < len(self.held) else None
-        return f"read {json_values.write(held[0], self.session.read(*held))}" if held else "missing"
+        held = self.held[number] if number < len(self.held) else None
+        return {"read": written(held[0], self.session.read(*held))} if held else "missing"
 
     def release(self, at, size):
         """Gives a block back."""
-        return "taken" if self.session.release(int(at), int(size)) else "not taken"
+        return "released" if self.session.release(at, size) else "not released"
 
-    def call(self, name, text):
+    def call(self, name, json_values_given):
         """Calls a function."""
-        function, value = self.argument(name, text)
-        result = self.session.call(function, (value,))
-        return "done" if function.result is None else f"answered {json_values.write(function.result, result)}"
+        function = self.function(name)
+        given = tuple(json_values.read(t, line_of(value)) for t, value in zip(function.params.fields, json_values_given))
+        result = self.session.call(function, given)
+        return "done" if function.result is None else {"answered": written(function.result, result)}
 
 
-def answers(lines):
-    """The line that answers each step of lists."""
-    all_functions, steps = functions(), None
+def written(t, value):
+    """A value as JSON."""
+    return json.loads(json_values.write(t, value))
+
+
+def told(row):
+    """What the steps of a row answer, and what they answer behind that if they are taken twice."""
+    steps = Steps(row)
+    answers = steps.answers()
+    then = steps.answers() if row.get("twice") else []
+    return {"answers": answers, "then": then, **memories_told(steps.session.caller, steps.session.callee, True)}
+
+
+def converted(row, t, memory):
+    """A value of a type that core values denote, or the core values of one."""
+    flats = [0] * len(t.kinds)
+    try:
+        if "lower" in row:
+            Way().cross(t, Given(json_values.read(t, line_of(row["lower"]))), Flat(memory, flats, 0, "place"))
+            return {"lowered": list(zip(t.kinds, flats))}
+        numbers = calls.numbers_of(map(tuple, row["lift"]), t.kinds, "take")
+        return {"lifted": written(t, value_at(t, Flat(memory, numbers, 0, "take")))}
+    except Trap as trap:
+        return {"trap": str(trap)}
+
+
+def converted_told(row):
+    """What lifting or lowering answers, and the memories behind it."""
+    caller, callee = guests_of(row)
+    t = package_of(row).function("a:b/c", row["func"]).params.fields[0]
+    return {"answers": [converted(row, t, caller)], **memories_told(caller, callee, True)}
+
+
+def call_answers(lines):
+    """The line that answers each row of crates/vectors."""
     for line in lines:
-        word, _, rest = line.partition(" ")
-        if word == "new":
-            steps = Steps(all_functions, *map(int, rest.split()))
-        elif word != "run":
-            yield steps.answer(line)
+        row = json.loads(line)
+        if "steps" in row:
+            yield line_of(told(row))
+        else:
+            yield line_of(converted_told(row) if "lift" in row or "lower" in row else calls.told(row))
 
 
 def request_answers(lines):

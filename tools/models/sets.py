@@ -2,7 +2,7 @@
 from dataclasses import replace
 
 from . import abi
-from .faults import Refused
+from .faults import NotModelled, Refused
 from .names import type_names
 from .wit import Name, Primitive
 
@@ -58,6 +58,8 @@ class Set:
         """The number of the package and the interface that a path of this package means."""
         if path.package is not None:
             package = self.number(path.package)
+            if package is None:
+                raise NotModelled("a binary that imports nothing of a package that it uses")
         return package, next(it for it in self.packages[package].interfaces if it.name == path.name)
 
     def reached(self):

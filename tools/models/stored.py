@@ -3,7 +3,8 @@ import collections
 import itertools
 import pathlib
 
-from . import calls, rows, sessions, text_rows
+from . import calls, component, sessions, text_rows
+from .cases import acted
 from .cases import calls as call_cases
 from .cases import requests as request_cases
 from .cases import steps as step_cases
@@ -59,53 +60,8 @@ class Rows:
         self.path = path
 
     def is_named(self, path):
-        """Whether a path is the file's, or its folder's."""
-        return path in (self.path, self.path.parent)
-
-    def wanted(self):
-        """The rows with the answers to them."""
-        return list(rows.answers(lines_of(self.path)))
-
-    def faults(self, wanted):
-        """The names that two of these rows have."""
-        names = collections.Counter(line.split(": ", 1)[0] for line in wanted if rows.is_row(line))
-        return [f"two rows {name}" for name, number in names.items() if number > 1]
-
-    def write(self):
-        """Writes the answers anew."""
-        self.path.write_text(text_of(self.wanted()))
-
-
-class Names:
-    """The output of a crate whose input is rows: their names, since it answers them as they say."""
-
-    def __init__(self, crate):
-        self.folder = ROOT / "crates" / crate
-
-    @property
-    def path(self):
-        """The file of the names."""
-        return self.folder / "stdout"
-
-    def is_named(self, path):
-        """Whether a path is the file's, or the crate's."""
-        return path in (self.path, self.folder)
-
-    def wanted(self):
-        """The names of the stored rows."""
-        return [line.split(": ", 1)[0] for line in lines_of(self.folder / "stdin") if rows.is_row(line)]
-
-    def faults(self, _):
-        """Nothing: the file of the rows tells of two that have one name."""
-        return []
-
-    def write(self):
-        """Writes the names anew."""
-        self.path.write_text(text_of(self.wanted()))
-
-
-class TextRows(Rows):
-    """A file of text rows."""
+        """Whether a path is the file's, its folder's, or the crate's."""
+        return path in (self.path, self.path.parent, self.path.parent.parent)
 
     def wanted(self):
         """The rows with the answers to them."""
@@ -116,16 +72,68 @@ class TextRows(Rows):
         names = collections.Counter(line.split(": ", 1)[0] for line in wanted if text_rows.is_row(line))
         return [f"two rows {name}" for name, number in names.items() if number > 1]
 
+    def write(self):
+        """Writes the answers anew."""
+        self.path.write_text(text_of(self.wanted()))
+
+
+class Reading(Rows):
+    """The rows of `rows_reading`."""
+
+    def wanted(self):
+        """The rows with the answers to them."""
+        return list(component.answers(lines_of(self.path)))
+
+
+class ReadingNames:
+    """The output of `rows_reading`: the names of its rows."""
+
+    folder = ROOT / "crates/rows_reading"
+    path = folder / "stdout"
+
+    def is_named(self, path):
+        """Whether a path is the file's, or the crate's."""
+        return path in (self.path, self.folder)
+
+    def wanted(self):
+        """The names of the stored rows."""
+        return [line.split(": ", 1)[0] for line in lines_of(self.folder / "stdin") if text_rows.is_row(line)]
+
+    def faults(self, _):
+        """Nothing: the file of the rows tells of two that have one name."""
+        return []
+
+    def write(self):
+        """Writes the names anew."""
+        self.path.write_text(text_of(self.wanted()))
+
+
+class Names(ReadingNames):
+    """The output of `rows_texts`: of each file its name and the names of its rows, since these are answered as they say."""
+
+    folder = ROOT / "crates/rows_texts"
+    path = folder / "stdout"
+
+    def names(self, file):
+        """The names of a file's rows; a wrong one is followed by the answer."""
+        lines = lines_of(self.folder / "data" / file)
+        for line, answered in zip(lines, text_rows.answers(lines, self.folder / "data")) if file == "wrong.rows" else zip(lines, lines):
+            if text_rows.is_row(line):
+                yield line.split(": ", 1)[0] + ("" if line == answered else f": {answered.split(' => ', 1)[1]}")
+
+    def wanted(self):
+        """The names of all files' rows."""
+        return [line for file in lines_of(self.folder / "stdin") for line in (f"# {file}", *self.names(file))]
+
 
 TEXT_ROWS = ROOT / "crates/rows_texts/data"
 RUNS = {
-    "vectors": Run("vectors", call_cases.stored, calls.answers),
-    "steps": Run("suite_steps", step_cases.lines, sessions.answers),
+    "vectors": Run("vectors", lambda: [*call_cases.stored(), *map(calls.line_of, acted.rows()), *step_cases.lines()], sessions.call_answers),
     "requests": Run("suite_requests", request_cases.lines, sessions.request_answers),
 }
-OF_ROWS = ("rows_layouts", "rows_json")
-OF_TEXTS = [TextRows(TEXT_ROWS / f"{name}.rows") for name in ("grammar", "texts", "errors", "sets")]
-ALL = [*RUNS.values(), *(Rows(ROOT / "crates" / crate / "stdin") for crate in OF_ROWS), *map(Names, OF_ROWS), *OF_TEXTS]
+FILES = ("grammar", "texts", "errors", "sets", "packages", "changes", "layouts", "json")
+OF_READING = [Reading(ROOT / "crates/rows_reading/stdin"), ReadingNames()]
+ALL = [*RUNS.values(), *(Rows(TEXT_ROWS / f"{name}.rows") for name in FILES), Names(), *OF_READING]
 
 
 def named(paths):

@@ -1,11 +1,11 @@
 """Text rows, which are of texts, binaries and sets of packages (docs/FORMATS.md, "Text rows").
 
-The faults of texts that the grammar doesn't read, and those of binaries, are not modelled, nor is which of several unknown names of an interface is told.
-Such rows keep their answer.
+The faults of texts that the grammar doesn't read, those of binaries and their shape, and whether a package of many bytes is opened again, are not
+modelled, nor is which of several unknown names of an interface is told. Such rows keep their answer.
 """
 import re
 
-from . import sessions, wit
+from . import rows, sessions, wit
 from .faults import NotModelled, Refused, Trap
 from .jobs import JOBS
 from .opening import opened
@@ -16,11 +16,26 @@ STATUS = {Trap: " (3)"}
 # answers by a first fault of the bytes themselves
 UNREAD = re.compile(r"error ([12]\d|3[0-6]) (?!expected package)")
 UNKNOWN = re.compile(r"error 41 unknown ")
+# a binary of another layout
+SHAPE = re.compile(r"error 44 ")
+MOST_BYTES = 500_000
+
+
+def letters(number):
+    """A number as four letters, which are its digits to the base 26."""
+    return "".join(chr(97 + number // 26**place % 26) for place in (3, 2, 1, 0))
 
 
 def copies(count, part):
     """Copies of a part, each with its number."""
-    return [part.replace("{n}", str(number)).replace("{m}", str(number + 1)).encode() for number in range(count)]
+    rules = {"{n}": str, "{m}": lambda number: str(number + 1), "{a}": letters}
+    found = []
+    for number in range(count):
+        copy = part
+        for rule, spelled_as in rules.items():
+            copy = copy.replace(rule, spelled_as(number)) if rule in part else copy
+        found.append(copy.encode())
+    return found
 
 
 class Inputs:
@@ -68,6 +83,8 @@ def data_of(given):
 
 def again(inputs):
     """Whether the set's binary and its text are the last input."""
+    if sum(map(len, inputs)) > MOST_BYTES:
+        raise NotModelled("a package of many bytes, opened again")
     packages = opened(inputs)
     made = {name: job(packages) for name, job in JOBS.items()}
     written = bytes.fromhex(*made["bin"]), "\n".join(made["text"])
@@ -84,12 +101,16 @@ def answer_to(command, inputs):
     packages = opened(inputs)
     if command == "work":
         return [str(work(list(set_rows(packages))))]
-    return ["opened"] if command == "open" else JOBS[command](packages)
+    return ["opened"] if command == "open" else JOBS["text" if command == "copy" else command](packages)
 
 
 def answer(kept, asked):
     """The lines of the answer to a row, and whether they are one line by its command."""
     command, rest = asked.split(" ", 1)
+    if command in ("streamed", "short-call", "changes", "cuts", "fronts"):
+        raise NotModelled("streams that fail, and inputs that are cut or changed")
+    if command in rows.COMMANDS:
+        return [rows.answer(command, rest)], True
     words = []
     if command == "call":
         *words, rest = rest.split(" ", 4)
@@ -128,14 +149,16 @@ def is_row(line):
 
 def known(kept, row):
     """A row with the answer of the models, or as it is where they don't know that."""
-    front, stored = row[0].split(" =>", 1)
+    front, _, stored = row[0].partition(" =>")
     if UNREAD.match(stored.strip()):
         return row
     try:
         lines, is_one = answer(kept, front.split(": ", 1)[1])
     except NotModelled:
         return row
-    return row if UNKNOWN.match(stored.strip()) and UNKNOWN.match(lines[0]) else spelled(front, lines, is_one)
+    if SHAPE.match(stored.strip()) or UNKNOWN.match(stored.strip()) and UNKNOWN.match(lines[0]):
+        return row
+    return spelled(front, lines, is_one)
 
 
 def answers(lines, folder):

@@ -1,10 +1,14 @@
 //! What a row is answered.
 
-ghost use Rattle.std.specs.Prelude.{◌<◌, IfOk, length};
+ghost use Rattle.std.specs.Prelude.{◌<◌, ◌≡◌, false, IfOk, length};
 
+use crate::changes::{changes, cuts, fronts};
 use crate::inputs::{Inputs, Set};
+use crate::json;
+use crate::layouts::laid_out;
 use crate::parts::inputs_in;
-use atoms::Watched;
+use crate::streams::{Drip, Short};
+use atoms::{Sink, Watched};
 use std::alloc::{AllocError, Global};
 use wit_text::parse;
 use witcall::{Package, Refused, Reply, open_set, report, run_call, run_set};
@@ -51,6 +55,17 @@ fn package(alloc: Global, set: &Set) -> Result<Package, Refused> {
 fn opened(alloc: Global, set: &Set) -> anyhow::Result<String> {
     match package(alloc, set) {
         Ok(_package) => Ok(String::from_str(alloc, "opened")?),
+        Err(refused) => line_of(alloc, &refused),
+    }
+}
+
+/// Makes a copy of the package.
+fn copied(alloc: Global, set: &Set) -> anyhow::Result<String> {
+    match package(alloc, set) {
+        Ok(package) => {
+            let copy = package.copy(alloc)?;
+            Ok(copy.to_text(alloc)?)
+        }
         Err(refused) => line_of(alloc, &refused),
     }
 }
@@ -120,19 +135,25 @@ fn repeated(alloc: Global, set: &mut Set) -> anyhow::Result<String> {
 
 /// The words of a call.
 #[derive(Clone, Copy)]
-struct Call<'a> {
-    interface: &'a str,
-    function: &'a str,
-    arguments: &'a str,
-    reply: &'a str,
+pub struct Call<'a> {
+    pub interface: &'a str,
+    pub function: &'a str,
+    pub arguments: &'a str,
+    pub reply: &'a str,
 }
 
-/// What a call writes.
-fn written(alloc: Global, call: &Call<'_>, set: &Set) -> Result<Vec<u8>, Refused> {
+/// Writes what a call answers.
+fn write_call<W: Sink>(
+    alloc: Global,
+    call: &Call<'_>,
+    set: &Set,
+    output: &mut W,
+) -> Result<(), Refused>
+    requires { W.has_failed output.old ≡ false }
+{
     let package = package(alloc, set)?;
     let body = Reply::of(alloc, &package, call.interface, call.function, call.reply)?;
     let body = Box::new(alloc, body).map_err(|_| Refused::NoMemory)?;
-    let mut output = Watched::new(Vec::new(alloc));
     run_call(
         alloc,
         &package,
@@ -140,12 +161,19 @@ fn written(alloc: Global, call: &Call<'_>, set: &Set) -> Result<Vec<u8>, Refused
         call.function,
         call.arguments,
         body,
-        &mut output,
-    )?;
+        output,
+    )
+}
+
+/// What a call writes.
+pub fn written(alloc: Global, call: &Call<'_>, set: &Set) -> Result<Vec<u8>, Refused> {
+    let mut output = Watched::new(Vec::new(alloc));
+    write_call(alloc, call, set, &mut output)?;
     Ok(output.into_inner())
 }
 
-fn called(alloc: Global, kept: &Inputs, words: &str) -> anyhow::Result<String> {
+/// The words of a call, and what its set is made of.
+fn call_of(words: &str) -> anyhow::Result<(Call<'_>, &str)> {
     let mut words = words.splitn(5, ' ');
     let (Some(interface), Some(function), Some(arguments), Some(reply), Some(inputs)) = (
         words.next(),
@@ -162,11 +190,85 @@ fn called(alloc: Global, kept: &Inputs, words: &str) -> anyhow::Result<String> {
         arguments,
         reply,
     };
-    let output = told(
-        alloc,
-        written(alloc, &call, &inputs_in(alloc, kept, inputs)?),
-    )?;
+    Ok((call, inputs))
+}
+
+fn called(alloc: Global, kept: &Inputs, words: &str) -> anyhow::Result<String> {
+    let (call, inputs) = call_of(words)?;
+    let set = inputs_in(alloc, kept, inputs)?;
+    let output = told(alloc, written(alloc, &call, &set))?;
     Ok(String::from_str(alloc, output.as_str().trim_end())?)
+}
+
+/// What an output of so much room took, in hexadecimal digits, and how the writing ended.
+fn taken(alloc: Global, output: &Short, ended: Result<(), Refused>) -> anyhow::Result<String> {
+    let taken = hex::encode(alloc, output.taken.as_slice())?;
+    match ended {
+        Ok(()) => Ok(format!(in alloc; "{taken}, done")?),
+        Err(refused) => Ok(format!(in alloc; "{taken}, {}", line_of(alloc, &refused)?)?),
+    }
+}
+
+/// The number that begins a line, and the rest.
+fn numbered(line: &str) -> anyhow::Result<(usize, &str)> {
+    match line.split_once(' ') {
+        Some((number, rest)) => Ok((number.parse::<usize>()?, rest)),
+        None => Err(anyhow::anyhow!("no number: {line}")),
+    }
+}
+
+/// What a call writes to an output of so much room.
+fn short_call(alloc: Global, kept: &Inputs, words: &str) -> anyhow::Result<String> {
+    let (room, words) = numbered(words)?;
+    let (call, inputs) = call_of(words)?;
+    let set = inputs_in(alloc, kept, inputs)?;
+    let mut output = Short::new(Vec::new(alloc), room);
+    let ended = write_call(alloc, &call, &set, &mut output);
+    taken(alloc, &output, ended)
+}
+
+fn job_of(word: &str) -> anyhow::Result<Job> {
+    match word {
+        "show" => Ok(Job::Show),
+        "bin" => Ok(Job::Bin),
+        "text" => Ok(Job::Text),
+        "layout" => Ok(Job::Layout),
+        _ => Err(anyhow::anyhow!("no job: {word}")),
+    }
+}
+
+/// What a job writes to an output of so much room, of an input that fails after so many bytes.
+fn streamed(alloc: Global, kept: &Inputs, words: &str) -> anyhow::Result<String> {
+    let (fails_at, words) = numbered(words)?;
+    let (room, words) = numbered(words)?;
+    let Some((word, inputs)) = words.split_once(' ') else {
+        return Err(anyhow::anyhow!("no job: {words}"));
+    };
+    let (job, set) = (job_of(word)?, inputs_in(alloc, kept, inputs)?);
+    let mut output = Short::new(Vec::new(alloc), room);
+    let mut input = Drip::new(set.last.as_slice(), fails_at);
+    let earlier = set.earlier.as_slice();
+    let ended = run_set(alloc, job, earlier, &mut input, &mut output);
+    taken(alloc, &output, ended)
+}
+
+/// How a row is answered whose set was made.
+fn answer_to(alloc: Global, word: &str, set: &mut Set) -> anyhow::Result<String> {
+    match word {
+        "parse" => parsed(alloc, set),
+        "open" => opened(alloc, set),
+        "show" => told(alloc, made(alloc, Job::Show, set)),
+        "text" => told(alloc, made(alloc, Job::Text, set)),
+        "layout" => told(alloc, made(alloc, Job::Layout, set)),
+        "bin" => binary(alloc, set),
+        "again" => repeated(alloc, set),
+        "work" => work(alloc, set),
+        "copy" => copied(alloc, set),
+        "changes" => changes(alloc, set.last.as_slice()),
+        "cuts" => cuts(alloc, set.last.as_slice()),
+        "fronts" => fronts(alloc, set.last.as_slice()),
+        _ => Err(anyhow::anyhow!("no such word: {word}")),
+    }
 }
 
 /// How a row is answered.
@@ -174,19 +276,14 @@ pub fn answer_of(alloc: Global, kept: &Inputs, asked: &str) -> anyhow::Result<St
     let Some((word, rest)) = asked.split_once(' ') else {
         return Err(anyhow::anyhow!("one word: {asked}"));
     };
-    if word == "call" {
-        return called(alloc, kept, rest);
-    }
-    let mut set = inputs_in(alloc, kept, rest)?;
     match word {
-        "parse" => parsed(alloc, &set),
-        "open" => opened(alloc, &set),
-        "show" => told(alloc, made(alloc, Job::Show, &set)),
-        "text" => told(alloc, made(alloc, Job::Text, &set)),
-        "layout" => told(alloc, made(alloc, Job::Layout, &set)),
-        "bin" => binary(alloc, &set),
-        "again" => repeated(alloc, &mut set),
-        "work" => work(alloc, &set),
-        _ => Err(anyhow::anyhow!("no such word: {asked}")),
+        "call" => called(alloc, kept, rest),
+        "short-call" => short_call(alloc, kept, rest),
+        "streamed" => streamed(alloc, kept, rest),
+        "json" => json::answer_of(alloc, false, rest),
+        "json-call" => json::answer_of(alloc, true, rest),
+        "layouts" => laid_out(alloc, rest, false),
+        "last" => laid_out(alloc, rest, true),
+        _ => answer_to(alloc, word, &mut inputs_in(alloc, kept, rest)?),
     }
 }

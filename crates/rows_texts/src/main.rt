@@ -4,9 +4,14 @@
 #![tactic(auto)]
 
 mod answers;
+mod changes;
 mod inputs;
+mod json;
+mod layouts;
 mod parts;
 mod rows;
+mod shapes;
+mod streams;
 
 use rows::{Rows, read};
 use std::alloc::Global;

@@ -37,7 +37,23 @@ fn tokens_of(alloc: Global, line: &str) -> Result<Vec<Token<'_>>, AllocError> {
     Ok(tokens)
 }
 
-/// Adds what follows a brace of a text: `n}` stands for this number, and `m}` for the next.
+/// A number as four letters, which are its digits to the base 26.
+fn letters(alloc: Global, number: usize) -> Result<String, AllocError> {
+    let mut letters = String::new(alloc);
+    for digit in [
+        number / 17576 % 26,
+        number / 676 % 26,
+        number / 26 % 26,
+        number % 26,
+    ] {
+        if let Some(letter) = b"abcdefghijklmnopqrstuvwxyz".get(digit) {
+            letters.push(char::from(*letter))?;
+        }
+    }
+    Ok(letters)
+}
+
+/// Adds what follows a brace of a text: `n}` stands for this number, `m}` for the next, and `a}` for its letters.
 fn push_rule(
     alloc: Global,
     input: &mut Vec<u8>,
@@ -46,6 +62,7 @@ fn push_rule(
 ) -> Result<(), AllocError> {
     let told = match piece.split_once('}') {
         Some(("n", rest)) => format!(in alloc; "{number}{rest}")?,
+        Some(("a", rest)) => format!(in alloc; "{}{rest}", letters(alloc, number)?)?,
         Some(("m", rest)) => format!(in alloc; "{}{rest}", number.saturating_add(1))?,
         _ => format!(in alloc; "{{{piece}")?,
     };
@@ -180,4 +197,30 @@ pub fn inputs_in(alloc: Global, kept: &Inputs, line: &str) -> anyhow::Result<Set
         }
     }
     Ok(maker.set)
+}
+
+/// Adds what follows a word `repeat`: so many copies of a part, and the rest.
+fn push_repeated(alloc: Global, text: &mut Vec<u8>, rule: &str) -> anyhow::Result<()> {
+    let mut pieces = rule.splitn(3, '"');
+    let (Some(count), Some(part), Some(rest)) = (pieces.next(), pieces.next(), pieces.next()) else {
+        return Err(anyhow::anyhow!("no rule: {rule}"));
+    };
+    for number in 0..count.trim_end().parse::<usize>()? {
+        push_numbered(alloc, text, part, number)?;
+    }
+    text.extend_from_slice(rest.as_bytes())?;
+    Ok(())
+}
+
+/// A text with its repeated parts written out.
+pub fn expanded(alloc: Global, line: &str) -> anyhow::Result<String> {
+    let mut text = Vec::new(alloc);
+    for (index, piece) in line.split("repeat ").enumerate() {
+        if index == 0 {
+            text.extend_from_slice(piece.as_bytes())?;
+        } else {
+            push_repeated(alloc, &mut text, piece)?;
+        }
+    }
+    Ok(String::from_utf8(text)?)
 }

@@ -100,7 +100,10 @@ impl Rows {
         let Some(row) = self.last.take() else {
             return Ok(());
         };
-        let answer = answer_of(alloc, &self.kept, row.asked.as_str())?;
+        let answer = match answer_of(alloc, &self.kept, row.asked.as_str()) {
+            Ok(answer) => answer,
+            Err(error) => format!(in alloc; "{error}")?,
+        };
         if answer == row.wanted {
             println!(rt; "{}", row.name)?;
         } else {

@@ -1,6 +1,5 @@
 //! Components that are made of their parts: written as the bytes that decode to them, or refused with the first fault.
 
-use crate::binaries::{P1, assert_text};
 use atoms::{FullName, Label};
 use ctype_bin::{
     BinError, ExternName, Primitive, RawAlias, RawComponent, RawDecl, RawDefinedType,
@@ -9,6 +8,14 @@ use ctype_bin::{
 use std::alloc::{AllocError, Global};
 use std::process::Abort;
 use std::test::*;
+
+/// `package a:b; interface c { f: func(x: u32) -> u32; }`
+const P1: [u8; 55] = [
+    0x00, 0x61, 0x73, 0x6d, 0x0d, 0x00, 0x01, 0x00, 0x07, 0x1e, 0x01, 0x41, 0x02, 0x01, 0x42, 0x02,
+    0x01, 0x40, 0x01, 0x01, 0x78, 0x79, 0x00, 0x79, 0x04, 0x00, 0x01, 0x66, 0x01, 0x00, 0x04, 0x00,
+    0x05, 0x61, 0x3a, 0x62, 0x2f, 0x63, 0x05, 0x00, 0x0b, 0x0d, 0x01, 0x00, 0x07, 0x70, 0x61, 0x63,
+    0x6b, 0x61, 0x67, 0x65, 0x03, 0x00, 0x00,
+];
 
 const U32: RawValType = RawValType::Primitive(Primitive::U32);
 
@@ -99,6 +106,10 @@ fn made_and_written(rt: HostRuntime) -> Result<(), Fail> {
     Ok(())
 }
 
+fn assert_text(rt: &impl Abort, found: &str, wanted: &str) {
+    assert!(rt; found == wanted, "{found}, not {wanted}");
+}
+
 /// Whether making it answers this.
 fn assert_line(
     rt: &impl Abort,
@@ -185,4 +196,31 @@ fn imports_of_instances(rt: HostRuntime) -> Result<(), Fail> {
     let import = RawDecl::Import(named(alloc, "x")?, RawDescription::Function(7));
     let import = instance(alloc, import)?;
     assert_line(&rt, alloc, import, 0, "error 13 unknown opcode 03 at 0")
+}
+
+/// A component that exports the type of lists of u8 as `a` and as `b`.
+const WRITTEN: [u8; 28] = [
+    0x00, 0x61, 0x73, 0x6d, 0x0d, 0x00, 0x01, 0x00, 0x07, 0x03, 0x01, 0x70, 0x7d, 0x0b, 0x0d, 0x02,
+    0x00, 0x01, b'a', 0x03, 0x00, 0x00, 0x00, 0x01, b'b', 0x03, 0x00, 0x00,
+];
+
+fn exported(alloc: Global, name: &str) -> Result<RawExport, Fail> {
+    let label = Label::new(alloc, name)?;
+    Ok(RawExport {
+        name: ExternName::Label(label),
+        ty: 0,
+    })
+}
+
+#[test]
+fn two_exports(rt: HostRuntime) -> Result<(), Fail> {
+    let alloc = rt.alloc();
+    let element = RawValType::Primitive(Primitive::U8);
+    let types = vec![in alloc; RawType::Defined(RawDefinedType::List(element))]?;
+    let exports = vec![in alloc; exported(alloc, "a")?, exported(alloc, "b")?]?;
+    let component = RawComponent::new(alloc, types, exports)?;
+    let mut out = Vec::from_slice(alloc, b"ab")?;
+    encode(alloc, &component, &mut out)?;
+    assert!(rt; out.as_slice().strip_prefix(b"ab") == Some(WRITTEN.as_slice()));
+    Ok(())
 }

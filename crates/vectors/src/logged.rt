@@ -1,65 +1,79 @@
-//! A memory whose requests are listed.
+//! A memory whose requests are listed, and whose allocator may give answers that were told to it.
 
 use canonical_abi::{Full, Guest, NotTaken};
-use std::alloc::Global;
+use memory::Space;
 
-/// A memory, and what its allocator was asked for: alignment, size, and the address that it gave.
+/// What an allocator was asked for, alignment and size, and the address that it gave.
+#[derive(Clone, Copy)]
+pub struct Request {
+    pub align: u32,
+    pub size: u32,
+    pub at: Option<u32>,
+}
+
+/// A memory, and what its allocator was asked for.
 #[derive(Drop)]
-pub struct Logged<G: Guest> {
-    guest: G,
-    requests: Vec<(u32, u32, Option<u32>)>,
+pub struct Logged {
+    space: Space,
+    /// What the allocator answers if that is told, the last answer first.
+    script: Option<Vec<Option<u32>>>,
+    requests: Vec<Request>,
     /// Whether the host had memory for all of the list.
     whole: bool,
 }
 
-impl<G: Guest + Drop> Logged<G> {
-    pub fn new(alloc: Global, guest: G) -> Logged<G> {
+impl Logged {
+    pub fn new(space: Space, script: Option<Vec<Option<u32>>>, requests: Vec<Request>) -> Logged {
         Logged {
-            guest,
-            requests: Vec::new(alloc),
+            space,
+            script,
+            requests,
             whole: true,
         }
     }
 
     /// The requests in turn, unless the host had no memory for them.
-    pub fn requests(self) -> Option<Vec<(u32, u32, Option<u32>)>> {
+    pub fn requests(&self) -> Option<&[Request]> {
         if self.whole {
-            Some(self.requests)
+            Some(self.requests.as_slice())
         } else {
             None
         }
     }
 }
 
-impl<G: Guest> Guest for Logged<G> {
-    ghost memory = { λ l. G.memory l.guest };
+impl Guest for Logged {
+    ghost memory = { λ l. ⟦<Space as Guest>⟧.memory l.space };
 
-    ghost allocates = { G.allocates };
+    ghost allocates = { λ _ _ _ _ _. Unit {0} };
 
-    ghost releases = { G.releases };
+    ghost releases = { λ _ _ _ _ _. Unit {0} };
 
     fn len(&self) -> u32 {
-        self.guest.len()
+        self.space.len()
     }
 
     fn bytes(&self) -> &[u8] {
-        self.guest.bytes()
+        self.space.bytes()
     }
 
     fn write(&mut self, at: u32, src: &[u8]) {
-        self.guest.write(at, src);
+        self.space.write(at, src);
     }
 
     fn alloc(&mut self, align: u32, size: u32) -> Result<u32, Full> {
-        let answer = self.guest.alloc(align, size);
-        let request = (align, size, answer.ok());
-        if self.requests.push(request).is_err() {
+        let answer = match &mut self.script {
+            Some(answers) => answers.pop().flatten().ok_or(Full),
+            None => self.space.alloc(align, size),
+        };
+        let at = answer.ok();
+        if self.requests.push(Request { align, size, at }).is_err() {
             self.whole = false;
         }
         answer
     }
 
     fn free(&mut self, at: u32, size: u32) -> Result<(), NotTaken> {
-        self.guest.free(at, size)
+        self.space.free(at, size)
     }
 }

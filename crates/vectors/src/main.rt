@@ -1,31 +1,41 @@
-//! Answers calls that are said as JSON, one a line, with what they did, one a line. docs/FORMATS.md has the form. It
-//! shows implementers of other runtimes the answers of calls that carry the promise.
+//! Answers rows of JSON, one a line, with what they did, one a line: calls over a link, steps of a session, and values that are lifted or
+//! lowered. docs/FORMATS.md has the form. It shows implementers of other runtimes the answers of calls that carry the promise.
 #![tactic(auto)]
 
-mod answering;
-mod calling;
-mod error;
+mod acting;
+mod links;
 mod logged;
-mod vector;
+mod row;
+mod sessions;
+mod telling;
+mod values;
 
-use calling::answer_of;
+use serde_json::Value;
 use std::alloc::Global;
-use vector::Wrong;
 
-/// The line that tells of the call, or of why there is none.
+/// What is told of a row.
 fn told_of(alloc: Global, line: &str) -> anyhow::Result<String> {
-    match answer_of(alloc, line) {
+    let row = Value::from_str(alloc, line)?;
+    if row.get("steps").is_some() {
+        return sessions::told_of(alloc, &row);
+    }
+    if row.get("lift").is_some() || row.get("lower").is_some() {
+        return values::told_of(alloc, &row);
+    }
+    links::told_of(alloc, &row)
+}
+
+/// The line that tells of a row, or of why it is none.
+fn answer_of(alloc: Global, line: &str) -> anyhow::Result<String> {
+    match told_of(alloc, line) {
         Ok(told) => Ok(told),
-        Err(error) => {
-            let error = format!(in alloc; "{error}")?;
-            Ok(serde_json::to_string(alloc, &Wrong { error })?)
-        }
+        Err(error) => Ok(format!(in alloc; "{{\"error\":\"{error}\"}}")?),
     }
 }
 
 fn main(rt: HostRuntime) -> anyhow::Result<()> {
     for line in rt.lines(rt.alloc()) {
-        let told = told_of(rt.alloc(), line?.as_str())?;
+        let told = answer_of(rt.alloc(), line?.as_str())?;
         println!(rt; "{told}")?;
     }
     Ok(())

@@ -1,0 +1,193 @@
+//! Component type binaries: at once and by a reader that gives a byte at a time, may fail, or never ends.
+
+ghost use Rattle.std.specs.Prelude.{◌≡◌, false};
+
+use atoms::{Failed, Source};
+use ctype_bin::{BinError, Fault, RawComponent, decode, decode_from, encode};
+use std::alloc::Global;
+
+/// A reader that gives a byte at a time and fails after so many; or one that never ends.
+#[derive(Drop)]
+struct Drip<'a> {
+    bytes: &'a [u8],
+    given: usize,
+    fails_at: usize,
+    endless: bool,
+    failed: bool,
+}
+
+impl<'a> Source for Drip<'a> {
+    ghost use Rattle.std.specs.Prelude.{None};
+
+    ghost remaining = { λ _. None };
+
+    ghost has_failed = { λ reader. reader.failed };
+
+    fn read(&mut self, buffer: &mut [u8]) -> Result<usize, Failed> {
+        if self.fails_at == self.given {
+            self.failed = true;
+            return Err(Failed);
+        }
+        if buffer.is_empty() {
+            return Ok(0);
+        }
+        if self.endless {
+            buffer.fill(0);
+            return Ok(buffer.len());
+        }
+        match self.bytes.get(self.given) {
+            Some(byte) => {
+                buffer[0] = *byte;
+                self.given += 1;
+                Ok(1)
+            }
+            None => Ok(0),
+        }
+    }
+
+    fn failed(&self) -> bool {
+        self.failed
+    }
+}
+
+/// What decoding by such a reader answers.
+fn dripped(
+    alloc: Global,
+    bytes: &[u8],
+    fails_at: usize,
+    endless: bool,
+) -> Result<RawComponent, BinError> {
+    let mut reader = Drip {
+        bytes,
+        given: 0,
+        fails_at,
+        endless,
+        failed: false,
+    };
+    decode_from(alloc, &mut reader)
+}
+
+/// How many types and exports a component has.
+fn told(alloc: Global, component: &RawComponent) -> anyhow::Result<String> {
+    let (types, exports) = (component.types().len(), component.exports().len());
+    Ok(format!(in alloc; "types {types} exports {exports}")?)
+}
+
+/// What decoding answers, at once or byte by byte.
+fn decoded(alloc: Global, bytes: &[u8], is_dripped: bool) -> anyhow::Result<String> {
+    let component = if is_dripped {
+        dripped(alloc, bytes, usize::MAX, false)?
+    } else {
+        decode(alloc, bytes)?
+    };
+    told(alloc, &component)
+}
+
+/// The bytes of the component that these bytes are, behind those of a front.
+fn encoded(alloc: Global, bytes: &[u8], front: &[u8]) -> anyhow::Result<Vec<u8>> {
+    let component = decode(alloc, bytes)?;
+    let mut out = front.to_vec(alloc)?;
+    encode(alloc, &component, &mut out)?;
+    Ok(out)
+}
+
+/// Whether two answers of decoding are alike.
+fn are_alike(fast: &Result<RawComponent, BinError>, slow: &Result<RawComponent, BinError>) -> bool {
+    match (fast, slow) {
+        (Ok(_), Ok(_)) => true,
+        (Err(fault), Err(other)) => fault == other,
+        _ => false,
+    }
+}
+
+/// Whether the bytes are a component that is written as what decodes to the same. Fails where they are refused with a fault that is not
+/// within them, unless it is at the end of a section that is too long for them, or where a reader's answer is another.
+fn is_component(alloc: Global, bytes: &[u8]) -> anyhow::Result<bool> {
+    let fast = decode(alloc, bytes);
+    if !are_alike(&fast, &dripped(alloc, bytes, usize::MAX, false)) {
+        return Err(anyhow::anyhow!("byte by byte something else"));
+    }
+    match fast {
+        Ok(_) => {}
+        Err(BinError::At(fault, place)) if place <= bytes.len() || fault == Fault::SizeMismatch => {
+            return Ok(false);
+        }
+        Err(error) => return Err(anyhow::anyhow!("{error}")),
+    }
+    let first = encoded(alloc, bytes, &[])?;
+    if encoded(alloc, first.as_slice(), &[])? != first {
+        return Err(anyhow::anyhow!("written as something else"));
+    }
+    Ok(true)
+}
+
+/// How many of the 256 values of a byte give a component.
+fn components_at(alloc: Global, bytes: &[u8], place: usize) -> anyhow::Result<usize> {
+    let mut changed = bytes.to_vec(alloc)?;
+    let mut count: usize = 0;
+    for byte in 0..=255 {
+        if let Some(old) = changed.as_mut_slice().get_mut(place) {
+            *old = byte;
+        }
+        if is_component(alloc, changed.as_slice())? {
+            count = count.saturating_add(1);
+        }
+    }
+    Ok(count)
+}
+
+/// How many of the bytes that differ in one byte are components.
+fn changes(alloc: Global, bytes: &[u8]) -> anyhow::Result<String> {
+    let mut count: usize = 0;
+    for place in 0..bytes.len() {
+        count = count.saturating_add(components_at(alloc, bytes, place)?);
+    }
+    Ok(format!(in alloc;
+        "{} changed: {count} components",
+        bytes.len().saturating_mul(256)
+    )?)
+}
+
+/// Whether each front is told as cut at its end, at once and byte by byte.
+fn cuts(alloc: Global, bytes: &[u8]) -> anyhow::Result<String> {
+    for length in 0..bytes.len() {
+        let front = bytes.get(..length).unwrap_or(&[]);
+        let fast = decode(alloc, front);
+        let is_cut =
+            matches!(&fast, Err(BinError::At(Fault::Truncated, place)) if *place == length);
+        if !is_cut || !are_alike(&fast, &dripped(alloc, front, usize::MAX, false)) {
+            return Err(anyhow::anyhow!("another answer at {length}"));
+        }
+    }
+    Ok(format!(in alloc; "{} fronts told as cut", bytes.len())?)
+}
+
+/// What a reader that fails after so many bytes is told as.
+fn failing(alloc: Global, words: &str) -> anyhow::Result<String> {
+    let Some((place, digits)) = words.split_once(' ') else {
+        return Err(anyhow::anyhow!("no bytes"));
+    };
+    let bytes = hex::decode(alloc, digits)?;
+    let component = dripped(alloc, bytes.as_slice(), place.parse::<usize>()?, false)?;
+    told(alloc, &component)
+}
+
+/// What a command is answered.
+pub fn done(alloc: Global, word: &str, rest: &str) -> anyhow::Result<String> {
+    if word == "failing" {
+        return failing(alloc, rest);
+    }
+    if word == "endless" {
+        return told(alloc, &dripped(alloc, &[], usize::MAX, true)?);
+    }
+    let bytes = hex::decode(alloc, rest)?;
+    let bytes = bytes.as_slice();
+    match word {
+        "decode" => decoded(alloc, bytes, false),
+        "drip" => decoded(alloc, bytes, true),
+        "encode" => Ok(hex::encode(alloc, encoded(alloc, bytes, b"ab")?.as_slice())?),
+        "changes" => changes(alloc, bytes),
+        "cuts" => cuts(alloc, bytes),
+        _ => Err(anyhow::anyhow!("no such command: {word}")),
+    }
+}

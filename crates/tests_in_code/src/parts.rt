@@ -1,0 +1,135 @@
+//! Tables that are made of parts, a component that is read as one package alone, and a text that is longer than memories may be.
+
+ghost use Rattle.std.specs.Prelude.{IfOk};
+ghost use Rattle.tables.specs.Closed.{IsFunction};
+
+use adapter::BoxedBody;
+use canonical_abi::{Fault, Full, Guest, Step, Trap, TrapKind};
+use ctype_bin::{decode, encode};
+use lift_lower::{Val, str_at};
+use memory::{Bump, Scripted, Space};
+use std::alloc::Global;
+use std::process::Abort;
+use std::slice;
+use std::test::Fail;
+use tables::{
+    Definition, FunctionId, Primitive, Resolve, ResolveError, Sequence, TypeDef, TypeDefKind,
+    TypeId, ValType,
+};
+use wit_component::{from_raw, to_raw};
+use witcall::{Package, Reply, Session, open};
+
+/// A table of a list of this type.
+fn with_list(alloc: Global, element: ValType) -> Result<Result<Resolve, ResolveError>, Fail> {
+    let rows = vec![in alloc;
+        Definition::Type(TypeDef {
+            name: None,
+            kind: TypeDefKind::List(element),
+        }),
+    ]?;
+    Ok(Resolve::from_parts(
+        Sequence::new(Vec::new(alloc)),
+        Sequence::new(Vec::new(alloc)),
+        Sequence::new(Vec::new(alloc)),
+        Sequence::new(rows),
+    ))
+}
+
+/// A list is no element of its own.
+#[test]
+fn lists_of_what_stands_before(rt: HostRuntime) -> Result<(), Fail> {
+    let _table = with_list(rt.alloc(), ValType::Primitive(Primitive::U8))??;
+    let refused = with_list(rt.alloc(), ValType::Id(TypeId(0)))?;
+    assert!(&rt; matches!(refused, Err(ResolveError::NotThisShape)));
+    Ok(())
+}
+
+/// `package a:b; interface c { f: func(x: u32) -> u32; }`
+const SMALLEST: &[u8; 55] =
+    b"\0asm\x0d\0\x01\0\x07\x1e\x01\x41\x02\x01\x42\x02\x01\x40\x01\x01\x78\x79\0\x79\x04\0\x01\x66\x01\0\x04\0\x05a:b/c\x05\0\x0b\x0d\x01\0\x07package\x03\0\0";
+
+#[test]
+fn a_component_is_read_as_a_package(rt: HostRuntime) -> Result<(), Fail> {
+    let alloc = rt.alloc();
+    let package = from_raw(alloc, &decode(alloc, SMALLEST)?)?;
+    let mut bytes = Vec::new(alloc);
+    encode(alloc, &to_raw(alloc, &package)?, &mut bytes)?;
+    assert!(rt; bytes.as_slice() == SMALLEST.as_slice());
+    Ok(())
+}
+
+/// Whether a request of an alignment and a size is answered so.
+fn assert_granted(rt: &impl Abort, memory: &mut Scripted, align: u32, size: u32, at: Option<u32>) {
+    assert!(rt; align == 1 || align == 4 || align == 8);
+    assert!(rt; memory.alloc(align, size).ok() == at, "{size}");
+}
+
+#[test]
+fn scripted_answers_in_turn(rt: HostRuntime) -> Result<(), Fail> {
+    let answers = vec![in rt.alloc(); Ok(14), Err(Full), Ok(2)]?;
+    let mut memory = Scripted::new(rt.alloc(), 32, answers)?;
+    for (align, size, at) in [
+        (4, 8, Some(14)),
+        (1, 1, None),
+        (8, 0, Some(2)),
+        (1, 1, None),
+    ] {
+        assert_granted(&rt, &mut memory, align, size, at);
+    }
+    assert!(rt; memory.free(2, 0).is_err());
+    Ok(())
+}
+
+/// A text of the memory is lent.
+#[test]
+fn texts_are_lent(rt: HostRuntime) -> Result<(), Fail> {
+    let mut guest = Bump::new(rt.alloc(), 16)?;
+    if guest.len() == 16 {
+        guest.write(0, b"hi\xc0\x80");
+    }
+    assert!(rt; str_at(&guest, 0, 2) == Ok("hi"));
+    let (kind, step) = (TrapKind::Utf8, Step::Take);
+    assert!(rt; str_at(&guest, 2, 2) == Err(Trap { kind, step }));
+    Ok(())
+}
+
+/// The function `f`.
+fn function(package: &Package) -> Result<FunctionId, Fail>
+    ensures { IfOk result (IsFunction «package».now.resolve) }
+{
+    match package.resolve().function("a:b/c", "f") {
+        Some(f) => Ok(f),
+        None => Err(Fail::from("no function")),
+    }
+}
+
+#[test]
+fn values_are_copied(rt: HostRuntime) -> Result<(), Fail> {
+    let value = Val::List(vec![in rt.alloc(); Val::U8(7), Val::U8(8)]?);
+    let copy = value.clone()?;
+    assert!(rt;
+        matches!(&copy, Val::List(items) if matches!(items.as_slice(), [Val::U8(7), Val::U8(8)]))
+    );
+    Ok(())
+}
+
+/// A text of 16,777,217 bytes is not asked for.
+#[test]
+fn text_past_the_limit(rt: HostRuntime) -> Result<(), Fail> {
+    let alloc = rt.alloc();
+    let package = open(alloc, b"package a:b; interface c { f: func(x: string); }")?;
+    let f = function(&package)?;
+    let text = Val::String(String::from_utf8(vec![in alloc; b'a'; 16_777_217]?)?);
+    let arguments = slice::from_ref(&text);
+    assert!(rt; package.takes(f, arguments));
+    let reply = Reply::of(alloc, &package, "a:b/c", "f", "[]")?;
+    let body = BoxedBody::new(Box::new(alloc, reply)?);
+    let (caller, callee) = (Bump::new(alloc, 64)?, Space::Bump(Bump::new(alloc, 32)?));
+    let mut session = Session::new(&package, caller, callee, body);
+    let (kind, step) = (TrapKind::Bounds, Step::Place);
+    let answer = session.call(alloc, f, arguments);
+    assert!(rt; matches!(answer, Err(Fault::Trap(trap)) if trap == Trap { kind, step }));
+    assert!(rt; session.caller().bytes() == [0; 64].as_slice());
+    assert!(rt; session.callee().bytes() == [0; 32].as_slice());
+    Ok(())
+}

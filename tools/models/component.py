@@ -1,0 +1,356 @@
+"""Component type binaries, as docs/FORMATS.md has them ("Component type binary"): what reading one answers, with each fault at its place."""
+import re
+
+from .faults import Refused
+
+MOST_BYTES, MOST_CASES, MOST_LABELS, MOST_NESTED, MOST_ENTRIES = 1_048_576, 100_000, 32, 4, 65_535
+PREAMBLE = b"\0asm\x0d\0\1\0"
+PRIMITIVES = (0x7F, 0x7E, 0x7D, 0x7C, 0x7B, 0x7A, 0x79, 0x78, 0x77, 0x74, 0x73)
+UNSUPPORTED = {0x76: "float", 0x75: "float", 0x69: "resource", 0x68: "resource"}
+WORDS = r"([a-z][a-z0-9]*|[A-Z][A-Z0-9]*)"
+LABEL = re.compile(rf"{WORDS}(-{WORDS})*")
+LOWER = re.compile(r"[a-z][a-z0-9]*(-[a-z][a-z0-9]*)*")
+NUMBER, PART = r"(0|[1-9][0-9]*)", r"(0|[1-9][0-9]*|[0-9]*[A-Za-z-][0-9A-Za-z-]*)"
+VERSION = re.compile(rf"{NUMBER}\.{NUMBER}\.{NUMBER}(-{PART}(\.{PART})*)?(\+[0-9A-Za-z-]+(\.[0-9A-Za-z-]+)*)?")
+
+
+def is_label(text):
+    """Whether a text is a label."""
+    return len(text) <= 255 and bool(LABEL.fullmatch(text))
+
+
+def is_full_name(text):
+    """Whether a text is a full name."""
+    front, at, version = text.partition("@")
+    package, _, name = front.partition("/")
+    parts = package.split(":")
+    named = len(parts) == 2 and all(len(part) <= 255 and LOWER.fullmatch(part) for part in parts) and is_label(name)
+    return named and (not at or (len(version) <= 255 and bool(VERSION.fullmatch(version))))
+
+
+class Scope:
+    """How many types and instances a scope has."""
+
+    def __init__(self, is_component=False):
+        self.types = self.instances = 0
+        self.is_component = is_component
+
+
+class Reader:
+    """Reads from left to right, up to the end of a section."""
+
+    def __init__(self, data):
+        self.data, self.at, self.end, self.entries = data, 0, None, 0
+        self.scopes = [Scope(True)]
+
+    def fault(self, words, at):
+        """Refuses."""
+        raise Refused(f"{words} at {at}")
+
+    def byte(self):
+        """The next byte."""
+        if self.end is not None and self.at >= self.end and self.end < len(self.data):
+            self.fault("18 size mismatch", self.end)
+        if self.at >= len(self.data):
+            self.fault("11 truncated", len(self.data))
+        self.at += 1
+        return self.data[self.at - 1]
+
+    def unknown(self, at):
+        """Refuses a byte that is not allowed there."""
+        self.fault(f"13 unknown opcode {self.data[at]:02x}", at)
+
+    def one_of(self, *allowed):
+        """The next byte, which is one of these."""
+        byte = self.byte()
+        if byte not in allowed:
+            self.unknown(self.at - 1)
+        return byte
+
+    def groups(self, is_right):
+        """The groups of seven bits of a number, of at most five bytes whose last one is right."""
+        start, found = self.at, []
+        while True:
+            byte = self.byte()
+            found.append(byte & 0x7F)
+            if len(found) == 5 and (byte & 0x80 or not is_right(byte)):
+                self.fault("23 overlong", start)
+            if not byte & 0x80:
+                return sum(group << 7 * place for place, group in enumerate(found)), found[-1], len(found)
+
+    def u32(self):
+        """An unsigned number."""
+        return self.groups(lambda byte: byte < 0x10)[0]
+
+    def s33(self):
+        """A signed number of 33 bits, which may not be negative."""
+        start = self.at
+        number, last, count = self.groups(lambda byte: byte & 0x70 in (0, 0x70))
+        if last & 0x40 and count < 6:
+            self.unknown(start)
+        return number
+
+    def name(self, is_right):
+        """A name that is right."""
+        start, length = self.at, self.u32()
+        text = bytes(self.byte() for _ in range(length))
+        try:
+            right = is_right(text.decode())
+        except UnicodeDecodeError:
+            right = False
+        if not right:
+            self.fault("22 bad name", start)
+
+    def label(self):
+        """A label."""
+        self.name(is_label)
+
+    def extern_name(self):
+        """The name of an import or an export."""
+        self.one_of(0)
+        self.name(lambda text: is_label(text) or is_full_name(text))
+
+    def index(self, number, of, at):
+        """Refuses an index that a space doesn't have."""
+        if number >= of:
+            self.fault("15 bad index", at)
+
+    def type_index(self):
+        """An index of a type of the innermost scope."""
+        at = self.at
+        self.index(self.u32(), self.scopes[-1].types, at)
+
+    def valtype(self):
+        """The type of a value."""
+        at, byte = self.at, self.byte()
+        if UNSUPPORTED.get(byte) == "float":
+            self.fault("14 unsupported float", at)
+        if byte in PRIMITIVES:
+            return
+        self.at = at
+        self.index(self.s33(), self.scopes[-1].types, at)
+
+    def optional(self):
+        """A type of a value, or none."""
+        if self.one_of(0, 1):
+            self.valtype()
+
+    def count(self, least, most=None):
+        """How many items there are."""
+        at, count = self.at, self.u32()
+        if count < least:
+            self.fault("16 empty type", at)
+        if most is not None and count > most:
+            self.fault("17 limit", at)
+        return count
+
+    def fields(self, least):
+        """Labels with types."""
+        for _ in range(self.count(least)):
+            self.label()
+            self.valtype()
+
+    def cases(self):
+        """The cases of a variant."""
+        for _ in range(self.count(1, MOST_CASES)):
+            self.label()
+            self.optional()
+            self.one_of(0)
+
+    def labels(self, most):
+        """Labels alone."""
+        for _ in range(self.count(1, most)):
+            self.label()
+
+    def function(self):
+        """The parameters and the result of a function."""
+        self.fields(0)
+        if self.one_of(0, 1):
+            self.one_of(0)
+        else:
+            self.valtype()
+
+    def results(self):
+        """The payloads of a result."""
+        self.optional()
+        self.optional()
+
+    def tuple(self):
+        """The types of a tuple."""
+        for _ in range(self.count(1)):
+            self.valtype()
+
+    def entry(self, at):
+        """Counts one more thing that takes a type index."""
+        self.entries += 1
+        if self.entries > MOST_ENTRIES:
+            self.fault("17 limit", at)
+
+    def type(self):
+        """A type, which takes the next index of its scope."""
+        at, byte = self.at, self.byte()
+        if byte in UNSUPPORTED:
+            self.fault(f"14 unsupported {UNSUPPORTED[byte]}", at)
+        bodies = {0x72: lambda: self.fields(1), 0x71: self.cases, 0x70: self.valtype, 0x6F: self.tuple, 0x6E: lambda: self.labels(MOST_LABELS)}
+        bodies |= {0x6D: lambda: self.labels(MOST_CASES), 0x6B: self.valtype, 0x6A: self.results, 0x40: self.function}
+        bodies |= {0x41: lambda: self.scope(at, True), 0x42: lambda: self.scope(at, False)}
+        if byte not in PRIMITIVES:
+            if byte not in bodies:
+                self.unknown(at)
+            bodies[byte]()
+        self.scopes[-1].types += 1
+
+    def scope(self, at, is_component):
+        """The declarations of a component or instance type."""
+        if len(self.scopes) > MOST_NESTED:
+            self.fault("17 limit", at)
+        self.scopes.append(Scope(is_component))
+        for _ in range(self.u32()):
+            self.declaration()
+        self.scopes.pop()
+
+    def declaration(self):
+        """One declaration."""
+        at, byte = self.at, self.byte()
+        if byte not in (1, 2, 3, 4) or byte == 3 and not self.scopes[-1].is_component:
+            self.unknown(at)
+        if byte == 1:
+            self.entry(at)
+            self.type()
+        elif byte == 2:
+            self.alias(at)
+        else:
+            self.extern_name()
+            self.description(at)
+
+    def alias(self, at):
+        """A type of an instance, or of a scope around."""
+        self.entry(at)
+        self.one_of(3)
+        if self.one_of(0, 2):
+            place, count = self.at, self.u32()
+            self.index(count, len(self.scopes), place)
+            place, number = self.at, self.u32()
+            self.index(number, self.scopes[-1 - count].types, place)
+        else:
+            place, number = self.at, self.u32()
+            self.index(number, self.scopes[-1].instances, place)
+            self.label()
+        self.scopes[-1].types += 1
+
+    def description(self, at):
+        """What is imported or exported."""
+        byte = self.one_of(1, 3, 4, 5)
+        if byte == 3:
+            self.one_of(0)
+            self.entry(at)
+        self.type_index()
+        self.scopes[-1].types += byte == 3
+        self.scopes[-1].instances += byte == 5
+
+    def section(self, body):
+        """A section of this body."""
+        size = self.u32()
+        self.end = self.at + size
+        body()
+        if self.at < self.end:
+            self.fault("18 size mismatch", self.end)
+        self.end = None
+
+    def custom(self):
+        """A section of no meaning."""
+        self.name(lambda _: True)
+        while self.at < self.end:
+            self.byte()
+
+    def types(self):
+        """The type section."""
+        for _ in range(self.u32()):
+            self.entry(self.at)
+            self.type()
+        self.counts = [self.scopes[0].types]
+
+    def exports(self):
+        """The export section."""
+        count = self.u32()
+        for _ in range(count):
+            self.extern_name()
+            self.one_of(3)
+            self.type_index()
+            self.one_of(0)
+        self.counts.append(count)
+
+    def file(self):
+        """How many types and exports a component has."""
+        if len(self.data) > MOST_BYTES:
+            self.fault("17 limit", MOST_BYTES)
+        for place, byte in enumerate(PREAMBLE):
+            if self.byte() != byte:
+                self.fault("10 not a component", place)
+        wanted = [(7, self.types), (11, self.exports)]
+        while wanted or self.at < len(self.data):
+            at, kind = self.at, self.byte()
+            if kind == 0:
+                self.section(self.custom)
+            elif wanted and kind == wanted[0][0]:
+                self.section(wanted.pop(0)[1])
+            elif not wanted and kind in (7, 11):
+                self.fault("19 trailing", at)
+            else:
+                self.fault(f"12 bad section {kind}", at)
+        return self.counts
+
+
+def read(data):
+    """How many types and exports a component has."""
+    return Reader(data).file()
+
+
+def answer(data):
+    """What reading it answers."""
+    try:
+        return "types {} exports {}".format(*read(data))
+    except Refused as refused:
+        return str(refused)
+
+
+def changed(data):
+    """Every file of which one byte is another."""
+    for place in range(len(data)):
+        for byte in range(256):
+            yield data[:place] + bytes([byte]) + data[place + 1 :]
+
+
+# ---- rows
+
+
+def decode_row(digits):
+    """What decoding answers."""
+    return answer(bytes.fromhex(digits))
+
+
+def cuts_row(digits):
+    """That each front is told as cut at its end."""
+    data = bytes.fromhex(digits)
+    if any(answer(data[:length]) != f"error 11 truncated at {length}" for length in range(len(data))):
+        raise ValueError("a front that is not told as cut")
+    return f"{len(data)} fronts told as cut"
+
+
+def changes_row(digits):
+    """How many of the files with one changed byte are components."""
+    data = bytes.fromhex(digits)
+    count = sum(answer(other).startswith("types") for other in changed(data))
+    return f"{256 * len(data)} changed: {count} components"
+
+
+COMMANDS = {"decode": decode_row, "drip": decode_row, "cuts": cuts_row, "changes": changes_row}
+
+
+def answers(lines):
+    """Rows with the answers that this model knows; the others as they are."""
+    for line in lines:
+        front, _, stored = line.partition(" => ")
+        command, _, rest = front.partition(": ")[2].partition(" ")
+        known = command in COMMANDS and not line.startswith("#")
+        yield f"{front} => {COMMANDS[command](rest) if known else stored}" if stored else line
