@@ -165,7 +165,7 @@ def meet(first, other):
 
 def area_of(call):
     """The caller's return area, as a block."""
-    function = model.function_of(call)
+    function = model.package_of(call).function(call["iface"], call["func"])
     if not function.has_area:
         return 1, 0, 0
     return function.result.align, function.result.size, call["flats"][-1][1]
