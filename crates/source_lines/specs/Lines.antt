@@ -19,3 +19,7 @@ EndsInLine text line = HasNoLineEnd line × ((above : List ℕ) × (text ≡ abo
 -- the text begins with this part of a line
 abbrev pub BeginsInLine : List ℕ → List ℕ → Type 0
 BeginsInLine text line = HasNoLineEnd line × ((below : List ℕ) × (text ≡ line ++ below) × AreLinesBelow below)
+
+-- a text ends in one part of a line
+abbrev pub EndInOneLine : Type 0
+EndInOneLine = (text line part : List ℕ) → EndsInLine text line → EndsInLine text part → line ≡ part

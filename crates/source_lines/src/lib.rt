@@ -4,6 +4,8 @@
 //! from 1 in characters, and the text of the line. The crate stands on no other.
 #![tactic(auto)]
 
+mod laws;
 mod place;
 
+pub use laws::texts_end_in_one_line;
 pub use place::{Place, place_at};
