@@ -12,22 +12,22 @@ no_longer text above line upper part whole ends other none =
     let total : length above + length line ≡ length upper + length part =
     sym (length-append above line) ∙ ap length (sym whole ∙ other) ∙ length-append upper part in
     elim (cases_lt (length line) (length part)) [
-      inr enough ↦ enough
-    | inl longer ↦ elim ends [
-        inl nothing ↦
-          let zero : length above ≡ 0 = ap length nothing in
-          absurd (omega arith)
-      | inr (lines, is) ↦
-          let long : length above ≡ length lines + 1 = ap length is ∙ length-append lines (10 ∷ []) in
-          let at : length upper + (length lines - length upper) ≡ length lines = omega arith in
-          let inside : length lines - length upper < length part = omega arith in
-          let there : get_or text (length lines) 0 ≡ 10 =
-          ap (λ t. get_or t (length lines) 0) whole ∙ get_or_append_left above line 0 (length lines) (omega arith)
-          ∙ ap (λ t. get_or t (length lines) 0) is ∙ get_or-append_seam lines 10 [] 0 in
-          let here : get_or text (length lines) 0 ≡ get_or part (length lines - length upper) 0 =
-          ap (λ t. get_or t (length lines) 0) other ∙ ap (λ n. get_or (upper ++ part) n 0) (sym at)
-          ∙ get_or-append-add upper part (length lines - length upper) 0 in
-          absurd (none (length lines - length upper) inside (sym here ∙ there))
+      | inr enough ↦ enough
+      | inl longer ↦ elim ends [
+        | inl nothing ↦
+            let zero : length above ≡ 0 = ap length nothing in
+            absurd (omega arith)
+        | inr (lines, is) ↦
+            let long : length above ≡ length lines + 1 = ap length is ∙ length-append lines (10 ∷ []) in
+            let at : length upper + (length lines - length upper) ≡ length lines = omega arith in
+            let inside : length lines - length upper < length part = omega arith in
+            let there : get_or text (length lines) 0 ≡ 10 =
+            ap (λ t. get_or t (length lines) 0) whole ∙ get_or_append_left above line 0 (length lines) (omega arith)
+            ∙ ap (λ t. get_or t (length lines) 0) is ∙ get_or-append_seam lines 10 [] 0 in
+            let here : get_or text (length lines) 0 ≡ get_or part (length lines - length upper) 0 =
+            ap (λ t. get_or t (length lines) 0) other ∙ ap (λ n. get_or (upper ++ part) n 0) (sym at)
+            ∙ get_or-append-add upper part (length lines - length upper) 0 in
+            absurd (none (length lines - length upper) inside (sym here ∙ there))
       ]
     ]
 
