@@ -5,8 +5,8 @@ usage: tools/refused_allocations.py [CRATE ..]
 
 CRATE is `rows_reading`, `rows_texts`, `vectors` or `program`, each as `rt run` in its folder leaves it; all four where none is named. Each of the
 rows below is asked twice in one run, and there is a run for each allocation that such a run makes. The row whose allocation was refused has to
-tell a want of memory in the words of one of the layers that it passes (WORDS), or `no memory` where it has no other refusal; the other one has to be
-answered as with all memory; and each of those words has to be told at least once. A refusal of what the program itself asks for, as for a line that it
+tell a want of memory in the words of one of the layers that it passes (WORDS), or in those of the program that asks it (OWN); the other one has to be
+answered as with all memory; and each word of WORDS has to be told at least once. A refusal of what the program itself asks for, as for a line that it
 reads, ends the run with status 1. The program's commands are run in the same way: each ends with one line `error N no memory` and status 1, or as it
 does with all memory. Needs `cc`, which builds what stands before the C library's `malloc`. The exit status is 1 where an answer is another.
 """
@@ -14,13 +14,17 @@ import collections
 import json
 import os
 import pathlib
+import re
 import subprocess
 import sys
 import tempfile
 import time
 
 ROOT = pathlib.Path(__file__).resolve().parent.parent
-PLAIN = "no memory"
+PLAIN = "memory allocation failed"
+# What the programs that answer rows tell of themselves: of the allocator, of their files, of their JSON and of what they keep; and the library
+# of an output that is kept in memory and can't grow.
+OWN = [PLAIN, "Out of memory", "out of memory", "no memory", 66, "error 65 write"]
 STOPPED = "trap K7 body in body"
 OPENED = [35, 46, 52]
 OPENED_BINARY = [21, 46, 52]
@@ -82,7 +86,7 @@ WORDS = {
     "vectors": [
         (json.dumps({**ROW, "steps": STEPS}), [*OPENED, 54, 66]),
         (json.dumps({**ROW, **GROWN, "steps": STEPS[:2]}), [*OPENED, 54, 66]),
-        (json.dumps({**ROW, "text": "package a:b; interface c { f: func(x: string); }", "lift": [["i32", 0], ["i32", 2]]}), [*OPENED, 54, 66]),
+        (json.dumps({**ROW, "text": "package a:b; interface c { f: func(x: string); }", "lift": [["i32", 0], ["i32", 2]]}), [*OPENED, 54, "no memory"]),
         (json.dumps({**ROW, "lower": json.loads(VALUE)}), [*OPENED, 54, 66]),
     ],
 }
@@ -189,14 +193,19 @@ class Refuser:
         return not wrong
 
 
+def answers_in(output):
+    """The answers of a run, some of more lines than one."""
+    return re.split(r"^(?=first: |again: |\{)", output, flags=re.MULTILINE)
+
+
 def told_by_rows(allowed):
     """How a run of two rows is told, or none where it isn't right."""
-    spelt = {words(word) for word in [*allowed, PLAIN]}
+    spelt = {words(word) for word in [*allowed, *OWN]}
 
     def told(whole, ran):
-        wanted, found = whole.stdout.splitlines(), ran.stdout.splitlines()
-        if ran.returncode == 1 and wanted[: len(found)] == found:
+        if ran.returncode == 1 and whole.stdout.startswith(ran.stdout):
             return "the program's own"
+        wanted, found = answers_in(whole.stdout), answers_in(ran.stdout)
         if ran.returncode or len(wanted) != len(found):
             return None
         differing = [(line, other) for line, other in zip(wanted, found) if line != other]
@@ -205,7 +214,7 @@ def told_by_rows(allowed):
         if len(differing) > 1:
             return None
         (_, other), = differing
-        word = json.loads(other)["error"] if other.startswith('{"error"') else other.partition(": ")[2].split(" (")[0]
+        word = json.loads(other)["error"] if other.startswith('{"error"') else other.partition(": ")[2].strip().split(" (")[0]
         return word if word in spelt else None
 
     return told
