@@ -157,7 +157,7 @@ def main():
         sys.exit(f"tools/check_outputs.py: there is no {given.program}: build it, or name another by --program")
     with tempfile.TemporaryDirectory() as folder:
         pages = Pages(given.program.resolve(), pathlib.Path(folder), given.verbose)
-        for page in [ROOT / "README.md", *sorted((ROOT / "docs").glob("*.md"))]:
+        for page in [ROOT / "README.md", *sorted((ROOT / "docs").rglob("*.md"))]:
             name, text = str(page.relative_to(ROOT)), page.read_text()
             check_shell(pages, name, text)
             if name in HOSTS:
