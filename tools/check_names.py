@@ -24,6 +24,7 @@ WORD = re.compile(r"[A-Za-z_][A-Za-z0-9_]*")
 CLAUSES = re.compile(r"\| ((?:`[A-Za-z_:]+`(?:, )?)+): ([a-z_0-9]+(?:, [a-z_0-9]+)*) \|")
 # names of rows behind their crate
 ROWS = re.compile(r"`(rows_[a-z]+|vectors)` ((?:`[^`]+`(?:, )?)+)")
+# a clause that has a name (tools/pictures.py)
 LABEL = re.compile(r"\bensures ([a-z_0-9]+) \{")
 # the line of a function, of the block that it is in, and its clauses, of which some have no name
 HEAD = re.compile(r"( *)(?:pub(?:\(\w+\))? )?(?:const )?(?:unsafe )?(?:extern \"C\" )?fn (\w+)")
