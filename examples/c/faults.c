@@ -386,6 +386,62 @@ static void a_package_refused(void) {
     witcall_close(&none);
 }
 
+/* ---- sets ---- */
+
+/* The inputs of a set, one after another: a package, and one that uses a type of it. */
+static const char USED[] = "package d:e@1.0.0; interface y { type t = u16; g: func(x: t) -> t; }";
+static const char USING[] = "package a:b; interface x { use d:e/y@1.0.0.{t}; f: func(p: t) -> t; }";
+
+static witcall_status open_set(const size_t *lengths, size_t count, witcall_package *handle) {
+    char *inputs = array(1, sizeof USED + sizeof USING);
+    strcpy(inputs, USED);
+    strcat(inputs, USING);
+    witcall_status status = witcall_open_set(BYTES(inputs), lengths, count, handle);
+    free(inputs);
+    return status;
+}
+
+/* These are not the lengths of the inputs, and the handle is on nothing. */
+static void bad_lengths(const char *name, const size_t *lengths, size_t count) {
+    witcall_package handle = WITCALL_NONE;
+    expect(name, open_set(lengths, count, &handle), refused(WITCALL_BAD_LENGTHS));
+    holds(name, handle.at == NULL && handle.is_open == 0);
+    witcall_close(&handle);
+}
+
+static void sets(void) {
+    const size_t used = strlen(USED), using = strlen(USING);
+    witcall_package set = WITCALL_NONE, refusal = WITCALL_NONE;
+    expect("a set", open_set((size_t[]){used, using}, 2, &set), DONE_WITH_NONE);
+    witcall_status last = witcall_find(&set, BYTES("a:b/x"), BYTES("f"));
+    witcall_status first = witcall_find(&set, BYTES("d:e/y@1.0.0"), BYTES("g"));
+    expect("a function of the last package", last, done(last.count));
+    expect("a function of the first", first, done(first.count));
+    holds("they are two", first.count != last.count);
+    witcall_close(&set);
+    expect("a set without the package that it uses", witcall_open_set(BYTES(USING), &using, 1, &refusal), refused(47));
+    witcall_close(&refusal);
+    expect("a package alone", witcall_open_set(BYTES(USED), &used, 1, &set), DONE_WITH_NONE);
+    witcall_close(&set);
+    bad_lengths("lengths that are too short", (size_t[]){used, using - 1}, 2);
+    bad_lengths("lengths that are too long", (size_t[]){used, using + 1}, 2);
+    bad_lengths("lengths that wrap", (size_t[]){used, SIZE_MAX}, 2);
+    bad_lengths("one length of two", (size_t[]){used}, 1);
+    bad_lengths("no lengths", NULL, 0);
+    expect("no bytes, no lengths", witcall_open_set(NULL, 0, NULL, 0, &set), refused(WITCALL_BAD_LENGTHS));
+    expect("an empty input", witcall_open_set(NULL, 0, (size_t[]){0}, 1, &set), refused(32));
+    witcall_close(&set);
+}
+
+static void versions(void) {
+    uint8_t version[WITCALL_MAX_STATUS_LINE];
+    witcall_status told = witcall_version(version, sizeof version);
+    expect("the library's version", told, done(strlen(WITCALL_VERSION)));
+    holds("it is the header's", memcmp(version, WITCALL_VERSION, strlen(WITCALL_VERSION)) == 0);
+    expect("no room for it", witcall_version(version, 4), no_room(strlen(WITCALL_VERSION)));
+    holds("the binary interface is the header's", witcall_abi() == WITCALL_ABI);
+}
+
 /* ---- memory ---- */
 
 /* Which of the next blocks is refused, counted from 1, or 0 for none. */
@@ -464,6 +520,8 @@ int main(void) {
     return_areas();
     closed_handles();
     a_package_refused();
+    sets();
+    versions();
     refused_allocations();
     names_and_numbers();
     witcall_close(&package);

@@ -1,3 +1,5 @@
 pub mod Calls
 pub mod Handle
+pub mod Inputs
 pub mod Refusals
+pub mod Version

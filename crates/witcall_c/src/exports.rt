@@ -1,5 +1,5 @@
 //! What the header declares: each export takes what a handle stands for, makes one call of it, and gives it back.
-ghost use Rattle.std.specs.Prelude.{◌≡◌, ◌∷◌, [], ℕ, None, Result, length};
+ghost use Rattle.std.specs.Prelude.{◌≡◌, ◌<◌, ◌∷◌, [], ℕ, None, Result, length};
 ghost use Rattle.canonical_abi.specs.Layout.{lifted_signature, lowered_signature};
 ghost use Rattle.canonical_abi.specs.Types.{result_fields};
 ghost use Rattle.host_calls.specs.Calling.{EnterDone, LeaveDone, EnterAsks, LeaveAsks};
@@ -7,24 +7,49 @@ ghost use Rattle.host_calls.specs.Parts.{PartsDone};
 ghost use Rattle.host_calls.specs.Signatures.{KindsDone};
 ghost use Rattle.host_calls.specs.Status.{status_of};
 ghost use Rattle.host_calls.specs.declared.error.CallError.{CallError};
-ghost use Rattle.witcall_c.specs.Calls.{FindsFunction, LineDone, LineOf, Opens, CallsOf, TellsOf, package_of, stands_for};
+ghost use Rattle.opening.specs.Sets.{all_bytes};
+ghost use Rattle.witcall_c.specs.Calls.{BytesDone, FindsFunction, LineDone, LineOf, Opens, OpensPieces, CallsOf, TellsOf, package_of, stands_for};
+ghost use Rattle.witcall_c.specs.Version.{abi, version};
 
 use crate::calls;
 use crate::handle::Handle;
 use crate::held::{Held, find, line_of};
-use crate::line::tell_line;
+use crate::line::{tell_bytes, tell_line};
+use crate::set::pieces;
 use adapter::Request;
 use host_calls::{CallError, Part, Status};
 use lending::Value;
 use memory::Block;
 use std::alloc::Global;
 
-/// Opens a package. The handle is written in any case, and stands for nothing where there was no memory for it (66). What it stood for is forgotten.
+/// The version of the library, which VERSION has for all of the repository.
+const VERSION: &[u8] = b"0.1.0";
+
+/// The number of the binary interface that the header declares. Another number means that a host has to be compiled anew.
+const ABI: u32 = 1;
+
+/// The number of the binary interface.
 #[unsafe(no_mangle)]
-pub extern "C" fn witcall_open(alloc: Global, bytes: &[u8], handle: &mut Handle) -> Status
-    ensures { Opens (bytes.now ∷ []) (stands_for handle.new) result }
+pub extern "C" fn witcall_abi() -> u32
+    ensures { result ≡ abi }
 {
-    let held = Held::open(alloc, &[bytes]);
+    ABI
+}
+
+/// The version's bytes, with no end.
+#[unsafe(no_mangle)]
+pub extern "C" fn witcall_version(bytes: &mut [u8]) -> Status
+    ensures { (done : Result ℕ CallError) × (result ≡ status_of done) × BytesDone version bytes.old bytes.new done }
+{
+    Status::of(tell_bytes(VERSION, bytes))
+}
+
+/// Lets a handle stand for what the inputs are opened as, or for nothing where there was no memory for it.
+fn open(alloc: Global, inputs: &[&[u8]], handle: &mut Handle) -> Status
+    requires { 0 < length inputs.now }
+    ensures { Opens (all_bytes inputs.now) (stands_for handle.new) result }
+{
+    let held = Held::open(alloc, inputs);
     let status = held.status();
     match Box::new(alloc, held) {
         Ok(held) => {
@@ -34,6 +59,33 @@ pub extern "C" fn witcall_open(alloc: Global, bytes: &[u8], handle: &mut Handle)
         Err(_) => {
             handle.clear();
             Status::of(Err(CallError::NoMemory))
+        }
+    }
+}
+
+/// Opens a package. The handle is written in any case, and stands for nothing where there was no memory for it (66). What it stood for is forgotten.
+#[unsafe(no_mangle)]
+pub extern "C" fn witcall_open(alloc: Global, bytes: &[u8], handle: &mut Handle) -> Status
+    ensures { Opens (bytes.now ∷ []) (stands_for handle.new) result }
+{
+    open(alloc, &[bytes], handle)
+}
+
+/// Opens the last of these inputs behind those before it, which it may use. Their bytes stand one after another.
+#[unsafe(no_mangle)]
+pub extern "C" fn witcall_open_set(
+    alloc: Global,
+    bytes: &[u8],
+    lengths: &[usize],
+    handle: &mut Handle,
+) -> Status
+    ensures { OpensPieces bytes.now lengths.now (stands_for handle.new) result }
+{
+    match pieces(alloc, bytes, lengths) {
+        Ok(inputs) => open(alloc, inputs.as_slice(), handle),
+        Err(error) => {
+            handle.clear();
+            Status::of(Err(error))
         }
     }
 }

@@ -12,3 +12,4 @@ mod held;
 mod kept;
 mod line;
 mod refusal;
+mod set;
