@@ -42,11 +42,12 @@ module _ (bytes lengths : List ℕ) (k : ℕ) (inputs : List (List ℕ)) (rest :
 pub one-more : (bytes lengths : List ℕ) (k : ℕ) (inputs new : List (List ℕ)) (rest input others : List ℕ) → new ≡ inputs ++ input ∷ [] → map length inputs ≡ take k lengths
     → concat inputs ++ rest ≡ bytes → k < length lengths → length input ≡ get_or lengths k 0 → input ≡ take (get_or lengths k 0) rest → others ≡ drop (get_or lengths k 0) rest
     → (map length new ≡ take (k + 1) lengths) × (concat new ++ others ≡ bytes)
-one-more bytes lengths k inputs new rest input others n e b h l i o =
-    (ap (map length) n ∙ map-append length inputs (input ∷ []) ∙ ap (λ ns. ns ++ length input ∷ []) e ∙ ap (λ n. take k lengths ++ n ∷ []) l ∙ sym (take-suc lengths k 0 h)
-        ∙ ap (λ n. take n lengths) (next k),
-    ap (λ ns. concat ns ++ others) n ∙ ap (λ bs. bs ++ others) (concat-append inputs (input ∷ []) ∙ ap (λ bs. concat inputs ++ bs) (append-nil input))
-        ∙ append_assoc (concat inputs) input others ∙ ap (λ bs. concat inputs ++ bs) (ap (λ bs. bs ++ others) i ∙ ap (λ bs. take (get_or lengths k 0) rest ++ bs) o ∙ take-append-drop (get_or lengths k 0) rest) ∙ b)
+one-more bytes lengths k inputs new rest input others n e b h l i o = (
+  ap (map length) n ∙ map-append length inputs (input ∷ []) ∙ ap (λ ns. ns ++ length input ∷ []) e ∙ ap (λ n. take k lengths ++ n ∷ []) l ∙ sym (take-suc lengths k 0 h)
+      ∙ ap (λ n. take n lengths) (next k),
+  ap (λ ns. concat ns ++ others) n ∙ ap (λ bs. bs ++ others) (concat-append inputs (input ∷ []) ∙ ap (λ bs. concat inputs ++ bs) (append-nil input))
+      ∙ append_assoc (concat inputs) input others ∙ ap (λ bs. concat inputs ++ bs) (ap (λ bs. bs ++ others) i ∙ ap (λ bs. take (get_or lengths k 0) rest ++ bs) o ∙ take-append-drop (get_or lengths k 0) rest) ∙ b,
+)
   where
     next : (k : ℕ) → suc k ≡ k + 1
     next k = omega arith
