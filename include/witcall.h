@@ -7,9 +7,12 @@
  *   4. witcall_leave_requests, the caller's allocator, and witcall_leave carry what it answered into the caller;
  *   5. the host runs post-return.
  *
+ * A witcall_call keeps the function and the core values of a call from one half to the other: witcall_begin writes it, and
+ * witcall_call_enter, witcall_call_leave and their requests take it in place of both.
+ *
  * What the host owes. No test of the library can find a break of these:
- *   - Each pointer is good for its length, and of length 0 it may be null. A pointer to a handle is not null. (A pointer doesn't tell
- *     what it points to.)
+ *   - Each pointer is good for its length, and of length 0 it may be null. A pointer to a handle or to a call is not null. (A pointer
+ *     doesn't tell what it points to.)
  *   - No two arrays of one call overlap, the memories too. (The library writes one while it reads another, and compares no addresses.)
  *   - A handle is WITCALL_NONE, or was written by witcall_open or witcall_open_set. Of copies of a handle one is used. (An address tells
  *     nothing of who wrote it.)
@@ -17,7 +20,7 @@
  *   - Each block was free in the memory that it is in. (Only that memory's allocator knows which bytes are free.)
  *   - func is the function that the host runs, and answer is what its core function returned. (Other values of the same kinds look the same.)
  *   - The flats of witcall_leave are those of witcall_enter. (The library keeps nothing between the halves; their number and kinds are
- *     tested.)
+ *     tested.) A witcall_call has this done. It is as witcall_begin wrote it.
  *   - Between the halves only the allocators and the core function change the memories. (The library doesn't see them then.)
  *   - malloc, realloc and free are of one allocator. malloc and realloc align a block to each power of two up to 16 that divides its size.
  *     (They are the program's.)
@@ -104,6 +107,13 @@ typedef struct {
     uint64_t bits;
 } witcall_value;
 
+/* A call between its halves: the function's number, and its core values, the first count of flats. The host doesn't change what is in it. */
+typedef struct {
+    uint32_t func;
+    uint32_t count;
+    witcall_value flats[WITCALL_MAX_VALUES];
+} witcall_call;
+
 /* How a parameter or a result lies in memory, in bytes. offset is its place in the record of all parameters; 0 for a result. */
 typedef struct {
     uint32_t size;
@@ -177,6 +187,23 @@ witcall_status witcall_leave(witcall_package *package, uint32_t func, const witc
                              uint8_t *caller, size_t caller_len, const witcall_block *blocks, size_t blocks_len,
                              witcall_value *back, size_t back_len);
 
+/* Begins a call of a function with these flats, and writes it. If their number or their kinds are not the function's, this is K8 in step
+ * WITCALL_LIFT_ARGS. If it is not done, the call is as it was. */
+witcall_status witcall_begin(witcall_package *package, uint32_t func, const witcall_value *flats, size_t flats_len, witcall_call *call);
+
+/* The halves of a call that was begun, and what they will ask for: as the functions of these names above, of its function and its flats. */
+witcall_status witcall_call_enter_requests(witcall_package *package, const witcall_call *call, uint8_t *caller, size_t caller_len,
+                                           witcall_request *requests, size_t requests_len);
+witcall_status witcall_call_enter(witcall_package *package, const witcall_call *call, uint8_t *caller, size_t caller_len,
+                                  uint8_t *callee, size_t callee_len, const witcall_block *blocks, size_t blocks_len,
+                                  witcall_value *handed, size_t handed_len);
+witcall_status witcall_call_leave_requests(witcall_package *package, const witcall_call *call, const witcall_value *answer,
+                                           size_t answer_len, uint8_t *callee, size_t callee_len, witcall_request *requests,
+                                           size_t requests_len);
+witcall_status witcall_call_leave(witcall_package *package, const witcall_call *call, const witcall_value *answer, size_t answer_len,
+                                  uint8_t *callee, size_t callee_len, uint8_t *caller, size_t caller_len,
+                                  const witcall_block *blocks, size_t blocks_len, witcall_value *back, size_t back_len);
+
 #ifdef __cplusplus
 }
 #endif
@@ -194,6 +221,7 @@ WITCALL_HAS_SIZE(witcall_package, 16);
 WITCALL_HAS_SIZE(witcall_request, 8);
 WITCALL_HAS_SIZE(witcall_block, 12);
 WITCALL_HAS_SIZE(witcall_value, 16);
+WITCALL_HAS_SIZE(witcall_call, 280);
 WITCALL_HAS_SIZE(witcall_part, 12);
 #undef WITCALL_HAS_SIZE
 

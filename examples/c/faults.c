@@ -433,6 +433,39 @@ static void sets(void) {
     witcall_close(&set);
 }
 
+/* ---- calls that keep their values ---- */
+
+static void a_call_that_is_kept(void) {
+    call c = new_call();
+    witcall_call *kept = array(1, sizeof *kept);
+    witcall_value *back = array(1, sizeof *back), *many = array(ROOM + 1, sizeof *many);
+    witcall_request *asked = array(2, sizeof *asked);
+    expect("begin", witcall_begin(&package, function, c.flats, 5, kept), DONE_WITH_NONE);
+    memset(c.flats, 0xff, 5 * sizeof *c.flats);
+    expect("its requests", witcall_call_enter_requests(&package, kept, c.caller, LENGTH, asked, 2), done(2));
+    holds("what it asks for", asked[0].size == 2 && asked[1].size == 6);
+    expect("its enter", witcall_call_enter(
+        &package, kept, c.caller, LENGTH, c.callee, LENGTH, c.blocks, 2, c.handed, ROOM), done(4));
+    holds("its arguments", memcmp(c.callee + 50, "hi", 2) == 0 && memcmp(c.callee + 40, "\1\0\2\0\3\0", 6) == 0);
+    answer(c, back);
+    c.blocks[0].at = 30;
+    expect("its requests back", witcall_call_leave_requests(&package, kept, back, 1, c.callee, LENGTH, asked, 2), done(1));
+    expect("its leave", witcall_call_leave(
+        &package, kept, back, 1, c.callee, LENGTH, c.caller, LENGTH, c.blocks, 1, c.handed, ROOM), done(0));
+    holds("its result", memcmp(c.caller + 16, "\36\0\0\0\2\0\0\0", 8) == 0 && memcmp(c.caller + 30, "yo", 2) == 0);
+    witcall_call before;
+    memcpy(&before, kept, sizeof before);
+    expect("begin with four values of five", witcall_begin(&package, function, many, 4, kept), trap(8, WITCALL_LIFT_ARGS));
+    expect("begin with eighteen values", witcall_begin(&package, function, many, ROOM + 1, kept), trap(8, WITCALL_LIFT_ARGS));
+    expect("begin no function", witcall_begin(&package, 4711, many, 4, kept), refused(WITCALL_NO_FUNCTION));
+    holds("a call that is not begun is as it was", memcmp(&before, kept, sizeof before) == 0);
+    memset(kept, 0xff, sizeof *kept);
+    expect("a call of other bytes", witcall_call_enter_requests(&package, kept, c.caller, LENGTH, asked, 2), refused(WITCALL_NO_FUNCTION));
+    kept->func = function;
+    expect("a call of too many values", witcall_call_enter_requests(&package, kept, c.caller, LENGTH, asked, 2), trap(8, WITCALL_LIFT_ARGS));
+    free(kept), free(back), free(many), free(asked), free_call(c);
+}
+
 static void versions(void) {
     uint8_t version[WITCALL_MAX_STATUS_LINE];
     witcall_status told = witcall_version(version, sizeof version);
@@ -521,6 +554,7 @@ int main(void) {
     closed_handles();
     a_package_refused();
     sets();
+    a_call_that_is_kept();
     versions();
     refused_allocations();
     names_and_numbers();

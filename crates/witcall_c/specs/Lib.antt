@@ -1,3 +1,4 @@
+pub mod CallObject
 pub mod Calls
 pub mod Handle
 pub mod Inputs

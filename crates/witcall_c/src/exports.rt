@@ -8,9 +8,11 @@ ghost use Rattle.host_calls.specs.Signatures.{KindsDone};
 ghost use Rattle.host_calls.specs.Status.{status_of};
 ghost use Rattle.host_calls.specs.declared.error.CallError.{CallError};
 ghost use Rattle.opening.specs.Sets.{all_bytes};
+ghost use Rattle.witcall_c.specs.CallObject.{Begins, flats_of};
 ghost use Rattle.witcall_c.specs.Calls.{BytesDone, FindsFunction, LineDone, LineOf, Opens, OpensPieces, CallsOf, TellsOf, package_of, stands_for};
 ghost use Rattle.witcall_c.specs.Version.{abi, version};
 
+use crate::call::Call;
 use crate::calls;
 use crate::handle::Handle;
 use crate::held::{Held, find, line_of};
@@ -178,6 +180,117 @@ pub extern "C" fn witcall_leave(
     );
     handle.give(held);
     Status::of(done)
+}
+
+/// Begins a call, which keeps its core values between the halves.
+#[unsafe(no_mangle)]
+pub extern "C" fn witcall_begin(
+    alloc: Global,
+    handle: &mut Handle,
+    func: u32,
+    flats: &[Value],
+    call: &mut Call,
+) -> Status
+    ensures { CallsOf (stands_for handle.old) (stands_for handle.new) func result
+        (λ f d. Begins f func flats.now call.old d call.new) (call.new ≡ call.old) }
+{
+    let held = handle.take(alloc);
+    let done = calls::begin(&held, func, flats, call);
+    handle.give(held);
+    Status::of(done)
+}
+
+/// The first half of a call that was begun.
+#[unsafe(no_mangle)]
+pub extern "C" fn witcall_call_enter(
+    alloc: Global,
+    handle: &mut Handle,
+    call: &Call,
+    caller: &mut [u8],
+    callee: &mut [u8],
+    blocks: &[Block],
+    handed: &mut [Value],
+) -> Status
+    ensures done { CallsOf (stands_for handle.old) (stands_for handle.new) call.now.func result
+        (λ f d. EnterDone f (flats_of call.now) caller.old callee.old blocks.now handed.old d callee.new handed.new)
+        ((callee.new ≡ callee.old) × (handed.new ≡ handed.old)) }
+    ensures same { caller.new ≡ caller.old }
+{
+    let flats = call.flats();
+    witcall_enter(
+        alloc,
+        handle,
+        call.func(),
+        flats,
+        caller,
+        callee,
+        blocks,
+        handed,
+    )
+}
+
+/// The second half of a call that was begun.
+#[unsafe(no_mangle)]
+pub extern "C" fn witcall_call_leave(
+    alloc: Global,
+    handle: &mut Handle,
+    call: &Call,
+    answer: &[Value],
+    callee: &mut [u8],
+    caller: &mut [u8],
+    blocks: &[Block],
+    back: &mut [Value],
+) -> Status
+    ensures done { CallsOf (stands_for handle.old) (stands_for handle.new) call.now.func result
+        (λ f d. LeaveDone f (flats_of call.now) callee.old answer.now caller.old blocks.now back.old d caller.new back.new)
+        ((caller.new ≡ caller.old) × (back.new ≡ back.old)) }
+    ensures same { callee.new ≡ callee.old }
+{
+    let flats = call.flats();
+    witcall_leave(
+        alloc,
+        handle,
+        call.func(),
+        flats,
+        answer,
+        callee,
+        caller,
+        blocks,
+        back,
+    )
+}
+
+/// What the first half of a call that was begun will ask for.
+#[unsafe(no_mangle)]
+pub extern "C" fn witcall_call_enter_requests(
+    alloc: Global,
+    handle: &mut Handle,
+    call: &Call,
+    caller: &mut [u8],
+    requests: &mut [Request],
+) -> Status
+    ensures done { CallsOf (stands_for handle.old) (stands_for handle.new) call.now.func result
+        (λ f d. EnterAsks f (flats_of call.now) caller.old requests.old d requests.new) (requests.new ≡ requests.old) }
+    ensures same { caller.new ≡ caller.old }
+{
+    witcall_enter_requests(alloc, handle, call.func(), call.flats(), caller, requests)
+}
+
+/// What the second half of a call that was begun will ask for.
+#[unsafe(no_mangle)]
+pub extern "C" fn witcall_call_leave_requests(
+    alloc: Global,
+    handle: &mut Handle,
+    call: &Call,
+    answer: &[Value],
+    callee: &mut [u8],
+    requests: &mut [Request],
+) -> Status
+    ensures done { CallsOf (stands_for handle.old) (stands_for handle.new) call.now.func result
+        (λ f d. LeaveAsks f answer.now callee.old requests.old d requests.new) (requests.new ≡ requests.old) }
+    ensures same { callee.new ≡ callee.old }
+{
+    witcall_leave_requests(alloc, handle, call.func(), answer, callee, requests)
 }
 
 /// What the first half will ask for.

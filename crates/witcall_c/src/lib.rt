@@ -5,6 +5,7 @@
 //! memory. Whatever the header does not ask of a caller is tested there.
 #![tactic(auto)]
 
+mod call;
 mod calls;
 mod exports;
 mod handle;
