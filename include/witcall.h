@@ -7,17 +7,20 @@
  *   4. witcall_leave_requests, the caller's allocator, and witcall_leave carry what it answered into the caller;
  *   5. the host runs post-return.
  *
+ * A witcall_call keeps the function and the core values of a call from one half to the other: witcall_begin writes it, and
+ * witcall_call_enter, witcall_call_leave and their requests take it in place of both.
+ *
  * What the host owes. No test of the library can find a break of these:
- *   - Each pointer is good for its length, and of length 0 it may be null. A pointer to a handle is not null. (A pointer doesn't tell
- *     what it points to.)
+ *   - Each pointer is good for its length, and of length 0 it may be null. A pointer to a handle or to a call is not null. (A pointer
+ *     doesn't tell what it points to.)
  *   - No two arrays of one call overlap, the memories too. (The library writes one while it reads another, and compares no addresses.)
- *   - A handle is WITCALL_NONE, or was written by witcall_open. Of copies of a handle one is used. (An address tells
+ *   - A handle is WITCALL_NONE, or was written by witcall_open or witcall_open_set. Of copies of a handle one is used. (An address tells
  *     nothing of who wrote it.)
  *   - A handle stays on the thread that opened it; see below. (A call doesn't tell its thread.)
  *   - Each block was free in the memory that it is in. (Only that memory's allocator knows which bytes are free.)
  *   - func is the function that the host runs, and answer is what its core function returned. (Other values of the same kinds look the same.)
  *   - The flats of witcall_leave are those of witcall_enter. (The library keeps nothing between the halves; their number and kinds are
- *     tested.)
+ *     tested.) A witcall_call has this done. It is as witcall_begin wrote it.
  *   - Between the halves only the allocators and the core function change the memories. (The library doesn't see them then.)
  *   - malloc, realloc and free are of one allocator. malloc and realloc align a block to each power of two up to 16 that divides its size.
  *     (They are the program's.)
@@ -32,6 +35,11 @@
 
 #include <stddef.h>
 #include <stdint.h>
+
+/* The version of this header, and the number of the binary interface that it declares. witcall_version and witcall_abi return those of the
+ * library. A host may use a library whose interface has the same number. */
+#define WITCALL_VERSION "0.1.0"
+#define WITCALL_ABI 1
 
 #ifdef __cplusplus
 extern "C" {
@@ -61,6 +69,7 @@ extern "C" {
 #define WITCALL_NO_ROOM 71     /* an array has less room than count */
 #define WITCALL_BAD_BLOCK 72   /* a block is misaligned, outside, or meets another one or the return area; nothing was written */
 #define WITCALL_OTHER_BLOCK 73 /* the block of index count has another size or alignment than was asked for */
+#define WITCALL_BAD_LENGTHS 74 /* the lengths of a set's inputs are not together that of their bytes, or there is no input */
 
 typedef struct {
     uint32_t code;
@@ -98,6 +107,13 @@ typedef struct {
     uint64_t bits;
 } witcall_value;
 
+/* A call between its halves: the function's number, and its core values, the first count of flats. The host doesn't change what is in it. */
+typedef struct {
+    uint32_t func;
+    uint32_t count;
+    witcall_value flats[WITCALL_MAX_VALUES];
+} witcall_call;
+
 /* How a parameter or a result lies in memory, in bytes. offset is its place in the record of all parameters; 0 for a result. */
 typedef struct {
     uint32_t size;
@@ -105,9 +121,21 @@ typedef struct {
     uint32_t offset;
 } witcall_part;
 
+/* The number of the library's binary interface: WITCALL_ABI, if it is that of this header. */
+uint32_t witcall_abi(void);
+
+/* The library's version, as WITCALL_VERSION, with no end: count bytes. WITCALL_MAX_STATUS_LINE bytes are room for it. */
+witcall_status witcall_version(uint8_t *version, size_t version_len);
+
 /* Opens a package from its text or its binary. The handle is written in any case, and is to be closed; what it stood for is forgotten, so
  * close it before. If the package is refused, witcall_line tells the whole line. */
 witcall_status witcall_open(const uint8_t *bytes, size_t bytes_len, witcall_package *package);
+
+/* Opens the last package of a set, which may use interfaces of the packages before it. The inputs are texts or binaries, dependencies first.
+ * Their bytes stand one after another, and lengths has the length of each, in bytes. The handle is written in any case, and is to be closed,
+ * as that of witcall_open. If the lengths are not together bytes_len, or there is none, this is 74, and the handle is WITCALL_NONE. */
+witcall_status witcall_open_set(const uint8_t *bytes, size_t bytes_len, const size_t *lengths, size_t lengths_len,
+                                witcall_package *package);
 
 /* Frees what a handle stands for, and makes it WITCALL_NONE. Closing it again does nothing. */
 void witcall_close(witcall_package *package);
@@ -159,8 +187,42 @@ witcall_status witcall_leave(witcall_package *package, uint32_t func, const witc
                              uint8_t *caller, size_t caller_len, const witcall_block *blocks, size_t blocks_len,
                              witcall_value *back, size_t back_len);
 
+/* Begins a call of a function with these flats, and writes it. If their number or their kinds are not the function's, this is K8 in step
+ * WITCALL_LIFT_ARGS. If it is not done, the call is as it was. */
+witcall_status witcall_begin(witcall_package *package, uint32_t func, const witcall_value *flats, size_t flats_len, witcall_call *call);
+
+/* The halves of a call that was begun, and what they will ask for: as the functions of these names above, of its function and its flats. */
+witcall_status witcall_call_enter_requests(witcall_package *package, const witcall_call *call, uint8_t *caller, size_t caller_len,
+                                           witcall_request *requests, size_t requests_len);
+witcall_status witcall_call_enter(witcall_package *package, const witcall_call *call, uint8_t *caller, size_t caller_len,
+                                  uint8_t *callee, size_t callee_len, const witcall_block *blocks, size_t blocks_len,
+                                  witcall_value *handed, size_t handed_len);
+witcall_status witcall_call_leave_requests(witcall_package *package, const witcall_call *call, const witcall_value *answer,
+                                           size_t answer_len, uint8_t *callee, size_t callee_len, witcall_request *requests,
+                                           size_t requests_len);
+witcall_status witcall_call_leave(witcall_package *package, const witcall_call *call, const witcall_value *answer, size_t answer_len,
+                                  uint8_t *callee, size_t callee_len, uint8_t *caller, size_t caller_len,
+                                  const witcall_block *blocks, size_t blocks_len, witcall_value *back, size_t back_len);
+
 #ifdef __cplusplus
 }
 #endif
+
+/* The sizes of the structs, as the library has them. */
+#if defined(__cplusplus)
+#define WITCALL_HAS_SIZE(type, size) static_assert(sizeof(type) == (size), "another size than the library's")
+#elif defined(__STDC_VERSION__) && __STDC_VERSION__ >= 201112L
+#define WITCALL_HAS_SIZE(type, size) _Static_assert(sizeof(type) == (size), "another size than the library's")
+#else
+#define WITCALL_HAS_SIZE(type, size) struct witcall_has_size
+#endif
+WITCALL_HAS_SIZE(witcall_status, 16);
+WITCALL_HAS_SIZE(witcall_package, 16);
+WITCALL_HAS_SIZE(witcall_request, 8);
+WITCALL_HAS_SIZE(witcall_block, 12);
+WITCALL_HAS_SIZE(witcall_value, 16);
+WITCALL_HAS_SIZE(witcall_call, 280);
+WITCALL_HAS_SIZE(witcall_part, 12);
+#undef WITCALL_HAS_SIZE
 
 #endif

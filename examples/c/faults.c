@@ -386,6 +386,95 @@ static void a_package_refused(void) {
     witcall_close(&none);
 }
 
+/* ---- sets ---- */
+
+/* The inputs of a set, one after another: a package, and one that uses a type of it. */
+static const char USED[] = "package d:e@1.0.0; interface y { type t = u16; g: func(x: t) -> t; }";
+static const char USING[] = "package a:b; interface x { use d:e/y@1.0.0.{t}; f: func(p: t) -> t; }";
+
+static witcall_status open_set(const size_t *lengths, size_t count, witcall_package *handle) {
+    char *inputs = array(1, sizeof USED + sizeof USING);
+    strcpy(inputs, USED);
+    strcat(inputs, USING);
+    witcall_status status = witcall_open_set(BYTES(inputs), lengths, count, handle);
+    free(inputs);
+    return status;
+}
+
+/* These are not the lengths of the inputs, and the handle is on nothing. */
+static void bad_lengths(const char *name, const size_t *lengths, size_t count) {
+    witcall_package handle = WITCALL_NONE;
+    expect(name, open_set(lengths, count, &handle), refused(WITCALL_BAD_LENGTHS));
+    holds(name, handle.at == NULL && handle.is_open == 0);
+    witcall_close(&handle);
+}
+
+static void sets(void) {
+    const size_t used = strlen(USED), using = strlen(USING);
+    witcall_package set = WITCALL_NONE, refusal = WITCALL_NONE;
+    expect("a set", open_set((size_t[]){used, using}, 2, &set), DONE_WITH_NONE);
+    witcall_status last = witcall_find(&set, BYTES("a:b/x"), BYTES("f"));
+    witcall_status first = witcall_find(&set, BYTES("d:e/y@1.0.0"), BYTES("g"));
+    expect("a function of the last package", last, done(last.count));
+    expect("a function of the first", first, done(first.count));
+    holds("they are two", first.count != last.count);
+    witcall_close(&set);
+    expect("a set without the package that it uses", witcall_open_set(BYTES(USING), &using, 1, &refusal), refused(47));
+    witcall_close(&refusal);
+    expect("a package alone", witcall_open_set(BYTES(USED), &used, 1, &set), DONE_WITH_NONE);
+    witcall_close(&set);
+    bad_lengths("lengths that are too short", (size_t[]){used, using - 1}, 2);
+    bad_lengths("lengths that are too long", (size_t[]){used, using + 1}, 2);
+    bad_lengths("lengths that wrap", (size_t[]){used, SIZE_MAX}, 2);
+    bad_lengths("one length of two", (size_t[]){used}, 1);
+    bad_lengths("no lengths", NULL, 0);
+    expect("no bytes, no lengths", witcall_open_set(NULL, 0, NULL, 0, &set), refused(WITCALL_BAD_LENGTHS));
+    expect("an empty input", witcall_open_set(NULL, 0, (size_t[]){0}, 1, &set), refused(32));
+    witcall_close(&set);
+}
+
+/* ---- calls that keep their values ---- */
+
+static void a_call_that_is_kept(void) {
+    call c = new_call();
+    witcall_call *kept = array(1, sizeof *kept);
+    witcall_value *back = array(1, sizeof *back), *many = array(ROOM + 1, sizeof *many);
+    witcall_request *asked = array(2, sizeof *asked);
+    expect("begin", witcall_begin(&package, function, c.flats, 5, kept), DONE_WITH_NONE);
+    memset(c.flats, 0xff, 5 * sizeof *c.flats);
+    expect("its requests", witcall_call_enter_requests(&package, kept, c.caller, LENGTH, asked, 2), done(2));
+    holds("what it asks for", asked[0].size == 2 && asked[1].size == 6);
+    expect("its enter", witcall_call_enter(
+        &package, kept, c.caller, LENGTH, c.callee, LENGTH, c.blocks, 2, c.handed, ROOM), done(4));
+    holds("its arguments", memcmp(c.callee + 50, "hi", 2) == 0 && memcmp(c.callee + 40, "\1\0\2\0\3\0", 6) == 0);
+    answer(c, back);
+    c.blocks[0].at = 30;
+    expect("its requests back", witcall_call_leave_requests(&package, kept, back, 1, c.callee, LENGTH, asked, 2), done(1));
+    expect("its leave", witcall_call_leave(
+        &package, kept, back, 1, c.callee, LENGTH, c.caller, LENGTH, c.blocks, 1, c.handed, ROOM), done(0));
+    holds("its result", memcmp(c.caller + 16, "\36\0\0\0\2\0\0\0", 8) == 0 && memcmp(c.caller + 30, "yo", 2) == 0);
+    witcall_call before;
+    memcpy(&before, kept, sizeof before);
+    expect("begin with four values of five", witcall_begin(&package, function, many, 4, kept), trap(8, WITCALL_LIFT_ARGS));
+    expect("begin with eighteen values", witcall_begin(&package, function, many, ROOM + 1, kept), trap(8, WITCALL_LIFT_ARGS));
+    expect("begin no function", witcall_begin(&package, 4711, many, 4, kept), refused(WITCALL_NO_FUNCTION));
+    holds("a call that is not begun is as it was", memcmp(&before, kept, sizeof before) == 0);
+    memset(kept, 0xff, sizeof *kept);
+    expect("a call of other bytes", witcall_call_enter_requests(&package, kept, c.caller, LENGTH, asked, 2), refused(WITCALL_NO_FUNCTION));
+    kept->func = function;
+    expect("a call of too many values", witcall_call_enter_requests(&package, kept, c.caller, LENGTH, asked, 2), trap(8, WITCALL_LIFT_ARGS));
+    free(kept), free(back), free(many), free(asked), free_call(c);
+}
+
+static void versions(void) {
+    uint8_t version[WITCALL_MAX_STATUS_LINE];
+    witcall_status told = witcall_version(version, sizeof version);
+    expect("the library's version", told, done(strlen(WITCALL_VERSION)));
+    holds("it is the header's", memcmp(version, WITCALL_VERSION, strlen(WITCALL_VERSION)) == 0);
+    expect("no room for it", witcall_version(version, 4), no_room(strlen(WITCALL_VERSION)));
+    holds("the binary interface is the header's", witcall_abi() == WITCALL_ABI);
+}
+
 /* ---- memory ---- */
 
 /* Which of the next blocks is refused, counted from 1, or 0 for none. */
@@ -464,6 +553,9 @@ int main(void) {
     return_areas();
     closed_handles();
     a_package_refused();
+    sets();
+    a_call_that_is_kept();
+    versions();
     refused_allocations();
     names_and_numbers();
     witcall_close(&package);

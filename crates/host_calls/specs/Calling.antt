@@ -69,8 +69,7 @@ EnterRefuses f flats caller old blocks handed (error.OtherBlock index) new = (na
 EnterRefuses f flats caller old blocks handed (error.NoRoom count) new = (count ≡ 17) × (length handed < 17) × (new ≡ old)
 EnterRefuses f flats caller old blocks handed error.BadBlock new = KindsFit f (map flat_of flats) × IsBadBlock caller old nowhere blocks × (new ≡ old)
 EnterRefuses f flats caller old blocks handed error.NoMemory new = (rise 0 blocks ≡ false) × (new ≡ old)
-EnterRefuses f flats caller old blocks handed error.NoFunction new = ⊥
-EnterRefuses f flats caller old blocks handed error.NotOpen new = ⊥
+EnterRefuses f flats caller old blocks handed _ new = ⊥
 
 -- why the answer did not return, and what the caller has then, in the same order
 abbrev pub LeaveRefuses : FunctionType → List Value → List ℕ → List Value → List ℕ → List Block → List Value → CallError → List ℕ → Type 0
@@ -82,8 +81,7 @@ LeaveRefuses f flats callee answer old blocks back (error.OtherBlock index) new 
 LeaveRefuses f flats callee answer old blocks back (error.NoRoom count) new = (count ≡ 17) × (length back < 17) × (new ≡ old)
 LeaveRefuses f flats callee answer old blocks back error.BadBlock new = KindsFit f (map flat_of flats) × IsBadBlock callee old (area_block f (map flat_of flats)) blocks × (new ≡ old)
 LeaveRefuses f flats callee answer old blocks back error.NoMemory new = (rise 0 blocks ≡ false) × (new ≡ old)
-LeaveRefuses f flats callee answer old blocks back error.NoFunction new = ⊥
-LeaveRefuses f flats callee answer old blocks back error.NotOpen new = ⊥
+LeaveRefuses f flats callee answer old blocks back _ new = ⊥
 
 -- what the first half answers, and what the callee and the array of values have then
 abbrev pub EnterDone : FunctionType → List Value → List ℕ → List ℕ → List Block → List Value → Result ℕ CallError → List ℕ → List Value → Type 0

@@ -1,11 +1,12 @@
 //! The two halves of a call with core values in arrays.
-ghost use Rattle.std.specs.Prelude.{◌≡◌, ◌≤◌, ◌<◌, List, [], IfOk, IfErr, OnOk, length, map};
+ghost use Rattle.std.specs.Prelude.{◌≡◌, ◌⊎◌, ◌≤◌, ◌<◌, List, [], IfOk, IfErr, OnOk, length, map};
 ghost use Rattle.layout.specs.Layout.{AreWithin};
 ghost use Rattle.tables.specs.Closed.{IsFunction, function_type};
 ghost use Rattle.tables.specs.declared.tables.FunctionId.{FunctionId};
 ghost use Rattle.lending.specs.Values.{flat_of};
 ghost use Rattle.lending.specs.declared.value.Value.{Value};
 ghost use Rattle.canonical_abi.specs.Call.{KindsFit};
+ghost use Rattle.canonical_abi.specs.declared.trap.Step.TheVariants.{LiftArgs};
 ghost use Rattle.host_calls.specs.Calling.{AreTooMany, AreOtherKinds, of_half, EnterDone, LeaveDone, EnterAsks, LeaveAsks};
 
 use crate::area::can_return;
@@ -39,6 +40,7 @@ pub fn function_of(types: &Types, number: u32) -> Result<FunctionId, CallError>
 fn put_values(values: &[Value], flats: &mut Flats, step: Step) -> Result<(), CallError>
     requires empty { flats.old.items ≡ [] }
     ensures ok { OnOk result (flats.new.items ≡ map flat_of values.now) }
+    ensures few { OnOk result (length values.now ≤ 17) }
     ensures many { IfErr result (AreTooMany values.now step) }
 {
     if put_flats(values, flats) {
@@ -73,6 +75,19 @@ fn fit(types: &Types, func: FunctionId, flats: &[Flat], step: Step) -> Result<()
         kind: TrapKind::CoreSignature,
         step,
     })))
+}
+
+/// Tests that core values are those of a whole call, the return area's address behind the arguments: K8 in `lift-args` if they are of another
+/// number or kind.
+pub fn begin(types: &Types, func: FunctionId, flats: &[Value]) -> Result<(), CallError>
+    requires function { IsFunction types.now func }
+    ensures ok { OnOk result (KindsFit (function_type types.now func) (map flat_of flats.now)) }
+    ensures few { OnOk result (length flats.now ≤ 17) }
+    ensures err { IfErr result (λ e. AreTooMany flats.now LiftArgs e ⊎ AreOtherKinds (function_type types.now func) (map flat_of flats.now) LiftArgs e) }
+{
+    let mut values = Flats::new();
+    put_values(flats, &mut values, Step::LiftArgs)?;
+    fit(types, func, values.as_slice(), Step::LiftArgs)
 }
 
 /// Tests that an array has room for all core values of a function.

@@ -21,6 +21,9 @@ pub enum CallError {
     /// The index of a block that has another size or alignment than the one that was asked for.
     #[error("error 73 other block {0}")]
     OtherBlock(usize),
+    /// The lengths of a set's inputs are not together that of their bytes, or there is no input.
+    #[error("error 74 bad lengths")]
+    BadLengths,
     #[error("{0}")]
     Fault(Fault),
 }

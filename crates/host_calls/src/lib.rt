@@ -11,7 +11,7 @@ mod parts;
 mod signature;
 mod status;
 
-pub use calling::{enter, enter_requests, function_of, leave, leave_requests};
+pub use calling::{begin, enter, enter_requests, function_of, leave, leave_requests};
 pub use error::CallError;
 pub use parts::{Part, parameter_parts, result_part};
 pub use signature::{lifted_params, lifted_result, lowered_params, lowered_result};

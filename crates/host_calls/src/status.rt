@@ -98,6 +98,7 @@ impl Status {
             Err(CallError::NoRoom(count)) => refused(71, told(count)),
             Err(CallError::BadBlock) => refused(72, 0),
             Err(CallError::OtherBlock(index)) => refused(73, told(index)),
+            Err(CallError::BadLengths) => refused(74, 0),
             Err(CallError::NoMemory | CallError::Fault(Fault::NoMemory)) => out_of_memory(66),
             Err(CallError::Fault(Fault::Trap(trap))) => Status {
                 code: 2,
@@ -151,6 +152,7 @@ fn numbered_error(number: u32, count: u32) -> Option<CallError> {
         71 => Some(CallError::NoRoom(count as usize)),
         72 => Some(CallError::BadBlock),
         73 => Some(CallError::OtherBlock(count as usize)),
+        74 => Some(CallError::BadLengths),
         _ => None,
     }
 }

@@ -1,5 +1,5 @@
 -- What is told of what a handle stands for: a package, why the bytes are none, or a call.
-use Rattle.std.specs.Prelude.{length, ◌≡◌, ◌⊎◌, ◌<◌, ◌≤◌, ℕ, List, Result, Ok, Err, Option, Some, None, MatchResult, if◌then◌else◌}
+use Rattle.std.specs.Prelude.{◌++◌, length, drop, ◌≡◌, ◌⊎◌, ◌<◌, ◌≤◌, ℕ, List, Result, Ok, Err, Option, Some, None, MatchResult, if◌then◌else◌}
 use Rattle.std.specs.Str.{IsUtf8}
 use Rattle.canonical_abi.specs.Types.{FunctionType}
 use Rattle.layout.specs.Layout.{AreWithin}
@@ -14,6 +14,7 @@ use Rattle.host_calls.specs.declared.status.Status.{Status}
 use Rattle.opening.specs.Opening.{IsOpened, OpenRefuses}
 use Rattle.opening.specs.declared.package.OpenError.{OpenError}
 use Rattle.opening.specs.declared.package.Package.{Package}
+use Rattle.witcall_c.specs.Inputs.{ArePieces, AreNoPieces}
 use Rattle.witcall_c.specs.Refusals.{open_number, is_out_of_memory}
 use Rattle.witcall_c.specs.declared.handle.Handle.{Handle}
 use Rattle.witcall_c.specs.declared.held.Held.{Held}
@@ -74,6 +75,12 @@ FindsFunction (Some p) interface name done = MatchResult done
 abbrev pub LineDone : ℕ → Result ℕ CallError → Type 0
 LineDone room done = MatchResult done (λ count. count ≤ room) (λ e. (count : ℕ) × (e ≡ error.NoRoom count) × (room < count))
 
+-- these bytes in front of an array, or how many they are
+abbrev pub BytesDone : List ℕ → List ℕ → List ℕ → Result ℕ CallError → Type 0
+BytesDone bytes old new done = MatchResult done
+    (λ count. (count ≡ length bytes) × (length bytes ≤ length old) × (new ≡ bytes ++ drop (length bytes) old))
+    (λ e. (e ≡ error.NoRoom (length bytes)) × (length old < length bytes) × (new ≡ old))
+
 -- the line of a refusal, and none of a package; 70 where there is neither
 abbrev pub LineIn : Opening → List ℕ → List ℕ → Result ℕ CallError → Type 0
 LineIn (Ok p) old new done = (done ≡ Ok 0) × (new ≡ old)
@@ -95,3 +102,9 @@ CallsOf old new number status Tells unchanged = TellsOf old new status (λ held 
 abbrev pub Opens : List (List ℕ) → Option Held → Status → Type 0
 Opens inputs None status = status ≡ no_memory
 Opens inputs (Some held) status = IsOpening inputs held.opened × (status ≡ opening_status held.opened)
+
+-- the same of the inputs that have these lengths; 74 if there are none
+abbrev pub OpensPieces : List ℕ → List ℕ → Option Held → Status → Type 0
+OpensPieces bytes lengths new status =
+    ((inputs : List (List ℕ)) × ArePieces bytes lengths inputs × Opens inputs new status)
+    ⊎ ((new ≡ None) × ((e : CallError) × AreNoPieces bytes lengths e × (status ≡ status_of (Err e))))

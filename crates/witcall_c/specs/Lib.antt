@@ -1,3 +1,6 @@
+pub mod CallObject
 pub mod Calls
 pub mod Handle
+pub mod Inputs
 pub mod Refusals
+pub mod Version

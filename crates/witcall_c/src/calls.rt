@@ -6,14 +6,32 @@ ghost use Rattle.canonical_abi.specs.Types.{result_fields};
 ghost use Rattle.host_calls.specs.Calling.{EnterDone, LeaveDone, EnterAsks, LeaveAsks};
 ghost use Rattle.host_calls.specs.Parts.{PartsDone};
 ghost use Rattle.host_calls.specs.Signatures.{KindsDone};
+ghost use Rattle.witcall_c.specs.CallObject.{Begins};
 ghost use Rattle.witcall_c.specs.Calls.{CallsFunction, package_of};
 
+use crate::call::Call;
 use crate::held::{Target, function};
 use adapter::Request;
 use host_calls::{CallError, Part};
 use lending::Value;
 use memory::Block;
 use std::alloc::Global;
+
+/// Begins a call of the function of this number: tests its core values, and keeps them.
+pub fn begin(
+    held: &Target,
+    number: u32,
+    flats: &[Value],
+    call: &mut Call,
+) -> Result<usize, CallError>
+    ensures { CallsFunction (package_of (option_map (λ held. held.value) held.now)) number
+        (λ f done. Begins f number flats.now call.old done call.new) (call.new ≡ call.old) result }
+{
+    let (types, func) = function(held, number)?;
+    host_calls::begin(&types, func, flats)?;
+    call.keep(number, flats);
+    Ok(0)
+}
 
 /// The first half of a call of the function of this number.
 pub fn enter(

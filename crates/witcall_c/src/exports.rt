@@ -1,5 +1,5 @@
 //! What the header declares: each export takes what a handle stands for, makes one call of it, and gives it back.
-ghost use Rattle.std.specs.Prelude.{◌≡◌, ◌∷◌, [], ℕ, None, Result, length};
+ghost use Rattle.std.specs.Prelude.{◌≡◌, ◌<◌, ◌∷◌, [], ℕ, None, Result, length};
 ghost use Rattle.canonical_abi.specs.Layout.{lifted_signature, lowered_signature};
 ghost use Rattle.canonical_abi.specs.Types.{result_fields};
 ghost use Rattle.host_calls.specs.Calling.{EnterDone, LeaveDone, EnterAsks, LeaveAsks};
@@ -7,24 +7,51 @@ ghost use Rattle.host_calls.specs.Parts.{PartsDone};
 ghost use Rattle.host_calls.specs.Signatures.{KindsDone};
 ghost use Rattle.host_calls.specs.Status.{status_of};
 ghost use Rattle.host_calls.specs.declared.error.CallError.{CallError};
-ghost use Rattle.witcall_c.specs.Calls.{FindsFunction, LineDone, LineOf, Opens, CallsOf, TellsOf, package_of, stands_for};
+ghost use Rattle.opening.specs.Sets.{all_bytes};
+ghost use Rattle.witcall_c.specs.CallObject.{Begins, flats_of};
+ghost use Rattle.witcall_c.specs.Calls.{BytesDone, FindsFunction, LineDone, LineOf, Opens, OpensPieces, CallsOf, TellsOf, package_of, stands_for};
+ghost use Rattle.witcall_c.specs.Version.{abi, version};
 
+use crate::call::Call;
 use crate::calls;
 use crate::handle::Handle;
 use crate::held::{Held, find, line_of};
-use crate::line::tell_line;
+use crate::line::{tell_bytes, tell_line};
+use crate::set::pieces;
 use adapter::Request;
 use host_calls::{CallError, Part, Status};
 use lending::Value;
 use memory::Block;
 use std::alloc::Global;
 
-/// Opens a package. The handle is written in any case, and stands for nothing where there was no memory for it (66). What it stood for is forgotten.
+/// The version of the library, which VERSION has for all of the repository.
+const VERSION: &[u8] = b"0.1.0";
+
+/// The number of the binary interface that the header declares. Another number means that a host has to be compiled anew.
+const ABI: u32 = 1;
+
+/// The number of the binary interface.
 #[unsafe(no_mangle)]
-pub extern "C" fn witcall_open(alloc: Global, bytes: &[u8], handle: &mut Handle) -> Status
-    ensures { Opens (bytes.now ∷ []) (stands_for handle.new) result }
+pub extern "C" fn witcall_abi() -> u32
+    ensures { result ≡ abi }
 {
-    let held = Held::open(alloc, &[bytes]);
+    ABI
+}
+
+/// The version's bytes, with no end.
+#[unsafe(no_mangle)]
+pub extern "C" fn witcall_version(bytes: &mut [u8]) -> Status
+    ensures { (done : Result ℕ CallError) × (result ≡ status_of done) × BytesDone version bytes.old bytes.new done }
+{
+    Status::of(tell_bytes(VERSION, bytes))
+}
+
+/// Lets a handle stand for what the inputs are opened as, or for nothing where there was no memory for it.
+fn open(alloc: Global, inputs: &[&[u8]], handle: &mut Handle) -> Status
+    requires { 0 < length inputs.now }
+    ensures { Opens (all_bytes inputs.now) (stands_for handle.new) result }
+{
+    let held = Held::open(alloc, inputs);
     let status = held.status();
     match Box::new(alloc, held) {
         Ok(held) => {
@@ -34,6 +61,33 @@ pub extern "C" fn witcall_open(alloc: Global, bytes: &[u8], handle: &mut Handle)
         Err(_) => {
             handle.clear();
             Status::of(Err(CallError::NoMemory))
+        }
+    }
+}
+
+/// Opens a package. The handle is written in any case, and stands for nothing where there was no memory for it (66). What it stood for is forgotten.
+#[unsafe(no_mangle)]
+pub extern "C" fn witcall_open(alloc: Global, bytes: &[u8], handle: &mut Handle) -> Status
+    ensures { Opens (bytes.now ∷ []) (stands_for handle.new) result }
+{
+    open(alloc, &[bytes], handle)
+}
+
+/// Opens the last of these inputs behind those before it, which it may use. Their bytes stand one after another.
+#[unsafe(no_mangle)]
+pub extern "C" fn witcall_open_set(
+    alloc: Global,
+    bytes: &[u8],
+    lengths: &[usize],
+    handle: &mut Handle,
+) -> Status
+    ensures { OpensPieces bytes.now lengths.now (stands_for handle.new) result }
+{
+    match pieces(alloc, bytes, lengths) {
+        Ok(inputs) => open(alloc, inputs.as_slice(), handle),
+        Err(error) => {
+            handle.clear();
+            Status::of(Err(error))
         }
     }
 }
@@ -126,6 +180,117 @@ pub extern "C" fn witcall_leave(
     );
     handle.give(held);
     Status::of(done)
+}
+
+/// Begins a call, which keeps its core values between the halves.
+#[unsafe(no_mangle)]
+pub extern "C" fn witcall_begin(
+    alloc: Global,
+    handle: &mut Handle,
+    func: u32,
+    flats: &[Value],
+    call: &mut Call,
+) -> Status
+    ensures { CallsOf (stands_for handle.old) (stands_for handle.new) func result
+        (λ f d. Begins f func flats.now call.old d call.new) (call.new ≡ call.old) }
+{
+    let held = handle.take(alloc);
+    let done = calls::begin(&held, func, flats, call);
+    handle.give(held);
+    Status::of(done)
+}
+
+/// The first half of a call that was begun.
+#[unsafe(no_mangle)]
+pub extern "C" fn witcall_call_enter(
+    alloc: Global,
+    handle: &mut Handle,
+    call: &Call,
+    caller: &mut [u8],
+    callee: &mut [u8],
+    blocks: &[Block],
+    handed: &mut [Value],
+) -> Status
+    ensures done { CallsOf (stands_for handle.old) (stands_for handle.new) call.now.func result
+        (λ f d. EnterDone f (flats_of call.now) caller.old callee.old blocks.now handed.old d callee.new handed.new)
+        ((callee.new ≡ callee.old) × (handed.new ≡ handed.old)) }
+    ensures same { caller.new ≡ caller.old }
+{
+    let flats = call.flats();
+    witcall_enter(
+        alloc,
+        handle,
+        call.func(),
+        flats,
+        caller,
+        callee,
+        blocks,
+        handed,
+    )
+}
+
+/// The second half of a call that was begun.
+#[unsafe(no_mangle)]
+pub extern "C" fn witcall_call_leave(
+    alloc: Global,
+    handle: &mut Handle,
+    call: &Call,
+    answer: &[Value],
+    callee: &mut [u8],
+    caller: &mut [u8],
+    blocks: &[Block],
+    back: &mut [Value],
+) -> Status
+    ensures done { CallsOf (stands_for handle.old) (stands_for handle.new) call.now.func result
+        (λ f d. LeaveDone f (flats_of call.now) callee.old answer.now caller.old blocks.now back.old d caller.new back.new)
+        ((caller.new ≡ caller.old) × (back.new ≡ back.old)) }
+    ensures same { callee.new ≡ callee.old }
+{
+    let flats = call.flats();
+    witcall_leave(
+        alloc,
+        handle,
+        call.func(),
+        flats,
+        answer,
+        callee,
+        caller,
+        blocks,
+        back,
+    )
+}
+
+/// What the first half of a call that was begun will ask for.
+#[unsafe(no_mangle)]
+pub extern "C" fn witcall_call_enter_requests(
+    alloc: Global,
+    handle: &mut Handle,
+    call: &Call,
+    caller: &mut [u8],
+    requests: &mut [Request],
+) -> Status
+    ensures done { CallsOf (stands_for handle.old) (stands_for handle.new) call.now.func result
+        (λ f d. EnterAsks f (flats_of call.now) caller.old requests.old d requests.new) (requests.new ≡ requests.old) }
+    ensures same { caller.new ≡ caller.old }
+{
+    witcall_enter_requests(alloc, handle, call.func(), call.flats(), caller, requests)
+}
+
+/// What the second half of a call that was begun will ask for.
+#[unsafe(no_mangle)]
+pub extern "C" fn witcall_call_leave_requests(
+    alloc: Global,
+    handle: &mut Handle,
+    call: &Call,
+    answer: &[Value],
+    callee: &mut [u8],
+    requests: &mut [Request],
+) -> Status
+    ensures done { CallsOf (stands_for handle.old) (stands_for handle.new) call.now.func result
+        (λ f d. LeaveAsks f answer.now callee.old requests.old d requests.new) (requests.new ≡ requests.old) }
+    ensures same { callee.new ≡ callee.old }
+{
+    witcall_leave_requests(alloc, handle, call.func(), answer, callee, requests)
 }
 
 /// What the first half will ask for.

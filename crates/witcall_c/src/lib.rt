@@ -5,6 +5,7 @@
 //! memory. Whatever the header does not ask of a caller is tested there.
 #![tactic(auto)]
 
+mod call;
 mod calls;
 mod exports;
 mod handle;
@@ -12,3 +13,4 @@ mod held;
 mod kept;
 mod line;
 mod refusal;
+mod set;

@@ -1,6 +1,6 @@
 //! Lines of text in arrays of bytes.
 ghost use Rattle.std.specs.Prelude.{length};
-ghost use Rattle.witcall_c.specs.Calls.{LineDone};
+ghost use Rattle.witcall_c.specs.Calls.{BytesDone, LineDone};
 
 use host_calls::CallError;
 use std::fmt::{self, Display, Write};
@@ -22,6 +22,17 @@ impl<'a> fmt::Write for Line<'a> {
         }
         Ok(())
     }
+}
+
+/// Copies these bytes to the front of an array, and answers how many they are. 71 if there is no room for them.
+pub fn tell_bytes(bytes: &[u8], out: &mut [u8]) -> Result<usize, CallError>
+    ensures { BytesDone bytes.now out.old out.new result }
+{
+    let Some(front) = out.get_mut(..bytes.len()) else {
+        return Err(CallError::NoRoom(bytes.len()));
+    };
+    front.copy_from_slice(bytes);
+    Ok(bytes.len())
 }
 
 /// Tells what is displayed, with no line end, and answers how many bytes it has: 71 where there is no room for them.

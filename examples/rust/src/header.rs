@@ -1,4 +1,4 @@
-//! What `include/witcall.h` declares. Nothing compares the two.
+//! What `include/witcall.h` declares. `Package::open` compares the number of the binary interface, and nothing else is compared.
 
 use std::ffi::c_void;
 
@@ -52,8 +52,19 @@ pub struct Status {
     pub count: u32,
 }
 
+/// The number of the binary interface that this file declares.
+pub const ABI: u32 = 1;
+
 extern "C" {
-    pub fn witcall_open(bytes: *const u8, bytes_len: usize, package: *mut Handle) -> Status;
+    pub fn witcall_abi() -> u32;
+    pub fn witcall_version(version: *mut u8, version_len: usize) -> Status;
+    pub fn witcall_open_set(
+        bytes: *const u8,
+        bytes_len: usize,
+        lengths: *const usize,
+        lengths_len: usize,
+        package: *mut Handle,
+    ) -> Status;
     pub fn witcall_close(package: *mut Handle);
     pub fn witcall_line(package: *mut Handle, line: *mut u8, line_len: usize) -> Status;
     pub fn witcall_status_line(status: Status, line: *mut u8, line_len: usize) -> Status;

@@ -33,6 +33,8 @@ pub enum Error {
         line: String,
     },
     NoMemory,
+    /// The library has another binary interface than `header.rs` declares: its version.
+    OtherInterface(String),
 }
 
 impl fmt::Display for Error {
@@ -40,6 +42,7 @@ impl fmt::Display for Error {
         match self {
             Error::Refused { line, .. } | Error::Trap { line, .. } => write!(out, "{line}"),
             Error::NoMemory => write!(out, "error 66 no memory"),
+            Error::OtherInterface(version) => write!(out, "witcall {version} has another binary interface"),
         }
     }
 }
@@ -68,6 +71,18 @@ impl Status {
     }
 }
 
+/// The version of the library.
+pub fn version() -> String {
+    // SAFETY: the pointer and the length are those of one slice.
+    line(|out| unsafe { header::witcall_version(out.as_mut_ptr(), out.len()) })
+}
+
+/// Whether the library has the binary interface that `header.rs` declares.
+fn is_this_interface() -> Result<(), Error> {
+    // SAFETY: the call takes nothing.
+    if unsafe { header::witcall_abi() } == header::ABI { Ok(()) } else { Err(Error::OtherInterface(version())) }
+}
+
 /// A package that the library holds.
 pub struct Package {
     handle: Handle,
@@ -80,9 +95,16 @@ pub struct Function(u32);
 impl Package {
     /// Opens a text or a binary.
     pub fn open(bytes: &[u8]) -> Result<Package, Error> {
+        Package::open_set(&[bytes])
+    }
+
+    /// Opens the last of these texts or binaries. Each may use interfaces of those before it.
+    pub fn open_set(inputs: &[&[u8]]) -> Result<Package, Error> {
+        is_this_interface()?;
+        let (bytes, lengths) = (inputs.concat(), inputs.iter().map(|input| input.len()).collect::<Vec<usize>>());
         let mut handle = Handle { at: ptr::null_mut(), is_open: 0 };
-        // SAFETY: the pointer and the length are those of one slice, and the handle is a place of this function's own.
-        let status = unsafe { header::witcall_open(bytes.as_ptr(), bytes.len(), &mut handle) };
+        // SAFETY: each pointer goes with the length of its slice, and the handle is a place of this function's own.
+        let status = unsafe { header::witcall_open_set(bytes.as_ptr(), bytes.len(), lengths.as_ptr(), lengths.len(), &mut handle) };
         let mut package = Package { handle };
         match status.count() {
             Ok(_) => Ok(package),

@@ -1,0 +1,24 @@
+-- What a call keeps between its halves.
+use Rattle.std.specs.Prelude.{◌≡◌, ◌⊎◌, ℕ, List, map, take, Result, MatchResult}
+use Rattle.canonical_abi.specs.Call.{KindsFit}
+use Rattle.canonical_abi.specs.Types.{FunctionType}
+use Rattle.canonical_abi.specs.declared.trap.Step.TheVariants.{LiftArgs}
+use Rattle.host_calls.specs.Calling.{AreTooMany, AreOtherKinds}
+use Rattle.host_calls.specs.declared.error.CallError.{CallError}
+use Rattle.lending.specs.Values.{flat_of}
+use Rattle.lending.specs.declared.value.Value.{Value}
+use Rattle.witcall_c.specs.declared.call.Call.{Call}
+
+-- the core values that it keeps
+abbrev pub flats_of : Call → List Value
+flats_of call = take call.count call.flats
+
+-- it keeps these core values, of the function of this number
+abbrev pub Keeps : ℕ → List Value → Call → Type 0
+Keeps func flats call = (call.func ≡ func) × (flats_of call ≡ flats)
+
+-- a call that begins keeps its core values; one that doesn't is as it was
+abbrev pub Begins : FunctionType → ℕ → List Value → Call → Result ℕ CallError → Call → Type 0
+Begins f func flats old done new = MatchResult done
+    (λ count. (count ≡ 0) × KindsFit f (map flat_of flats) × Keeps func flats new)
+    (λ e. (AreTooMany flats LiftArgs e ⊎ AreOtherKinds f (map flat_of flats) LiftArgs e) × (new ≡ old))

@@ -1,0 +1,9 @@
+-- The version of the library and the number of its binary interface, as the header has them.
+use Rattle.std.specs.Prelude.{ℕ, List, [], ◌∷◌}
+
+-- 0.1.0
+pub version : List ℕ
+version = 0x30 ∷ 0x2e ∷ 0x31 ∷ 0x2e ∷ 0x30 ∷ []
+
+pub abi : ℕ
+abi = 1
