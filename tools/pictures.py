@@ -6,6 +6,8 @@ usage: tools/pictures.py [--check] [--program WITCALL]
 - way.svg (docs/PROMISE.md): the way from a text to a call. The words are what the program prints of examples/c.wit, the stored run of
   crates/program and the first row of crates/vectors. Each clause on an arrow has to be one of its function's contract.
 - bytes.svg (docs/LIBRARY.md): the bytes of a call with a list of records, in both memories: a row of crates/vectors.
+- halves.svg (docs/C.md): the steps of a call in halves, with the numbers of a row of crates/vectors, which examples/c/vectors.c runs through the
+  header. Each call that it names has to be one of include/witcall.h.
 - crates.svg (docs/ARCHITECTURE.md): which crates depend on which, of crates.txt, in the groups of docs/crate-facts.txt.
 
 With --check nothing is written, and the exit status is 1 if a picture is not current. The program is the one that was built,
@@ -33,6 +35,7 @@ HUES = (210, 130, 30, 280, 60, 330, 175, 0, 245, 95, 15, 300)
 # groups of docs/crate-facts.txt that the picture of crates leaves out, since nothing depends on them
 TESTS = ("Programs that answer rows", "Tests")
 ROW = "lists: padding of the target stays too"
+HALVES = "strings: random 5"
 
 
 class Picture:
@@ -229,6 +232,71 @@ def in_bytes():
     return picture.svg()
 
 
+# A call in halves
+
+def declared(name):
+    """The name of a function that the header declares."""
+    if f" {name}(" not in (ROOT / "include" / "witcall.h").read_text():
+        sys.exit(f"tools/pictures.py: include/witcall.h has no {name}")
+    return name
+
+
+def in_halves():
+    """The steps of a call of a text that a text answers: what the library is called for, what the host does, and what crosses."""
+    call, done = vector(HALVES)
+    flats = lambda values: ", ".join(f"{kind} {number}" for kind, number in values)  # noqa: E731
+    (_, start), (_, length), (_, area) = call["flats"]
+    (_, at), _ = done["body_got"]
+    (_, answer), = call["answer"]
+    caller, callee = bytes.fromhex(call["caller"]), bytes.fromhex(call["callee"])
+    back, size = (int.from_bytes(callee[answer + place:answer + place + 4], "little") for place in (0, 4))
+    (asked,), (given,) = done["callee_log"], done["caller_log"]
+    argument, result = caller[start:start + length].decode(), callee[back:back + size].decode()
+    after = bytes.fromhex(done["callee_after"])[at:at + length].decode(), bytes.fromhex(done["caller_after"])[given[2]:given[2] + size].decode()
+    if done["outcome"] != {"ok": []} or after != (argument, result):
+        sys.exit(f"tools/pictures.py: {HALVES} is no call that this picture shows")
+    wants = lambda request: f"asks for {request[1]} bytes, aligned to {request[0]}"  # noqa: E731
+    grants = lambda request: ["its allocator grants", f"{request[1]} bytes at {request[2]}"]  # noqa: E731
+    rows = [
+        ("once", declared("witcall_open") + ", " + declared("witcall_find"), call["text"].partition("{ ")[2].strip().rpartition(";")[0], [], [], 0),
+        ("1", declared("witcall_enter_requests"), wants(asked), ["passes", flats(call["flats"])], grants(asked), 1),
+        ("2", declared("witcall_enter"), f"writes {flats(done['body_got'])}", [f"at {start}:", f'"{argument}"'], [f"at {at}:", f'"{argument}"'], 1),
+        ("3", "", "", [], ["the core function gets", flats(done["body_got"]), f"and answers {flats(call['answer'])}"], 0),
+        ("4", declared("witcall_leave_requests"), wants(given), grants(given), [f"at {answer}: address {back},", f"length {size}"], -1),
+        ("5", declared("witcall_leave"), "fills the block and the return area",
+         [f'at {given[2]}: "{result}"', f"return area at {area}:", f"address {given[2]}, length {size}"], [f"at {back}:", f'"{result}"'], -1),
+        ("6", "", "", [], ["post-return gets", flats(call["answer"])], 0),
+    ]
+    picture = Picture(0, "The steps of a call in halves")
+    for x, title in ((20, "the caller"), (300, "the library"), (610, "the callee")):
+        picture.text(x, 28, title, "name")
+    y = 44
+    for step, title, line, left, right, way in rows:
+        height = 22 + 16 * max(len(left), len(right), 1 if way or title else 0, 2 if title else 0)
+        middle = y + height / 2
+        if title:
+            picture.box(250, y, 290, height, "g0")
+            picture.text(300, middle - 4, title, "name")
+            picture.text(300, middle + 13, line, "small")
+            picture.text(275, middle + 5, step, "name", "middle")
+        for x, width, lines in ((20, 180, left), (600, 180, right)):
+            if lines:
+                picture.box(x, y, width, height, "box" if title else "g1")
+                for number, words in enumerate(lines):
+                    picture.text(x + 10, y + 23 + 16 * number, words, "small")
+        if not title:
+            picture.text(580, middle + 5, step, "name", "middle")
+        if way > 0:
+            picture.arrow((200, middle), (250, middle))
+            picture.arrow((540, middle), (600, middle))
+        elif way < 0:
+            picture.arrow((600, middle), (540, middle))
+            picture.arrow((250, middle), (200, middle))
+        y += height + 16
+    picture.height = y
+    return picture.svg()
+
+
 # The graph of crates
 
 def bottom_up(below):
@@ -344,7 +412,7 @@ def main():
     parser.add_argument("--check", action="store_true")
     parser.add_argument("--program", type=pathlib.Path, default=ROOT / "crates" / "program" / "out" / "program")
     given = parser.parse_args()
-    folder, stale, pictures = ROOT / "docs" / "pictures", [], {"bytes.svg": in_bytes(), "crates.svg": graph()}
+    folder, stale, pictures = ROOT / "docs" / "pictures", [], {"bytes.svg": in_bytes(), "halves.svg": in_halves(), "crates.svg": graph()}
     if given.program.is_file():
         pictures["way.svg"] = way(given.program)
     else:
