@@ -293,7 +293,8 @@ def in_halves():
             picture.arrow((600, middle), (540, middle))
             picture.arrow((250, middle), (200, middle))
         y += height + 16
-    for x, kind, words in ((20, "g0", "a call of the library"), (250, "g1", "code of the callee, which the host runs"), (600, "box", "memories, allocators")):
+    legend = (20, "g0", "a call of the library"), (250, "g1", "code of the callee, which the host runs"), (600, "box", "memories, allocators")
+    for x, kind, words in legend:
         picture.box(x, y, 14, 12, kind)
         picture.text(x + 22, y + 10, words, "small")
     picture.height = y + 28
