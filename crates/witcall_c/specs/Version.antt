@@ -2,8 +2,8 @@
 use Rattle.std.specs.Prelude.{ℕ, List, [], ◌∷◌}
 
 -- 0.1.0
-pub version : List ℕ
+abbrev pub version : List ℕ
 version = 0x30 ∷ 0x2e ∷ 0x31 ∷ 0x2e ∷ 0x30 ∷ []
 
-pub abi : ℕ
+abbrev pub abi : ℕ
 abi = 1

@@ -28,10 +28,10 @@ impl<'a> fmt::Write for Line<'a> {
 pub fn tell_bytes(bytes: &[u8], out: &mut [u8]) -> Result<usize, CallError>
     ensures { BytesDone bytes.now out.old out.new result }
 {
-    let Some(front) = out.get_mut(..bytes.len()) else {
+    if out.len() < bytes.len() {
         return Err(CallError::NoRoom(bytes.len()));
-    };
-    front.copy_from_slice(bytes);
+    }
+    out[..bytes.len()].copy_from_slice(bytes);
     Ok(bytes.len())
 }
 
