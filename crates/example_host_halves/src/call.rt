@@ -5,7 +5,7 @@ ghost use Rattle.memory.specs.Blocks.{are_good};
 ghost use Rattle.tables.specs.Closed.{IsFunction, function_type};
 ghost use Rattle.example_host_halves.specs.Halves.{Calls};
 
-use crate::core::Core;
+use crate::core_function::Core;
 use crate::halves::{enter, leave};
 use canonical_abi::Flat;
 use layout::Layouts;

@@ -3,11 +3,11 @@
 #![tactic(auto)]
 
 mod call;
-mod core;
+mod core_function;
 mod halves;
 
 use crate::call::call;
-use crate::core::Doubling;
+use crate::core_function::Doubling;
 use canonical_abi::Flat;
 use lending::{Block, Flats, NOWHERE, can_lend};
 use opening::{Package, open};
