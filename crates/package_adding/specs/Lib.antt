@@ -2,4 +2,3 @@ pub mod Added
 pub mod BehindImports
 pub mod Named
 pub mod NamedIn
-pub mod Written

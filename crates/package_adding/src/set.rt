@@ -6,7 +6,8 @@ ghost use Rattle.package_form.specs.Form.{IsInPackageForm};
 ghost use Rattle.package_form.specs.Naming.{package_scopes};
 ghost use Rattle.package_form.specs.Scope.{AreDistinct};
 ghost use Rattle.package_sets.specs.Attached.{HasRoom, IsAttached, IsRefused};
-ghost use Rattle.package_sets.specs.SetForm.{IsEmpty, IsInSetForm};
+ghost use Rattle.package_sets.specs.SetForm.{IsEmpty};
+ghost use Rattle.package_sets.specs.Tower.{IsInTower};
 ghost use Rattle.package_sets.specs.declared.error.AttachError.TheVariants.{SetLimit, NoMemory, SamePackage};
 ghost use Rattle.package_adding.specs.Added.{AddsComponent, ComponentNotAdded, IsRefusedBehind, AddsTree, IsNewName, HasName, TreeNotAdded, IsWantOfMemory};
 ghost use Rattle.package_adding.specs.BehindImports.{IsBehindImports};
@@ -31,17 +32,18 @@ use tables::{PackageId, Resolve, Sequence};
 use wit_component::{closed_from_raw, closed_from_spelled};
 use wit_syntax::Ast;
 
-/// Packages that use each other, as one table: each behind those that it uses, at most 64.
+/// Packages that use each other, as one table: each behind those that it uses, at most 64. None is empty, and none has more
+/// than 65,535 type entries with what it reaches.
 #[derive(Debug, Drop)]
 pub struct PackageSet {
     resolve: Resolve,
-    ghost form: { ∥ IsInSetForm resolve ∥₁ },
+    ghost tower: { ∥ IsInTower resolve ∥₁ },
 }
 
 /// A table of nothing.
 fn no_table(alloc: Global) -> Resolve
     ensures empty { IsEmpty result }
-    ensures form { ∥ IsInSetForm result ∥₁ }
+    ensures tower { ∥ IsInTower result ∥₁ }
 {
     let resolve = Resolve {
         packages: Sequence::new(Vec::new(alloc)),

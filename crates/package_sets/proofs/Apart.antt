@@ -3,9 +3,8 @@ use Rattle.std.proofs.Common.{◌≡◌, ◌≤◌, ◌<◌, ◌⊎◌, inl, inr
 use Rattle.std.specs.Prelude.{Contains, is_some}
 use Rattle.std.specs.Option.{option_map}
 use Rattle.std.specs.List.{list_all}
-use Rattle.std.proofs.lemmas.Bool.{ltb-true}
 use Rattle.std.proofs.lemmas.List.{length_push}
-use Rattle.std.proofs.lemmas.Option.{slice_get_within, get_or_from_slice_get}
+use Rattle.std.proofs.lemmas.Option.{slice_get_within}
 use Rattle.package_form.specs.Postfix.{is_unnamed, is_unnamed_row, one_if, parts, parts_of, aliased, aliased_by, is_inner, inner_row, Leaves, begin, inner, whole, IsPostfix}
 use Rattle.package_form.specs.References.{row_references}
 use Rattle.package_form.specs.Reached.{used_by, used_in}
@@ -13,8 +12,8 @@ use Rattle.package_form.specs.Unused.{unnamed_at}
 use Rattle.package_form.specs.Form.{is_own_name, is_own_type, is_own, is_earlier_name, is_earlier_type, is_earlier, uses_earlier, is_owned, is_local, is_nameless_type, is_nameless, is_of_world, is_world_row}
 use Rattle.package_form.proofs.Lists.{contains-left, contains-right, contains-either, contains-unmap, contains-flat, get-front}
 use Rattle.package_form.proofs.Postfixed.{can-inner, inner-can}
-use Rattle.tables.specs.Tables.{type_of, is_below, definition_all, are_earlier}
-use Rattle.tables.proofs.Rows.{split, below-at}
+use Rattle.tables.specs.Tables.{type_of, are_earlier}
+use Rattle.tables.proofs.Rows.{split}
 use Rattle.tables.specs.declared.tables.TypeId.{TypeId}
 use Rattle.tables.specs.declared.tables.WorldId.{WorldId}
 use Rattle.tables.specs.declared.tables.TypeDefKind.{TypeDefKind}
@@ -29,7 +28,7 @@ use Rattle.package_sets.specs.Reaches.{owner_at}
 use Rattle.package_sets.specs.Set.{IsPackageByPackage, AreWorldsApart}
 use Rattle.package_sets.proofs.Lists.{none-within, contains-get}
 use Rattle.package_sets.proofs.Kept.{list-at}
-use Rattle.package_sets.proofs.Named.{definition-named, referred-named}
+use Rattle.package_sets.proofs.Named.{named-before, referred-named}
 use Rattle.package_sets.proofs.Belonging.{owner-some, owner-next, unnamed-owner, plus-none, belongs}
 
 -- the last element, or one before it
@@ -81,7 +80,7 @@ made-of rows d t a c u =
     subst (λ (ns : List ℕ). Contains ns t.0) (can-inner rows d (inner-can rows d a)).0
     (contains-flat (unnamed_at rows) (row_references d) t t.0 c (subst (λ b. Contains (one_if b t.0) t.0) (sym u) (0, omega arith, refl)))
 
-inner-plain : (rows : List Definition) (k : TypeDefKind) → is_inner k ≡ true → aliased rows k ≡ []
+pub inner-plain : (rows : List Definition) (k : TypeDefKind) → is_inner k ≡ true → aliased rows k ≡ []
 inner-plain rows (kind.Use t) h = refl
 inner-plain rows (kind.Alias v) h = absurd (cc)
 inner-plain rows (kind.List v) h = refl
@@ -146,8 +145,7 @@ pub part-owner : (rows : List Definition) → IsPostfix rows → are_earlier 0 r
     → is_unnamed_row (slice_get rows t.0) ≡ true → get_or (owners rows) t.0 None ≡ get_or (owners rows) k None
 part-owner rows p earlier k d t e c u =
     let within = slice_get_within rows k d e in
-    let below : definition_all (is_below k) d ≡ true = below-at k rows k d earlier within refl (sym (get_or_from_slice_get rows k d d e)) in
-    let before : t.0 < k = ltb-true t.0 k (definition-named (is_below k) d below t (referred-named d t c)) in
+    let before = named-before rows k d t earlier e (referred-named d t c) in
     let whole : t.0 + (k - t.0) ≡ k = omega arith in
     run-owner rows t.0 (k - t.0) (omega arith) (subst (IsRun rows t.0) (sym whole) (row-run rows [] p k d t e c before u)) ∙ ap (λ m. get_or (owners rows) m None) whole
 

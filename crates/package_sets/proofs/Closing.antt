@@ -108,7 +108,7 @@ kept-from (true ∷ bs) (y ∷ xs) x (zero, h, e) = (0, refl, ap Some e)
 kept-from (true ∷ bs) (y ∷ xs) x (suc k, h, e) = let r = kept-from bs xs x (k, omega (arith, h), e) in (suc r.0, r.1, r.2)
 kept-from (false ∷ bs) (y ∷ xs) x c = let r = kept-from bs xs x c in (suc r.0, r.1, r.2)
 
-contains-kept : {A : Type 0} (p : A → Bool) (xs : List A) (x : A) → Contains (filter p xs) x → Contains xs x × (p x ≡ true)
+pub contains-kept : {A : Type 0} (p : A → Bool) (xs : List A) (x : A) → Contains (filter p xs) x → Contains xs x × (p x ≡ true)
 contains-kept p [] x (k, h, e) = absurd (omega arith)
 contains-kept p (y ∷ xs) x c = by (p y) refl (λ d. contains-kept p xs x d)
   where

@@ -38,7 +38,7 @@ entries-under-put to (Some n) (kind.Variant cs) = refl
 entries-under-put to (Some n) (kind.Enum ns) = refl
 entries-under-put to (Some n) (kind.Flags ns) = refl
 
-entries-put : (to : Renaming) (d : Definition) → entries_of (put_row to d) ≡ entries_of d
+pub entries-put : (to : Renaming) (d : Definition) → entries_of (put_row to d) ≡ entries_of d
 entries-put to (row.Type d) = entries-under-put to d.name d.kind
 entries-put to (row.Function f) = refl
 
@@ -50,7 +50,7 @@ map-put : {A : Type 0} (put : A → A) (f : A → ℕ) → ((x : A) → f (put x
 map-put put f h [] = refl
 map-put put f h (x ∷ xs) = let e = h x in let r = map-put put f h xs in cc
 
-world-put : (to : Renaming) (w : World) → world_entries (put_world to w) ≡ world_entries w
+pub world-put : (to : Renaming) (w : World) → world_entries (put_world to w) ≡ world_entries w
 world-put to w = ap (λ (ns : List ℕ). 1 + sum ns) (map-put (put_item to) entries_at (λ (i : WorldItem). item-put to i.kind) w.items)
 
 -- what is kept of a set has the type entries of what is kept

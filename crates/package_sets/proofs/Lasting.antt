@@ -37,7 +37,7 @@ item-of own (w ∷ ws) o c = elim (Contains-append_cases (world_owners own w) (f
         none : Contains [] o → ⊥
         none (k, h, z) = omega arith
 
-reached-before : (s : Resolve) (own : ℕ) → NamesEarlierPackages s → (o : Option Owner) → Reaches s (OfPackage own) o → package_of_owner s o ≤ own
+pub reached-before : (s : Resolve) (own : ℕ) → NamesEarlierPackages s → (o : Option Owner) → Reaches s (OfPackage own) o → package_of_owner s o ≤ own
 reached-before s own h o (of_start _ e) = by e
   where
     by : (is_marked (own_marks s own) o ≡ true) ⊎ Contains (flat_map (world_owners own) s.worlds) o → package_of_owner s o ≤ own

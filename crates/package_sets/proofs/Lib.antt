@@ -8,14 +8,19 @@ pub mod Belonging
 pub mod Blocks
 pub mod Citing
 pub mod Closing
+pub mod Counting
+pub mod Covering
 pub mod Finding
 pub mod Forming
 pub mod Found
+pub mod Identified
 pub mod Imported
 pub mod ImportPackages
 pub mod ImportScopes
+pub mod InTower
 pub mod Keeping
 pub mod Kept
+pub mod KeptEntries
 pub mod Lasting
 pub mod Lists
 pub mod MarkedPlaces
@@ -35,6 +40,7 @@ pub mod Placing
 pub mod Postfixing
 pub mod Putting
 pub mod Reading
+pub mod Referring
 pub mod Renaming
 pub mod Restricting
 pub mod Roundtrip
@@ -42,8 +48,7 @@ pub mod SameTables
 pub mod Scopes
 pub mod SetForm
 pub mod SetScopes
-pub mod KeptEntries
-pub mod TowerForm
 pub mod Standing
 pub mod Subnames
 pub mod Telling
+pub mod TowerForm

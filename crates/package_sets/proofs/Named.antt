@@ -1,5 +1,5 @@
 -- What a row names, and what is true of all of that.
-use Rattle.std.proofs.Common.{◌≡◌, inl, inr, zero, suc, Bool, true, not, List, [], ◌∷◌, ◌++◌, map, Option, None, Some, refl, ap, sym, subst, ◌∙◌, arith}
+use Rattle.std.proofs.Common.{◌≡◌, ◌<◌, inl, inr, ℕ, zero, suc, Bool, true, not, List, [], ◌∷◌, ◌++◌, map, slice_get, Option, None, Some, refl, ap, sym, subst, ◌∙◌, arith}
 use Rattle.std.specs.Prelude.{flat_map, Contains, is_some}
 use Rattle.std.specs.Option.{option_map}
 use Rattle.std.specs.List.{list_all}
@@ -9,9 +9,11 @@ use Rattle.package_form.specs.Form.{is_named}
 use Rattle.package_form.specs.Postfix.{is_unnamed}
 use Rattle.package_sets.specs.Owners.{names}
 use Rattle.package_sets.specs.Moved.{Renaming, put_id, put_val, put_field, put_case, put_parameter, put_kind, put_name, put_row}
+use Rattle.std.proofs.lemmas.Bool.{ltb-true}
 use Rattle.std.proofs.lemmas.List.{length-map, map-append}
-use Rattle.tables.specs.Tables.{option_all, kind_all, definition_all, is_standard_kind, is_standard}
-use Rattle.tables.proofs.Rows.{split, both}
+use Rattle.std.proofs.lemmas.Option.{slice_get_within, get_or_from_slice_get}
+use Rattle.tables.specs.Tables.{option_all, kind_all, definition_all, is_below, are_earlier, is_standard_kind, is_standard}
+use Rattle.tables.proofs.Rows.{split, both, below-at}
 use Rattle.tables.specs.declared.tables.TypeId.{TypeId}
 use Rattle.tables.specs.declared.tables.ValType.{ValType}
 use Rattle.tables.specs.declared.tables.ValType.TheVariants as val
@@ -166,6 +168,12 @@ module _ (has : ValType → Bool) where
         | inr q ↦ if-named f.result p.1 t q
       ]
 
+-- .. which stand before it
+pub named-before : (rows : List Definition) (k : ℕ) (d : Definition) (t : TypeId) → are_earlier 0 rows ≡ true → slice_get rows k ≡ Some d → Contains (names d) t → t.0 < k
+named-before rows k d t earlier e c =
+    let below : definition_all (is_below k) d ≡ true = below-at k rows k d earlier (slice_get_within rows k d e) refl (sym (get_or_from_slice_get rows k d d e)) in
+    ltb-true t.0 k (definition-named (is_below k) d below t c)
+
 -- what a row refers to it names
 pub referred-named : (d : Definition) (t : TypeId) → Contains (row_references d) t → Contains (names d) t
 referred-named (row.Function f) t c = c
@@ -264,3 +272,19 @@ module _ (to : Renaming) where
       let y = if-references f.result in
       let m = map-append (put_id to) (flat_map parameter_references f.params) (references_if f.result) in
       cc
+
+  pub names-put : (d : Definition) → names (put_row to d) ≡ map (put_id to) (names d)
+  names-put (row.Function f) = row-references-put (row.Function f)
+  names-put (row.Type d) = by d.kind
+    where
+      by : (k : TypeDefKind) → names (row.Type (record { name = d.name; kind = put_kind to k })) ≡ map (put_id to) (names (row.Type (record { name = d.name; kind = k })))
+      by (kind.Use t) = refl
+      by (kind.Alias v) = kind-references-put (kind.Alias v)
+      by (kind.List v) = kind-references-put (kind.List v)
+      by (kind.Option v) = kind-references-put (kind.Option v)
+      by (kind.Result ok error) = kind-references-put (kind.Result ok error)
+      by (kind.Tuple vs) = kind-references-put (kind.Tuple vs)
+      by (kind.Record fs) = kind-references-put (kind.Record fs)
+      by (kind.Variant cs) = kind-references-put (kind.Variant cs)
+      by (kind.Enum ns) = refl
+      by (kind.Flags ns) = refl

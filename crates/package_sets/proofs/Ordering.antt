@@ -6,9 +6,8 @@ use Rattle.std.proofs.lemmas.Bool.{ltb-true}
 use Rattle.std.proofs.lemmas.List.{length-append, length-map}
 use Rattle.std.proofs.lemmas.Option.{slice_get_within, slice_get-get_or, get_or_from_slice_get}
 use Rattle.package_form.proofs.Lists.{contains-either, contains-map, contains-unmap, get-front}
-use Rattle.tables.specs.Tables.{is_below, definition_all, is_placed_item}
+use Rattle.tables.specs.Tables.{is_placed_item}
 use Rattle.tables.specs.PackageNames.{PackageParts}
-use Rattle.tables.proofs.Rows.{below-at}
 use Rattle.tables.proofs.Earlier.{grouped-at}
 use Rattle.tables.specs.declared.tables.Owner.{Owner}
 use Rattle.tables.specs.declared.tables.Owner.TheVariants as owner
@@ -29,13 +28,13 @@ use Rattle.package_sets.specs.Joined.{renaming_of, IsJoined, IsPut}
 use Rattle.package_sets.specs.declared.joining.Joined.{Joined}
 use Rattle.package_sets.proofs.Lists.{map-get, behind-get, contains-unflat, one-there}
 use Rattle.package_sets.proofs.Kept.{list-at, placed-at, worlds-grouped-at}
-use Rattle.package_sets.proofs.Named.{definition-named}
+use Rattle.package_sets.proofs.Named.{named-before}
 use Rattle.package_sets.proofs.Belonging.{Belongs, belongs, owner-front}
 use Rattle.package_sets.proofs.Behind.{before, own-rows, rows-there}
 use Rattle.package_sets.proofs.Parting.{own-stand}
 
 -- a place behind the first list
-get-behind : {A : Type 0} (xs ys : List A) (k : ℕ) → length xs ≤ k → slice_get (xs ++ ys) k ≡ slice_get ys (k - length xs)
+pub get-behind : {A : Type 0} (xs ys : List A) (k : ℕ) → length xs ≤ k → slice_get (xs ++ ys) k ≡ slice_get ys (k - length xs)
 get-behind xs ys k l =
     let whole : length xs + (k - length xs) ≡ k = omega arith in
     ap (slice_get (xs ++ ys)) (sym whole) ∙ behind-get xs ys (k - length xs)
@@ -49,22 +48,22 @@ module _ (s c : Resolve) (j : Joined) (q : IsJoined s c j) (own : PackageParts) 
 
   -- ---- owners of the set
 
-  front-interface : (i : ℕ) → i < length s.interfaces → slice_get r.interfaces i ≡ slice_get s.interfaces i
+  pub front-interface : (i : ℕ) → i < length s.interfaces → slice_get r.interfaces i ≡ slice_get s.interfaces i
   front-interface i l = ap (λ (is : List Interface). slice_get is i) put.interfaces ∙ get-front s.interfaces (map (put_interface to) (own_interfaces c)) i l
 
-  front-world : (w : ℕ) → w < length s.worlds → slice_get r.worlds w ≡ slice_get s.worlds w
+  pub front-world : (w : ℕ) → w < length s.worlds → slice_get r.worlds w ≡ slice_get s.worlds w
   front-world w l = ap (λ (ws : List World). slice_get ws w) put.worlds ∙ get-front s.worlds (map (put_world to) c.worlds) w l
 
   same-interface : (i : ℕ) → i < length s.interfaces → package_of_owner r (Some (owner.Interface (record { 0 = i }))) ≡ package_of_owner s (Some (owner.Interface (record { 0 = i })))
   same-interface i l = ap (λ (o : Option Interface). number_or (option_map (λ x. x.«package».0) o)) (front-interface i l)
 
   -- an owner that the set has, which is of the package that it was
-  record IsOfSet (o : Option Owner) : Type 0 where
+  pub record IsOfSet (o : Option Owner) : Type 0 where
     pub one : Owner
     pub is : o ≡ Some one
     pub same : package_of_owner r (Some one) ≡ package_of_owner s (Some one)
 
-  set-owner : IsPackageByPackage s → (t : ℕ) (x : Definition) → slice_get s.definitions t ≡ Some x → IsOfSet (get_or (owners s.definitions) t None)
+  pub set-owner : IsPackageByPackage s → (t : ℕ) (x : Definition) → slice_get s.definitions t ≡ Some x → IsOfSet (get_or (owners s.definitions) t None)
   set-owner h t x e = by (belongs s.definitions 0 0 s.interfaces 0 s.worlds h t x (omega arith) e)
     where
       by : Belongs s.definitions 0 (0 + length s.interfaces) 0 (0 + length s.worlds) t x → IsOfSet (get_or (owners s.definitions) t None)
@@ -75,9 +74,15 @@ module _ (s c : Resolve) (j : Joined) (q : IsJoined s c j) (own : PackageParts) 
         same = ap (λ (o : Option World). number_or (option_map (λ y. y.«package».0) o)) (front-world a.world (omega (arith, a.ends)));
       }
 
+  -- a row of the set is of what it was
+  pub same-owner : IsPackageByPackage s → (t : ℕ) (x : Definition) → slice_get s.definitions t ≡ Some x → get_or (owners r.definitions) t None ≡ get_or (owners s.definitions) t None
+  same-owner h t x e =
+      let o = set-owner h t x e in
+      ap (λ (ds : List Definition). get_or (owners ds) t None) put.definitions ∙ (owner-front s.definitions (own-rows s c j q) t o.one o.is ∙ sym o.is)
+
   -- ---- owners of the package
 
-  own-interface : (i : ℕ) → length s.interfaces ≤ i → i < length s.interfaces + length (map (put_interface to) (own_interfaces c)) → package_of_owner r (Some (owner.Interface (record { 0 = i }))) ≡ length s.packages
+  pub own-interface : (i : ℕ) → length s.interfaces ≤ i → i < length s.interfaces + length (map (put_interface to) (own_interfaces c)) → package_of_owner r (Some (owner.Interface (record { 0 = i }))) ≡ length s.packages
   own-interface i a b =
       let k = i - length s.interfaces in
       let x = one-there (own_interfaces c) k (omega (arith, a, b, length-map (own_interfaces c) (put_interface to))) in
@@ -85,7 +90,7 @@ module _ (s c : Resolve) (j : Joined) (q : IsJoined s c j) (own : PackageParts) 
       ap (λ (is : List Interface). slice_get is i) put.interfaces ∙ (get-behind s.interfaces (map (put_interface to) (own_interfaces c)) i a ∙ map-get (put_interface to) (own_interfaces c) k x.0 x.1) in
       ap (λ (o : Option Interface). number_or (option_map (λ y. y.«package».0) o)) at ∙ q.are_joined.package_is
 
-  own-world : (w : ℕ) → length s.worlds ≤ w → w < length s.worlds + length (map (put_world to) c.worlds) → package_of_owner r (Some (owner.World (record { 0 = w }))) ≡ length s.packages
+  pub own-world : (w : ℕ) → length s.worlds ≤ w → w < length s.worlds + length (map (put_world to) c.worlds) → package_of_owner r (Some (owner.World (record { 0 = w }))) ≡ length s.packages
   own-world w a b =
       let k = w - length s.worlds in
       let x = one-there c.worlds k (omega (arith, a, b, length-map c.worlds (put_world to))) in
@@ -93,7 +98,7 @@ module _ (s c : Resolve) (j : Joined) (q : IsJoined s c j) (own : PackageParts) 
       ap (λ (ws : List World). slice_get ws w) put.worlds ∙ (get-behind s.worlds (map (put_world to) c.worlds) w a ∙ map-get (put_world to) c.worlds k x.0 x.1) in
       ap (λ (o : Option World). number_or (option_map (λ y. y.«package».0) o)) at ∙ q.are_joined.package_is
 
-  own-owner : HasRowsInForm c → (t : ℕ) (x : Definition) → length s.definitions ≤ t → slice_get R t ≡ Some x → package_of_owner r (get_or (owners R) t None) ≡ length s.packages
+  pub own-owner : HasRowsInForm c → (t : ℕ) (x : Definition) → length s.definitions ≤ t → slice_get R t ≡ Some x → package_of_owner r (get_or (owners R) t None) ≡ length s.packages
   own-owner form t x l e =
       by (belongs R (length s.definitions) (0 + length s.interfaces) (map (put_interface to) (own_interfaces c)) (0 + length s.worlds) (map (put_world to) c.worlds) (own-stand s c j q form) t x l e)
     where
@@ -103,7 +108,7 @@ module _ (s c : Resolve) (j : Joined) (q : IsJoined s c j) (own : PackageParts) 
       by (inr a) = ap (package_of_owner r) a.owned ∙ own-world a.world (omega (arith, a.begins)) (omega (arith, a.ends))
 
   -- the own package is the last
-  length-packages : length r.packages ≡ length s.packages + 1
+  pub length-packages : length r.packages ≡ length s.packages + 1
   length-packages = ap length put.packages ∙ length-append s.packages (own ∷ [])
 
   number-last : {A : Type 0} (number : A → ℕ) (o : Option A) → ((x : A) → o ≡ Some x → number x ≤ length s.packages) → number_or (option_map number o) ≤ length s.packages
@@ -130,8 +135,7 @@ module _ (s c : Resolve) (j : Joined) (q : IsJoined s c j) (own : PackageParts) 
   set-named stands h k d o at names-it =
       let within = slice_get_within s.definitions k d at in
       let u = contains-unmap (owner_at (owners R)) (names d) o names-it in
-      let below : definition_all (is_below k) d ≡ true = below-at k s.definitions k d s.earlier within refl (sym (get_or_from_slice_get s.definitions k d d at)) in
-      let before : u.0.0 < k = ltb-true u.0.0 k (definition-named (is_below k) d below u.0 u.1) in
+      let before = named-before s.definitions k d u.0 s.earlier at u.1 in
       let x = one-there s.definitions u.0.0 (omega (arith, before, within)) in
       let there = set-owner stands u.0.0 x.0 x.1 in
       let here = set-owner stands k d at in

@@ -9,7 +9,7 @@ use Rattle.std.proofs.lemmas.List.Elements.{Contains-append_right}
 use Rattle.package_form.specs.References.{references as references-in}
 use Rattle.package_form.proofs.Lists.{contains-map, contains-flat}
 use Rattle.tables.specs.Tables.{is_below, definition_all, are_earlier, is_type, name_types, is_standard, are_standard, function_of, type_of, is_there as is_some, is_type_id, is_function_id, is_placed, are_placed, are_grouped, are_worlds_grouped, is_owner_world, is_function_of, is_placed_item, is_placed_world, are_placed_worlds}
-use Rattle.tables.proofs.Rows.{split, both, below-at}
+use Rattle.tables.proofs.Rows.{split, both}
 use Rattle.tables.proofs.Earlier.{definition-both, grouped-at}
 use Rattle.tables.specs.declared.tables.TypeId.{TypeId}
 use Rattle.tables.specs.declared.tables.FunctionId.{FunctionId}
@@ -36,7 +36,7 @@ use Rattle.package_sets.specs.Part.{of_world, IsPart}
 use Rattle.package_sets.specs.declared.moved.Moved.{Moved}
 use Rattle.package_sets.proofs.Keeping.{kept-at, length-kept, place-before}
 use Rattle.package_sets.proofs.Kept.{list-at, list-kept, list-filter, grouped-kept, worlds-grouped-kept, worlds-grouped-at}
-use Rattle.package_sets.proofs.Named.{definition-all, definition-named, definition-put, standard-put}
+use Rattle.package_sets.proofs.Named.{definition-all, named-before, definition-put, standard-put}
 use Rattle.package_sets.proofs.Lists.{map-get}
 use Rattle.package_sets.proofs.Belonging.{owner-some, one-later}
 use Rattle.package_sets.proofs.Owned.{length-owners}
@@ -61,14 +61,11 @@ module _ (s : Resolve) (to : Moved) (n : IsPart s to) where
   pub mark-at : (k : ℕ) → k < length s.definitions → get_or to.rows k false ≡ is_marked n.marks (get_or (owners s.definitions) k None)
   mark-at k h = ap (λ (bs : List Bool). get_or bs k false) n.rows_are ∙ get_or-map (is_marked n.marks) (owners s.definitions) k None false (omega (arith, h, length-owners s.definitions))
 
-  below : (k : ℕ) (d : Definition) → slice_get s.definitions k ≡ Some d → definition_all (is_below k) d ≡ true
-  below k d e = below-at k s.definitions k d s.earlier (slice_get_within s.definitions k d e) refl (sym (get_or_from_slice_get s.definitions k d d e))
-
   -- what a row that is kept names is kept
   pub closed : (k : ℕ) (d : Definition) → slice_get s.definitions k ≡ Some d → get_or to.rows k false ≡ true → (t : TypeId) → Contains (names d) t → get_or to.rows t.0 false ≡ true
   closed k d e h t c =
       let within : k < length s.definitions = slice_get_within s.definitions k d e in
-      let earlier : t.0 < k = ltb-true t.0 k (definition-named (is_below k) d (below k d e) t c) in
+      let earlier = named-before s.definitions k d t s.earlier e c in
       mark-at t.0 (omega arith) ∙ n.named k d (owner_at (owners s.definitions) t) e (sym (mark-at k within) ∙ h) (contains-map (owner_at (owners s.definitions)) (names d) t c)
 
   there-all : (k : ℕ) (d : Definition) → slice_get s.definitions k ≡ Some d → get_or to.rows k false ≡ true → definition_all (is_there to.rows) d ≡ true
@@ -82,7 +79,7 @@ module _ (s : Resolve) (to : Moved) (n : IsPart s to) where
   pub kept-all : (k m : ℕ) (d : Definition) → k ≤ m → slice_get s.definitions k ≡ Some d → get_or to.rows k false ≡ true → definition_all (is_kept to.rows m) d ≡ true
   kept-all k m d l e h =
       definition-both (is_below m) (is_there to.rows) d
-      ∙ both (definition_all (is_below m) d) (definition_all (is_there to.rows) d) (definition-all (is_below m) primitive d (λ t c. lt-ltb t.0 m (omega (arith, ltb-true t.0 k (definition-named (is_below k) d (below k d e) t c))))) (there-all k d e h)
+      ∙ both (definition_all (is_below m) d) (definition_all (is_there to.rows) d) (definition-all (is_below m) primitive d (λ t c. lt-ltb t.0 m (omega (arith, l, named-before s.definitions k d t s.earlier e c)))) (there-all k d e h)
     where
       primitive : (v : ValType) → references-in v ≡ [] → is_below m v ≡ true
       primitive (val.Primitive p) q = refl

@@ -73,26 +73,26 @@ last-place bs own e h l =
 
 -- ---- tests of lists
 
-any-at : {A : Type 0} (f : A → Bool) (xs : List A) → list_any f xs ≡ true → (k : ℕ) × (x : A) × (slice_get xs k ≡ Some x) × (f x ≡ true)
+pub any-at : {A : Type 0} (f : A → Bool) (xs : List A) → list_any f xs ≡ true → (k : ℕ) × (x : A) × (slice_get xs k ≡ Some x) × (f x ≡ true)
 any-at f xs h =
     let a = Any-from_list_any f xs h in
     (a.0, a.1, slice_get-get_or xs a.0 a.1 a.2 ∙ ap Some a.3, a.4)
 
-at-any : {A : Type 0} (f : A → Bool) (xs : List A) (k : ℕ) (x : A) → slice_get xs k ≡ Some x → f x ≡ true → list_any f xs ≡ true
+pub at-any : {A : Type 0} (f : A → Bool) (xs : List A) (k : ℕ) (x : A) → slice_get xs k ≡ Some x → f x ≡ true → list_any f xs ≡ true
 at-any f xs k x e h = list_any-from_Any f xs (k, x, slice_get_within xs k x e, get_or_from_slice_get xs k x x e, h)
 
-or-either : (a b : Bool) → (a || b) ≡ true → (a ≡ true) ⊎ (b ≡ true)
+pub or-either : (a b : Bool) → (a || b) ≡ true → (a ≡ true) ⊎ (b ≡ true)
 or-either true b h = inl refl
 or-either false b h = inr h
 
-or-left : (a b : Bool) → a ≡ true → (a || b) ≡ true
+pub or-left : (a b : Bool) → a ≡ true → (a || b) ≡ true
 or-left a b h = ap (λ (c : Bool). c || b) h
 
-or-right : (a b : Bool) → b ≡ true → (a || b) ≡ true
+pub or-right : (a b : Bool) → b ≡ true → (a || b) ≡ true
 or-right true b h = refl
 or-right false b h = h
 
-some-length : (n : ℕ) → 0 < n → not (n == 0) ≡ true
+pub some-length : (n : ℕ) → 0 < n → not (n == 0) ≡ true
 some-length n h = grind (arith, nat_tests)
 
 -- each interface is of the own package, or among the places that are reached

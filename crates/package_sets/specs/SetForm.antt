@@ -30,6 +30,3 @@ pub record IsEmpty (r : Resolve) : Type 0 where
   pub interfaces : r.interfaces ≡ []
   pub worlds : r.worlds ≡ []
   pub definitions : r.definitions ≡ []
-
-abbrev pub IsSetOfNone : Resolve → Type 0
-IsSetOfNone r = IsEmpty r → IsInSetForm r

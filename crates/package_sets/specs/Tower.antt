@@ -8,7 +8,7 @@ use Rattle.package_form.specs.Scope.{AreDistinct}
 use Rattle.package_sets.specs.Owners.{owners}
 use Rattle.package_sets.specs.Places.{kept}
 use Rattle.package_sets.specs.Reaches.{Marks, is_marked, is_own_interface, is_own_world, OfPackage, AreReached}
-use Rattle.package_sets.specs.SetForm.{IsInSetForm}
+use Rattle.package_sets.specs.SetForm.{IsInSetForm, IsEmpty}
 use Rattle.tables.specs.declared.tables.Resolve.{Resolve}
 
 -- the type entries of what is kept of a set
@@ -36,3 +36,11 @@ pub record IsInTower (r : Resolve) : Type 0 where
 -- in a tower the table of one package is one that packages have, whose names differ in each scope
 abbrev pub IsFormedOf : Resolve → ℕ → Resolve → Type 0
 IsFormedOf set own r = IsInTower set → own < length set.packages → IsInPackageForm r × All AreDistinct (package_scopes r)
+
+-- the set stays in the tower with the package of a closed table that is in form, and whose names differ in each scope
+abbrev pub KeepsTower : Resolve → Resolve → Resolve → Type 0
+KeepsTower set closed r = IsInTower set → IsInPackageForm closed → All AreDistinct (package_scopes closed) → IsInTower r
+
+-- .. and is in it with none
+abbrev pub IsSetOfNone : Resolve → Type 0
+IsSetOfNone r = IsEmpty r → IsInTower r

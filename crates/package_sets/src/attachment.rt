@@ -5,6 +5,7 @@ ghost use Rattle.package_sets.specs.Attached.{HasAll, LacksFirst, IsAttached, Is
 ghost use Rattle.tables.specs.PackageNames.{PackageParts};
 ghost use Rattle.package_sets.specs.Joining.{AreRowsThere, AreIdsThere, HasIds, HasIdsAt, HasImports};
 ghost use Rattle.package_sets.specs.Joined.{IsJoined, IsPut, renaming_of};
+ghost use Rattle.package_sets.specs.Tower.{KeepsTower};
 ghost use Rattle.package_sets.specs.declared.error.AttachError.TheVariants.{NotThisShape, NoMemory, NoPackage};
 
 use crate::error::AttachError;
@@ -173,6 +174,7 @@ pub fn attached(
     closed: &Resolve,
 ) -> Result<(Resolve, PackageId), AttachError>
     ensures ok { IfOk result (λ r. IsAttached set.now closed.now r.0 r.1.0) }
+    ensures tower { IfOk result (λ r. KeepsTower set.now closed.now r.0) }
     ensures err { IfErr result (IsRefused set.now closed.now) }
 {
     if MOST_PACKAGES <= set.packages.len() {

@@ -1,7 +1,7 @@
 //! Laws of sets.
 ghost use Rattle.std.specs.Prelude.{Bool, List};
 ghost use Rattle.package_sets.specs.One.{AttachesOne, ImportsOne};
-ghost use Rattle.package_sets.specs.SetForm.{IsSetOfNone};
+ghost use Rattle.package_sets.specs.Tower.{IsSetOfNone};
 ghost use Rattle.tables.specs.declared.tables.Resolve.{Resolve};
 
 use tables::Resolve;

@@ -43,6 +43,20 @@ fn parts_of(alloc: Global, resolve: &Resolve) -> Result<(Vec<RawType>, Vec<RawEx
     Ok((types, exports))
 }
 
+/// The component type of a package in form, in the layout of packages, and its shortest bytes. (Binary.md)
+pub fn component_with_bytes(
+    alloc: Global,
+    resolve: &Resolve,
+) -> Result<(RawComponent, Vec<u8>), AllocError>
+    requires { IsInPackageForm resolve.now }
+    ensures ok { IfOk result (λ x. ComponentStands x.0 resolve.now) }
+    ensures spelling { IfOk result (λ x. ∥ AppendsSpelling [] x.1.items (file_view x.0) ∥₁) }
+    ensures exact { IfOk result (λ x. x.1.items ≡ file_bytes (component_of resolve.now)) }
+{
+    let (types, exports) = parts_of(alloc, resolve)?;
+    RawComponent::with_bytes(alloc, types, exports)
+}
+
 /// The component type that a package is, in the layout of packages, and its shortest bytes. 44 `NotThisShape` exactly where the table isn't one
 /// that packages have, unless memory is wanting before that is known. (Binary.md)
 pub fn to_written(alloc: Global, resolve: &Resolve) -> Result<(RawComponent, Vec<u8>), ResolveError>
@@ -55,8 +69,7 @@ pub fn to_written(alloc: Global, resolve: &Resolve) -> Result<(RawComponent, Vec
     if !is_in_form(alloc, resolve)? {
         return Err(ResolveError::NotThisShape);
     }
-    let (types, exports) = parts_of(alloc, resolve)?;
-    Ok(RawComponent::with_bytes(alloc, types, exports)?)
+    Ok(component_with_bytes(alloc, resolve)?)
 }
 
 /// The component type that a package is, in the layout of packages. 44 `NotThisShape` exactly where the table isn't one

@@ -1,5 +1,5 @@
 -- A tree's package is not put behind the set where memory is wanting alone, and makes one set.
-use Rattle.std.proofs.Math.Logic.{∥∥₁_map₂}
+use Rattle.std.proofs.Math.Logic.{∥∥₁_map, ∥∥₁_map₂}
 use Rattle.std.proofs.lemmas.Result.{err_from_is_err_and}
 use Rattle.wit_syntax.specs.View.{file_view}
 use Rattle.package_adding.proofs.Adding.{not-put}
@@ -9,7 +9,7 @@ use Rattle.package_adding.proofs.set.PackageSet.add_tree.Goals as goal
 pub returns-in_err-id-clause-err : goal.returns-in_err-id-clause-err
 returns-in_err-id-clause-err c =
     let p = err_from_is_err_and c.from_residual-in_err-id.result c.from_residual-in_err-id.ensures.1 in
-    rw (p.1, p.2) (not-put (file_view c.args.ast.now) c.args.self.now.resolve c.in_ok-closed.closed c.in_ok-closed.ensures.ok c.args.self.now.form c.in_ok-lacks_package.ensures.ok c.in_err-id.field-0.0 c.in_err-id.ensures.err)
+    rw (p.1, p.2) (not-put (file_view c.args.ast.now) c.args.self.now.resolve c.in_ok-closed.closed c.in_ok-closed.ensures.ok (∥∥₁_map c.args.self.now.tower (λ t. t.form)) c.in_ok-lacks_package.ensures.ok c.in_err-id.field-0.0 c.in_err-id.ensures.err)
 
 pub returns-clause-only : goal.returns-clause-only
 returns-clause-only c = λ closed r id h w fits.
@@ -30,3 +30,6 @@ returns-in_err-id-clause-only c = λ closed r id h w fits.
     let p = err_from_is_err_and c.from_residual-in_err-id.result c.from_residual-in_err-id.ensures.1 in
     let same = c.in_ok-closed.ensures.only closed h.tree w fits in
     rw (p.1, p.2) (refused-for-memory c.args.self.now.resolve closed r id h.attached c.in_ok-closed.closed same c.in_err-id.field-0.0 c.in_err-id.ensures.err)
+
+pub closed_over-requires-clause-form : goal.closed_over-requires-clause-form
+closed_over-requires-clause-form c = ∥∥₁_map c.args.self.now.tower (λ t. t.form)

@@ -1,10 +1,10 @@
--- The set with a package more is in the form of sets.
+-- The set with a package more stays in the tower.
 use Rattle.std.proofs.Math.Logic.{∥∥₁_elim, ∥∥₁_map, ∥∥₁_prop}
 use Rattle.package_adding.proofs.set.PackageSet.attach.Goals as goal
 
 pub invariant_of-self : goal.invariant_of-self
 invariant_of-self c = record {
-  form = ∥∥₁_elim c.requires.form ∥∥₁_prop (λ form.
+  tower = ∥∥₁_elim c.requires.form ∥∥₁_prop (λ form.
       ∥∥₁_elim c.requires.distinct ∥∥₁_prop (λ distinct.
-      ∥∥₁_map c.args.self.now.form (λ s. c.in_ok-resolve.ensures.ok.in_form s form distinct)));
+      ∥∥₁_map c.args.self.now.tower (λ s. c.in_ok-resolve.ensures.tower s form distinct)));
 }
