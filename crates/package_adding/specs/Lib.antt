@@ -1,5 +1,6 @@
 pub mod Added
 pub mod BehindImports
 pub mod Named
+pub mod Noted
 pub mod NamedIn
 pub mod Written

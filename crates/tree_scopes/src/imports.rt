@@ -35,7 +35,7 @@ pub fn no_imports(alloc: Global) -> Resolve
 }
 
 /// Whether the package has the name that a path gives.
-pub fn is_package(package: &PackageName, id: &PackageId) -> bool
+fn is_package(package: &PackageName, id: &PackageId) -> bool
     ensures { result ≡ is_same_package «package».now (header id.now) }
 {
     package.namespace.as_bytes() == id.namespace.as_bytes()
