@@ -1,9 +1,10 @@
 -- What the own part of a closed table names of a set, as tests tell it.
-use Rattle.std.proofs.Common.{◌≡◌, ◌≢◌, ◌⊎◌, inl, inr, ◌↔◌, ◌<◌, ◌≤◌, ◌+◌, ◌-◌, ◌&&◌, ◌||◌, ◌==◌, ℕ, zero, suc, Bool, true, false, List, [], ◌∷◌, length, get_or, slice_get, Option, None, Some, refl, ap, sym, subst, ◌∙◌, arith, Contains, replicate}
+use Rattle.std.proofs.Common.{◌≡◌, ◌≢◌, ◌⊎◌, inl, inr, ◌↔◌, ◌<◌, ◌≤◌, ◌+◌, ◌-◌, ◌&&◌, ◌||◌, ◌==◌, ℕ, zero, suc, Bool, true, false, List, [], ◌∷◌, length, take, get_or, slice_get, Option, None, Some, refl, ap, sym, subst, ◌∙◌, arith, Contains, replicate}
 use Rattle.std.specs.Prelude.{Decides}
 use Rattle.std.proofs.lemmas.List.Folds.{Any-from_list_any, list_any-from_Any}
 use Rattle.std.proofs.lemmas.List.{get_or_default, get_or-replicate, length-map, length-replicate, length-take}
-use Rattle.std.proofs.lemmas.Option.{get_or_from_slice_get, slice_get_within}
+use Rattle.std.proofs.lemmas.Option.{slice_get_within}
+use Rattle.std.specs.Str.{bytes_eq}
 use Rattle.std.proofs.lemmas.Slice.Eq.{bytes_eq-Decides}
 use Rattle.std.proofs.lemmas.Bool.{cases_lt, eq-eqb, eqb-true}
 use Rattle.canonical_abi.proofs.Images.{slice_get-take}
@@ -12,7 +13,6 @@ use Rattle.package_form.specs.Marks.{AreMarked}
 use Rattle.package_form.specs.Reached.{is_among}
 use Rattle.package_form.proofs.OwnPackage.{package-is, same-itself}
 use Rattle.package_sets.proofs.Behind.{import-other, own-behind}
-use Rattle.package_sets.proofs.Lists.{map-get}
 use Rattle.package_sets.proofs.MarkedPlaces.{interface-in}
 use Rattle.package_sets.proofs.One.{imports-one}
 use Rattle.package_sets.proofs.SameTables.{same-tables}
@@ -23,9 +23,8 @@ use Rattle.tables.proofs.Rows.{split, both}
 use Rattle.tables.specs.PackageNames.{PackageParts}
 use Rattle.tables.specs.declared.tables.Interface.{Interface}
 use Rattle.tables.specs.declared.tables.Resolve.{Resolve}
-use Rattle.package_adding.specs.Named.{is_wanted}
 use Rattle.package_adding.specs.NamedIn.{own_reached, IsImportAt, NamesIn, AreNamedIn}
-use Rattle.package_adding.specs.BehindImports.{is_import_named, any_marked, is_named_in, package_marks_in, is_interface_named_in, interface_marks_in, HasImportTable, IsBehindImports}
+use Rattle.package_adding.specs.BehindImports.{import_names, any_marked, marked_names, HasImportTable, IsBehindImports}
 use Rattle.package_adding.proofs.Marks.{one-marks}
 
 -- ---- marks
@@ -66,6 +65,25 @@ has-any has (b ∷ bs) (y ∷ xs) (suc k) x e m h = ap (λ (c : Bool). (b && has
     or-true true = refl
     or-true false = refl
 
+-- the property, by one element more
+pub any-more : {A : Type 0} (has : A → Bool) (bs : List Bool) (xs : List A) (k : ℕ) (x : A) → k < length xs → x ≡ get_or xs k x → any_marked has bs (take (k + 1) xs) ≡ (any_marked has bs (take k xs) || (get_or bs k false && has x))
+any-more {A} has bs xs k x l e = let one : k + 1 ≡ suc k = omega arith in ap (λ (n : ℕ). any_marked has bs (take n xs)) one ∙ by bs xs k l e
+  where
+    or-assoc : (a b c : Bool) → (a || (b || c)) ≡ ((a || b) || c)
+    or-assoc true b c = refl
+    or-assoc false b c = refl
+
+    or-false : (b : Bool) → (b || false) ≡ b
+    or-false true = refl
+    or-false false = refl
+
+    by : (bs : List Bool) (xs : List A) (k : ℕ) → k < length xs → x ≡ get_or xs k x → any_marked has bs (take (suc k) xs) ≡ (any_marked has bs (take k xs) || (get_or bs k false && has x))
+    by bs [] k l e = absurd (omega (arith, l))
+    by [] (y ∷ xs) zero l e = refl
+    by [] (y ∷ xs) (suc k) l e = refl
+    by (b ∷ bs) (y ∷ xs) zero l e = or-false (b && has y) ∙ ap (λ (z : A). b && has z) (sym e)
+    by (b ∷ bs) (y ∷ xs) (suc k) l e = ap (λ (c : Bool). (b && has y) || c) (by bs xs k (omega (arith, l)) e) ∙ or-assoc (b && has y) (any_marked has bs (take k xs)) (get_or bs k false && has x)
+
 -- ---- what is among the places that are reached
 
 among-reached : (places : List ℕ) (k : ℕ) → is_among places k ≡ true → Contains places k
@@ -80,7 +98,7 @@ same-is : (q : PackageParts) (o : Option PackageParts) → are_same_packages (So
 same-is q None h = absurd (cc)
 same-is q (Some p) h = ap Some (sym (package-is q p h))
 
-module _ (closed set : Resolve) (reached : List Bool) (m : AreMarked (length closed.interfaces) (own_reached closed) reached) where
+module _ (closed : Resolve) (reached : List Bool) (m : AreMarked (length closed.interfaces) (own_reached closed) reached) where
   -- an import stands among the interfaces, and is of an earlier package than the own one
   at-import : (k : ℕ) (x : Interface) → slice_get (imports closed) k ≡ Some x → (slice_get closed.interfaces k ≡ Some x) × (x.«package».0 < own_package closed.packages)
   at-import k x e =
@@ -107,56 +125,26 @@ module _ (closed set : Resolve) (reached : List Bool) (m : AreMarked (length clo
           let own = own-behind (length closed.packages) 0 closed.interfaces closed.grouped (k - count) x (ap (slice_get closed.interfaces) place ∙ e) in
           absurd (omega arith)
 
-  -- an import with a mark that the test finds is named
-  is-named : (q : PackageParts) (n : Option (List ℕ)) (h : HasMarked (is_import_named closed q n) reached (imports closed)) → NamesIn closed q h.one.name × (is_wanted n h.one.name ≡ true)
-  is-named q n h =
-      let x = h.one in
-      let i = at-import h.place x h.at in
-      let s = split (are_same_packages (Some q) (slice_get closed.packages x.«package».0)) (is_wanted n x.name) h.holds in
-      let there : Contains (own_reached closed) h.place =
-      among-reached (own_reached closed) h.place (sym (m.each h.place (slice_get_within closed.interfaces h.place x i.0)) ∙ h.marked) in
-      let at : IsImportAt closed q x.name h.place = record { interface = x; at = i.0; of = same-is q (slice_get closed.packages x.«package».0) s.0; other = i.1; named = refl } in
-      ((h.place, there, at), s.1)
+  -- an import with a mark that the test finds is named, and what is named is found
+  pub imports-tell : (q : PackageParts) (i : List ℕ) → (marked_names closed reached (imports closed) q i ≡ true) ↔ NamesIn closed q i
+  imports-tell q i = (there, back)
+    where
+      there : marked_names closed reached (imports closed) q i ≡ true → NamesIn closed q i
+      there t =
+          let h = any-has (λ x. import_names closed x q i) reached (imports closed) t in
+          let x = h.one in
+          let e = at-import h.place x h.at in
+          let s = split (are_same_packages (Some q) (slice_get closed.packages x.«package».0)) (bytes_eq i x.name) h.holds in
+          let c : Contains (own_reached closed) h.place =
+          among-reached (own_reached closed) h.place (sym (m.each h.place (slice_get_within closed.interfaces h.place x e.0)) ∙ h.marked) in
+          (h.place, c, record { interface = x; at = e.0; of = same-is q (slice_get closed.packages x.«package».0) s.0; other = e.1; named = sym ((bytes_eq-Decides i x.name).0 s.1) })
 
-  -- what is named is found
-  named-found : (q : PackageParts) (n : Option (List ℕ)) (i : List ℕ) → NamesIn closed q i → is_wanted n i ≡ true → any_marked (is_import_named closed q n) reached (imports closed) ≡ true
-  named-found q n i (k, c, x) w =
-      let same = ap (are_same_packages (Some q)) x.of ∙ same-itself q in
-      let wanted = ap (is_wanted n) x.named ∙ w in
-      has-any (is_import_named closed q n) reached (imports closed) k x.interface (import-at k x.interface x.at x.other)
-      (m.each k (slice_get_within closed.interfaces k x.interface x.at) ∙ reached-among (own_reached closed) k c)
-      (both (are_same_packages (Some q) (slice_get closed.packages x.interface.«package».0)) _ same wanted)
-
-  package-told : (q : PackageParts) → (is_named_in closed reached None (Some q) ≡ true) ↔ ((i : List ℕ) × NamesIn closed q i)
-  package-told q = (
-    λ t. let h = any-has (is_import_named closed q None) reached (imports closed) t in (h.one.name, (is-named q None h).0),
-    λ x. named-found q None x.0 x.1 refl,
-  )
-
-  interface-told : (q : PackageParts) (i : List ℕ) → (is_named_in closed reached (Some i) (Some q) ≡ true) ↔ NamesIn closed q i
-  interface-told q i = (
-    λ t.
-        let h = any-has (is_import_named closed q (Some i)) reached (imports closed) t in
-        let x = is-named q (Some i) h in
-        subst (NamesIn closed q) (sym ((bytes_eq-Decides i h.one.name).0 x.1)) x.0,
-    λ x. named-found q (Some i) i x ((bytes_eq-Decides i i).1 refl),
-  )
-
-  pub marks-told : (packages interfaces : List Bool) → packages ≡ package_marks_in closed reached set → interfaces ≡ interface_marks_in closed reached set → AreNamedIn closed set packages interfaces
-  marks-told packages interfaces d e = record {
-    each_package = ap length d ∙ length-map set.packages (λ q. is_named_in closed reached None (Some q));
-    each_interface = ap length e ∙ length-map set.interfaces (is_interface_named_in closed reached set);
-    packages_are = λ k q at.
-        let marks = ap (λ (bs : List Bool). get_or bs k false) d
-        ∙ get_or_from_slice_get (package_marks_in closed reached set) k (is_named_in closed reached None (Some q)) false
-        (map-get (λ (p : PackageParts). is_named_in closed reached None (Some p)) set.packages k q at) in
-        subst (λ (b : Bool). (b ≡ true) ↔ ((i : List ℕ) × NamesIn closed q i)) (sym marks) (package-told q);
-    interfaces_are = λ k i q at of.
-        let marks = ap (λ (bs : List Bool). get_or bs k false) e
-        ∙ (get_or_from_slice_get (interface_marks_in closed reached set) k (is_interface_named_in closed reached set i) false (map-get (is_interface_named_in closed reached set) set.interfaces k i at)
-        ∙ ap (is_named_in closed reached (Some i.name)) of) in
-        subst (λ (b : Bool). (b ≡ true) ↔ NamesIn closed q i.name) (sym marks) (interface-told q i.name);
-  }
+      back : NamesIn closed q i → marked_names closed reached (imports closed) q i ≡ true
+      back (k, c, x) =
+          let same = ap (are_same_packages (Some q)) x.of ∙ same-itself q in
+          has-any (λ y. import_names closed y q i) reached (imports closed) k x.interface (import-at k x.interface x.at x.other)
+          (m.each k (slice_get_within closed.interfaces k x.interface x.at) ∙ reached-among (own_reached closed) k c)
+          (both (are_same_packages (Some q) (slice_get closed.packages x.interface.«package».0)) _ same ((bytes_eq-Decides i x.interface.name).1 (sym x.named)))
 
 -- ---- there is one table of imports
 

@@ -4,6 +4,7 @@ pub mod ImportTables
 pub mod Importing
 pub mod Marks
 pub mod Naming
+pub mod Noting
 pub mod Only
 pub mod OwnRows
 pub mod Refusals

@@ -1,33 +1,24 @@
 -- The tests of trees tell what their files name.
 use Rattle.std.proofs.Common.{◌≡◌, ◌↔◌, inl, inr, ◌||◌, ◌==◌, ℕ, zero, suc, Bool, true, false, not, List, [], ◌∷◌, map, filter_map, length, get_or, Option, None, Some, refl, ap, sym, subst, ◌∙◌, arith, Contains}
 use Rattle.std.specs.List.{list_any}
+use Rattle.std.specs.Str.{bytes_eq}
 use Rattle.std.proofs.lemmas.Bool.Decides.{nat_tests}
-use Rattle.std.proofs.lemmas.List.{length-map}
-use Rattle.std.proofs.lemmas.Option.{get_or_from_slice_get}
 use Rattle.std.proofs.lemmas.Slice.Eq.{bytes_eq-Decides}
 use Rattle.package_form.specs.Closed.{is_same_package}
 use Rattle.package_form.proofs.Lists.{contains-here, contains-later, contains-map, contains-unmap, contains-flat}
 use Rattle.package_form.proofs.OwnPackage.{package-is, same-itself}
-use Rattle.package_sets.proofs.Lists.{map-get, contains-unflat}
+use Rattle.package_sets.proofs.Lists.{contains-unflat}
 use Rattle.tree_meaning.specs.Declarations.{UsedItem, path_package, path_interface, used_item, entry_uses, interface_tree, interface_of, InterfaceTree, WorldTree, ForeignNamed, item_tree, world_tree, world_of}
-use Rattle.tree_meaning.specs.Imports.{nameless}
 use Rattle.tree_meaning.proofs.FileEntries.{found}
 use Rattle.tree_meaning.proofs.PathNames.{any-there, any-not}
 use Rattle.tables.proofs.Rows.{split, both}
 use Rattle.tables.specs.PackageNames.{PackageParts}
-use Rattle.tables.specs.declared.tables.Resolve.{Resolve}
 use Rattle.wit_syntax.specs.Syntax.{PathTo, Local, Foreign, UsedAs, Entry, Uses, Defines, Declares, WorldEntry, Whole, Single, FileEntry, AnInterface, AWorld, File}
-use Rattle.wit_syntax.specs.View.{item_view, file_view}
-use Rattle.wit_syntax.specs.declared.ast.Ast.{Ast}
 use Rattle.wit_syntax.specs.declared.ast.Direction.{Direction}
 use Rattle.wit_tokens.specs.declared.token.Span.{Span}
-use Rattle.package_adding.specs.Named.{NamesInterface, NamesPackage, AreNamed, is_wanted, path_names, entry_names, world_entry_names, file_entry_names, items_name, package_marks, is_interface_named, interface_marks}
+use Rattle.package_adding.specs.Named.{NamesInterface, path_names, entry_names, world_entry_names, file_entry_names, any_names}
 
 -- ---- lists
-
-pub any-map : {A B : Type 0} (f : B → Bool) (g : A → B) (xs : List A) → list_any f (map g xs) ≡ list_any (λ x. f (g x)) xs
-any-map f g [] = refl
-any-map f g (x ∷ xs) = ap (λ (b : Bool). f (g x) || b) (any-map f g xs)
 
 or-true : (b : Bool) → (b || true) ≡ true
 or-true true = refl
@@ -74,19 +65,19 @@ of-world (AWorld at n xs ∷ es) w (suc k, l, is) = behind (AWorld at n xs) es w
 
 -- ---- paths
 
-path-tells : (q : PackageParts) (n : Option (List ℕ)) (p : PathTo) → path_names q n p ≡ true → (path_package p ≡ Some q) × (is_wanted n (path_interface p) ≡ true)
-path-tells q n (Local i) h = absurd (cc)
-path-tells q n (Foreign a b v i) h =
+path-tells : (q : PackageParts) (i : List ℕ) (p : PathTo) → path_names p q i ≡ true → (path_package p ≡ Some q) × (path_interface p ≡ i)
+path-tells q i (Local n) h = absurd (cc)
+path-tells q i (Foreign a b v n) h =
     let p : PackageParts = record { namespace = a; name = b; version = v } in
-    let s = split (is_same_package q p) (is_wanted n i) h in
-    (ap (λ (x : PackageParts). Some x) (sym (package-is q p s.0)), s.1)
+    let s = split (is_same_package q p) (bytes_eq i n) h in
+    (ap (λ (x : PackageParts). Some x) (sym (package-is q p s.0)), sym ((bytes_eq-Decides i n).0 s.1))
 
-tells-path : (q : PackageParts) (n : Option (List ℕ)) (p : PathTo) → path_package p ≡ Some q → is_wanted n (path_interface p) ≡ true → path_names q n p ≡ true
-tells-path q n (Local i) e h = absurd (cc)
-tells-path q n (Foreign a b v i) e h =
+tells-path : (q : PackageParts) (i : List ℕ) (p : PathTo) → path_package p ≡ Some q → path_interface p ≡ i → path_names p q i ≡ true
+tells-path q i (Local n) e h = absurd (cc)
+tells-path q i (Foreign a b v n) e h =
     let p : PackageParts = record { namespace = a; name = b; version = v } in
     let is : p ≡ q = cc in
-    both (is_same_package q p) (is_wanted n i) (ap (is_same_package q) is ∙ same-itself q) h
+    both (is_same_package q p) (bytes_eq i n) (ap (is_same_package q) is ∙ same-itself q) ((bytes_eq-Decides i n).1 (sym h))
 
 some-used : (us : List UsedAs) → not (length us == 0) ≡ true → (u : UsedAs) × Contains us u
 some-used [] h = absurd (cc)
@@ -98,83 +89,74 @@ used-some (v ∷ us) u c = grind (arith, nat_tests)
 
 -- ---- files
 
--- something of the package that is looked for
-abbrev NamesWanted : File → PackageParts → Option (List ℕ) → Type 0
-NamesWanted f q n = (i : List ℕ) × NamesInterface f q i × (is_wanted n i ≡ true)
-
-module _ (f : File) (q : PackageParts) (n : Option (List ℕ)) where
-  use-tells : (name : List ℕ) (es : List Entry) → Contains f.entries (AnInterface name es) → (e : Entry) → Contains es e → entry_names q n e ≡ true → NamesWanted f q n
+module _ (f : File) (q : PackageParts) (i : List ℕ) where
+  use-tells : (name : List ℕ) (es : List Entry) → Contains f.entries (AnInterface name es) → (e : Entry) → Contains es e → entry_names e q i ≡ true → NamesInterface f q i
   use-tells name es c (Defines at m d) k h = absurd (cc)
   use-tells name es c (Declares at m g) k h = absurd (cc)
   use-tells name es c (Uses at p us) k h =
-      let s = split (not (length us == 0)) (path_names q n p) h in
+      let s = split (not (length us == 0)) (path_names p q i) h in
       let u = some-used us s.0 in
-      let t = path-tells q n p s.1 in
-      let used : UsedItem = used_item p u.0 in (
-        path_interface p,
-        inl (
-          interface_tree name es,
-          found interface_of f.entries (AnInterface name es) (interface_tree name es) c refl,
-          (used, contains-flat entry_uses es (Uses at p us) used k (contains-map (used_item p) us u.0 u.1), t.0, refl),
-        ),
-        t.1,
+      let t = path-tells q i p s.1 in
+      let used : UsedItem = used_item p u.0 in
+      inl (
+        interface_tree name es,
+        found interface_of f.entries (AnInterface name es) (interface_tree name es) c refl,
+        (used, contains-flat entry_uses es (Uses at p us) used k (contains-map (used_item p) us u.0 u.1), t.0, t.1),
       )
 
-  item-tells : (at : Span) (name : List ℕ) (es : List WorldEntry) → Contains f.entries (AWorld at name es) → (e : WorldEntry) → Contains es e → world_entry_names q n e ≡ true → NamesWanted f q n
+  item-tells : (at : Span) (name : List ℕ) (es : List WorldEntry) → Contains f.entries (AWorld at name es) → (e : WorldEntry) → Contains es e → world_entry_names e q i ≡ true → NamesInterface f q i
   item-tells at name es c (Single way a m g) k h = absurd (cc)
-  item-tells at name es c (Whole way (Local i)) k h = absurd (cc)
-  item-tells at name es c (Whole way (Foreign a b v i)) k h =
-      let t = path-tells q n (Foreign a b v i) h in
+  item-tells at name es c (Whole way (Local n)) k h = absurd (cc)
+  item-tells at name es c (Whole way (Foreign a b v n)) k h =
+      let t = path-tells q i (Foreign a b v n) h in
       let p : PackageParts = record { namespace = a; name = b; version = v } in
-      let is : p ≡ q = cc (t.0) in (
-        i,
-        inr (
-          world_tree name es,
-          found world_of f.entries (AWorld at name es) (world_tree name es) c refl,
-          (way, subst (λ (x : PackageParts). Contains (map item_tree es) (ForeignNamed way x i)) is (contains-map item_tree es (Whole way (Foreign a b v i)) k)),
-        ),
-        t.1,
+      let is : p ≡ q = cc (t.0) in
+      let item : Contains (map item_tree es) (ForeignNamed way p n) = contains-map item_tree es (Whole way (Foreign a b v n)) k in
+      inr (
+        world_tree name es,
+        found world_of f.entries (AWorld at name es) (world_tree name es) c refl,
+        (way, subst (λ (x : PackageParts). Contains (map item_tree es) (ForeignNamed way x i)) is (subst (λ (x : List ℕ). Contains (map item_tree es) (ForeignNamed way p x)) t.1 item)),
       )
 
-  file-tells : list_any (file_entry_names q n) f.entries ≡ true → NamesWanted f q n
-  file-tells h = let e = any-one (file_entry_names q n) f.entries h in by e.0 e.1 e.2
+  file-tells : any_names file_entry_names f.entries q i ≡ true → NamesInterface f q i
+  file-tells h = let e = any-one (λ x. file_entry_names x q i) f.entries h in by e.0 e.1 e.2
     where
-      by : (e : FileEntry) → Contains f.entries e → file_entry_names q n e ≡ true → NamesWanted f q n
-      by (AnInterface name es) c g = let u = any-one (entry_names q n) es g in use-tells name es c u.0 u.1 u.2
-      by (AWorld at name es) c g = let u = any-one (world_entry_names q n) es g in item-tells at name es c u.0 u.1 u.2
+      by : (e : FileEntry) → Contains f.entries e → file_entry_names e q i ≡ true → NamesInterface f q i
+      by (AnInterface name es) c g = let u = any-one (λ x. entry_names x q i) es g in use-tells name es c u.0 u.1 u.2
+      by (AWorld at name es) c g = let u = any-one (λ x. world_entry_names x q i) es g in item-tells at name es c u.0 u.1 u.2
 
-  module _ (i : List ℕ) (wanted : is_wanted n i ≡ true) where
-    of-path : (p : PathTo) → path_package p ≡ Some q → path_interface p ≡ i → path_names q n p ≡ true
-    of-path p e g = tells-path q n p e (ap (is_wanted n) g ∙ wanted)
+  tells-use : (e : Entry) (u : UsedItem) → Contains (entry_uses e) u → u.«package» ≡ Some q → u.interface ≡ i → entry_names e q i ≡ true
+  tells-use (Defines at m d) u c e g = absurd (omega (arith, c.1))
+  tells-use (Declares at m d) u c e g = absurd (omega (arith, c.1))
+  tells-use (Uses at p us) u c e g =
+      let x = contains-unmap (used_item p) us u c in
+      both (not (length us == 0)) (path_names p q i) (used-some us x.0 x.1)
+      (tells-path q i p (ap (λ (y : UsedItem). y.«package») x.2 ∙ e) (ap (λ (y : UsedItem). y.interface) x.2 ∙ g))
 
-    tells-use : (e : Entry) (u : UsedItem) → Contains (entry_uses e) u → u.«package» ≡ Some q → u.interface ≡ i → entry_names q n e ≡ true
-    tells-use (Defines at m d) u c e g = absurd (omega (arith, c.1))
-    tells-use (Declares at m d) u c e g = absurd (omega (arith, c.1))
-    tells-use (Uses at p us) u c e g =
-        let x = contains-unmap (used_item p) us u c in
-        both (not (length us == 0)) (path_names q n p) (used-some us x.0 x.1)
-        (of-path p (ap (λ (y : UsedItem). y.«package») x.2 ∙ e) (ap (λ (y : UsedItem). y.interface) x.2 ∙ g))
+  tells-item : (e : WorldEntry) (way : Direction) → item_tree e ≡ ForeignNamed way q i → world_entry_names e q i ≡ true
+  tells-item (Single d at m g) way e = absurd (cc)
+  tells-item (Whole d (Local m)) way e = absurd (cc)
+  tells-item (Whole d (Foreign a b v m)) way e =
+      let p : PackageParts = record { namespace = a; name = b; version = v } in
+      let is : p ≡ q = cc in
+      let name : m ≡ i = cc in
+      tells-path q i (Foreign a b v m) (ap (λ (x : PackageParts). Some x) is) name
 
-    tells-item : (e : WorldEntry) (way : Direction) → item_tree e ≡ ForeignNamed way q i → world_entry_names q n e ≡ true
-    tells-item (Single d at m g) way e = absurd (cc)
-    tells-item (Whole d (Local m)) way e = absurd (cc)
-    tells-item (Whole d (Foreign a b v m)) way e =
-        let p : PackageParts = record { namespace = a; name = b; version = v } in
-        let is : p ≡ q = cc in
-        let name : m ≡ i = cc in
-        of-path (Foreign a b v m) (ap (λ (x : PackageParts). Some x) is) name
+  tells-file : NamesInterface f q i → any_names file_entry_names f.entries q i ≡ true
+  tells-file (inl (j, c, (u, d, e, g))) =
+      let o = of-interface f.entries j c in
+      let uses = subst (λ (x : InterfaceTree). Contains x.uses u) (sym o.3) d in
+      let x = contains-unflat entry_uses o.1 u uses in
+      one-any (λ y. file_entry_names y q i) f.entries (AnInterface o.0 o.1) o.2 (one-any (λ y. entry_names y q i) o.1 x.0 x.1 (tells-use x.0 u x.2 e g))
+  tells-file (inr (w, c, (way, d))) =
+      let o = of-world f.entries w c in
+      let items = subst (λ (x : WorldTree). Contains x.items (ForeignNamed way q i)) (sym o.4) d in
+      let x = contains-unmap item_tree o.2 (ForeignNamed way q i) items in
+      one-any (λ y. file_entry_names y q i) f.entries (AWorld o.0 o.1 o.2) o.3 (one-any (λ y. world_entry_names y q i) o.2 x.0 x.1 (tells-item x.0 way x.2))
 
-    tells-file : NamesInterface f q i → list_any (file_entry_names q n) f.entries ≡ true
-    tells-file (inl (j, c, (u, d, e, g))) =
-        let o = of-interface f.entries j c in
-        let uses = subst (λ (x : InterfaceTree). Contains x.uses u) (sym o.3) d in
-        let x = contains-unflat entry_uses o.1 u uses in
-        one-any (file_entry_names q n) f.entries (AnInterface o.0 o.1) o.2 (one-any (entry_names q n) o.1 x.0 x.1 (tells-use x.0 u x.2 e g))
-    tells-file (inr (w, c, (way, d))) =
-        let o = of-world f.entries w c in
-        let items = subst (λ (x : WorldTree). Contains x.items (ForeignNamed way q i)) (sym o.4) d in
-        let x = contains-unmap item_tree o.2 (ForeignNamed way q i) items in
-        one-any (file_entry_names q n) f.entries (AWorld o.0 o.1 o.2) o.3 (one-any (world_entry_names q n) o.2 x.0 x.1 (tells-item x.0 way x.2))
+-- what the test of a file finds is what it names
+pub file-names : (f : File) (q : PackageParts) (i : List ℕ) → (any_names file_entry_names f.entries q i ≡ true) ↔ NamesInterface f q i
+file-names f q i = (file-tells f q i, tells-file f q i)
 
 -- ---- a package of this name, whichever way it is compared
 
@@ -187,39 +169,3 @@ none-there ps q h = by (list_any (is_same_package q) ps) refl
     by : (b : Bool) → list_any (is_same_package q) ps ≡ b → b ≡ false
     by true e = let x = any-one (is_same_package q) ps e in absurd (any-not ps q h (subst (Contains ps) (sym (package-is q x.0 x.2)) x.1))
     by false e = refl
-
--- ---- marks
-
-module _ (a : Ast) where
-  items-same : (q : PackageParts) (n : Option (List ℕ)) → items_name a.items.items q n ≡ list_any (file_entry_names q n) (file_view a).entries
-  items-same q n = sym (any-map (file_entry_names q n) item_view a.items.items)
-
-  package-told : (q : PackageParts) → (items_name a.items.items q None ≡ true) ↔ NamesPackage (file_view a) q
-  package-told q = (
-    λ h. let t = file-tells (file_view a) q None (sym (items-same q None) ∙ h) in (t.0, t.1),
-    λ t. items-same q None ∙ tells-file (file_view a) q None t.0 refl t.1,
-  )
-
-  interface-told : (q : PackageParts) (i : List ℕ) → (items_name a.items.items q (Some i) ≡ true) ↔ NamesInterface (file_view a) q i
-  interface-told q i = (
-    λ h.
-        let t = file-tells (file_view a) q (Some i) (sym (items-same q (Some i)) ∙ h) in
-        subst (NamesInterface (file_view a) q) (sym ((bytes_eq-Decides i t.0).0 t.2)) t.1,
-    λ t. items-same q (Some i) ∙ tells-file (file_view a) q (Some i) i ((bytes_eq-Decides i i).1 refl) t,
-  )
-
-  pub marks-tell : (set : Resolve) (packages interfaces : List Bool) → packages ≡ package_marks a.items.items set → interfaces ≡ interface_marks a.items.items set → AreNamed (file_view a) set packages interfaces
-  marks-tell set packages interfaces d e = record {
-    each_package = ap length d ∙ length-map set.packages (λ q. items_name a.items.items q None);
-    each_interface = ap length e ∙ length-map set.interfaces (is_interface_named a.items.items set);
-    packages_are = λ k q at.
-        let marks = ap (λ (bs : List Bool). get_or bs k false) d
-        ∙ get_or_from_slice_get (package_marks a.items.items set) k (items_name a.items.items q None) false (map-get (λ p. items_name a.items.items p None) set.packages k q at) in
-        subst (λ (b : Bool). (b ≡ true) ↔ NamesPackage (file_view a) q) (sym marks) (package-told q);
-    interfaces_are = λ k i q at of.
-        let is = get_or_from_slice_get set.packages i.«package».0 q nameless of in
-        let marks = ap (λ (bs : List Bool). get_or bs k false) e
-        ∙ (get_or_from_slice_get (interface_marks a.items.items set) k (is_interface_named a.items.items set i) false (map-get (is_interface_named a.items.items set) set.interfaces k i at)
-        ∙ ap (λ (p : PackageParts). items_name a.items.items p (Some i.name)) is) in
-        subst (λ (b : Bool). (b ≡ true) ↔ NamesInterface (file_view a) q i.name) (sym marks) (interface-told q i.name);
-  }

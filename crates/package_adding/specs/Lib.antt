@@ -1,4 +1,5 @@
 pub mod Added
 pub mod BehindImports
 pub mod Named
+pub mod Noted
 pub mod NamedIn

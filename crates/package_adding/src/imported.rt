@@ -1,22 +1,20 @@
 //! Whether a closed table stands behind the imports that a set has for it.
-ghost use Rattle.std.specs.Prelude.{◌≡◌, ◌≤◌, ◌++◌, ℕ, List, true, Decides, IfOk, flat_map, length, slice_set, take};
+ghost use Rattle.std.specs.Prelude.{◌≡◌, ◌++◌, ℕ, Bool, List, Decides, IfOk, flat_map, length, take};
+ghost use Rattle.tables.specs.PackageNames.{PackageParts};
 ghost use Rattle.package_form.specs.Marks.{AreMarked};
 ghost use Rattle.package_form.specs.Reached.{reached_by_item, reached_by_row, reached_by_world};
 ghost use Rattle.package_sets.specs.Attached.{others};
 ghost use Rattle.package_sets.specs.Joining.{imports};
-ghost use Rattle.package_adding.specs.Named.{wanted_name};
+ghost use Rattle.package_adding.specs.Noted.{also, AreNoted};
 ghost use Rattle.package_adding.specs.NamedIn.{own_rows, own_reached, AreNamedIn};
-ghost use Rattle.package_adding.specs.BehindImports.{is_import_named, any_marked, package_marks_in, is_interface_named_in, interface_marks_in, HasImportTable, IsBehindImports};
+ghost use Rattle.package_adding.specs.BehindImports.{import_names, marked_names, HasImportTable, IsBehindImports};
 
-use crate::named::{Named, is_wanted};
-use atoms::Label;
-use package_form::{interfaces_end, own_package, used_name};
+use crate::marking::{Named, mark, mark_named};
+use package_form::{IndexedTable, PackageKey, interfaces_end, own_package, used_name};
 use package_sets::same::are_same_items;
-use package_sets::{imported_interfaces, imports, is_same_package};
+use package_sets::{imported_interfaces, imports};
 use std::alloc::{AllocError, Global};
-use tables::{
-    Definition, Interface, InterfaceId, PackageName, Resolve, World, WorldItem, WorldItemKind,
-};
+use tables::{Definition, Interface, PackageName, Resolve, World, WorldItem, WorldItemKind};
 
 // ---- what its own part names
 
@@ -29,21 +27,13 @@ fn own_rows(closed: &Resolve) -> &[Definition]
     &rows[end.min(rows.len())..]
 }
 
-fn mark(marks: &mut Vec<bool>, id: InterfaceId)
-    ensures { marks.new.items ≡ slice_set marks.old.items id.0 true }
-{
-    if (id.0 as usize) < marks.len() {
-        marks[id.0 as usize] = true;
-    }
-}
-
 /// Marks the interfaces that the used names among these rows of a table reach.
 fn mark_uses(marks: &mut Vec<bool>, table: &[Definition], rows: &[Definition])
     ensures { (n : ℕ) (places : List ℕ) → AreMarked n places marks.old.items → AreMarked n (places ++ flat_map (reached_by_row table.now) rows.now) marks.new.items }
 {
     for row in rows {
         if let Some(name) = used_name(table, row) {
-            mark(marks, name.interface);
+            mark(marks, name.interface.0 as usize);
         }
     }
 }
@@ -53,7 +43,7 @@ fn mark_items(marks: &mut Vec<bool>, items: &[WorldItem])
 {
     for item in items {
         if let WorldItemKind::Interface(id) = item.kind {
-            mark(marks, id);
+            mark(marks, id.0 as usize);
         }
     }
 }
@@ -77,94 +67,27 @@ fn reached_marks(alloc: Global, closed: &Resolve) -> Result<Vec<bool>, AllocErro
     Ok(marks)
 }
 
-/// Whether an interface is the one of this name of a package, or any of it.
-fn is_import_named(
-    closed: &Resolve,
-    package: &PackageName,
-    name: Option<&Label>,
-    interface: &Interface,
-) -> bool
-    ensures { result ≡ is_import_named closed.now «package».now (wanted_name name.entry) interface.now }
+/// Marks of a set what an import is.
+fn mark_import(set: &IndexedTable<'_>, marks: &mut Named, closed: &Resolve, import: &Interface)
+    ensures { (names : PackageParts → List ℕ → Bool) → AreNoted set.now names marks.old → AreNoted set.now (also names (import_names closed.now import.now)) marks.new }
 {
     let packages = closed.packages.as_slice();
-    match packages.get(interface.package.0 as usize) {
-        Some(other) => is_same_package(package, other) && is_wanted(name, &interface.name),
-        None => false,
+    if let Some(package) = packages.get(import.package.0 as usize) {
+        mark_named(set, marks, PackageKey::of(package), &import.name);
     }
 }
 
-/// Whether one of the interfaces with marks is that of this name of a package, or any of it.
-fn is_named_in(
-    closed: &Resolve,
-    interfaces: &[Interface],
-    marks: &[bool],
-    package: &PackageName,
-    name: Option<&Label>,
-) -> bool
-    requires { length interfaces.now ≤ length marks.now }
-    ensures { result ≡ any_marked (is_import_named closed.now «package».now (wanted_name name.entry)) marks.now interfaces.now }
+/// Marks of a set what the imports with marks are.
+fn mark_imports(set: &IndexedTable<'_>, marks: &mut Named, closed: &Resolve, reached: &[bool])
+    requires { length reached.now ≡ length closed.now.interfaces }
+    ensures { (names : PackageParts → List ℕ → Bool) → AreNoted set.now names marks.old
+        → AreNoted set.now (also names (marked_names closed.now reached.now (imports closed.now))) marks.new }
 {
-    for (place, interface) in interfaces.iter().enumerate() {
-        if marks[place] && is_import_named(closed, package, name, interface) {
-            return true;
+    for (place, import) in imported_interfaces(closed).iter().enumerate() {
+        if reached[place] {
+            mark_import(set, marks, closed, import);
         }
     }
-    false
-}
-
-/// Marks of the packages of a set that the imports with marks are of.
-fn package_marks_in(
-    alloc: Global,
-    set: &Resolve,
-    closed: &Resolve,
-    reached: &[bool],
-) -> Result<Vec<bool>, AllocError>
-    requires { length reached.now ≡ length closed.now.interfaces }
-    ensures { IfOk result (λ marks. marks.items ≡ package_marks_in closed.now reached.now set.now) }
-{
-    let imports = imported_interfaces(closed);
-    let mut marks = Vec::new(alloc);
-    for package in set.packages.as_slice() {
-        marks.push(is_named_in(closed, imports, reached, package, None))?;
-    }
-    Ok(marks)
-}
-
-/// Whether one of the imports with marks is this interface of a set.
-fn is_interface_named_in(
-    set: &Resolve,
-    closed: &Resolve,
-    interfaces: &[Interface],
-    marks: &[bool],
-    interface: &Interface,
-) -> bool
-    requires are { interfaces.now ≡ imports closed.now }
-    requires marked { length interfaces.now ≤ length marks.now }
-    ensures { result ≡ is_interface_named_in closed.now marks.now set.now interface.now }
-{
-    match set.packages.as_slice().get(interface.package.0 as usize) {
-        Some(package) => is_named_in(closed, interfaces, marks, package, Some(&interface.name)),
-        None => false,
-    }
-}
-
-/// Marks of the interfaces of a set that the imports with marks are.
-fn interface_marks_in(
-    alloc: Global,
-    set: &Resolve,
-    closed: &Resolve,
-    reached: &[bool],
-) -> Result<Vec<bool>, AllocError>
-    requires { length reached.now ≡ length closed.now.interfaces }
-    ensures { IfOk result (λ marks. marks.items ≡ interface_marks_in closed.now reached.now set.now) }
-{
-    let imports = imported_interfaces(closed);
-    let mut marks = Vec::new(alloc);
-    for interface in set.interfaces.as_slice() {
-        let named = is_interface_named_in(set, closed, imports, reached, interface);
-        marks.push(named)?;
-    }
-    Ok(marks)
 }
 
 /// Marks of the packages and of the interfaces of a set that the own part of a closed table names: an interface of which
@@ -173,10 +96,10 @@ pub fn named_in(alloc: Global, set: &Resolve, closed: &Resolve) -> Result<Named,
     ensures { IfOk result (λ n. AreNamedIn closed.now set.now n.packages.items n.interfaces.items) }
 {
     let reached = reached_marks(alloc, closed)?;
-    Ok(Named {
-        packages: package_marks_in(alloc, set, closed, &reached)?,
-        interfaces: interface_marks_in(alloc, set, closed, &reached)?,
-    })
+    let mut marks = Named::nothing(alloc, set)?;
+    let set = IndexedTable::of(alloc, set)?;
+    mark_imports(&set, &mut marks, closed, &reached);
+    marks.spread(alloc, &set)
 }
 
 // ---- what it begins with

@@ -8,6 +8,7 @@
 
 mod error;
 mod imported;
+mod marking;
 mod named;
 mod names;
 mod set;

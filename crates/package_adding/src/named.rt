@@ -1,130 +1,90 @@
 //! What the paths of a tree name of a set.
-ghost use Rattle.std.specs.Prelude.{◌≡◌, IfOk};
-ghost use Rattle.std.specs.List.{list_any};
-ghost use Rattle.wit_syntax.specs.View.{path_view, entry_view, world_entry_view, item_view, file_view};
-ghost use Rattle.package_adding.specs.Named.{AreNamed, wanted_name, is_wanted, path_names, entry_names, world_entry_names, file_entry_names, items_name, package_marks, interface_marks};
+ghost use Rattle.std.specs.Prelude.{ℕ, Bool, List, map, IfOk};
+ghost use Rattle.tables.specs.PackageNames.{PackageParts};
+ghost use Rattle.wit_syntax.specs.Syntax.{Uses};
+ghost use Rattle.wit_syntax.specs.View.{path_view, used_view, entry_view, world_entry_view, item_view, file_view};
+ghost use Rattle.package_adding.specs.Named.{AreNamed, path_names, entry_names, world_entry_names, file_entry_names, any_names};
+ghost use Rattle.package_adding.specs.Noted.{also, AreNoted};
 
-use atoms::Label;
-use resolve::is_package;
+use crate::marking::{Named, mark_named};
+use package_form::IndexedTable;
+use resolve::package_key;
 use std::alloc::{AllocError, Global};
-use tables::{Interface, PackageName, Resolve};
-use wit_syntax::{Ast, InterfaceItem, Item, Path, WorldItem, WorldItemKind};
+use tables::Resolve;
+use wit_syntax::{Ast, InterfaceItem, Item, Path, Use, WorldItem, WorldItemKind};
 
-/// Marks of the packages and of the interfaces of a set.
-#[derive(Debug, Drop)]
-pub struct Named {
-    pub packages: Vec<bool>,
-    pub interfaces: Vec<bool>,
-}
-
-/// Whether this is the name that is looked for, or none is.
-pub fn is_wanted(wanted: Option<&Label>, name: &Label) -> bool
-    ensures { result ≡ is_wanted (wanted_name wanted.entry) name.now }
-{
-    match wanted {
-        Some(wanted) => wanted.as_bytes() == name.as_bytes(),
-        None => true,
-    }
-}
-
-/// Whether a path names the interface of this name of the package, or any of it.
-fn path_names(package: &PackageName, interface: Option<&Label>, path: &Path) -> bool
-    ensures { result ≡ path_names «package».now (wanted_name interface.entry) (path_view path.now) }
+/// Marks the interface of another package that a path names.
+fn mark_path(set: &IndexedTable<'_>, marks: &mut Named, path: &Path)
+    ensures { (names : PackageParts → List ℕ → Bool) → AreNoted set.now names marks.old → AreNoted set.now (also names (path_names (path_view path.now))) marks.new }
 {
     match path {
-        Path::Local(_) => false,
-        Path::Foreign {
-            package: other,
-            interface: name,
-        } => is_package(package, other) && is_wanted(interface, name),
+        Path::Local(_) => {}
+        Path::Foreign { package, interface } => {
+            mark_named(set, marks, package_key(package), interface);
+        }
     }
 }
 
-fn item_names(package: &PackageName, interface: Option<&Label>, item: &InterfaceItem) -> bool
-    ensures { result ≡ entry_names «package».now (wanted_name interface.entry) (entry_view item.now) }
+/// .. of which a type is used.
+fn mark_use(set: &IndexedTable<'_>, marks: &mut Named, used: &Use)
+    ensures { (names : PackageParts → List ℕ → Bool) → AreNoted set.now names marks.old
+        → AreNoted set.now (also names (entry_names (Uses used.now.span (path_view used.now.interface) (map used_view used.now.names.items)))) marks.new }
+{
+    if !used.names.is_empty() {
+        mark_path(set, marks, &used.interface);
+    }
+}
+
+fn mark_item(set: &IndexedTable<'_>, marks: &mut Named, item: &InterfaceItem)
+    ensures { (names : PackageParts → List ℕ → Bool) → AreNoted set.now names marks.old → AreNoted set.now (also names (entry_names (entry_view item.now))) marks.new }
 {
     match item {
-        InterfaceItem::Use(used) => {
-            !used.names.is_empty() && path_names(package, interface, &used.interface)
-        }
-        InterfaceItem::TypeDef(_) | InterfaceItem::Func(_) => false,
+        InterfaceItem::Use(used) => mark_use(set, marks, used),
+        InterfaceItem::TypeDef(_) | InterfaceItem::Func(_) => {}
     }
 }
 
-fn world_item_names(package: &PackageName, interface: Option<&Label>, item: &WorldItem) -> bool
-    ensures { result ≡ world_entry_names «package».now (wanted_name interface.entry) (world_entry_view item.now) }
+fn mark_world_item(set: &IndexedTable<'_>, marks: &mut Named, item: &WorldItem)
+    ensures { (names : PackageParts → List ℕ → Bool) → AreNoted set.now names marks.old → AreNoted set.now (also names (world_entry_names (world_entry_view item.now))) marks.new }
 {
     match &item.kind {
-        WorldItemKind::Interface(path) => path_names(package, interface, path),
-        WorldItemKind::Func(_) => false,
+        WorldItemKind::Interface(path) => mark_path(set, marks, path),
+        WorldItemKind::Func(_) => {}
     }
 }
 
-fn items_name(package: &PackageName, interface: Option<&Label>, items: &[InterfaceItem]) -> bool
-    ensures { result ≡ list_any (λ i. entry_names «package».now (wanted_name interface.entry) (entry_view i)) items.now }
+fn mark_items(set: &IndexedTable<'_>, marks: &mut Named, items: &[InterfaceItem])
+    ensures { (names : PackageParts → List ℕ → Bool) → AreNoted set.now names marks.old → AreNoted set.now (also names (any_names entry_names (map entry_view items.now))) marks.new }
 {
     for item in items {
-        if item_names(package, interface, item) {
-            return true;
-        }
+        mark_item(set, marks, item);
     }
-    false
 }
 
-fn world_items_name(package: &PackageName, interface: Option<&Label>, items: &[WorldItem]) -> bool
-    ensures { result ≡ list_any (λ i. world_entry_names «package».now (wanted_name interface.entry) (world_entry_view i)) items.now }
+fn mark_world_items(set: &IndexedTable<'_>, marks: &mut Named, items: &[WorldItem])
+    ensures { (names : PackageParts → List ℕ → Bool) → AreNoted set.now names marks.old → AreNoted set.now (also names (any_names world_entry_names (map world_entry_view items.now))) marks.new }
 {
     for item in items {
-        if world_item_names(package, interface, item) {
-            return true;
-        }
+        mark_world_item(set, marks, item);
     }
-    false
 }
 
-/// Whether an interface or a world names it.
-fn entry_names(package: &PackageName, interface: Option<&Label>, item: &Item) -> bool
-    ensures { result ≡ file_entry_names «package».now (wanted_name interface.entry) (item_view item.now) }
+/// Marks what an interface or a world names.
+fn mark_entry(set: &IndexedTable<'_>, marks: &mut Named, item: &Item)
+    ensures { (names : PackageParts → List ℕ → Bool) → AreNoted set.now names marks.old → AreNoted set.now (also names (file_entry_names (item_view item.now))) marks.new }
 {
     match item {
-        Item::Interface(own) => items_name(package, interface, &own.items),
-        Item::World(world) => world_items_name(package, interface, &world.items),
+        Item::Interface(own) => mark_items(set, marks, &own.items),
+        Item::World(world) => mark_world_items(set, marks, &world.items),
     }
 }
 
-fn entries_name(package: &PackageName, interface: Option<&Label>, items: &[Item]) -> bool
-    ensures { result ≡ items_name items.now «package».now (wanted_name interface.entry) }
+fn mark_entries(set: &IndexedTable<'_>, marks: &mut Named, items: &[Item])
+    ensures { (names : PackageParts → List ℕ → Bool) → AreNoted set.now names marks.old → AreNoted set.now (also names (any_names file_entry_names (map item_view items.now))) marks.new }
 {
     for item in items {
-        if entry_names(package, interface, item) {
-            return true;
-        }
+        mark_entry(set, marks, item);
     }
-    false
-}
-
-/// Marks of the packages that these items name.
-fn named_packages(alloc: Global, set: &Resolve, items: &[Item]) -> Result<Vec<bool>, AllocError>
-    ensures { IfOk result (λ marks. marks.items ≡ package_marks items.now set.now) }
-{
-    let mut marks = Vec::new(alloc);
-    for package in set.packages.as_slice() {
-        marks.push(entries_name(package, None, items))?;
-    }
-    Ok(marks)
-}
-
-/// Marks of the interfaces that these items name.
-fn named_interfaces(alloc: Global, set: &Resolve, items: &[Item]) -> Result<Vec<bool>, AllocError>
-    ensures { IfOk result (λ marks. marks.items ≡ interface_marks items.now set.now) }
-{
-    let packages = set.packages.as_slice();
-    let mut marks = Vec::new(alloc);
-    for interface in set.interfaces.as_slice() {
-        let package = &packages[interface.package.0 as usize];
-        marks.push(entries_name(package, Some(&interface.name), items))?;
-    }
-    Ok(marks)
 }
 
 /// Marks of the packages and of the interfaces of a set that the paths of a tree name: an interface of which a type is
@@ -132,8 +92,8 @@ fn named_interfaces(alloc: Global, set: &Resolve, items: &[Item]) -> Result<Vec<
 pub fn named_by_paths(alloc: Global, set: &Resolve, ast: &Ast) -> Result<Named, AllocError>
     ensures { IfOk result (λ n. AreNamed (file_view ast.now) set.now n.packages.items n.interfaces.items) }
 {
-    Ok(Named {
-        packages: named_packages(alloc, set, &ast.items)?,
-        interfaces: named_interfaces(alloc, set, &ast.items)?,
-    })
+    let mut marks = Named::nothing(alloc, set)?;
+    let set = IndexedTable::of(alloc, set)?;
+    mark_entries(&set, &mut marks, &ast.items);
+    marks.spread(alloc, &set)
 }

@@ -3,6 +3,7 @@ pub mod MetNames
 pub mod EachPackage
 pub mod Meeting
 pub mod Naming
+pub mod Positions
 pub mod Marks
 pub mod RowEnds
 pub mod RowEntries
@@ -15,5 +16,6 @@ pub mod OneRow
 pub mod Scopes
 pub mod WorldItems
 pub mod OwnPackage
+pub mod Indexing
 pub mod OneFunction
 pub mod DistinctTypes

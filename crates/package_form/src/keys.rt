@@ -100,3 +100,10 @@ pub fn keyed_by_table(resolve: &Resolve) -> KeyedState {
     }
     key.state()
 }
+
+/// Hashers of names, with a key made of the names of these interfaces.
+pub fn keyed_by_interfaces(interfaces: &[Interface]) -> KeyedState {
+    let mut key = NameKey::new();
+    write_interfaces(&mut key, interfaces);
+    key.state()
+}

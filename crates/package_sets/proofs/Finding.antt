@@ -1,18 +1,61 @@
 -- Where the imports of a closed table are found in a set.
-use Rattle.std.proofs.Common.{◌≡◌, ◌<◌, ◌⊎◌, inl, inr, ℕ, zero, suc, ◌+◌, Bool, true, false, List, [], ◌∷◌, ◌++◌, length, take, get_or, slice_get, Some, refl, ap, sym, subst, ◌∙◌, arith, true≢false}
+use Rattle.std.proofs.Common.{◌≡◌, ◌<◌, ◌⊎◌, inl, inr, ℕ, zero, suc, ◌+◌, Bool, true, false, ◌&&◌, List, [], ◌∷◌, ◌++◌, length, take, get_or, slice_get, Option, None, Some, MatchOption, refl, ap, sym, subst, ◌∙◌, arith, true≢false}
 use Rattle.std.proofs.lemmas.List.{get_or_append_left, length-take, length_push}
 use Rattle.std.proofs.Math.Seq.{get_or-append_seam}
-use Rattle.std.proofs.lemmas.Option.{slice_get_within}
+use Rattle.std.specs.List.{position}
+use Rattle.std.specs.Str.{bytes_eq}
+use Rattle.std.proofs.lemmas.List.Quantifiers.{position-Some}
+use Rattle.std.proofs.lemmas.Option.{slice_get_within, slice_get-get_or, get_or_from_slice_get}
 use Rattle.canonical_abi.proofs.Images.{slice_get-take}
 use Rattle.tables.specs.PackageNames.{PackageParts}
 use Rattle.tables.specs.declared.tables.Interface.{Interface}
 use Rattle.tables.specs.declared.tables.Resolve.{Resolve}
+use Rattle.package_form.specs.Indexed.{is_package_named, is_interface_named, interface_place}
+use Rattle.package_form.proofs.Positions.{position-none}
 use Rattle.package_sets.specs.Moved.{Renaming}
-use Rattle.package_sets.specs.Joining.{imports, import_rows, IsFirst, has_name_of, AreFound, AreRowsThere, AreIdsThere, HasImports, joined, all_places, place_in}
+use Rattle.package_sets.specs.Joining.{imports, import_rows, IsFirst, are_same_packages, has_name_of, AreFound, AreRowsThere, AreIdsThere, HasImports, joined, all_places, place_in}
 use Rattle.package_sets.specs.Joined.{renaming_of, AreJoined, IsJoined}
 use Rattle.package_sets.specs.Attached.{has_package, LacksFirst}
 use Rattle.package_sets.specs.declared.joining.Joined.{Joined}
 use Rattle.package_sets.proofs.Lists.{each-more}
+
+-- ---- the first of a name
+
+module _ {A : Type 0} (has : A → Bool) (xs : List A) (d : A) where
+  pub is-first : (k : ℕ) → position has xs ≡ Some k → IsFirst has xs k
+  is-first k e =
+      let p = position-Some has xs k d e in
+      record {
+        one = get_or xs k d;
+        stands = slice_get-get_or xs k d p.0;
+        holds = p.1;
+        before = λ j x l at. ap has (sym (get_or_from_slice_get xs j x d at)) ∙ p.2 j l;
+      }
+
+  pub has-none : position has xs ≡ None → (k : ℕ) → ¬ IsFirst has xs k
+  has-none e k f =
+      let no = position-none has xs e k d (slice_get_within xs k f.one f.stands) in
+      let same = ap has (get_or_from_slice_get xs k f.one d f.stands) in
+      true≢false (sym f.holds ∙ sym same ∙ no)
+
+-- the index finds it
+module _ (set closed : Resolve) (i : Interface) where
+  abbrev pub IsFoundAt : Option ℕ → Type 0
+  IsFoundAt o = MatchOption o ((k : ℕ) → ¬ IsFirst (has_name_of set closed i) set.interfaces k) (λ k. IsFirst (has_name_of set closed i) set.interfaces k)
+
+  pub place-first : (p : PackageParts) → slice_get closed.packages i.«package».0 ≡ Some p → IsFoundAt (interface_place set p i.name)
+  place-first p of = by (position (is_interface_named set.packages p i.name) set.interfaces) refl
+    where
+      one : (o : Option PackageParts) → are_same_packages (Some p) o ≡ is_package_named p o
+      one None = refl
+      one (Some q) = refl
+
+      same : is_interface_named set.packages p i.name ≡ has_name_of set closed i
+      same = λ j x. (sym (ap (λ (b : Bool). b && bytes_eq i.name x.name) (ap (λ (o : Option PackageParts). are_same_packages o (slice_get set.packages x.«package».0)) of ∙ one (slice_get set.packages x.«package».0)))) j
+
+      by : (o : Option ℕ) → position (is_interface_named set.packages p i.name) set.interfaces ≡ o → IsFoundAt o
+      by None e = subst (λ (has : Interface → Bool). (k : ℕ) → ¬ IsFirst has set.interfaces k) same (has-none (is_interface_named set.packages p i.name) set.interfaces i e)
+      by (Some k) e = subst (λ (has : Interface → Bool). IsFirst has set.interfaces k) same (is-first (is_interface_named set.packages p i.name) set.interfaces i k e)
 
 -- one more import is found
 pub found-more : (set closed : Resolve) (is : List Interface) (n : ℕ) (i : Interface) (places : List ℕ) (place : ℕ) → slice_get is n ≡ Some i → AreFound set closed (take n is) places

@@ -10,7 +10,7 @@ ghost use Rattle.package_sets.specs.declared.error.AttachError.TheVariants.{NotT
 
 use crate::error::AttachError;
 use crate::moved::Placed;
-use package_form::{end_of, is_same_version, own_package};
+use package_form::{IndexedTable, PackageKey, end_of, is_same_version, own_package};
 use std::alloc::Global;
 use tables::{Definition, Interface, PackageName, Resolve};
 
@@ -130,30 +130,12 @@ pub fn own_interfaces(closed: &Resolve) -> &[Interface]
     &closed.interfaces.as_slice()[import_count(closed)..]
 }
 
-/// Whether an interface of the set has the name of this one.
-fn has_name_of(set: &Resolve, closed: &Resolve, import: &Interface, other: &Interface) -> bool
-    ensures { result ≡ has_name_of set.now closed.now import.now other.now }
-{
-    let own = closed.packages.as_slice().get(import.package.0 as usize);
-    let others = set.packages.as_slice().get(other.package.0 as usize);
-    match (own, others) {
-        (Some(a), Some(b)) => {
-            is_same_package(a, b) && import.name.as_bytes() == other.name.as_bytes()
-        }
-        _ => false,
-    }
-}
-
 /// The place of the first interface of the set that has the name of this one.
-fn found_at(set: &Resolve, closed: &Resolve, import: &Interface) -> Option<usize>
+fn found_at(set: &IndexedTable<'_>, closed: &Resolve, import: &Interface) -> Option<usize>
     ensures { MatchOption result ((k : ℕ) → ¬ IsFirst (has_name_of set.now closed.now import.now) set.now.interfaces k) (λ k. IsFirst (has_name_of set.now closed.now import.now) set.now.interfaces k) }
 {
-    for (place, interface) in set.interfaces.as_slice().iter().enumerate() {
-        if has_name_of(set, closed, import, interface) {
-            return Some(place);
-        }
-    }
-    None
+    let package = closed.packages.as_slice().get(import.package.0 as usize)?;
+    set.place(PackageKey::of(package), &import.name)
 }
 
 /// A place as an id. 46 where there is no id for it.
@@ -170,7 +152,7 @@ fn id_of(place: usize) -> Result<u32, AttachError>
 /// Where these interfaces stand in the set. 44 where one of them doesn't.
 fn found(
     alloc: Global,
-    set: &Resolve,
+    set: &IndexedTable<'_>,
     closed: &Resolve,
     imports: &[Interface],
 ) -> Result<Vec<u32>, AttachError>
@@ -248,7 +230,8 @@ pub fn places_of(alloc: Global, set: &Resolve, closed: &Resolve) -> Result<Joine
     ensures ok { IfOk result (AreJoined set.now closed.now) }
     ensures err { IfErr result (λ e. (e ≡ NoMemory) ⊎ ((e ≡ NotThisShape) × ((places : List ℕ) → ¬ AreFound set.now closed.now (imports closed.now) places))) }
 {
-    let mut interfaces = found(alloc, set, closed, imports(closed))?;
+    let indexed = IndexedTable::of(alloc, set)?;
+    let mut interfaces = found(alloc, &indexed, closed, imports(closed))?;
     let mut rows = row_places(alloc, set, imports(closed), &interfaces)?;
     let imported = rows.len();
     let mut worlds = Vec::new(alloc);

@@ -13,4 +13,4 @@ pub use tables::{
     ValType, World, WorldId, WorldItem, WorldItemKind, laws,
 };
 pub use tree::{closed_from_ast, from_ast};
-pub use tree_scopes::{has_package, is_package, package_name};
+pub use tree_scopes::{has_package, package_key, package_name};

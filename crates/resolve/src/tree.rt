@@ -16,6 +16,7 @@ ghost use Rattle.tree_scopes.specs.KnownScopes.{AreImportScopes};
 ghost use Rattle.tree_scopes.specs.Sources.{declared_tree};
 
 use atoms::{KeyedState, Label};
+use package_form::IndexedTable;
 use std::alloc::{AllocError, Global};
 use tables::{PackageName, Resolve, ResolveError, Sequence};
 use tree_names::{
@@ -50,7 +51,7 @@ fn declarations<'a>(
     alloc: Global,
     keyed: KeyedState,
     package: &PackageName,
-    imports: &Resolve,
+    imports: &IndexedTable<'_>,
     scopes: &[KnownTypes],
     ast: &'a Ast,
 ) -> Result<Vec<Declarations<'a>>, ResolveError>
@@ -69,7 +70,7 @@ fn declarations<'a>(
         return Err(ResolveError::Limit);
     }
     distinct_names(alloc, keyed, package, &ast.items)?;
-    known_packages(alloc, imports.packages.as_slice(), &ast.items)?;
+    known_packages(alloc, imports.table().packages.as_slice(), &ast.items)?;
     let all = all_declarations(alloc, keyed, &ast.items)?;
     known_names(alloc, keyed, imports, scopes, &all, &ast.items)?;
     Ok(all)
@@ -80,7 +81,7 @@ fn declarations<'a>(
 fn closed_table(
     alloc: Global,
     keyed: KeyedState,
-    imports: &Resolve,
+    imports: &IndexedTable<'_>,
     scopes: Vec<KnownTypes>,
     package: PackageName,
     all: &[Declarations],
@@ -128,7 +129,7 @@ fn closed_table(
 fn defined(
     alloc: Global,
     keyed: KeyedState,
-    imports: &Resolve,
+    imports: &IndexedTable<'_>,
     scopes: Vec<KnownTypes>,
     package: PackageName,
     all: &[Declarations],
@@ -173,8 +174,9 @@ fn resolved_behind(alloc: Global, ast: &Ast, imports: &Resolve) -> Result<Resolv
     let keyed = keyed_by_tree(ast, imports);
     let package = package_name(alloc, &ast.package)?;
     let scopes = import_scopes(alloc, keyed, imports)?;
-    let all = declarations(alloc, keyed, &package, imports, &scopes, ast)?;
-    defined(alloc, keyed, imports, scopes, package, &all, ast)
+    let indexed = IndexedTable::of(alloc, imports)?;
+    let all = declarations(alloc, keyed, &package, &indexed, &scopes, ast)?;
+    defined(alloc, keyed, &indexed, scopes, package, &all, ast)
 }
 
 /// The package of a syntax tree whose paths name interfaces of other packages: its closed table, in which these imports,

@@ -13,8 +13,9 @@ ghost use Rattle.tree_meaning.specs.Knowing.{IsThere, KnowsEntry, LacksEntry, La
 
 use crate::named::{definition_names, function_names};
 use atoms::{KeyedState, Label};
+use package_form::IndexedTable;
 use std::alloc::{AllocError, Global};
-use tables::{Resolve, ResolveError};
+use tables::ResolveError;
 use tree_scopes::{
     Declarations, KnownTypes, Names, import_place, interface_label, interface_names,
 };
@@ -52,7 +53,7 @@ fn find_interface<'b, 'a>(
 /// The interface of the own package where it isn't there, or the name where the interface lacks it.
 fn unknown_in_own<'a>(
     all: &[Declarations],
-    imports: &Resolve,
+    imports: &IndexedTable<'_>,
     names: &Names,
     interface: &'a Label,
     name: &'a Label,
@@ -73,7 +74,7 @@ fn unknown_in_own<'a>(
 /// The import of this package where it isn't there, or the name where it lacks it.
 fn unknown_in_import<'a>(
     all: &[Declarations],
-    imports: &Resolve,
+    imports: &IndexedTable<'_>,
     scopes: &[KnownTypes],
     package: &PackageId,
     interface: &'a Label,
@@ -98,7 +99,7 @@ fn unknown_in_import<'a>(
 /// The interface where it isn't there, or the name where the interface lacks it.
 fn unknown_used<'a>(
     all: &[Declarations],
-    imports: &Resolve,
+    imports: &IndexedTable<'_>,
     scopes: &[KnownTypes],
     names: &Names,
     path: &'a Path,
@@ -120,7 +121,7 @@ fn unknown_used<'a>(
 /// The interface where it isn't there, or the first of these names that it lacks.
 fn unknown_in_use<'a>(
     all: &[Declarations],
-    imports: &Resolve,
+    imports: &IndexedTable<'_>,
     scopes: &[KnownTypes],
     names: &Names,
     path: &'a Path,
@@ -142,7 +143,7 @@ fn unknown_in_use<'a>(
 fn unknown_in_item<'a>(
     alloc: Global,
     all: &[Declarations],
-    imports: &Resolve,
+    imports: &IndexedTable<'_>,
     scopes: &[KnownTypes],
     names: &Names,
     declared: &Declarations,
@@ -176,7 +177,7 @@ fn unknown_in_item<'a>(
 fn unknown_in_items<'a>(
     alloc: Global,
     all: &[Declarations],
-    imports: &Resolve,
+    imports: &IndexedTable<'_>,
     scopes: &[KnownTypes],
     names: &Names,
     declared: &Declarations,
@@ -197,7 +198,7 @@ fn unknown_in_items<'a>(
 }
 
 /// Whether a path names an interface of its own package, of these names, or an import.
-fn is_there(imports: &Resolve, names: &Names, path: &Path) -> bool
+fn is_there(imports: &IndexedTable<'_>, names: &Names, path: &Path) -> bool
     ensures { IsTrue result ↔ IsThere (imports_of imports.now) names.now (path_view path.now) }
 {
     match path {
@@ -212,7 +213,7 @@ fn is_there(imports: &Resolve, names: &Names, path: &Path) -> bool
 /// declares none.
 fn unknown_in_world_item<'a>(
     alloc: Global,
-    imports: &Resolve,
+    imports: &IndexedTable<'_>,
     names: &Names,
     item: &'a WorldItem,
 ) -> Result<Option<&'a Label>, AllocError>
@@ -240,7 +241,7 @@ fn unknown_in_world_item<'a>(
 
 fn unknown_in_world<'a>(
     alloc: Global,
-    imports: &Resolve,
+    imports: &IndexedTable<'_>,
     names: &Names,
     items: &'a [WorldItem],
 ) -> Result<Option<&'a Label>, AllocError>
@@ -259,7 +260,7 @@ fn unknown_in_world<'a>(
 fn unknown_in_entry<'a>(
     alloc: Global,
     all: &[Declarations],
-    imports: &Resolve,
+    imports: &IndexedTable<'_>,
     scopes: &[KnownTypes],
     names: &Names,
     place: usize,
@@ -289,7 +290,7 @@ fn unknown_in_entry<'a>(
 pub fn known_names(
     alloc: Global,
     keyed: KeyedState,
-    imports: &Resolve,
+    imports: &IndexedTable<'_>,
     scopes: &[KnownTypes],
     all: &[Declarations],
     items: &[Item],

@@ -12,8 +12,9 @@ ghost use Rattle.tree_meaning.specs.Building.{DefinesPackage, start_table};
 use crate::builder::Builder;
 use crate::define::define_interface;
 use atoms::{KeyedState, Label};
+use package_form::IndexedTable;
 use std::alloc::{AllocError, Global};
-use tables::{Resolve, Sequence};
+use tables::Sequence;
 use tree_scopes::{Declarations, KnownTypes, Names, interface_id, place_behind};
 
 /// The names of interfaces in this order.
@@ -53,7 +54,7 @@ pub fn ordered_index<'a>(
 pub fn define_package(
     alloc: Global,
     keyed: KeyedState,
-    imports: &Resolve,
+    imports: &IndexedTable<'_>,
     builder: &mut Builder,
     mut scopes: Vec<KnownTypes>,
     names: &Names,

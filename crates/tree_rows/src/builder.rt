@@ -6,6 +6,7 @@ ghost use Rattle.package_form.specs.Entries.{Table};
 ghost use Rattle.tree_meaning.specs.Building.{Lowers, LowersInner, name_at};
 
 use atoms::Label;
+use package_form::IndexedTable;
 use std::alloc::{AllocError, Global};
 use std::marker::Model;
 use tables::{Definition, Resolve, TypeDef, TypeDefKind, TypeId, ValType};
@@ -30,10 +31,14 @@ impl<'a> Model for Builder<'a> {
 
 impl<'a> Builder<'a> {
     /// A table of these definitions, those of the imports, which go by their full names.
-    pub fn new(imports: &'a Resolve, own: &'a [Label], rows: Vec<Definition>) -> Self
+    pub fn new(imports: &IndexedTable<'a>, own: &'a [Label], rows: Vec<Definition>) -> Self
         ensures { result ≡ record { interfaces = interface_names imports.now ++ own.now; worlds = []; rows = rows.items } }
     {
-        Builder { imports, own, rows }
+        Builder {
+            imports: imports.table(),
+            own,
+            rows,
+        }
     }
 
     /// The definitions.

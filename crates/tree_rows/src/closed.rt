@@ -9,7 +9,7 @@ ghost use Rattle.tree_meaning.specs.WorldRows.{worlds_stand, with_worlds};
 
 use crate::builder::Builder;
 use atoms::Label;
-use package_form::passes_entries;
+use package_form::{IndexedTable, passes_entries};
 use std::alloc::{AllocError, Global};
 use tables::{
     Definition, FunctionId, Interface, Owner, PackageId, PackageName, Resolve, ResolveError,
@@ -116,7 +116,7 @@ fn passes_limit(interfaces: usize, worlds: &[World], rows: &[Definition]) -> boo
 /// The parts of a copy of the imports: their packages, their interfaces and their definitions.
 pub fn copied_parts(
     alloc: Global,
-    imports: &Resolve,
+    imports: &IndexedTable<'_>,
 ) -> Result<(Vec<PackageName>, Vec<Interface>, Vec<Definition>), AllocError>
     ensures packages { IfOk result (λ r. r.0.items ≡ imports.now.packages) }
     ensures interfaces { IfOk result (λ r. r.1.items ≡ imports.now.interfaces) }
@@ -127,7 +127,7 @@ pub fn copied_parts(
         interfaces,
         worlds: _,
         definitions,
-    } = imports.copy(alloc)?;
+    } = imports.table().copy(alloc)?;
     Ok((
         packages.into_vec(),
         interfaces.into_vec(),
@@ -149,7 +149,7 @@ pub fn package_id(place: usize) -> Result<PackageId, AllocError>
 /// interfaces these are.
 pub fn finish(
     alloc: Global,
-    imports: &Resolve,
+    imports: &IndexedTable<'_>,
     mut packages: Vec<PackageName>,
     mut interfaces: Vec<Interface>,
     names: &[Label],

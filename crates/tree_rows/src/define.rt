@@ -17,10 +17,9 @@ use crate::bodies::{lower_definition, lower_parameters};
 use crate::builder::Builder;
 use crate::lower::lower_optional;
 use atoms::{KeyedState, Label};
+use package_form::IndexedTable;
 use std::alloc::{AllocError, Global};
-use tables::{
-    Definition, Function, InterfaceId, Owner, Resolve, TypeDef, TypeDefKind, TypeId, TypeName,
-};
+use tables::{Definition, Function, InterfaceId, Owner, TypeDef, TypeDefKind, TypeId, TypeName};
 use tree_scopes::{Declarations, KnownTypes, Names, TypeIds, UsedType, interface_place};
 use wit_syntax::Func;
 
@@ -137,7 +136,7 @@ fn define_functions(
 /// The type that a used name is in the used interface.
 fn target(
     builder: &Builder,
-    imports: &Resolve,
+    imports: &IndexedTable<'_>,
     names: &Names,
     scopes: &[KnownTypes],
     used: &UsedType,
@@ -157,7 +156,7 @@ fn target(
 fn define_uses(
     alloc: Global,
     builder: &mut Builder,
-    imports: &Resolve,
+    imports: &IndexedTable<'_>,
     names: &Names,
     scopes: &[KnownTypes],
     scope: &mut KnownTypes,
@@ -182,7 +181,7 @@ pub fn define_interface(
     alloc: Global,
     keyed: KeyedState,
     builder: &mut Builder,
-    imports: &Resolve,
+    imports: &IndexedTable<'_>,
     names: &Names,
     scopes: &[KnownTypes],
     place: InterfaceId,

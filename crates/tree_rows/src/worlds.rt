@@ -15,10 +15,11 @@ use crate::bodies::lower_parameters;
 use crate::builder::Builder;
 use crate::lower::lower_optional;
 use atoms::KeyedState;
+use package_form::IndexedTable;
 use std::alloc::{AllocError, Global};
 use tables::{
-    Definition, Function, FunctionId, InterfaceId, Owner, PackageId, Resolve, Sequence, World,
-    WorldId, WorldItem, WorldItemKind,
+    Definition, Function, FunctionId, InterfaceId, Owner, PackageId, Sequence, World, WorldId,
+    WorldItem, WorldItemKind,
 };
 use tree_scopes::{KnownTypes, Names, TypeIds, interface_id, interface_place, side_of};
 use wit_syntax::{Func, Item};
@@ -55,7 +56,7 @@ fn define_item(
     alloc: Global,
     keyed: KeyedState,
     builder: &mut Builder,
-    imports: &Resolve,
+    imports: &IndexedTable<'_>,
     names: &Names,
     world: WorldId,
     item: &wit_syntax::WorldItem,
@@ -87,7 +88,7 @@ fn define_items(
     alloc: Global,
     keyed: KeyedState,
     builder: &mut Builder,
-    imports: &Resolve,
+    imports: &IndexedTable<'_>,
     names: &Names,
     world: WorldId,
     items: &[wit_syntax::WorldItem],
@@ -108,7 +109,7 @@ fn define_world(
     alloc: Global,
     keyed: KeyedState,
     builder: &mut Builder,
-    imports: &Resolve,
+    imports: &IndexedTable<'_>,
     names: &Names,
     package: PackageId,
     id: WorldId,
@@ -141,7 +142,7 @@ pub fn define_worlds(
     alloc: Global,
     keyed: KeyedState,
     builder: &mut Builder,
-    imports: &Resolve,
+    imports: &IndexedTable<'_>,
     names: &Names,
     package: PackageId,
     items: &[Item],

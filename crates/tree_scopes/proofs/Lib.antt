@@ -1,3 +1,4 @@
 pub mod Places
+pub mod ImportPlaces
 pub mod DeclaredTrees
 pub mod ImportScopes

@@ -1,17 +1,17 @@
 //! The interfaces of other packages that a tree may name, its imports.
-ghost use Rattle.std.specs.Prelude.{◌≡◌, ◌<◌, ◌++◌, ◌+◌, ◌&&◌, [], filter_map, length, slice_index_or, IfOk, OnOk, MatchOption, None, Some};
+ghost use Rattle.std.specs.Prelude.{◌≡◌, ◌++◌, ◌+◌, [], filter_map, length, IfOk, OnOk, MatchOption, None, Some};
 ghost use Rattle.std.specs.List.{list_any};
-ghost use Rattle.std.specs.Str.{bytes_eq};
 ghost use Rattle.package_form.specs.Closed.{is_same_package};
 ghost use Rattle.package_form.specs.Entries.{Table};
+ghost use Rattle.package_form.specs.Indexed.{key_parts};
 ghost use Rattle.package_form.specs.Reached.{name_at};
 ghost use Rattle.tree_meaning.specs.Finished.{header};
-ghost use Rattle.tree_meaning.specs.Imports.{import_place, nameless, interfaces_of, type_within, types_within};
+ghost use Rattle.tree_meaning.specs.Imports.{import_place, interfaces_of, type_within, types_within};
 ghost use Rattle.tree_scopes.specs.KnownScopes.{IsScope, scope_names, AreImportScopes};
 
 use crate::known::{KnownTypes, TypeIds};
 use atoms::{KeyedState, Label};
-use package_form::is_same_version;
+use package_form::{IndexedTable, PackageKey, is_same_version};
 use std::alloc::{AllocError, Global};
 use tables::{
     Definition, Interface, InterfaceId, PackageName, Resolve, Sequence, TypeId, TypeName,
@@ -35,7 +35,7 @@ pub fn no_imports(alloc: Global) -> Resolve
 }
 
 /// Whether the package has the name that a path gives.
-pub fn is_package(package: &PackageName, id: &PackageId) -> bool
+fn is_package(package: &PackageName, id: &PackageId) -> bool
     ensures { result ≡ is_same_package «package».now (header id.now) }
 {
     package.namespace.as_bytes() == id.namespace.as_bytes()
@@ -66,32 +66,22 @@ pub fn package_name(alloc: Global, id: &PackageId) -> Result<PackageName, AllocE
     })
 }
 
-/// Whether an import has this name in the package.
-fn is_import(
-    packages: &[PackageName],
-    interface: &Interface,
-    package: &PackageId,
-    name: &Label,
-) -> bool
-    requires { interface.now.«package».0 < length packages.now }
-    ensures { result ≡ (bytes_eq interface.now.name name.now && is_same_package (slice_index_or packages.now interface.now.«package».0 nameless) (header «package».now)) }
+/// The name of a package that a path gives, lent.
+pub fn package_key(id: &PackageId) -> PackageKey<'_>
+    ensures { key_parts result ≡ header id.now }
 {
-    interface.name.as_bytes() == name.as_bytes()
-        && is_package(&packages[interface.package.0 as usize], package)
+    PackageKey {
+        namespace: id.namespace.as_bytes(),
+        name: id.name.as_bytes(),
+        version: &id.version,
+    }
 }
 
 /// The place of the interface of this name of this package.
-pub fn import_place(imports: &Resolve, package: &PackageId, name: &Label) -> Option<usize>
+pub fn import_place(imports: &IndexedTable<'_>, package: &PackageId, name: &Label) -> Option<usize>
     ensures { result ≡ import_place (interfaces_of imports.now) (header «package».now) name.now }
 {
-    let packages = imports.packages.as_slice();
-    let interfaces = imports.interfaces.as_slice();
-    for (place, interface) in interfaces.iter().enumerate() {
-        if is_import(packages, interface, package, name) {
-            return Some(place);
-        }
-    }
-    None
+    imports.place(package_key(package), name)
 }
 
 fn name_at(rows: &[Definition], id: TypeId) -> Option<&TypeName>
@@ -183,10 +173,10 @@ pub fn import_scopes(
 }
 
 /// The place behind so many imports. No memory where no number can tell it.
-pub fn place_behind(imports: &Resolve, place: usize) -> Result<usize, AllocError>
+pub fn place_behind(imports: &IndexedTable<'_>, place: usize) -> Result<usize, AllocError>
     ensures { IfOk result (λ n. n ≡ length imports.now.interfaces + place) }
 {
-    match imports.interfaces.len().checked_add(place) {
+    match imports.table().interfaces.len().checked_add(place) {
         Some(place) => Ok(place),
         None => Err(AllocError),
     }

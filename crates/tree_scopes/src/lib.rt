@@ -15,7 +15,7 @@ mod sides;
 pub use declare::{interface_names, local_name, push_types};
 pub use declared::{Declarations, UsedType};
 pub use imports::{
-    has_package, import_place, import_scopes, interface_id, is_package, no_imports, package_name,
+    has_package, import_place, import_scopes, interface_id, no_imports, package_key, package_name,
     place_behind,
 };
 pub use known::{KnownTypes, TypeIds};

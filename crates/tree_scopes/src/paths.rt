@@ -8,14 +8,14 @@ ghost use Rattle.tree_meaning.specs.Resolves.{path_place};
 use crate::imports::{import_place, place_behind};
 use crate::names::Names;
 use atoms::Label;
+use package_form::IndexedTable;
 use std::alloc::AllocError;
-use tables::Resolve;
 use wit_syntax::Path;
 
 /// The place of the interface that a path names: among these of its own package, which stand behind the imports, or
 /// among the imports. No memory where no number can tell it.
 pub fn interface_place(
-    imports: &Resolve,
+    imports: &IndexedTable<'_>,
     names: &Names,
     path: &Path,
 ) -> Result<Option<usize>, AllocError>

@@ -4,6 +4,7 @@ use Rattle.std.proofs.lemmas.Result.{err_from_is_err_and}
 use Rattle.std.proofs.lemmas.Bool.Decides.{nat_tests}
 use Rattle.atoms.specs.Label.{IsLabel}
 use Rattle.tables.specs.PackageNames.{PackageParts}
+use Rattle.tables.specs.declared.tables.Resolve.{Resolve}
 use Rattle.wit_syntax.specs.View.{item_view, file_view}
 use Rattle.wit_syntax.specs.declared.ast.Item.{Item}
 use Rattle.package_form.specs.Scope.{AreDistinct}
@@ -43,7 +44,7 @@ returns-in_err-known_packages-clause-err c =
     let distinct = subst (λ (is : List Item). All AreDistinct (scopes_in (package_named f) (map item_view is))) c.deref-2.ensures.value
     (subst (λ (q : PackageParts). All AreDistinct (scopes_in q (map item_view c.deref-2.result.now))) c.requires.named c.in_ok-distinct_names.ensures.ok) in
     rw (p.1, p.2) (refuses-package (imports_of c.args.imports.now) f e (has-entries item_view items some) distinct
-    (subst (λ (is : List Item). RefusesPackage c.args.imports.now.packages (flat_map file_entry_packages (map item_view is)) e) c.deref-3.ensures.value (subst (λ (ps : List PackageParts). RefusesPackage ps (flat_map file_entry_packages (map item_view c.deref-3.result.now)) e) c.as_slice.ensures c.in_err-known_packages.ensures.err)))
+    (subst (λ (is : List Item). RefusesPackage c.args.imports.now.packages (flat_map file_entry_packages (map item_view is)) e) c.deref-3.ensures.value (subst (λ (ps : List PackageParts). RefusesPackage ps (flat_map file_entry_packages (map item_view c.deref-3.result.now)) e) (c.as_slice.ensures ∙ ap (λ (r : Resolve). r.packages) c.table.ensures) c.in_err-known_packages.ensures.err)))
 
 pub known_names-requires-clause-all : goal.known_names-requires-clause-all
 known_names-requires-clause-all c =
@@ -61,7 +62,7 @@ returns-in_err-known_names-clause-err c =
     ∙ ap (λ (is : List Item). filter_map interface_of (map item_view is)) c.deref-4.ensures.value in
     let distinct = subst (λ (is : List Item). All AreDistinct (scopes_in (package_named f) (map item_view is))) c.deref-2.ensures.value
     (subst (λ (q : PackageParts). All AreDistinct (scopes_in q (map item_view c.deref-2.result.now))) c.requires.named c.in_ok-distinct_names.ensures.ok) in
-    let there = subst (λ (is : List Item). All (Contains c.args.imports.now.packages) (flat_map file_entry_packages (map item_view is))) c.deref-3.ensures.value (subst (λ (ps : List PackageParts). All (Contains ps) (flat_map file_entry_packages (map item_view c.deref-3.result.now))) c.as_slice.ensures c.in_ok-known_packages.ensures.ok) in
+    let there = subst (λ (is : List Item). All (Contains c.args.imports.now.packages) (flat_map file_entry_packages (map item_view is))) c.deref-3.ensures.value (subst (λ (ps : List PackageParts). All (Contains ps) (flat_map file_entry_packages (map item_view c.deref-3.result.now))) (c.as_slice.ensures ∙ ap (λ (r : Resolve). r.packages) c.table.ensures) c.in_ok-known_packages.ensures.ok) in
     rw (p.1, p.2) (refuses-unknown (imports_of c.args.imports.now) f (map declared_tree c.deref-5.result.now) e same (has-entries item_view items some) distinct there
     (subst (λ (is : List Item). RefusesUnknown (imports_of c.args.imports.now) (map declared_tree c.deref-5.result.now) (filter_map world_of (map item_view is)) e) c.deref-6.ensures.value c.in_err-known_names.ensures.err))
 
@@ -80,7 +81,7 @@ returns-clause-faults c =
       some = has-entries item_view items some;
       distinct = subst (λ (is : List Item). All AreDistinct (scopes_in (package_named f) (map item_view is))) c.deref-2.ensures.value
           (subst (λ (q : PackageParts). All AreDistinct (scopes_in q (map item_view c.deref-2.result.now))) c.requires.named c.in_ok-distinct_names.ensures.ok);
-      packages = subst (λ (is : List Item). All (Contains c.args.imports.now.packages) (flat_map file_entry_packages (map item_view is))) c.deref-3.ensures.value (subst (λ (ps : List PackageParts). All (Contains ps) (flat_map file_entry_packages (map item_view c.deref-3.result.now))) c.as_slice.ensures c.in_ok-known_packages.ensures.ok);
+      packages = subst (λ (is : List Item). All (Contains c.args.imports.now.packages) (flat_map file_entry_packages (map item_view is))) c.deref-3.ensures.value (subst (λ (ps : List PackageParts). All (Contains ps) (flat_map file_entry_packages (map item_view c.deref-3.result.now))) (c.as_slice.ensures ∙ ap (λ (r : Resolve). r.packages) c.table.ensures) c.in_ok-known_packages.ensures.ok);
       known = record {
         in_interfaces = subst (λ (is : List InterfaceTree). All (HasKnownNamesOf (imports_of c.args.imports.now) is) is) same c.in_ok-known_names.ensures.ok;
         in_worlds = subst (λ (is : List InterfaceTree). All (IsKnownWorldOf (imports_of c.args.imports.now) (interface_names is)) (worlds f)) same

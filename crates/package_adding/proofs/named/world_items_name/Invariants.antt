@@ -1,9 +1,0 @@
-use Rattle.std.proofs.Common.{◌≡◌, drop}
-use Rattle.std.specs.List.{list_any}
-use Rattle.wit_syntax.specs.View.{world_entry_view}
-use Rattle.package_adding.specs.Named.{wanted_name, world_entry_names}
-use Rattle.package_adding.proofs.named.world_items_name.Given as goal
-
-abbrev pub invariant-loop-item : goal.invariant-loop-item
-invariant-loop-item l =
-    list_any (λ i. world_entry_names l.«package» (wanted_name l.interface) (world_entry_view i)) (drop l.item-index l.items) ≡ list_any (λ i. world_entry_names l.«package» (wanted_name l.interface) (world_entry_view i)) l.items
