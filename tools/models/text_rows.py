@@ -5,7 +5,7 @@ modelled, nor is which of several unknown names of an interface is told. Such ro
 """
 import re
 
-from . import rows, sessions, wit
+from . import changed, rows, sessions, wit
 from .faults import NotModelled, Refused, Trap
 from .jobs import JOBS
 from .opening import opened
@@ -107,8 +107,8 @@ def answer_to(command, inputs):
 def answer(kept, asked):
     """The lines of the answer to a row, and whether they are one line by its command."""
     command, rest = asked.split(" ", 1)
-    if command in ("streamed", "short-call", "changes", "cuts", "fronts"):
-        raise NotModelled("streams that fail, and inputs that are cut or changed")
+    if command in ("streamed", "short-call", "cuts", "fronts"):
+        raise NotModelled("streams that fail, and texts that are cut")
     if command in rows.COMMANDS:
         return [rows.answer(command, rest)], True
     words = []
@@ -119,6 +119,8 @@ def answer(kept, asked):
         if words:
             interface, name, arguments, reply = words
             return [sessions.called(opened(inputs).function(interface, name), arguments, reply)], True
+        if command == "changes":
+            return [changed.told(inputs)], True
         return answer_to(command, inputs), command in ("parse", "open", "bin", "again", "work")
     except (Refused, Trap) as fault:
         return [f"{fault}{STATUS.get(type(fault), '')}"], True

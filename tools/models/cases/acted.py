@@ -104,6 +104,8 @@ def link_rows():
     yield row("links: a text behind the last page", TO_TEXT, [16], "", "", body=[answering(65528, at=65528, data=header)], **page)
     for name, area in (("an odd area", 5), ("an area past the end", 28)):
         yield row(f"links: {name}", TO_TEXT, [area], "ee" * 32, "", lens=[32, 32], body=[answering(0, data=HI)])
+    for name, items, flats in (("a text", TEXT, [0xFFFFFFFF, 1]), ("a list", "f: func(x: list<u64>);", [8, 1 << 29])):
+        yield row(f"links: {name} that ends past 2^32", items, flats, "", "", lens=[16, 16])
     answers = [("a char", "f: func() -> list<char>;", hex_of(8, 1, "00d8"), 0), ("a case", "f: func() -> option<u32>;", "02", 0)]
     answers += [("an odd address", TO_TEXT, HI, 2), ("an address past the end", TO_TEXT, HI, 28), ("no UTF-8", TO_TEXT, hex_of(8, 2, "c080"), 0)]
     for name, items, data, answer in answers:
@@ -151,6 +153,26 @@ def text_rows():
     yield session("a text under its header", TO_TEXT, [call()], [256, 32], [under], script=[[128, 128], None])
     for name, at in (("no block", None), ("an odd block", 2), ("a block past the end", 32)):
         yield session(f"a list with {name}", NUMBERS, [call([1])], [32, 32], [answering()], script=[[at], None])
+
+
+def followed(name, items, steps, lens, acts=(), **more):
+    """Steps that end in a trap, and behind them a call of `g` with 7 over the same memories, which is answered by 8."""
+    return session(f"{name}, and a call behind it", items + NEXT, [*steps, call(7, name="g")], lens, [*acts, answering(8)], **more)
+
+
+def followed_rows():
+    """Traps in `place`, of a block and of the return area, and in `take`."""
+    for name, at in (("no block", None), ("an odd block", 2), ("a block past the end", 32)):
+        yield followed(f"placed with {name}", NUMBERS, [["place", "f", [1]]], [32, 32], script=[[8, at], None])
+        yield followed(f"a list with {name}", NUMBERS, [call([1])], [32, 32], script=[[at], None])
+        yield followed(f"a text's area with {name}", TO_TEXT, [call()], [32, 32], script=[[at], None])
+    # What the caller is given stands at the address of the area. Of a text the header comes last, and is then the text; of a list its first two
+    # elements come last, and are then its address and its length: of one element at 0, at 2, and at the end.
+    taken = [("no UTF-8", "string", hex_of(8, 8, b"aaaaaaaa")), ("a surrogate", "list<char>", hex_of(8, 2, 0, 1)), ("a case", "list<e>", hex_of(8, 8, 0, 1))]
+    taken += [("an odd address", "list<u32>", hex_of(8, 2, 2, 1)), ("an address past the end", "list<u32>", hex_of(8, 2, 160, 1))]
+    for name, result, data in taken:
+        items = f"enum e {{ a, b, c }} f: func() -> {result};"
+        yield followed(f"taken, {name}", items, [call()], [160, 32], [answering(0, data=data)], caller="03d8", script=[[128, 128], None])
 
 
 def compound_rows():
@@ -262,6 +284,8 @@ def flat_rows():
     yield lifted("no UTF-8", text, [0, 2], "c080")
     yield lifted("a text that ends past 2^32", text, [0xFFFFFFFF, 1], "c080")
     yield lifted("a list that ends past 2^32", "type t = list<u64>;", [8, 1 << 29], "c080")
+    yield lifted("a text that ends past 2^32 behind 16 bytes", text, [0xFFFFFFFF, 1], "c080", 16)
+    yield lifted("a list that ends past 2^32 behind 16 bytes", "type t = list<u64>;", [8, 1 << 29], "c080", 16)
     yield lifted("an empty list at the end", numbers, [8, 0], length=8)
     yield lifted("a text", text, [0, 2], b"hi\xc0\x80".hex(), 16)
     yield lifted("an empty text at the end", text, [16, 0], b"hi\xc0\x80".hex(), 16)
@@ -280,5 +304,5 @@ def flat_rows():
 
 def rows():
     """All of them."""
-    for part in (trap_rows, scalar_traps, crossing_rows, link_rows, request_rows, text_rows, compound_rows, scalar_rows, step_rows, value_rows, flat_rows):
+    for part in (trap_rows, scalar_traps, crossing_rows, link_rows, request_rows, text_rows, followed_rows, compound_rows, scalar_rows, step_rows, value_rows, flat_rows):
         yield from part()
