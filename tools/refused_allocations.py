@@ -3,7 +3,7 @@
 
 usage: tools/refused_allocations.py [CRATE ..]
 
-CRATE is `rows_reading`, `rows_texts`, `vectors` or `program`, each as `rt run` in its folder leaves it; all four where none is named. Each of the
+CRATE is `rows_texts`, `vectors` or `program`, each as `rt run` in its folder leaves it; all three where none is named. Each of the
 rows below is asked twice in one run, and there is a run for each allocation that such a run makes. The row whose allocation was refused has to
 tell a want of memory in the words of one of the layers that it passes (WORDS), or in those of the program that asks it (OWN); the other one has to be
 answered as with all memory; and each word of WORDS has to be told at least once. A refusal of what the program itself asks for, as for a line that it
@@ -56,7 +56,7 @@ STEPS = [["place", "f", json.loads(VALUE)], ["read", 0], ["call", "f", [json.loa
 GROWN = {"lens": [65536, 65536], "max": [131072, 131072]}
 # Of each program its rows, and the words, by their number, that each has to tell at least once.
 WORDS = {
-    "rows_reading": [
+    "rows_texts": [
         (f"label {LABEL}", [5]),
         ("full-name a-namespace-of-many-bytes:b/c@1.0.0-rc.1", [5, PLAIN]),
         ("version 1.0.0-rc.1+build.5", [PLAIN]),
@@ -69,8 +69,6 @@ WORDS = {
         (f"decode {BINARY}", [21]),
         (f"drip {BINARY}", [21]),
         (f"encode {BINARY}", [21]),
-    ],
-    "rows_texts": [
         (f'open "{TEXT}"', OPENED),
         (f"open bytes {BINARY}", OPENED_BINARY),
         (f'show "{TEXT}"', [*OPENED, 66]),
@@ -238,11 +236,8 @@ def asked_twice(crate, row, folder):
     """The input in which a row is asked twice."""
     if crate == "vectors":
         return f"{row}\n{row}\n"
-    rows = f"first: {row} => \nagain: {row} => \n"
-    if crate == "rows_reading":
-        return rows
     path = folder / "asked.rows"
-    path.write_text(rows)
+    path.write_text(f"first: {row} => \nagain: {row} => \n")
     return f"{path}\n"
 
 

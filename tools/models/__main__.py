@@ -3,7 +3,7 @@
 usage: python3 -m tools.models check [FILE ..]        whether the stored answers are the models': of all files, or of these
        python3 -m tools.models write [FILE ..]        writes the stored inputs and answers anew
        python3 -m tools.models random NAME N [SEED]   prints N random inputs: NAME is vectors, steps, requests or layouts
-       python3 -m tools.models answer NAME            answers the lines of standard input: NAME is vectors, requests or rows
+       python3 -m tools.models answer NAME            answers the lines of standard input: NAME is vectors or rows
        python3 -m tools.models JOB FILE ..            prints what JOB (show, layout, text, bin) makes of the set of these texts
        python3 -m tools.models compare PROGRAM N [SEED]
                                                       runs N random calls through the program `vectors`, and compares

@@ -1,6 +1,7 @@
 """Component type binaries, as docs/FORMATS.md has them ("Component type binary"): what reading one answers, with each fault at its place."""
 import re
 
+from . import memory_rows
 from .faults import Refused
 
 MOST_BYTES, MOST_CASES, MOST_LABELS, MOST_NESTED, MOST_ENTRIES = 1_048_576, 100_000, 32, 4, 65_535
@@ -344,7 +345,7 @@ def changes_row(digits):
     return f"{256 * len(data)} changed: {count} components"
 
 
-COMMANDS = {"decode": decode_row, "drip": decode_row, "cuts": cuts_row, "changes": changes_row}
+COMMANDS = {"decode": decode_row, "drip": decode_row, "component-cuts": cuts_row, "component-changes": changes_row, **memory_rows.COMMANDS}
 
 
 def answers(lines):

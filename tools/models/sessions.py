@@ -209,18 +209,3 @@ def call_answers(lines):
             yield line_of(told(row))
         else:
             yield line_of(converted_told(row) if "lift" in row or "lower" in row else calls.told(row))
-
-
-def request_answers(lines):
-    """The line that answers each request to a `FirstFit`, which `new LENGTH` makes."""
-    memory = None
-    for line in lines:
-        word, *numbers = line.split()
-        if word == "new":
-            memory = FirstFit(int(numbers[0]))
-            yield "made"
-        elif word == "alloc":
-            at = memory.alloc(*map(int, numbers))
-            yield "full" if at is None else str(at)
-        else:
-            yield "taken" if memory.free(*map(int, numbers)) else "not taken"

@@ -6,7 +6,6 @@ import pathlib
 from . import calls, component, sessions, text_rows
 from .cases import acted
 from .cases import calls as call_cases
-from .cases import requests as request_cases
 from .cases import steps as step_cases
 
 ROOT = pathlib.Path(__file__).resolve().parent.parent.parent
@@ -78,41 +77,30 @@ class Rows:
 
 
 class Reading(Rows):
-    """The rows of `rows_reading`."""
+    """The rows of `reading.rows`."""
 
     def wanted(self):
         """The rows with the answers to them."""
         return list(component.answers(lines_of(self.path)))
 
 
-class ReadingNames:
-    """The output of `rows_reading`: the names of its rows."""
+class Names:
+    """The output of `rows_texts`: of each file its name and the names of its rows, since these are answered as they say."""
 
-    folder = ROOT / "crates/rows_reading"
+    folder = ROOT / "crates/rows_texts"
     path = folder / "stdout"
 
     def is_named(self, path):
         """Whether a path is the file's, or the crate's."""
         return path in (self.path, self.folder)
 
-    def wanted(self):
-        """The names of the stored rows."""
-        return [line.split(": ", 1)[0] for line in lines_of(self.folder / "stdin") if text_rows.is_row(line)]
-
     def faults(self, _):
-        """Nothing: the file of the rows tells of two that have one name."""
+        """Nothing: the files of the rows tell of two that have one name."""
         return []
 
     def write(self):
         """Writes the names anew."""
         self.path.write_text(text_of(self.wanted()))
-
-
-class Names(ReadingNames):
-    """The output of `rows_texts`: of each file its name and the names of its rows, since these are answered as they say."""
-
-    folder = ROOT / "crates/rows_texts"
-    path = folder / "stdout"
 
     def names(self, file):
         """The names of a file's rows; a wrong one is followed by the answer."""
@@ -129,11 +117,9 @@ class Names(ReadingNames):
 TEXT_ROWS = ROOT / "crates/rows_texts/data"
 RUNS = {
     "vectors": Run("vectors", lambda: [*call_cases.stored(), *map(calls.line_of, acted.rows()), *step_cases.lines()], sessions.call_answers),
-    "requests": Run("suite_requests", request_cases.lines, sessions.request_answers),
 }
 FILES = ("grammar", "texts", "errors", "sets", "packages", "changes", "layouts", "json")
-OF_READING = [Reading(ROOT / "crates/rows_reading/stdin"), ReadingNames()]
-ALL = [*RUNS.values(), *(Rows(TEXT_ROWS / f"{name}.rows") for name in FILES), Names(), *OF_READING]
+ALL = [*RUNS.values(), *(Rows(TEXT_ROWS / f"{name}.rows") for name in FILES), Reading(TEXT_ROWS / "reading.rows"), Names()]
 
 
 def named(paths):

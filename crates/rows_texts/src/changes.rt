@@ -1,120 +1,154 @@
-//! Inputs that are cut after each byte, and binaries with each byte changed to every other.
+//! Inputs that are cut after each byte, and binaries with each byte changed to every other, alone or behind the packages that they use.
 
-use ctype_bin::{BinError, Fault, decode};
-use std::alloc::Global;
-use witcall::{OpenError, open};
+use crate::inputs::Set;
+use crate::opened::opened;
+use ctype_bin::{BinError, Fault, RawComponent, decode};
+use std::alloc::{AllocError, Global};
+use witcall::{OpenError, Package, open};
 
-/// Whether the front of a binary is told as cut at its end, when it is decoded and when it is opened. One of fewer than four bytes is a
-/// text, and no package.
-fn is_told_as_cut(alloc: Global, front: &[u8]) -> bool {
-    let Err(BinError::At(Fault::Truncated, place)) = decode(alloc, front) else {
-        return false;
-    };
-    let is_opened_alike = match open(alloc, front) {
-        Err(OpenError::Binary(BinError::At(Fault::Truncated, place))) => place == front.len(),
-        Err(OpenError::Text(_)) => front.len() < 4,
-        _ => false,
-    };
-    place == front.len() && is_opened_alike
+/// The line of opening.
+fn line_of(alloc: Global, answer: &Result<Package, OpenError>) -> Result<String, AllocError> {
+    match answer {
+        Ok(_) => String::from_str(alloc, "opened"),
+        Err(error) => format!(in alloc; "{error}"),
+    }
 }
 
-/// Whether the bytes are a package that is written and opened as itself; not where they are refused as a binary is.
-fn is_package(alloc: Global, bytes: &[u8]) -> anyhow::Result<bool> {
-    let package = match open(alloc, bytes) {
-        Ok(package) => package,
-        Err(OpenError::Binary(_) | OpenError::Resolve(_) | OpenError::Layout(_)) => return Ok(
-            false,
-        ),
-        Err(error) => return Err(anyhow::anyhow!("{error}")),
-    };
-    let written = package.to_binary(alloc)?;
-    let again = open(alloc, written.as_slice())?.to_binary(alloc)?;
-    if written != again {
+/// Whether an input that is opened alone is answered so.
+pub fn is_opened_alone(alloc: Global, input: &[u8], line: &str) -> Result<bool, AllocError> {
+    Ok(line_of(alloc, &open(alloc, input))?.as_str() == line)
+}
+
+/// Whether bytes are told as cut at this length when they are decoded.
+fn is_cut(decoded: &Result<RawComponent, BinError>, length: usize) -> bool {
+    matches!(decoded, Err(BinError::At(Fault::Truncated, place)) if *place == length)
+}
+
+/// Whether they are when they are opened. Those of fewer than four bytes are a text, and no package.
+fn is_opened_as_cut(answer: &Result<Package, OpenError>, length: usize) -> bool {
+    match answer {
+        Err(OpenError::Binary(BinError::At(Fault::Truncated, place))) => *place == length,
+        Err(OpenError::Text(_)) => length < 4,
+        _ => false,
+    }
+}
+
+/// Whether the front of a binary is told as cut at its end, when it is decoded and when it is opened.
+fn is_told_as_cut(alloc: Global, set: &Set, length: usize) -> bool {
+    let front = set.last.as_slice().get(..length).unwrap_or(&[]);
+    is_cut(&decode(alloc, front), length)
+        && is_opened_as_cut(&opened(alloc, set.earlier.as_slice(), front), length)
+}
+
+/// What is written of the package of a set with this last input.
+fn written(alloc: Global, earlier: &[Vec<u8>], last: &[u8]) -> anyhow::Result<Vec<u8>> {
+    let package = opened(alloc, earlier, last)?;
+    Ok(package.to_binary(alloc)?)
+}
+
+/// Whether a package is written and opened as itself. Fails where it isn't.
+fn is_kept(alloc: Global, earlier: &[Vec<u8>], package: &Package) -> anyhow::Result<bool> {
+    let first = package.to_binary(alloc)?;
+    if written(alloc, earlier, first.as_slice())? != first {
         return Err(anyhow::anyhow!("another package"));
     }
     Ok(true)
 }
 
-/// The bytes with one changed.
-fn changed(alloc: Global, bytes: &[u8], place: usize, byte: u8) -> anyhow::Result<Vec<u8>> {
-    let mut changed = bytes.to_vec(alloc)?;
-    if let Some(old) = changed.as_mut_slice().get_mut(place) {
-        *old = byte;
+/// No package, where it is refused as a binary is. Fails where it is refused otherwise.
+fn is_refused(error: &OpenError) -> anyhow::Result<bool> {
+    match error {
+        OpenError::Binary(_)
+        | OpenError::Resolve(_)
+        | OpenError::Layout(_)
+        | OpenError::Attach(_) => Ok(false),
+        _ => Err(anyhow::anyhow!("{error}")),
     }
-    Ok(changed)
+}
+
+/// Whether the last input of a set is a package.
+fn is_package(alloc: Global, set: &Set) -> anyhow::Result<bool> {
+    match opened(alloc, set.earlier.as_slice(), set.last.as_slice()) {
+        Ok(package) => is_kept(alloc, set.earlier.as_slice(), &package),
+        Err(error) => is_refused(&error),
+    }
 }
 
 /// How many of the 256 values of a byte give a package.
-fn packages_at(alloc: Global, bytes: &[u8], place: usize) -> anyhow::Result<usize> {
+fn packages_at(alloc: Global, set: &mut Set, place: usize) -> anyhow::Result<usize> {
+    let before = set.put(place, 0);
     let mut packages: usize = 0;
     for byte in 0..=255 {
-        let changed = changed(alloc, bytes, place, byte)?;
-        if is_package(alloc, changed.as_slice())? {
+        set.put(place, byte);
+        if is_package(alloc, set)? {
             packages = packages.saturating_add(1);
         }
     }
+    set.put(place, before);
     Ok(packages)
 }
 
 /// What the fronts and the changes of a binary answer. The first four bytes stay, which tell a binary from a text.
-pub fn changes(alloc: Global, bytes: &[u8]) -> anyhow::Result<String> {
+pub fn changes(alloc: Global, set: &mut Set) -> anyhow::Result<String> {
+    let length = set.last.len();
     let mut packages: usize = 0;
-    for place in 0..bytes.len() {
-        if !is_told_as_cut(alloc, bytes.get(..place).unwrap_or(&[])) {
+    for place in 0..length {
+        if !is_told_as_cut(alloc, set, place) {
             return Err(anyhow::anyhow!("not told as cut at {place}"));
         }
         if place >= 4 {
-            packages = packages.saturating_add(packages_at(alloc, bytes, place)?);
+            packages = packages.saturating_add(packages_at(alloc, set, place)?);
         }
     }
-    let count = bytes.len().saturating_sub(4).saturating_mul(256);
-    Ok(format!(in alloc;
-        "{} fronts told as cut, {count} changed: {packages} packages",
-        bytes.len()
-    )?)
+    let count = length.saturating_sub(4).saturating_mul(256);
+    Ok(format!(in alloc; "{length} fronts told as cut, {count} changed: {packages} packages")?)
 }
 
-/// `opened`, or the line of a refusal.
-fn line_of(alloc: Global, bytes: &[u8]) -> anyhow::Result<String> {
-    match open(alloc, bytes) {
-        Ok(_package) => Ok(String::from_str(alloc, "opened")?),
-        Err(error) => Ok(format!(in alloc; "{error}")?),
-    }
+/// What the front of a set's last input answers.
+fn front_line(alloc: Global, set: &Set, length: usize) -> Result<String, AllocError> {
+    let front = set.last.as_slice().get(..length).unwrap_or(&[]);
+    line_of(alloc, &opened(alloc, set.earlier.as_slice(), front))
 }
 
-/// What each front of a text answers, a line each behind its length.
-pub fn cuts(alloc: Global, bytes: &[u8]) -> anyhow::Result<String> {
+/// What each front answers, a line each behind its length.
+pub fn cuts(alloc: Global, set: &Set) -> anyhow::Result<String> {
     let mut told = String::new(alloc);
-    for length in 0..bytes.len() {
-        let line = line_of(alloc, bytes.get(..length).unwrap_or(&[]))?;
+    for length in 0..set.last.len() {
+        let line = front_line(alloc, set, length)?;
         told.push_str(format!(in alloc; "{length} {line}\n")?.as_str())?;
     }
     Ok(told)
 }
 
 /// Of a front 0 where it is opened, 1 where it or a name in it is refused, 2 where it is cut within a character.
-fn kind_of(alloc: Global, front: &[u8]) -> anyhow::Result<usize> {
-    match open(alloc, front) {
-        Ok(_package) => Ok(0),
+fn kind_of(answer: &Result<Package, OpenError>) -> anyhow::Result<usize> {
+    match answer {
+        Ok(_) => Ok(0),
         Err(OpenError::Text(_) | OpenError::Resolve(_)) => Ok(1),
         Err(OpenError::NotUtf8(_)) => Ok(2),
-        Err(error) => Err(anyhow::anyhow!("{error}: a front of {} bytes", front.len())),
+        Err(error) => Err(anyhow::anyhow!("{error}")),
     }
 }
 
-/// How often each answer comes of the fronts of a text, and what the whole answers.
-pub fn fronts(alloc: Global, bytes: &[u8]) -> anyhow::Result<String> {
+/// How many of the fronts of a text are of each kind.
+fn counts(alloc: Global, set: &Set) -> anyhow::Result<[usize; 3]> {
     let mut counts = [0; 3];
-    for length in 0..bytes.len() {
-        let kind = kind_of(alloc, bytes.get(..length).unwrap_or(&[]))?;
+    for length in 0..set.last.len() {
+        let front = set.last.as_slice().get(..length).unwrap_or(&[]);
+        let kind = kind_of(&opened(alloc, set.earlier.as_slice(), front))?;
         if let Some(count) = counts.get_mut(kind) {
             *count = usize::saturating_add(*count, 1);
         }
     }
-    let [opened, refused, within] = counts;
-    let whole = line_of(alloc, bytes)?;
+    Ok(counts)
+}
+
+/// How often each answer comes of the fronts of a text, and what the whole answers.
+pub fn fronts(alloc: Global, set: &Set) -> anyhow::Result<String> {
+    let [opened, refused, within] = counts(alloc, set)?;
+    let length = set.last.len();
+    let whole = front_line(alloc, set, length)?;
     Ok(format!(in alloc;
-        "{} fronts: {opened} opened, {refused} refused, {within} within a character; the whole: {whole}",
-        bytes.len()
+        "{length} fronts: {opened} opened, {refused} refused, {within} within a character; the whole: {whole}"
     )?)
 }

@@ -55,6 +55,14 @@ impl Set {
         Ok(())
     }
 
+    /// Changes the byte at a place of the last input, if there is one, and answers what it was.
+    pub fn put(&mut self, place: usize, byte: u8) -> u8 {
+        match self.last.as_mut_slice().get_mut(place) {
+            Some(old) => mem::replace(old, byte),
+            None => byte,
+        }
+    }
+
     /// Goes on with the inputs of another set, the first of them in the last input.
     pub fn go_on(&mut self, alloc: Global, other: &Set) -> Result<(), AllocError> {
         for input in &other.earlier {

@@ -3,9 +3,9 @@
 ghost use Rattle.std.specs.Prelude.{IfOk};
 ghost use Rattle.tables.specs.Standard.{IsTypeOf};
 
-use crate::answers::{Call, written};
+use crate::calls::{Call, written};
 use crate::inputs::Set;
-use crate::parts::expanded;
+use crate::parts::{expanded, parted};
 use std::alloc::Global;
 use tables::ValType;
 use witcall::{Package, from_json, open, to_json};
@@ -25,55 +25,56 @@ fn type_of(package: &Package) -> anyhow::Result<ValType>
 }
 
 /// The value of the type `t` that a text says, written again.
+fn rewritten(alloc: Global, package: &Package, text: &str) -> anyhow::Result<String> {
+    let ty = type_of(package)?;
+    let value = from_json(alloc, package, ty, text)?;
+    Ok(to_json(alloc, package, ty, &value)?)
+}
+
 fn value(alloc: Global, items: &str, text: &str) -> anyhow::Result<String> {
-    let package = format!(in alloc;
+    let wit = format!(in alloc;
         "package a:b; interface c {{ {items} }} interface the-type-t {{ use c.{{t}}; f: func(x: t); }}"
     )?;
-    let package = open(alloc, package.as_bytes())?;
-    let ty = type_of(&package)?;
-    let value = from_json(alloc, &package, ty, text)?;
-    Ok(to_json(alloc, &package, ty, &value)?)
+    let package = open(alloc, wit.as_bytes())?;
+    rewritten(alloc, &package, text)
+}
+
+/// The set of the package whose interface has these items.
+fn set_of(alloc: Global, items: &str) -> anyhow::Result<Set> {
+    let text = format!(in alloc; "package a:b; interface c {{ {items} }}")?;
+    let last = text.as_bytes().to_vec(alloc)?;
+    Ok(Set {
+        earlier: Vec::new(alloc),
+        last,
+    })
 }
 
 /// What a call of `f` prints, without the end of its line.
 fn called(alloc: Global, items: &str, arguments: &str, reply: &str) -> anyhow::Result<String> {
-    let text = format!(in alloc; "package a:b; interface c {{ {items} }}")?;
-    let set = Set {
-        earlier: Vec::new(alloc),
-        last: text.as_bytes().to_vec(alloc)?,
-    };
     let call = Call {
         interface: "a:b/c",
         function: "f",
         arguments,
         reply,
     };
+    let set = set_of(alloc, items)?;
     let printed = String::from_utf8(written(alloc, &call, &set)?)?;
-    match printed.as_str().strip_suffix("\n") {
-        Some(result) => Ok(String::from_str(alloc, result)?),
-        None => Ok(String::from_str(alloc, "nothing")?),
-    }
+    let result = printed.as_str().strip_suffix("\n").unwrap_or("nothing");
+    Ok(String::from_str(alloc, result)?)
 }
 
 /// What is asked of a value or of a call, whose parts stand between bars.
 fn told(alloc: Global, is_call: bool, arguments: &str) -> anyhow::Result<String> {
-    let Some((items, rest)) = arguments.split_once(" | ") else {
-        return Err(anyhow::anyhow!("no items: {arguments}"));
-    };
+    let (items, rest) = parted(arguments, " | ")?;
     if !is_call {
         return value(alloc, items, rest);
     }
-    match rest.split_once(" | ") {
-        Some((given, reply)) => called(alloc, items, given, reply),
-        None => Err(anyhow::anyhow!("no reply: {arguments}")),
-    }
+    let (given, reply) = parted(rest, " | ")?;
+    called(alloc, items, given, reply)
 }
 
 /// A value or a result, or the line of a refusal or of a trap.
 pub fn answer_of(alloc: Global, is_call: bool, arguments: &str) -> anyhow::Result<String> {
     let arguments = expanded(alloc, arguments)?;
-    match told(alloc, is_call, arguments.as_str()) {
-        Ok(text) => Ok(text),
-        Err(error) => Ok(format!(in alloc; "{error}")?),
-    }
+    told(alloc, is_call, arguments.as_str())
 }

@@ -7,7 +7,7 @@ use std::alloc::Global;
 use tables::{
     Definition, Function, FunctionId, InterfaceId, Owner, Resolve, TypeDef, TypeId, ValType,
 };
-use witcall::open;
+use witcall::{Package, open};
 
 fn interface_name(resolve: &Resolve, id: InterfaceId) -> &str {
     match resolve.interfaces.as_slice().get(id.0 as usize) {
@@ -69,31 +69,49 @@ fn function_line(
     Ok(format!(in alloc; "func {owner}.{name} {shape} lift {lifted} lower {lowered}; ")?)
 }
 
-/// What a package's definitions take, or its last one alone, and the work of its layouts.
-fn told(alloc: Global, wit: &str, is_last: bool) -> anyhow::Result<String> {
-    let package = open(alloc, wit.as_bytes())?;
+/// The line of the definition at this place.
+fn line_of(
+    alloc: Global,
+    package: &Package,
+    index: usize,
+    definition: &Definition,
+) -> anyhow::Result<String> {
     let (resolve, layouts) = (package.resolve(), package.layouts());
-    let mut text = String::new(alloc);
-    for (index, definition) in resolve.definitions.as_slice().iter().enumerate() {
-        let place = u32::try_from(index)?;
-        let line = match definition {
-            Definition::Type(ty) => type_line(alloc, resolve, layouts, place, ty)?,
-            Definition::Function(f) => function_line(alloc, resolve, layouts, place, f)?,
-        };
-        if is_last {
-            text = line;
-        } else {
-            text.push_str(line.as_str())?;
-        }
+    let place = u32::try_from(index)?;
+    match definition {
+        Definition::Type(ty) => type_line(alloc, resolve, layouts, place, ty),
+        Definition::Function(f) => function_line(alloc, resolve, layouts, place, f),
     }
-    Ok(format!(in alloc; "{text}work {}", layouts.work())?)
 }
 
-/// What is told of the package of a text, or the line of its refusal.
+/// The lines of a package's definitions.
+fn lines(alloc: Global, package: &Package) -> anyhow::Result<Vec<String>> {
+    let mut lines = Vec::new(alloc);
+    for (index, definition) in package.resolve().definitions.as_slice().iter().enumerate() {
+        lines.push(line_of(alloc, package, index, definition)?)?;
+    }
+    Ok(lines)
+}
+
+/// What a package's definitions take, or its last one alone, and the work of its layouts.
+fn told(alloc: Global, package: &Package, is_last: bool) -> anyhow::Result<String> {
+    let lines = lines(alloc, package)?;
+    let first = if is_last {
+        lines.len().saturating_sub(1)
+    } else {
+        0
+    };
+    let text = lines
+        .as_slice()
+        .get(first..)
+        .unwrap_or(&[])
+        .join(alloc, "")?;
+    Ok(format!(in alloc; "{text}work {}", package.layouts().work())?)
+}
+
+/// What is told of the package of a text.
 pub fn laid_out(alloc: Global, line: &str, is_last: bool) -> anyhow::Result<String> {
     let wit = expanded(alloc, line)?;
-    match told(alloc, wit.as_str(), is_last) {
-        Ok(text) => Ok(text),
-        Err(error) => Ok(format!(in alloc; "{error}")?),
-    }
+    let package = open(alloc, wit.as_bytes())?;
+    told(alloc, &package, is_last)
 }

@@ -1,17 +1,23 @@
-//! Rows of texts, binaries and sets of packages, one a line, each with its name and its answer. docs/FORMATS.md has their
-//! language. Of each file that a line names, the name of each row is written, and behind it what was answered if that is
+//! Rows of texts, binaries and sets of packages, JSON, layouts, numbers, names, command lines and memories, one a line, each with its name
+//! and its answer. docs/FORMATS.md has their language. Of each file that a line names, the name of each row is written, and behind it what was answered if that is
 //! something else.
 #![tactic(auto)]
 
 mod answers;
+mod binaries;
+mod calls;
 mod changes;
 mod inputs;
 mod json;
 mod layouts;
+mod memories;
+mod opened;
 mod parts;
+mod reading;
 mod rows;
 mod shapes;
 mod streams;
+mod trees;
 
 use rows::{Rows, read};
 use std::alloc::Global;

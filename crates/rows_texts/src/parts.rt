@@ -13,13 +13,20 @@ enum Token<'a> {
 
 fn push_words<'a>(tokens: &mut Vec<Token<'a>>, piece: &'a str) -> Result<(), AllocError> {
     for word in piece.split(' ') {
-        let front = word.strip_suffix(",").unwrap_or(word);
-        if !front.is_empty() {
-            tokens.push(Token::Word(front))?;
+        if !word.is_empty() {
+            tokens.push(Token::Word(word))?;
         }
-        if front.len() < word.len() {
+    }
+    Ok(())
+}
+
+/// Adds the words and the commas of what stands outside quotation marks.
+fn push_plain<'a>(tokens: &mut Vec<Token<'a>>, piece: &'a str) -> Result<(), AllocError> {
+    for (index, words) in piece.split(',').enumerate() {
+        if index > 0 {
             tokens.push(Token::Comma)?;
         }
+        push_words(tokens, words)?;
     }
     Ok(())
 }
@@ -31,24 +38,24 @@ fn tokens_of(alloc: Global, line: &str) -> Result<Vec<Token<'_>>, AllocError> {
         if index % 2 == 1 {
             tokens.push(Token::Text(piece))?;
         } else {
-            push_words(&mut tokens, piece)?;
+            push_plain(&mut tokens, piece)?;
         }
     }
     Ok(tokens)
 }
 
+fn letter(digit: usize) -> char {
+    match b"abcdefghijklmnopqrstuvwxyz".get(digit) {
+        Some(letter) => char::from(*letter),
+        None => '?',
+    }
+}
+
 /// A number as four letters, which are its digits to the base 26.
 fn letters(alloc: Global, number: usize) -> Result<String, AllocError> {
     let mut letters = String::new(alloc);
-    for digit in [
-        number / 17576 % 26,
-        number / 676 % 26,
-        number / 26 % 26,
-        number % 26,
-    ] {
-        if let Some(letter) = b"abcdefghijklmnopqrstuvwxyz".get(digit) {
-            letters.push(char::from(*letter))?;
-        }
+    for unit in [17576, 676, 26, 1] {
+        letters.push(letter(number / unit % 26))?;
     }
     Ok(letters)
 }
@@ -117,12 +124,18 @@ impl<'a> Maker<'a> {
         Ok(())
     }
 
-    fn repeat_input(&mut self, name: &str, count: usize) -> anyhow::Result<()> {
+    fn repeat_input(&mut self, name: &str, count: usize) -> anyhow::Result<Awaited> {
         let part = self.kept.named(name)?;
         for _time in 0..count {
             self.set.last.extend_from_slice(part.last.as_slice())?;
         }
-        Ok(())
+        Ok(Awaited::Part)
+    }
+
+    fn push_bytes(&mut self, alloc: Global, digits: &str) -> anyhow::Result<Awaited> {
+        let bytes = hex::decode(alloc, digits)?;
+        self.set.last.extend_from_slice(bytes.as_slice())?;
+        Ok(Awaited::Part)
     }
 
     /// Adds so many inputs, of which the first goes on with the last that is there.
@@ -149,26 +162,19 @@ impl<'a> Maker<'a> {
         }
     }
 
-    fn take_word(&mut self, alloc: Global, word: &str) -> anyhow::Result<()> {
-        self.awaited = match self.awaited {
-            Awaited::Part => self.begin_part(alloc, word)?,
-            Awaited::Bytes => {
-                let bytes = hex::decode(alloc, word)?;
-                self.set.last.extend_from_slice(bytes.as_slice())?;
-                Awaited::Part
-            }
-            Awaited::Repeats => Awaited::Repeated(word.parse::<usize>()?),
-            Awaited::Repeated(count) => {
-                self.repeat_input(word, count)?;
-                Awaited::Part
-            }
-            Awaited::Inputs => Awaited::Each(word.parse::<usize>()?),
-            Awaited::Each(_) => return Err(anyhow::anyhow!("no text: {word}")),
-        };
-        Ok(())
+    /// Takes a word, and answers what is to come.
+    fn take_word(&mut self, alloc: Global, word: &str) -> anyhow::Result<Awaited> {
+        match self.awaited {
+            Awaited::Part => self.begin_part(alloc, word),
+            Awaited::Bytes => self.push_bytes(alloc, word),
+            Awaited::Repeats => Ok(Awaited::Repeated(word.parse::<usize>()?)),
+            Awaited::Repeated(count) => self.repeat_input(word, count),
+            Awaited::Inputs => Ok(Awaited::Each(word.parse::<usize>()?)),
+            Awaited::Each(_) => Err(anyhow::anyhow!("no text: {word}")),
+        }
     }
 
-    fn take_text(&mut self, alloc: Global, text: &str) -> anyhow::Result<()> {
+    fn take_text(&mut self, alloc: Global, text: &str) -> anyhow::Result<Awaited> {
         match self.awaited {
             Awaited::Part => self.set.last.extend_from_slice(text.as_bytes())?,
             Awaited::Repeated(count) => self.repeat_text(alloc, text, count)?,
@@ -177,7 +183,18 @@ impl<'a> Maker<'a> {
                 return Err(anyhow::anyhow!("no number: {text}"));
             }
         }
-        self.awaited = Awaited::Part;
+        Ok(Awaited::Part)
+    }
+
+    fn take(&mut self, alloc: Global, token: Token<'_>) -> anyhow::Result<()> {
+        self.awaited = match token {
+            Token::Word(word) => self.take_word(alloc, word)?,
+            Token::Text(text) => self.take_text(alloc, text)?,
+            Token::Comma => {
+                self.set.begin(alloc)?;
+                Awaited::Part
+            }
+        };
         Ok(())
     }
 }
@@ -189,23 +206,36 @@ pub fn inputs_in(alloc: Global, kept: &Inputs, line: &str) -> anyhow::Result<Set
         set: Set::new(alloc),
         awaited: Awaited::Part,
     };
-    for token in tokens_of(alloc, line)? {
-        match token {
-            Token::Word(word) => maker.take_word(alloc, word)?,
-            Token::Text(text) => maker.take_text(alloc, text)?,
-            Token::Comma => maker.set.begin(alloc)?,
-        }
+    for token in &tokens_of(alloc, line)? {
+        maker.take(alloc, *token)?;
     }
     Ok(maker.set)
 }
 
+/// The two parts of a line.
+pub fn parted<'a>(line: &'a str, sign: &str) -> anyhow::Result<(&'a str, &'a str)> {
+    match line.split_once(sign) {
+        Some(parts) => Ok(parts),
+        None => Err(anyhow::anyhow!("one part: {line}")),
+    }
+}
+
+/// The first word of a line, and the rest.
+pub fn first_word(line: &str) -> anyhow::Result<(&str, &str)> {
+    parted(line, " ")
+}
+
+/// How often a part is repeated, the part, and the rest.
+fn rule_of(rule: &str) -> anyhow::Result<(usize, &str, &str)> {
+    let (count, rest) = parted(rule, " \"")?;
+    let (part, rest) = parted(rest, "\"")?;
+    Ok((count.parse::<usize>()?, part, rest))
+}
+
 /// Adds what follows a word `repeat`: so many copies of a part, and the rest.
 fn push_repeated(alloc: Global, text: &mut Vec<u8>, rule: &str) -> anyhow::Result<()> {
-    let mut pieces = rule.splitn(3, '"');
-    let (Some(count), Some(part), Some(rest)) = (pieces.next(), pieces.next(), pieces.next()) else {
-        return Err(anyhow::anyhow!("no rule: {rule}"));
-    };
-    for number in 0..count.trim_end().parse::<usize>()? {
+    let (count, part, rest) = rule_of(rule)?;
+    for number in 0..count {
         push_numbered(alloc, text, part, number)?;
     }
     text.extend_from_slice(rest.as_bytes())?;

@@ -2,7 +2,7 @@
 
 use crate::answers::answer_of;
 use crate::inputs::{Inputs, Set};
-use crate::parts::inputs_in;
+use crate::parts::{inputs_in, parted};
 use atoms::Watched;
 use std::alloc::Global;
 use std::fs;
@@ -10,17 +10,17 @@ use witcall::read_all;
 
 /// A row that was read: what is asked, and what is to be answered.
 #[derive(Drop)]
-struct Row {
-    name: String,
-    asked: String,
+struct Row<'a> {
+    name: &'a str,
+    asked: &'a str,
     wanted: String,
 }
 
 /// The inputs that were kept so far, and the row whose answer may have further lines.
 #[derive(Drop)]
-pub struct Rows {
+pub struct Rows<'a> {
     kept: Inputs,
-    last: Option<Row>,
+    last: Option<Row<'a>>,
 }
 
 /// The bytes of a file.
@@ -30,22 +30,48 @@ pub fn read(rt: &HostRuntime, alloc: Global, path: &str) -> anyhow::Result<Vec<u
 }
 
 /// The row that a line begins.
-fn row_of(alloc: Global, line: &str) -> anyhow::Result<Row> {
-    let Some((name, rest)) = line.split_once(": ") else {
-        return Err(anyhow::anyhow!("no name: {line}"));
-    };
-    let Some((asked, wanted)) = rest.split_once(" =>") else {
-        return Err(anyhow::anyhow!("no answer: {line}"));
-    };
+fn row_of(alloc: Global, line: &str) -> anyhow::Result<Row<'_>> {
+    let (name, rest) = parted(line, ": ")?;
+    let (asked, wanted) = parted(rest, " =>")?;
+    let wanted = String::from_str(alloc, wanted.strip_prefix(" ").unwrap_or(wanted))?;
     Ok(Row {
-        name: String::from_str(alloc, name)?,
-        asked: String::from_str(alloc, asked)?,
-        wanted: String::from_str(alloc, wanted.strip_prefix(" ").unwrap_or(wanted))?,
+        name,
+        asked,
+        wanted,
     })
 }
 
-impl Rows {
-    pub fn new(alloc: Global) -> Rows {
+/// Writes the name of a row, and its answer if that is another than it says.
+fn write_answer(rt: &HostRuntime, row: &Row<'_>, answer: &str) -> anyhow::Result<()> {
+    if answer == row.wanted.as_str() {
+        println!(rt; "{}", row.name)?;
+    } else {
+        println!(rt; "{}: {answer}", row.name)?;
+    }
+    Ok(())
+}
+
+/// Answers a row.
+fn answer_row(rt: &HostRuntime, alloc: Global, kept: &Inputs, row: &Row<'_>) -> anyhow::Result<()> {
+    match answer_of(alloc, kept, row.asked) {
+        Ok(answer) => write_answer(rt, row, answer.as_str()),
+        Err(error) => write_answer(rt, row, format!(in alloc; "{error}")?.as_str()),
+    }
+}
+
+/// The input that a line says: a file, or what its parts are.
+fn input_of(rt: &HostRuntime, alloc: Global, kept: &Inputs, line: &str) -> anyhow::Result<Set> {
+    match line.strip_prefix("file ") {
+        Some(path) => Ok(Set {
+            earlier: Vec::new(alloc),
+            last: read(rt, alloc, path)?,
+        }),
+        None => inputs_in(alloc, kept, line),
+    }
+}
+
+impl<'a> Rows<'a> {
+    pub fn new(alloc: Global) -> Rows<'a> {
         Rows {
             kept: Inputs::new(alloc),
             last: None,
@@ -53,21 +79,29 @@ impl Rows {
     }
 
     /// Takes a line: it goes on with the answer of the row before it, or that row is answered and the line begins something.
-    pub fn take_line(&mut self, rt: &HostRuntime, alloc: Global, line: &str) -> anyhow::Result<()> {
+    pub fn take_line(
+        &mut self,
+        rt: &HostRuntime,
+        alloc: Global,
+        line: &'a str,
+    ) -> anyhow::Result<()> {
         if let Some(more) = line.strip_prefix("|") {
             return self.go_on(more);
         }
         self.finish(rt, alloc)?;
+        self.begin(rt, alloc, line)
+    }
+
+    /// Begins what a line says: an input, a row, or nothing.
+    fn begin(&mut self, rt: &HostRuntime, alloc: Global, line: &'a str) -> anyhow::Result<()> {
         if line.is_empty() || line.starts_with("#") {
             return Ok(());
         }
-        match line.strip_prefix("let ") {
-            Some(given) => self.keep(rt, alloc, given),
-            None => {
-                self.last = Some(row_of(alloc, line)?);
-                Ok(())
-            }
+        if let Some(given) = line.strip_prefix("let ") {
+            return self.keep(rt, alloc, given);
         }
+        self.last = Some(row_of(alloc, line)?);
+        Ok(())
     }
 
     /// Adds a line to the answer of the last row.
@@ -82,33 +116,16 @@ impl Rows {
 
     /// Keeps inputs under their name.
     fn keep(&mut self, rt: &HostRuntime, alloc: Global, given: &str) -> anyhow::Result<()> {
-        let Some((name, rest)) = given.split_once(" = ") else {
-            return Err(anyhow::anyhow!("no input: {given}"));
-        };
-        let set = match rest.strip_prefix("file ") {
-            Some(path) => Set {
-                earlier: Vec::new(alloc),
-                last: read(rt, alloc, path)?,
-            },
-            None => inputs_in(alloc, &self.kept, rest)?,
-        };
+        let (name, rest) = parted(given, " = ")?;
+        let set = input_of(rt, alloc, &self.kept, rest)?;
         self.kept.keep(alloc, name, set)
     }
 
     /// Answers the last row, if there is one, and writes its name.
     pub fn finish(&mut self, rt: &HostRuntime, alloc: Global) -> anyhow::Result<()> {
-        let Some(row) = self.last.take() else {
-            return Ok(());
-        };
-        let answer = match answer_of(alloc, &self.kept, row.asked.as_str()) {
-            Ok(answer) => answer,
-            Err(error) => format!(in alloc; "{error}")?,
-        };
-        if answer == row.wanted {
-            println!(rt; "{}", row.name)?;
-        } else {
-            println!(rt; "{}: {answer}", row.name)?;
+        match self.last.take() {
+            Some(row) => answer_row(rt, alloc, &self.kept, &row),
+            None => Ok(()),
         }
-        Ok(())
     }
 }

@@ -1,4 +1,4 @@
-//! An input that is given byte by byte and may fail, and an output that takes so many bytes and then fails.
+//! An input that is given byte by byte and may fail, one that never ends, and an output that takes so many bytes and then fails.
 
 ghost use Rattle.std.specs.Prelude.{◌≡◌, false};
 
@@ -53,6 +53,27 @@ impl<'a> Source for Drip<'a> {
 
     fn failed(&self) -> bool {
         self.failed
+    }
+}
+
+/// Zeros that never end.
+#[derive(Drop)]
+pub struct Zeros;
+
+impl Source for Zeros {
+    ghost use Rattle.std.specs.Prelude.{None};
+
+    ghost remaining = { λ _. None };
+
+    ghost has_failed = { λ _. false };
+
+    fn read(&mut self, buffer: &mut [u8]) -> Result<usize, Failed> {
+        buffer.fill(0);
+        Ok(buffer.len())
+    }
+
+    fn failed(&self) -> bool {
+        false
     }
 }
 

@@ -1,8 +1,6 @@
 //! A call in halves, without a body: what each half will ask for, and what stands in both memories after it.
 
-ghost use Rattle.std.specs.Prelude.{IfOk};
-ghost use Rattle.tables.specs.Closed.{IsFunction};
-
+use crate::packages::function;
 use adapter::{Link, Request};
 use canonical_abi::{Flat, Guest};
 use lift_lower::Flats;
@@ -10,7 +8,6 @@ use memory::Bump;
 use std::alloc::Global;
 use std::process::Abort;
 use std::test::Fail;
-use tables::FunctionId;
 use witcall::{Package, open};
 
 const TEXT: &[u8] = b"package a:b; interface c { f: func(x: list<string>) -> string; }";
@@ -33,21 +30,9 @@ const fn asked(align: u32, size: u32) -> Request {
     Request { align, size }
 }
 
-/// The function `f`.
-fn function(package: &Package) -> Result<FunctionId, Fail>
-    ensures { IfOk result (IsFunction «package».now.resolve) }
-{
-    match package.resolve().function("a:b/c", "f") {
-        Some(f) => Ok(f),
-        None => Err(Fail::from("no function")),
-    }
-}
-
-/// A memory of so many bytes that begins with these.
-fn filled(alloc: Global, len: u32, bytes: &[u8]) -> Result<Bump, Fail> {
-    let Ok(mut guest) = Bump::new(alloc, len) else {
-        return Err(Fail::from("no memory"));
-    };
+/// A memory of 64 bytes that begins with these.
+fn filled(alloc: Global, bytes: &[u8]) -> Result<Bump, Fail> {
+    let mut guest = Bump::new(alloc, 64)?;
     if bytes.len() <= guest.len() as usize {
         guest.write(0, bytes);
     }
@@ -105,21 +90,46 @@ fn given_back(package: &Package, caller: &mut Bump, callee: &Bump) -> Result<Fla
     }
 }
 
-#[test]
-fn a_call_in_halves(rt: HostRuntime) -> Result<(), Fail> {
-    let package = open(rt.alloc(), TEXT)?;
-    let mut caller = filled(rt.alloc(), 64, LIST)?;
-    let mut callee = filled(rt.alloc(), 64, &[])?;
-    assert_asks(&rt, &package, &caller)?;
-    let handed = handed(&package, &caller, &mut callee)?;
+/// What the callee is handed, and what stands in its memory then.
+fn assert_enters(
+    rt: &impl Abort,
+    package: &Package,
+    caller: &Bump,
+    callee: &mut Bump,
+) -> Result<(), Fail> {
+    let handed = handed(package, caller, callee)?;
     assert!(rt; handed.as_slice() == [Flat::I32(0), Flat::I32(2)].as_slice());
     assert!(rt; is_then_zeros(callee.bytes(), LIST));
-    assert!(rt; callee.len() == 64);
-    callee.write(24, &HEADER);
-    assert_asks_back(&rt, &package, &callee)?;
-    let back = given_back(&package, &mut caller, &callee)?;
+    Ok(())
+}
+
+/// What the caller is given back, and what stands in its memory then.
+fn assert_leaves(
+    rt: &impl Abort,
+    package: &Package,
+    caller: &mut Bump,
+    callee: &Bump,
+) -> Result<(), Fail> {
+    let back = given_back(package, caller, callee)?;
     assert!(rt; back.is_empty());
     assert!(rt; caller.bytes().get(..3) == Some(b"abc".as_slice()));
     assert!(rt; caller.bytes().get(32..40) == Some([0, 0, 0, 0, 3, 0, 0, 0].as_slice()));
     Ok(())
+}
+
+/// What both halves ask for and do.
+fn assert_halves(rt: &impl Abort, alloc: Global, package: &Package) -> Result<(), Fail> {
+    let (mut caller, mut callee) = (filled(alloc, LIST)?, filled(alloc, &[])?);
+    assert_asks(rt, package, &caller)?;
+    assert_enters(rt, package, &caller, &mut callee)?;
+    assert!(rt; callee.len() == 64);
+    callee.write(24, &HEADER);
+    assert_asks_back(rt, package, &callee)?;
+    assert_leaves(rt, package, &mut caller, &callee)
+}
+
+#[test]
+fn a_call_in_halves(rt: HostRuntime) -> Result<(), Fail> {
+    let package = open(rt.alloc(), TEXT)?;
+    assert_halves(&rt, rt.alloc(), &package)
 }

@@ -2,6 +2,7 @@
 
 ghost use Rattle.std.specs.Prelude.{◌<◌, vec_len};
 
+use crate::packages::function;
 use adapter::{Body, Link, Stopped};
 use canonical_abi::{Flat, Full, Guest, NotTaken};
 use lift_lower::Flats;
@@ -79,23 +80,23 @@ fn memory(alloc: Global) -> Fixed {
 }
 
 /// What a call of `f` answers over two such memories.
-fn called(rt: &impl Abort, alloc: Global, package: &Package) -> Result<Flats, Fail> {
-    let Some(f) = package.resolve().function("a:b/c", "f") else {
-        return Err(Fail::from("no function"));
-    };
-    assert!(rt; package.resolve().is_scalar(f));
-    let (mut caller, mut callee) = (memory(alloc), memory(alloc));
-    let mut body = Constant(Flat::I32(8));
+fn called(package: &Package, caller: &mut Fixed, callee: &mut Fixed) -> Result<Flats, Fail> {
+    let f = function(package)?;
     let mut link = Link::new(package.resolve(), package.layouts());
-    let flats = [Flat::I32(7)];
-    Ok(link.call(f, &flats, &mut caller, &mut callee, &mut body)?)
+    let mut body = Constant(Flat::I32(8));
+    Ok(link.call(f, &[Flat::I32(7)], caller, callee, &mut body)?)
+}
+
+fn assert_called(rt: &impl Abort, alloc: Global, package: &Package) -> Result<(), Fail> {
+    assert!(rt; package.resolve().is_scalar(function(package)?));
+    let back = called(package, &mut memory(alloc), &mut memory(alloc))?;
+    assert!(rt; back.as_slice() == [Flat::I32(8)].as_slice());
+    Ok(())
 }
 
 #[test]
 fn calls_of_a_host(rt: HostRuntime) -> Result<(), Fail> {
-    let text = "package a:b; interface c { f: func(x: u32) -> u32; }";
-    let package = open(rt.alloc(), text.as_bytes())?;
-    let back = called(&rt, rt.alloc(), &package)?;
-    assert!(rt; back.as_slice() == [Flat::I32(8)].as_slice());
-    Ok(())
+    let text = b"package a:b; interface c { f: func(x: u32) -> u32; }";
+    let package = open(rt.alloc(), text)?;
+    assert_called(&rt, rt.alloc(), &package)
 }

@@ -1,8 +1,9 @@
 //! Tables that are made of parts, a component that is read as one package alone, and a text that is longer than memories may be.
 
-ghost use Rattle.std.specs.Prelude.{IfOk};
-ghost use Rattle.tables.specs.Closed.{IsFunction};
+ghost use Rattle.std.specs.Prelude.{◌≡◌, IfOk};
 
+use crate::components::SMALLEST;
+use crate::packages::function;
 use adapter::BoxedBody;
 use canonical_abi::{Fault, Full, Guest, Step, Trap, TrapKind};
 use ctype_bin::{decode, encode};
@@ -13,20 +14,18 @@ use std::process::Abort;
 use std::slice;
 use std::test::Fail;
 use tables::{
-    Definition, FunctionId, Primitive, Resolve, ResolveError, Sequence, TypeDef, TypeDefKind,
-    TypeId, ValType,
+    Definition, Primitive, Resolve, ResolveError, Sequence, TypeDef, TypeDefKind, TypeId, ValType,
 };
 use wit_component::{from_raw, to_raw};
 use witcall::{Package, Reply, Session, open};
 
 /// A table of a list of this type.
 fn with_list(alloc: Global, element: ValType) -> Result<Result<Resolve, ResolveError>, Fail> {
-    let rows = vec![in alloc;
-        Definition::Type(TypeDef {
-            name: None,
-            kind: TypeDefKind::List(element),
-        }),
-    ]?;
+    let mut rows = Vec::new(alloc);
+    rows.push(Definition::Type(TypeDef {
+        name: None,
+        kind: TypeDefKind::List(element),
+    }))?;
     Ok(Resolve::from_parts(
         Sequence::new(Vec::new(alloc)),
         Sequence::new(Vec::new(alloc)),
@@ -44,16 +43,23 @@ fn lists_of_what_stands_before(rt: HostRuntime) -> Result<(), Fail> {
     Ok(())
 }
 
-/// `package a:b; interface c { f: func(x: u32) -> u32; }`
-const SMALLEST: &[u8; 55] =
-    b"\0asm\x0d\0\x01\0\x07\x1e\x01\x41\x02\x01\x42\x02\x01\x40\x01\x01\x78\x79\0\x79\x04\0\x01\x66\x01\0\x04\0\x05a:b/c\x05\0\x0b\x0d\x01\0\x07package\x03\0\0";
+/// The package that the smallest component is.
+fn read(alloc: Global) -> Result<Resolve, Fail> {
+    let component = decode(alloc, SMALLEST)?;
+    Ok(from_raw(alloc, &component)?)
+}
+
+fn written(alloc: Global, package: &Resolve) -> Result<Vec<u8>, Fail> {
+    let component = to_raw(alloc, package)?;
+    let mut bytes = Vec::new(alloc);
+    encode(alloc, &component, &mut bytes)?;
+    Ok(bytes)
+}
 
 #[test]
 fn a_component_is_read_as_a_package(rt: HostRuntime) -> Result<(), Fail> {
-    let alloc = rt.alloc();
-    let package = from_raw(alloc, &decode(alloc, SMALLEST)?)?;
-    let mut bytes = Vec::new(alloc);
-    encode(alloc, &to_raw(alloc, &package)?, &mut bytes)?;
+    let package = read(rt.alloc())?;
+    let bytes = written(rt.alloc(), &package)?;
     assert!(rt; bytes.as_slice() == SMALLEST.as_slice());
     Ok(())
 }
@@ -93,43 +99,60 @@ fn texts_are_lent(rt: HostRuntime) -> Result<(), Fail> {
     Ok(())
 }
 
-/// The function `f`.
-fn function(package: &Package) -> Result<FunctionId, Fail>
-    ensures { IfOk result (IsFunction «package».now.resolve) }
-{
-    match package.resolve().function("a:b/c", "f") {
-        Some(f) => Ok(f),
-        None => Err(Fail::from("no function")),
-    }
+fn assert_copied(rt: &impl Abort, copy: &Val) {
+    assert!(rt;
+        matches!(copy, Val::List(items) if matches!(items.as_slice(), [Val::U8(7), Val::U8(8)]))
+    );
 }
 
 #[test]
 fn values_are_copied(rt: HostRuntime) -> Result<(), Fail> {
-    let value = Val::List(vec![in rt.alloc(); Val::U8(7), Val::U8(8)]?);
-    let copy = value.clone()?;
-    assert!(rt;
-        matches!(&copy, Val::List(items) if matches!(items.as_slice(), [Val::U8(7), Val::U8(8)]))
-    );
+    let mut items = Vec::new(rt.alloc());
+    for number in [7, 8] {
+        items.push(Val::U8(number))?;
+    }
+    let copy = Val::List(items).clone()?;
+    assert_copied(&rt, &copy);
     Ok(())
 }
+
+/// A session of memories of 64 and 32 bytes, whose body answers nothing.
+fn session(alloc: Global, package: &Package) -> Result<Session<'_, Bump, Space, BoxedBody>, Fail>
+    ensures { IfOk result (λ s. s.package.now ≡ «package».now) }
+{
+    let reply = Reply::of(alloc, package, "a:b/c", "f", "[]")?;
+    let body = BoxedBody::new(Box::new(alloc, reply)?);
+    let (caller, callee) = (Bump::new(alloc, 64)?, Bump::new(alloc, 32)?);
+    Ok(Session::new(package, caller, Space::Bump(callee), body))
+}
+
+/// A call of `f` with this text ends in a trap, and both memories are as before.
+fn assert_too_long(
+    rt: &impl Abort,
+    alloc: Global,
+    package: &Package,
+    text: &Val,
+) -> Result<(), Fail> {
+    let (f, arguments) = (function(package)?, slice::from_ref(text));
+    let mut session = session(alloc, package)?;
+    assert!(rt; package.takes(f, arguments));
+    let answer = session.call(alloc, f, arguments);
+    assert!(rt; matches!(answer, Err(Fault::Trap(trap)) if trap == TOO_LONG));
+    assert!(rt; session.caller().bytes() == [0; 64].as_slice());
+    assert!(rt; session.callee().bytes() == [0; 32].as_slice());
+    Ok(())
+}
+
+const TOO_LONG: Trap = Trap {
+    kind: TrapKind::Bounds,
+    step: Step::Place,
+};
 
 /// A text of 16,777,217 bytes is not asked for.
 #[test]
 fn text_past_the_limit(rt: HostRuntime) -> Result<(), Fail> {
     let alloc = rt.alloc();
     let package = open(alloc, b"package a:b; interface c { f: func(x: string); }")?;
-    let f = function(&package)?;
-    let text = Val::String(String::from_utf8(vec![in alloc; b'a'; 16_777_217]?)?);
-    let arguments = slice::from_ref(&text);
-    assert!(rt; package.takes(f, arguments));
-    let reply = Reply::of(alloc, &package, "a:b/c", "f", "[]")?;
-    let body = BoxedBody::new(Box::new(alloc, reply)?);
-    let (caller, callee) = (Bump::new(alloc, 64)?, Space::Bump(Bump::new(alloc, 32)?));
-    let mut session = Session::new(&package, caller, callee, body);
-    let (kind, step) = (TrapKind::Bounds, Step::Place);
-    let answer = session.call(alloc, f, arguments);
-    assert!(rt; matches!(answer, Err(Fault::Trap(trap)) if trap == Trap { kind, step }));
-    assert!(rt; session.caller().bytes() == [0; 64].as_slice());
-    assert!(rt; session.callee().bytes() == [0; 32].as_slice());
-    Ok(())
+    let text = String::from_utf8(vec![in alloc; b'a'; 16_777_217]?)?;
+    assert_too_long(&rt, alloc, &package, &Val::String(text))
 }

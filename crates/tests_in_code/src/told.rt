@@ -68,27 +68,39 @@ const USAGE: &str =
 
 const NO_MEMORY: &str = "error 66 no memory\n";
 
-const REFUSALS: [(&str, u8, Refused); 10] = [
-    (USAGE, 2, Refused::Words(WordsError::Usage)),
-    ("error 64 file\n", 1, Refused::File),
-    ("error 63 no function\n", 1, Refused::NoFunction),
-    ("error 65 write\n", 1, Refused::Write),
-    ("error 20 read at 5\n", 1, Refused::Open(OpenError::Read(5))),
-    (
-        "error 60 not UTF-8 at 3\n",
-        1,
-        Refused::Open(OpenError::NotUtf8(3)),
-    ),
-    (NO_MEMORY, 1, Refused::NoMemory),
-    (NO_MEMORY, 1, Refused::Words(WordsError::NoMemory)),
-    (NO_MEMORY, 1, Refused::Open(OpenError::NoMemory)),
-    (NO_MEMORY, 1, Refused::Json(JsonError::NoMemory)),
+/// A refusal of each kind.
+fn refusal(number: usize) -> Refused {
+    match number {
+        0 => Refused::Words(WordsError::Usage),
+        1 => Refused::File,
+        2 => Refused::NoFunction,
+        3 => Refused::Write,
+        4 => Refused::Open(OpenError::Read(5)),
+        5 => Refused::Open(OpenError::NotUtf8(3)),
+        6 => Refused::NoMemory,
+        7 => Refused::Words(WordsError::NoMemory),
+        8 => Refused::Open(OpenError::NoMemory),
+        _ => Refused::Json(JsonError::NoMemory),
+    }
+}
+
+/// The line and the status of each.
+const REFUSALS: [(&str, u8); 10] = [
+    (USAGE, 2),
+    ("error 64 file\n", 1),
+    ("error 63 no function\n", 1),
+    ("error 65 write\n", 1),
+    ("error 20 read at 5\n", 1),
+    ("error 60 not UTF-8 at 3\n", 1),
+    (NO_MEMORY, 1),
+    (NO_MEMORY, 1),
+    (NO_MEMORY, 1),
+    (NO_MEMORY, 1),
 ];
 
 #[test]
 fn refusals(rt: HostRuntime) {
-    let refusals = REFUSALS;
-    for (wanted, status, refused) in &refusals {
-        assert_told(&rt, rt.alloc(), refused, *wanted, *status);
+    for (number, (wanted, status)) in REFUSALS.iter().enumerate() {
+        assert_told(&rt, rt.alloc(), &refusal(number), wanted, *status);
     }
 }

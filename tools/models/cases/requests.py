@@ -1,6 +1,7 @@
-"""The lists of crates/suite_requests: random requests to a `FirstFit`, each list to a memory of its own."""
+"""Rows of random requests to a `FirstFit`, each to a memory of its own. `reading.rows` of crates/rows_texts has the first 200."""
 import random
 
+from .. import memory_rows
 from ..memory import FirstFit
 
 SEED = 22
@@ -33,25 +34,26 @@ def random_block(source, granted, length):
 
 
 def one_list(source):
-    """The lines of a list."""
+    """A memory, and the requests to it."""
     length = random_length(source)
     memory, granted = FirstFit(length), []
-    lines = [f"new {length}"]
+    requests = []
     for _ in range(source.randrange(10, 50)):
         if source.random() < 0.55:
             size = random_size(source, length)
             at = memory.alloc(8, size)
             if at is not None and size > 0:
                 granted.append((at, size))
-            lines.append(f"alloc {source.choice([1, 2, 4, 8])} {size}")
+            requests.append(f"alloc {source.choice([1, 2, 4, 8])} {size}")
         else:
             at, size = random_block(source, granted, length)
             memory.free(at, size)
-            lines.append(f"free {at} {size}")
-    return lines
+            requests.append(f"free {at} {size}")
+    return f"{length}; {', '.join(requests)}"
 
 
 def lines(count=LISTS, seed=SEED):
-    """The lines of so many lists."""
+    """So many rows."""
     source = random.Random(int(seed))
-    return [line for _ in range(count) for line in one_list(source)]
+    lists = [one_list(source) for _ in range(count)]
+    return [f"random-{number}: first-fit {it} => {memory_rows.answer('first-fit', it)}" for number, it in enumerate(lists, 1)]

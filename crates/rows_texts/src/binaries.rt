@@ -1,70 +1,13 @@
 //! Component type binaries: at once and by a reader that gives a byte at a time, may fail, or never ends.
 
-ghost use Rattle.std.specs.Prelude.{◌≡◌, false};
-
-use atoms::{Failed, Source};
+use crate::parts::first_word;
+use crate::streams::{Drip, Zeros};
 use ctype_bin::{BinError, Fault, RawComponent, decode, decode_from, encode};
 use std::alloc::Global;
 
-/// A reader that gives a byte at a time and fails after so many; or one that never ends.
-#[derive(Drop)]
-struct Drip<'a> {
-    bytes: &'a [u8],
-    given: usize,
-    fails_at: usize,
-    endless: bool,
-    failed: bool,
-}
-
-impl<'a> Source for Drip<'a> {
-    ghost use Rattle.std.specs.Prelude.{None};
-
-    ghost remaining = { λ _. None };
-
-    ghost has_failed = { λ reader. reader.failed };
-
-    fn read(&mut self, buffer: &mut [u8]) -> Result<usize, Failed> {
-        if self.fails_at == self.given {
-            self.failed = true;
-            return Err(Failed);
-        }
-        if buffer.is_empty() {
-            return Ok(0);
-        }
-        if self.endless {
-            buffer.fill(0);
-            return Ok(buffer.len());
-        }
-        match self.bytes.get(self.given) {
-            Some(byte) => {
-                buffer[0] = *byte;
-                self.given += 1;
-                Ok(1)
-            }
-            None => Ok(0),
-        }
-    }
-
-    fn failed(&self) -> bool {
-        self.failed
-    }
-}
-
-/// What decoding by such a reader answers.
-fn dripped(
-    alloc: Global,
-    bytes: &[u8],
-    fails_at: usize,
-    endless: bool,
-) -> Result<RawComponent, BinError> {
-    let mut reader = Drip {
-        bytes,
-        given: 0,
-        fails_at,
-        endless,
-        failed: false,
-    };
-    decode_from(alloc, &mut reader)
+/// What decoding by a reader answers that gives a byte at a time, and fails after so many.
+fn dripped(alloc: Global, bytes: &[u8], fails_at: usize) -> Result<RawComponent, BinError> {
+    decode_from(alloc, &mut Drip::new(bytes, fails_at))
 }
 
 /// How many types and exports a component has.
@@ -76,7 +19,7 @@ fn told(alloc: Global, component: &RawComponent) -> anyhow::Result<String> {
 /// What decoding answers, at once or byte by byte.
 fn decoded(alloc: Global, bytes: &[u8], is_dripped: bool) -> anyhow::Result<String> {
     let component = if is_dripped {
-        dripped(alloc, bytes, usize::MAX, false)?
+        dripped(alloc, bytes, usize::MAX)?
     } else {
         decode(alloc, bytes)?
     };
@@ -104,7 +47,7 @@ fn are_alike(fast: &Result<RawComponent, BinError>, slow: &Result<RawComponent, 
 /// within them, unless it is at the end of a section that is too long for them, or where a reader's answer is another.
 fn is_component(alloc: Global, bytes: &[u8]) -> anyhow::Result<bool> {
     let fast = decode(alloc, bytes);
-    if !are_alike(&fast, &dripped(alloc, bytes, usize::MAX, false)) {
+    if !are_alike(&fast, &dripped(alloc, bytes, usize::MAX)) {
         return Err(anyhow::anyhow!("byte by byte something else"));
     }
     match fast {
@@ -155,7 +98,7 @@ fn cuts(alloc: Global, bytes: &[u8]) -> anyhow::Result<String> {
         let fast = decode(alloc, front);
         let is_cut =
             matches!(&fast, Err(BinError::At(Fault::Truncated, place)) if *place == length);
-        if !is_cut || !are_alike(&fast, &dripped(alloc, front, usize::MAX, false)) {
+        if !is_cut || !are_alike(&fast, &dripped(alloc, front, usize::MAX)) {
             return Err(anyhow::anyhow!("another answer at {length}"));
         }
     }
@@ -164,11 +107,9 @@ fn cuts(alloc: Global, bytes: &[u8]) -> anyhow::Result<String> {
 
 /// What a reader that fails after so many bytes is told as.
 fn failing(alloc: Global, words: &str) -> anyhow::Result<String> {
-    let Some((place, digits)) = words.split_once(' ') else {
-        return Err(anyhow::anyhow!("no bytes"));
-    };
+    let (place, digits) = first_word(words)?;
     let bytes = hex::decode(alloc, digits)?;
-    let component = dripped(alloc, bytes.as_slice(), place.parse::<usize>()?, false)?;
+    let component = dripped(alloc, bytes.as_slice(), place.parse::<usize>()?)?;
     told(alloc, &component)
 }
 
@@ -178,7 +119,7 @@ pub fn done(alloc: Global, word: &str, rest: &str) -> anyhow::Result<String> {
         return failing(alloc, rest);
     }
     if word == "endless" {
-        return told(alloc, &dripped(alloc, &[], usize::MAX, true)?);
+        return told(alloc, &decode_from(alloc, &mut Zeros)?);
     }
     let bytes = hex::decode(alloc, rest)?;
     let bytes = bytes.as_slice();
@@ -186,8 +127,8 @@ pub fn done(alloc: Global, word: &str, rest: &str) -> anyhow::Result<String> {
         "decode" => decoded(alloc, bytes, false),
         "drip" => decoded(alloc, bytes, true),
         "encode" => Ok(hex::encode(alloc, encoded(alloc, bytes, b"ab")?.as_slice())?),
-        "changes" => changes(alloc, bytes),
-        "cuts" => cuts(alloc, bytes),
+        "component-changes" => changes(alloc, bytes),
+        "component-cuts" => cuts(alloc, bytes),
         _ => Err(anyhow::anyhow!("no such command: {word}")),
     }
 }

@@ -1,6 +1,7 @@
-//! What a host is told of a function, and the lines of statuses.
+//! What a host that counts in numbers is told of a function, and the lines of statuses.
 
-use crate::halves::{TEXT, assert_line, number};
+use crate::host_halves::{TEXT, assert_line};
+use crate::packages::number;
 use host_calls::{
     CallError, Part, Status, function_of, lifted_params, lifted_result, lowered_params,
     lowered_result, parameter_parts, result_part,
@@ -36,18 +37,26 @@ fn is_part(part: &Part, size: u32, align: u32, offset: u32) -> bool {
     part.size == size && part.align == align && part.offset == offset
 }
 
-#[test]
-fn parts_of_a_function(rt: HostRuntime) -> Result<(), Fail> {
-    let package = open(rt.alloc(), NUMBERS)?;
+fn assert_parts(rt: &impl Abort, package: &Package) {
     let (mut params, mut results) = ([part(9, 9, 9); 3], [part(9, 9, 9); 1]);
-    let done = parts(&package, &mut params, &mut results);
+    let done = parts(package, &mut params, &mut results);
     assert!(rt; matches!(done, Ok((3, 1))));
     let [a, b, c] = &params;
     assert!(rt; is_part(a, 1, 1, 0) && is_part(b, 8, 8, 8) && is_part(c, 2, 2, 16));
     assert!(rt; is_part(&results[0], 4, 4, 0));
-    let mut two = [part(9, 9, 9); 2];
-    let done = parts(&package, &mut two, &mut results);
+}
+
+fn assert_no_room(rt: &impl Abort, package: &Package) {
+    let (mut two, mut results) = ([part(9, 9, 9); 2], [part(9, 9, 9); 1]);
+    let done = parts(package, &mut two, &mut results);
     assert!(rt; matches!(done, Err(CallError::NoRoom(3))));
+}
+
+#[test]
+fn parts_of_a_function(rt: HostRuntime) -> Result<(), Fail> {
+    let package = open(rt.alloc(), NUMBERS)?;
+    assert_parts(&rt, &package);
+    assert_no_room(&rt, &package);
     Ok(())
 }
 
@@ -84,14 +93,18 @@ const KINDS: [(&[u8], Side, usize, [u32; 5]); 8] = [
     (TEXT, Side::LoweredResult, 0, [9, 9, 9, 9, 9]),
 ];
 
+fn assert_kinds(rt: &impl Abort, package: &Package, side: Side, count: usize, wanted: &[u32; 5]) {
+    let mut out = [9; 5];
+    let done = kinds(package, side, &mut out);
+    assert!(rt; matches!(done, Ok(told) if told == count));
+    assert!(rt; out == *wanted);
+}
+
 #[test]
 fn kinds_of_core_signatures(rt: HostRuntime) -> Result<(), Fail> {
     for (text, side, count, wanted) in &KINDS {
         let package = open(rt.alloc(), text)?;
-        let mut out = [9; 5];
-        let done = kinds(&package, *side, &mut out);
-        assert!(rt; matches!(done, Ok(told) if told == *count));
-        assert!(rt; out == *wanted);
+        assert_kinds(&rt, &package, *side, *count, wanted);
     }
     Ok(())
 }

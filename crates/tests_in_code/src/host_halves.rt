@@ -1,5 +1,6 @@
-//! A whole call in halves over two arrays of bytes, and what the halves refuse.
+//! A whole call in halves over two arrays of bytes, for hosts that count in numbers, and what the halves refuse.
 
+use crate::packages::number;
 use adapter::Request;
 use host_calls::{CallError, Status, enter, enter_requests, function_of, leave, leave_requests};
 use lending::Value;
@@ -47,14 +48,6 @@ fn flats() -> [Value; 4] {
 /// The blocks for the list, which stands at this address, and for its texts.
 fn blocks(list_at: u32) -> [Block; 3] {
     [block(4, 16, list_at), block(1, 3, 30), block(1, 6, 20)]
-}
-
-/// The number of the function `f`.
-pub fn number(package: &Package) -> u32 {
-    match package.resolve().function("a:b/c", "f") {
-        Some(f) => f.0,
-        None => u32::MAX,
-    }
 }
 
 /// The first half of a call of `f` from CALLER.
@@ -152,12 +145,16 @@ fn assert_left(rt: &impl Abort, alloc: Global, package: &Package) {
     assert!(rt; is_word(&back[0], 9));
 }
 
+fn assert_halves(rt: &impl Abort, alloc: Global, package: &Package) {
+    assert_asked(rt, package);
+    assert_entered(rt, alloc, package);
+    assert_left(rt, alloc, package);
+}
+
 #[test]
 fn a_call_in_halves(rt: HostRuntime) -> Result<(), Fail> {
     let package = open(rt.alloc(), TEXT)?;
-    assert_asked(&rt, &package);
-    assert_entered(&rt, rt.alloc(), &package);
-    assert_left(&rt, rt.alloc(), &package);
+    assert_halves(&rt, rt.alloc(), &package);
     Ok(())
 }
 
@@ -201,33 +198,39 @@ fn refused(
     entered(alloc, package, flats, callee, blocks, handed)
 }
 
+fn assert_refused(
+    rt: &impl Abort,
+    alloc: Global,
+    package: &Package,
+    row: &(usize, usize, usize, u32, &str),
+) -> Result<(), Fail> {
+    let mut callee = *DOTS;
+    let done = refused(alloc, package, row, &mut callee);
+    assert!(rt; callee == *DOTS);
+    assert_line(rt, alloc, Status::of(done), row.4)
+}
+
 #[test]
 fn refused_first_halves(rt: HostRuntime) -> Result<(), Fail> {
     let package = open(rt.alloc(), TEXT)?;
     for row in &REFUSALS {
-        let mut callee = *DOTS;
-        let done = refused(rt.alloc(), &package, row, &mut callee);
-        assert_line(&rt, rt.alloc(), Status::of(done), row.4)?;
-        assert!(rt; callee == *DOTS);
+        assert_refused(&rt, rt.alloc(), &package, row)?;
     }
     Ok(())
 }
 
-/// The block of the first text is a byte short.
+/// What the first half answers where the block of the first text is a byte short.
+fn entered_short(alloc: Global, package: &Package) -> Status {
+    let (mut callee, mut handed) = (*DOTS, [word(9); 17]);
+    let granted = [block(4, 16, 40), block(1, 2, 30), block(1, 6, 20)];
+    Status::of(entered(alloc, package, &flats(), &mut callee, &granted, &mut handed))
+}
+
 #[test]
 fn a_block_of_another_size(rt: HostRuntime) -> Result<(), Fail> {
     let package = open(rt.alloc(), TEXT)?;
-    let (mut callee, mut handed) = (*DOTS, [word(9); 17]);
-    let granted = [block(4, 16, 40), block(1, 2, 30), block(1, 6, 20)];
-    let done = entered(
-        rt.alloc(),
-        &package,
-        &flats(),
-        &mut callee,
-        &granted,
-        &mut handed,
-    );
-    assert_line(&rt, rt.alloc(), Status::of(done), "error 73 other block 1")
+    let status = entered_short(rt.alloc(), &package);
+    assert_line(&rt, rt.alloc(), status, "error 73 other block 1")
 }
 
 /// Where the block for the answer stands, and the line.
@@ -240,16 +243,21 @@ const PLACES: [(u32, &str); 6] = [
     (61, "error 72 bad block"),
 ];
 
+/// What the second half answers with a block at this address. Where it is refused, the caller is as before.
+fn left_with(rt: &impl Abort, alloc: Global, package: &Package, at: u32) -> Status {
+    let (mut caller, mut back) = (*CALLER, [word(9); 17]);
+    let done = left(alloc, package, &mut caller, &[block(1, 4, at)], &mut back);
+    assert!(rt; done.is_ok() || caller == *CALLER);
+    Status::of(done)
+}
+
 /// No block of the second half meets the return area.
 #[test]
 fn blocks_beside_the_return_area(rt: HostRuntime) -> Result<(), Fail> {
     let package = open(rt.alloc(), TEXT)?;
     for (at, line) in &PLACES {
-        let (mut caller, mut back) = (*CALLER, [word(9); 17]);
-        let granted = [block(1, 4, *at)];
-        let done = left(rt.alloc(), &package, &mut caller, &granted, &mut back);
-        assert_line(&rt, rt.alloc(), Status::of(done), line)?;
-        assert!(rt; done.is_ok() || caller == *CALLER);
+        let status = left_with(&rt, rt.alloc(), &package, *at);
+        assert_line(&rt, rt.alloc(), status, line)?;
     }
     Ok(())
 }

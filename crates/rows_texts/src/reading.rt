@@ -1,6 +1,7 @@
-//! What a row is answered.
+//! Rows of numbers, names, the parts of a text, command lines, memories and binaries.
 
-use crate::binaries;
+use crate::memories::{self, Kind};
+use crate::{binaries, trees};
 use atoms::{FullName, Label, is_version, read_s33, read_u32, write_s33, write_u32};
 use std::alloc::Global;
 use wit_print::print_file;
@@ -72,7 +73,7 @@ fn asked(alloc: Global, line: &str) -> anyhow::Result<String> {
 }
 
 /// What a command is answered.
-fn done(alloc: Global, word: &str, rest: &str) -> anyhow::Result<String> {
+pub fn done(alloc: Global, word: &str, rest: &str) -> anyhow::Result<String> {
     match word {
         "u32" => number(alloc, rest, false),
         "s33" => number(alloc, rest, true),
@@ -85,15 +86,18 @@ fn done(alloc: Global, word: &str, rest: &str) -> anyhow::Result<String> {
         "tree" => tree(alloc, rest),
         "print" => printed(alloc, rest),
         "words" => asked(alloc, rest),
-        _ => binaries::done(alloc, word, rest),
+        _ => done_of_memory(alloc, word, rest),
     }
 }
 
-/// How a row is answered, or the line of a refusal.
-pub fn answer_of(alloc: Global, row: &str) -> anyhow::Result<String> {
-    let (word, rest) = row.split_once(' ').unwrap_or((row, ""));
-    match done(alloc, word, rest) {
-        Ok(answer) => Ok(answer),
-        Err(error) => Ok(format!(in alloc; "{error}")?),
+/// What a command about memories or binaries is answered.
+fn done_of_memory(alloc: Global, word: &str, rest: &str) -> anyhow::Result<String> {
+    match word {
+        "bump" => memories::asked(alloc, Kind::Bump, rest),
+        "first-fit" => memories::asked(alloc, Kind::FirstFit, rest),
+        "can-lend" => memories::lendable(alloc, rest),
+        "lent" => memories::lent(alloc, rest),
+        "maxima" => trees::asked(alloc, rest),
+        _ => binaries::done(alloc, word, rest),
     }
 }

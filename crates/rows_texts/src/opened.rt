@@ -1,0 +1,59 @@
+//! Sets that are opened, and the lines of their refusals.
+
+ghost use Rattle.std.specs.Prelude.{◌<◌, IfOk, length};
+
+use crate::inputs::Set;
+use atoms::Watched;
+use std::alloc::{AllocError, Global};
+use witcall::{OpenError, Package, Refused, open_set, report};
+
+fn inputs<'a>(
+    alloc: Global,
+    earlier: &'a [Vec<u8>],
+    last: &'a [u8],
+) -> Result<Vec<&'a [u8]>, AllocError>
+    ensures { IfOk result (λ inputs. 0 < length inputs.items) }
+{
+    let mut inputs = Vec::new(alloc);
+    for input in earlier {
+        inputs.push(input.as_slice())?;
+    }
+    inputs.push(last)?;
+    Ok(inputs)
+}
+
+/// The package that the last input is, with those that it uses.
+pub fn opened(alloc: Global, earlier: &[Vec<u8>], last: &[u8]) -> Result<Package, OpenError> {
+    let inputs = inputs(alloc, earlier, last)?;
+    open_set(alloc, inputs.as_slice())
+}
+
+/// The package of a set.
+pub fn package(alloc: Global, set: &Set) -> Result<Package, Refused> {
+    Ok(opened(alloc, set.earlier.as_slice(), set.last.as_slice())?)
+}
+
+/// The program's line for a refusal, and its status.
+fn line_and_status(alloc: Global, refused: &Refused) -> anyhow::Result<(String, u8)> {
+    let mut errors = Watched::new(Vec::new(alloc));
+    let status = report(refused, &mut errors);
+    Ok((String::from_utf8(errors.into_inner())?, status))
+}
+
+/// The program's line for a refusal, with its status where that isn't 1.
+pub fn line_of(alloc: Global, refused: &Refused) -> anyhow::Result<String> {
+    let (line, status) = line_and_status(alloc, refused)?;
+    let line = line.as_str().trim_end();
+    if status == 1 {
+        return Ok(String::from_str(alloc, line)?);
+    }
+    Ok(format!(in alloc; "{line} ({status})")?)
+}
+
+/// What was written, or the line of a refusal.
+pub fn told(alloc: Global, written: Result<Vec<u8>, Refused>) -> anyhow::Result<String> {
+    match written {
+        Ok(bytes) => Ok(String::from_utf8(bytes)?),
+        Err(refused) => line_of(alloc, &refused),
+    }
+}

@@ -1,0 +1,127 @@
+"""Rows of memories and of numbers with a tree of their maxima (docs/FORMATS.md, "Reading rows")."""
+from .faults import Refused
+from .memory import PAGE, Bump, FirstFit
+
+MOST = 256 * PAGE
+
+
+def numbers(words):
+    """The numbers that words are."""
+    return [int(word) for word in words.split()]
+
+
+def made(kind, length, most=None):
+    """A memory of a length, which grows if it has a most length."""
+    if most is not None and (length % PAGE or most % PAGE or length > most):
+        raise Refused("55 bad pages")
+    if max(length, most or 0) > MOST:
+        raise Refused("53 memory limit")
+    return kind(length, most=most)
+
+
+def request(memory, words):
+    """What a memory answers to a request. Nothing is written, so that all its bytes are zeros."""
+    word, *given = words.split()
+    if word == "alloc":
+        at = memory.alloc(*map(int, given))
+        return "full" if at is None else str(at)
+    if word == "free":
+        return "taken" if memory.free(*map(int, given)) else "not taken"
+    return str(memory.length) if word == "length" else "zeros"
+
+
+def in_turn(answer, requests):
+    """The answers to requests in turn."""
+    return ", ".join(answer(words) for words in requests.split(", "))
+
+
+def memory_row(kind, arguments):
+    """What a memory of a kind answers."""
+    lengths, requests = arguments.split("; ")
+    memory = made(kind, *numbers(lengths))
+    return in_turn(lambda words: request(memory, words), requests)
+
+
+class Lent:
+    """An array of bytes with blocks, each an alignment, a size and an address, which are handed out in turn to who asks for just them."""
+
+    def __init__(self, length, blocks):
+        self.length, self.blocks = length, blocks
+
+    def alloc(self, align, size):
+        """The address of the next block, or None."""
+        if not self.blocks or self.blocks[0][:2] != [align, size]:
+            return None
+        return self.blocks.pop(0)[2]
+
+    def free(self, _at, _size):
+        """Takes nothing back."""
+        return False
+
+
+def can_lend(length, place, blocks):
+    """Whether blocks are aligned, inside, and meet neither one another nor a place."""
+    if length >= 1 << 32 or any(align not in (1, 2, 4, 8) or at % align or at + size > length for align, size, at in blocks):
+        return False
+    ranges = [range(at, at + size) for _, size, at in (place, *blocks)]
+    taken = [byte for it in ranges for byte in it]
+    return len(taken) == len(set(taken))
+
+
+def lend_row(arguments):
+    """Whether blocks can be lent beside the place that comes before them."""
+    length, place, *blocks = arguments.split(", ")
+    return str(can_lend(int(length), numbers(place), [numbers(it) for it in blocks])).lower()
+
+
+def lent_row(arguments):
+    """What an array with blocks that are lent answers."""
+    memory, requests = arguments.split("; ")
+    length, *blocks = memory.split(", ")
+    lent = Lent(int(length), [numbers(it) for it in blocks])
+    return in_turn(lambda words: request(lent, words), requests)
+
+
+def tree_request(row, words):
+    """What a row of numbers answers."""
+    word, *given = words.split()
+    if word == "put":
+        row[int(given[0])] = int(given[1])
+        return "put"
+    if word == "count":
+        return str(len(row))
+    number = int(given[0])
+    if word == "number":
+        return str(row[number])
+    if word == "first":
+        places = [place for place, it in enumerate(row) if it >= number]
+    else:
+        places = [place for place, it in enumerate(row[:number]) if it][::-1]
+    return str(places[0]) if places else "none"
+
+
+def tree_row(arguments):
+    """What as many zeros as so many doublings of one make answer."""
+    depth, requests = arguments.split("; ")
+    row = [0] * 2 ** int(depth)
+    return in_turn(lambda words: tree_request(row, words), requests)
+
+
+ANSWERS = {
+    "first-fit": lambda arguments: memory_row(FirstFit, arguments),
+    "bump": lambda arguments: memory_row(Bump, arguments),
+    "can-lend": lend_row,
+    "lent": lent_row,
+    "maxima": tree_row,
+}
+
+
+def answer(command, arguments):
+    """The answer to a command, or the line of a refusal."""
+    try:
+        return ANSWERS[command](arguments)
+    except Refused as refused:
+        return str(refused)
+
+
+COMMANDS = {command: lambda arguments, command=command: answer(command, arguments) for command in ANSWERS}
