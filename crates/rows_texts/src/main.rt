@@ -22,15 +22,20 @@ mod trees;
 use rows::{Rows, read};
 use std::alloc::Global;
 
+/// Answers the rows of a text.
+fn answer_text<'a>(rt: &HostRuntime, alloc: Global, text: &'a str) -> anyhow::Result<()> {
+    let mut rows: Rows<'a> = Rows::new(alloc);
+    for line in text.split('\n') {
+        rows.take_line(rt, alloc, line)?;
+    }
+    rows.finish(rt, alloc)
+}
+
 /// Answers the rows of a file.
 fn answer_all(rt: &HostRuntime, alloc: Global, path: &str) -> anyhow::Result<()> {
     let bytes = read(rt, alloc, path)?;
     println!(rt; "# {path}")?;
-    let mut rows = Rows::new(alloc);
-    for line in std::str::from_utf8(bytes.as_slice())?.split('\n') {
-        rows.take_line(rt, alloc, line)?;
-    }
-    rows.finish(rt, alloc)
+    answer_text(rt, alloc, std::str::from_utf8(bytes.as_slice())?)
 }
 
 fn main(rt: HostRuntime) -> anyhow::Result<()> {
