@@ -1,0 +1,161 @@
+#!/usr/bin/env python3
+"""Counts the lines that a reader has to believe: the definitions that the clauses of two calls lead to.
+
+usage: tools/believed.py [--names] [FUNCTION..]
+
+A FUNCTION is CRATE/FILE:NAME, as opening/set.rt:open_set. Left out, they are `open_set` and `Session::call`, which the program's answer rests on.
+From their clauses it follows every name: definitions of specs/, and the structs and enums of src/ that these cite. It counts their lines without
+comments and blank lines, and prints the sums by file; with --names also each name. The toolchain's own definitions are left out. It reads
+text alone: a local name that is also a definition's counts as one.
+"""
+import argparse
+import collections
+import pathlib
+import re
+import sys
+
+TOP = pathlib.Path(__file__).resolve().parent.parent
+CALLS = ["opening/set.rt:open_set", "witcall/session.rt:call"]
+WORD = re.compile(r"[^\s(){}\[\],;:→λ×⊎∥₁\"|¬?«»&<>=*#!+/]+")
+IMPORT = re.compile(r"^(?:ghost )?(?:pub )?use (Rattle\.[\w.+]+?)(?:\.\{(.*)\})?(?: as (\S+?))?;?$")
+HEAD = re.compile(r"^(?:(?:abbrev|unfoldable|opaque|instance|pub|record|data|mutual)\s+)*(\S+)")
+DECLARED = re.compile(r"^pub (?:struct|enum) (\w+)")
+
+
+def code_lines(text):
+    """Returns a text's lines without comments and blank ones."""
+    lines = (re.sub(r"(--|//).*", "", line).rstrip() for line in text.split("\n"))
+    return [line for line in lines if line]
+
+
+class File:
+    """A file of specs/ or src/: its definitions, each with its lines, and what its imports stand for."""
+
+    def __init__(self, module, path):
+        self.module, self.path = module, path
+        self.definitions = collections.defaultdict(list)
+        self.names, self.modules = {}, {}
+        text = path.read_text()
+        self.imported = set(re.findall(r"\w+", " ".join(re.findall(r"^(?:pub )?use ([^;]+);", text, re.M))))
+        for line in text.split("\n"):
+            found = IMPORT.match(line.strip())
+            if found:
+                self.keep_import(*found.groups())
+        (self.keep_specs if path.suffix == ".antt" else self.keep_types)(code_lines(text))
+
+    def keep_import(self, module, names, alias):
+        if names is None:
+            self.modules[alias or module.rpartition(".")[2]] = module
+        for name in (names or "").split(","):
+            own, _, other = name.strip().partition(" as ")
+            self.names[other or own] = module, own
+
+    def keep_specs(self, lines):
+        name = None
+        for line in lines:
+            if line.startswith(("use ", "pub use ", "mod ", "pub mod ")):
+                name = None
+                continue
+            if not line.startswith(" "):
+                name = HEAD.match(line).group(1)
+            if name:
+                self.definitions[name].append(line)
+
+    def keep_types(self, lines):
+        name = None
+        for line in lines:
+            found = DECLARED.match(line)
+            name = found.group(1) if found else name
+            if name:
+                self.definitions[name].append(line)
+            if line.startswith("}") or line.endswith(";") and not line.startswith(" "):
+                name = None
+
+
+def files():
+    """Returns each file by its module's name; a file of src/ by that of the modules that its types declare."""
+    found = {}
+    for path in sorted((TOP / "crates").glob("*/specs/**/*.antt")):
+        crate, inside = path.relative_to(TOP / "crates").parts[0], path.relative_to(TOP / "crates").parts[2:]
+        module = ".".join(["Rattle", crate, "specs", *inside])[: -len(".antt")]
+        found[module] = File(module, path)
+    for path in sorted((TOP / "crates").glob("*/src/**/*.rt")):
+        crate, inside = path.relative_to(TOP / "crates").parts[0], path.relative_to(TOP / "crates").parts[2:]
+        module = ".".join(["Rattle", crate, "specs", "declared", *inside])[: -len(".rt")]
+        found[module] = File(module, path)
+    return found
+
+
+def place_of(all_files, module, name):
+    """Returns the file and the name of what an import means, if it is of this repository."""
+    if ".declared." in module:
+        parts = module.removesuffix(".TheVariants").split(".")
+        for end in range(len(parts), 3, -1):
+            module = ".".join(parts[:end])
+            if module in all_files:
+                return (module, parts[end] if end < len(parts) else name)
+        return None
+    return (module, name) if module in all_files else None
+
+
+def meant(all_files, types, file, word):
+    """Returns where a word of a file is defined, if it is in this repository."""
+    if word in file.definitions:
+        return file.module, word
+    if word in file.names:
+        return place_of(all_files, *file.names[word])
+    first, _, rest = word.partition(".")
+    if rest and first in file.modules:
+        return place_of(all_files, file.modules[first], rest.partition(".")[0])
+    if file.path.suffix == ".rt":
+        crate = file.module.split(".")[1]
+        return types.get((crate, word)) or (types.get(word) if word in file.imported else None)
+    return None
+
+
+def clauses(call):
+    """Returns the file of a function, and the lines of its contract."""
+    path, _, name = call.partition(":")
+    crate, _, inside = path.partition("/")
+    text = (TOP / "crates" / crate / "src" / inside).read_text()
+    begin = re.search(rf"\bfn {name}\b", text).start()
+    end = re.search(r"^\s*\{$", text[begin:], re.M).start()
+    return ".".join(["Rattle", crate, "specs", "declared", inside[: -len(".rt")].replace("/", ".")]), code_lines(text[begin : begin + end])
+
+
+def believed(all_files, calls):
+    """Returns the places of all definitions that the calls' clauses lead to."""
+    types = {}
+    for file in all_files.values():
+        for name in file.definitions if file.path.suffix == ".rt" else ():
+            types[name] = types[file.module.split(".")[1], name] = file.module, name
+    seen, left = set(), [clauses(call) for call in calls]
+    while left:
+        module, lines = left.pop()
+        for word in WORD.findall(" ".join(lines)):
+            place = meant(all_files, types, all_files[module], word)
+            if place and place not in seen and place[1] in all_files[place[0]].definitions:
+                seen.add(place)
+                left.append((place[0], all_files[place[0]].definitions[place[1]]))
+    return seen
+
+
+def main():
+    words = argparse.ArgumentParser(usage=__doc__.split("\n\n")[1].removeprefix("usage: "))
+    words.add_argument("--names", action="store_true")
+    words.add_argument("function", nargs="*")
+    given = words.parse_args()
+    all_files = files()
+    by_file = collections.defaultdict(dict)
+    for module, name in believed(all_files, given.function or CALLS):
+        by_file[all_files[module].path][name] = len(all_files[module].definitions[name])
+    for path, names in sorted(by_file.items()):
+        print(f"{sum(names.values()):5} {path.relative_to(TOP / 'crates')}")
+        for name, count in sorted(names.items()) if given.names else ():
+            print(f"      {count:5} {name}")
+    print(f"{sum(sum(names.values()) for names in by_file.values())} lines, {sum(map(len, by_file.values()))} definitions")
+    return 0
+
+
+if __name__ == "__main__":
+    sys.exit(main())
