@@ -154,7 +154,7 @@ if has threads "$CC" && has_sanitizer threads thread; then
     same threads "$here/c/threads.expected" "$build/threads"
 fi
 if has helgrind valgrind; then
-    step build-helgrind c_program "$here/c/threads.c" "$build/threads-plain" -pthread -g
+    step build-helgrind c_program "$here/c/threads.c" "$build/threads-plain" -pthread -gdwarf-4
     same helgrind "$here/c/threads.expected" valgrind --quiet --tool=helgrind "$build/threads-plain"
 fi
 if has vectors python3; then

@@ -3,14 +3,18 @@
 #
 # usage: tools/check_install.sh [--released | --built]
 #
-# The Debian package is installed and removed in a folder as the root. Without lintian the script looks itself for what lintian asks of such
-# a package. Run by root in a git checkout, it also has a user with an empty home install witcall and build the hosts of docs/C.md, and that
-# of examples/rust if cargo is there, in a root with this machine's compilers and nothing else of it. It needs a C compiler, pkg-config and
-# dpkg; fakeroot too if it isn't run by root, and otherwise unshare, CMake and make. Each check says `ok`; the exit status is 1 if one fails.
+# Run by root in a git checkout, it makes a root with this machine's compilers and nothing else of it. There a user with an empty home installs
+# witcall, and builds the hosts of docs/C.md, and that of examples/rust if cargo is there. The Debian package is installed and removed in a
+# folder as the root. Without lintian the script looks itself for what lintian asks of such a package.
+#
+# It needs a C compiler, pkg-config and dpkg; also unshare, CMake and make if it is run by root, and otherwise fakeroot. Each check says `ok`;
+# the exit status is 1 if one fails.
 set -eu
 cd "$(dirname "$0")/.."
 origin=${1-}
 version=$(cat VERSION)
+SOURCE_DATE_EPOCH=${SOURCE_DATE_EPOCH:-$(git log -1 --format=%ct 2>/dev/null || date +%s)}
+export SOURCE_DATE_EPOCH
 work=$(mktemp -d)
 trap 'rm -rf "$work"' EXIT
 failed=0
@@ -164,6 +168,8 @@ dpkg_in() {
     $as_root dpkg --root="$root" --force-depends --log="$work/dpkg.log" "$@"
 }
 
+# dpkg looks for programs of /sbin, which a user may not have on the path
+PATH="$PATH:/usr/sbin:/sbin"
 as_root=''
 [ "$(id -u)" = 0 ] || as_root=fakeroot
 mkdir -p "$root/var/lib/dpkg/info" "$root/var/lib/dpkg/updates" "$root/var/lib/dpkg/triggers"
