@@ -11,12 +11,14 @@
 # | cmake          | the same, built with CMake                        | CMake, make                                         |
 # | rust           | examples/rust, whose build script asks pkg-config | cargo                                               |
 # | faults         | wrong calls in C, under the sanitizers            | the compiler's sanitizers                           |
+# | threads        | two threads in C, under the thread sanitizer      | the compiler's thread sanitizer                     |
+# | helgrind       | the same under helgrind                           | valgrind                                            |
 # | vectors        | the stored calls of crates/vectors, in C          | python3                                             |
 # | bindings       | examples/c/shop.h, made anew                      | python3                                             |
-# | engine         | two core modules in Node's engine                 | clang, lld, Node with its headers                   |
+# | engine         | core modules in Node's engine, their traps        | clang, lld, Node with its headers                   |
 #
-# Debian's packages are gcc, pkg-config, cmake, make, cargo, python3, clang, lld, nodejs and libnode-dev. A host whose tools are missing is
-# skipped, which is a failure with --all. CC names the C compiler. Each step says `ok`; the exit status is 1 if one fails.
+# Debian's packages are gcc, pkg-config, cmake, make, cargo, valgrind, python3, clang, lld, nodejs and libnode-dev. A host whose tools are
+# missing is skipped, which is a failure with --all. CC names the C compiler. Each step says `ok`; the exit status is 1 if one fails.
 set -eu
 root=$(cd "$(dirname "$0")/.." && pwd)
 here="$root/examples"
@@ -71,16 +73,28 @@ same() {
     fi
 }
 
+skipped() {
+    echo "skipped $1: $2"
+    [ -z "$all" ] || failed=1
+}
+
 # Whether a host's tools are there.
 has() {
     name=$1
     shift
     for tool; do
         command -v "$tool" >/dev/null && continue
-        echo "skipped $name: no $tool"
-        [ -z "$all" ] || failed=1
+        skipped "$name" "no $tool"
         return 1
     done
+}
+
+# Whether the compiler makes programs with this sanitizer that run here.
+has_sanitizer() {
+    echo 'int main(void) { return 0; }' >"$build/empty.c"
+    "$CC" -fsanitize="$2" -o "$build/empty" "$build/empty.c" 2>/dev/null && "$build/empty" 2>/dev/null && return 0
+    skipped "$1" "$CC makes no program with -fsanitize=$2 that runs here"
+    return 1
 }
 
 install_witcall() {
@@ -131,9 +145,17 @@ if has rust cargo; then
     step build-rust rust_host
     same rust "$here/rust/host.expected" "$build/cargo/debug/host"
 fi
-if has faults "$CC"; then
+if has faults "$CC" && has_sanitizer faults address,undefined; then
     step build-faults checked_c_program "$here/c/faults.c" "$build/faults" -Wl,--wrap=malloc -Wl,--wrap=realloc
     same faults "$here/c/faults.expected" "$build/faults"
+fi
+if has threads "$CC" && has_sanitizer threads thread; then
+    step build-threads c_program "$here/c/threads.c" "$build/threads" -pthread -g -fsanitize=thread
+    same threads "$here/c/threads.expected" "$build/threads"
+fi
+if has helgrind valgrind; then
+    step build-helgrind c_program "$here/c/threads.c" "$build/threads-plain" -pthread -gdwarf-4
+    same helgrind "$here/c/threads.expected" valgrind --quiet --tool=helgrind "$build/threads-plain"
 fi
 if has vectors python3; then
     step build-vectors c_program "$here/c/vectors.c" "$build/vectors"
@@ -147,6 +169,8 @@ fi
 if has engine clang wasm-ld node; then
     step build-callee wasm_module "$here/engine/callee.c" "$build/callee.wasm" 131072
     step build-caller wasm_module "$here/engine/caller.c" "$build/caller.wasm" 196608
+    step build-notes wasm_module "$here/engine/notes.c" "$build/notes.wasm" 131072
+    step build-diary wasm_module "$here/engine/diary.c" "$build/diary.wasm" 131072
     step build-addon node_addon "$build/witcall.node"
     same engine "$here/engine/host.expected" node "$here/engine/host.mjs" "$build"
 fi

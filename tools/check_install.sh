@@ -3,13 +3,18 @@
 #
 # usage: tools/check_install.sh [--released | --built]
 #
-# The Debian package is installed and removed in a folder as the root. Without lintian the script looks itself for what lintian asks of such
-# a package. It needs a C compiler, pkg-config and dpkg; fakeroot too if it isn't run by root. Each check says `ok`; the exit status is 1 if
-# one fails.
+# Run by root in a git checkout, it makes a root with this machine's compilers and nothing else of it. There a user with an empty home installs
+# witcall, and builds the hosts of docs/C.md, and that of examples/rust if cargo is there. The Debian package is installed and removed in a
+# folder as the root. Without lintian the script looks itself for what lintian asks of such a package.
+#
+# It needs a C compiler, pkg-config and dpkg; also unshare, CMake and make if it is run by root, and otherwise fakeroot. Each check says `ok`;
+# the exit status is 1 if one fails.
 set -eu
 cd "$(dirname "$0")/.."
 origin=${1-}
 version=$(cat VERSION)
+SOURCE_DATE_EPOCH=${SOURCE_DATE_EPOCH:-$(git log -1 --format=%ct 2>/dev/null || date +%s)}
+export SOURCE_DATE_EPOCH
 work=$(mktemp -d)
 trap 'rm -rf "$work"' EXIT
 failed=0
@@ -86,6 +91,67 @@ check destdir install_to /opt/tools --destdir "$work/stage"
 check destdir-prefix grep -q '^prefix=/opt/tools$' "$work/stage/opt/tools/lib/pkgconfig/witcall.pc"
 check destdir-uninstall tools/install.sh --uninstall --prefix /opt/tools --destdir "$work/stage"
 
+# ---- a clean root
+
+# What that user does.
+cat >"$work/first.sh" <<'END'
+set -eux
+cd "$HOME/witcall"
+prefix="$HOME/.local"
+tools/install.sh --prefix "$prefix" "$@"
+[ "$("$prefix/bin/witcall" call examples/c.wit a:b/c f '[7]' '[8]')" = 8 ]
+export PKG_CONFIG_PATH="$prefix/lib/pkgconfig" CMAKE_PREFIX_PATH="$prefix"
+cc -o host examples/c/host.c $(pkg-config --cflags --libs witcall)
+./host | diff examples/c/host.expected -
+cmake -S examples/c -B build
+cmake --build build
+build/host | diff examples/c/host.expected -
+if command -v cargo; then
+    cargo run --quiet --offline --manifest-path examples/rust/Cargo.toml | diff examples/rust/host.expected -
+fi
+tools/install.sh --uninstall --prefix "$prefix"
+[ ! -e "$prefix" ]
+END
+
+# Mounts what a root is to have of this machine, and runs a command there as a user.
+cat >"$work/enter.sh" <<'END'
+set -eu
+clean=$1 rust=$2
+shift 2
+mount -t proc proc "$clean/proc"
+mount --bind /dev/null "$clean/dev/null"
+for folder in /usr /bin /lib /lib64 $rust; do
+    to="$clean$folder"
+    [ "$folder" != "$rust" ] || to="$clean/opt/rust"
+    mount --bind "$folder" "$to"
+    mount -o remount,bind,ro "$to"
+done
+exec chroot --userspec=1000:1000 "$clean" /usr/bin/env -i HOME=/home/user PATH=/opt/rust/bin:/usr/bin:/bin "$@"
+END
+
+# The user's steps, in less than a minute.
+works_in_clean_root() {
+    clean="$work/clean"
+    rust=$(rustc --print sysroot || true)
+    for folder in usr bin lib lib64 opt/rust etc proc dev tmp home/user/witcall; do
+        mkdir -p "$clean/$folder"
+    done
+    touch "$clean/dev/null"
+    cp -a /etc/alternatives /etc/ld.so.cache "$clean/etc"
+    git ls-files -z | xargs -0 cp --parents -t "$clean/home/user/witcall"
+    cp "$work/first.sh" "$clean/home/user"
+    chown -R 1000:1000 "$clean/home/user"
+    chmod 1777 "$clean/tmp"
+    # shellcheck disable=SC2086 # no word where none was given
+    timeout 60 unshare --mount --pid --fork sh "$work/enter.sh" "$clean" "$rust" sh /home/user/first.sh $origin
+}
+
+if [ "$(id -u)" = 0 ] && git rev-parse --git-dir >"$work/log" 2>&1; then
+    check clean-root works_in_clean_root
+else
+    echo "skipped clean-root: it needs root and a git checkout"
+fi
+
 # ---- the Debian package
 
 # shellcheck disable=SC2086 # no word where none was given
@@ -102,16 +168,13 @@ dpkg_in() {
     $as_root dpkg --root="$root" --force-depends --log="$work/dpkg.log" "$@"
 }
 
+# dpkg looks for programs of /sbin, which a user may not have on the path
+PATH="$PATH:/usr/sbin:/sbin"
 as_root=''
 [ "$(id -u)" = 0 ] || as_root=fakeroot
 mkdir -p "$root/var/lib/dpkg/info" "$root/var/lib/dpkg/updates" "$root/var/lib/dpkg/triggers"
 : >"$root/var/lib/dpkg/status"
 : >"$root/var/lib/dpkg/available"
-
-# The files and modes of the package, as `dpkg-deb -c` has them, for which a pattern stands.
-listed() {
-    dpkg-deb -c "$deb" | grep -qE "$1"
-}
 
 # Whether each file has the mode that it is to have, and belongs to root.
 has_modes() {
@@ -134,6 +197,37 @@ has_sums() {
     sed 's/^[0-9a-f]*  //' "$root/var/lib/dpkg/info/witcall.md5sums" | LC_ALL=C sort | diff - "$work/files"
 }
 
+# Whether a file is compressed as Debian asks: as well as gzip can, and without a name and a time.
+is_packed() {
+    gzip -dc "$root/usr/share/$1" | gzip -9nc | cmp - "$root/usr/share/$1"
+}
+
+# Whether the package depends on the C library that the program needs.
+needs_libc() {
+    needed=$(objdump -T "$root/usr/bin/witcall" | grep -o 'GLIBC_[0-9.]*' | sort -uV | tail -n 1)
+    [ "$(dpkg-deb -f "$deb" Depends)" = "libc6 (>= ${needed#GLIBC_})" ]
+}
+
+# Whether the man page is rendered without a warning, as lintian asks man.
+is_rendered() {
+    gzip -dc "$root/usr/share/man/man1/witcall.1.gz" >"$work/witcall.1"
+    LC_ALL=C.UTF-8 MANROFFSEQ='' MANWIDTH=80 man --warnings -E UTF-8 -l -Tutf8 -Z "$work/witcall.1" 2>&1 >/dev/null | tee "$work/warnings"
+    [ ! -s "$work/warnings" ]
+}
+
+# Whether Debian's changelog is read, and has the package's version.
+has_changelog() {
+    gzip -dc "$root/usr/share/doc/witcall/changelog.Debian.gz" >"$work/changelog"
+    [ "$(dpkg-parsechangelog -l "$work/changelog" -S Version 2>&1)" = "$version-1" ]
+}
+
+# Whether the same sources make the same bytes.
+is_made_again() {
+    mkdir "$work/again"
+    # shellcheck disable=SC2086 # no word where none was given
+    tools/deb.sh $origin "$work/again" && cmp "$deb" "$work/again/${deb##*/}"
+}
+
 is_gone() {
     [ -z "$(find "$root" -path "$root/var" -prune -o -type f -print)" ] && ! dpkg_in -s witcall
 }
@@ -143,10 +237,13 @@ check deb-program calls "$root/usr/bin/witcall"
 check deb-fields has_fields
 check deb-modes has_modes
 check deb-sums has_sums
-for file in copyright changelog.gz changelog.Debian.gz; do
-    check "deb-$file" listed "\./usr/share/doc/witcall/$file\$"
+check deb-libc needs_libc
+for file in doc/witcall/changelog.gz doc/witcall/changelog.Debian.gz man/man1/witcall.1.gz; do
+    check "deb-${file##*/}" is_packed "$file"
 done
-check deb-man listed '\./usr/share/man/man1/witcall\.1\.gz$'
+command -v man >/dev/null && check deb-man is_rendered
+command -v dpkg-parsechangelog >/dev/null && check deb-changelog has_changelog
+check deb-again is_made_again
 check deb-licence grep -q 'has given no licence' "$root/usr/share/doc/witcall/copyright"
 check deb-manifest [ ! -e "$root/usr/share/doc/witcall/manifest" ]
 check deb-remove dpkg_in --purge witcall

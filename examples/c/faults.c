@@ -9,6 +9,7 @@
 #include <stdio.h>
 #include <stdlib.h>
 #include <string.h>
+#include <sys/mman.h>
 
 #define LENGTH 64
 #define ROOM WITCALL_MAX_VALUES
@@ -19,10 +20,15 @@ static const char TEXT[] =
     "interface c {"
     "  f: func(s: string, t: list<u16>) -> string;"
     "  number: func(x: u32) -> u32;"
+    "  pick: func(c: char, o: option<u8>) -> char;"
     "}";
 
+/* `package a:b; interface c { f: func(x: u32) -> u32; }`, as `witcall bin` writes it. */
+static const uint8_t BINARY[] =
+    "\0asm\15\0\1\0\7\36\1A\2\1B\2\1@\1\1xy\0y\4\0\1f\1\0\4\0\5a:b/c\5\0\13\15\1\0\7package\3\0";
+
 static witcall_package package = WITCALL_NONE;
-static uint32_t function, number;
+static uint32_t function, number, pick;
 static bool failed = false;
 
 /* ---- cases ---- */
@@ -127,10 +133,8 @@ static witcall_status leave(call c, const witcall_value *answer, size_t blocks) 
 }
 
 static bool is_zero(const uint8_t *bytes) {
-    for (size_t i = 0; i < LENGTH; i++)
-        if (bytes[i])
-            return false;
-    return true;
+    static const uint8_t zeros[LENGTH];
+    return memcmp(bytes, zeros, LENGTH) == 0;
 }
 
 /* ---- what goes well ---- */
@@ -210,12 +214,31 @@ static void few_blocks(const char *name, size_t count) {
     free_call(c);
 }
 
+/* Of a memory of 2^32 bytes no byte is read: none is there. */
+static void a_memory_that_is_too_long(void) {
+    const size_t length = (size_t)1 << 32;
+    uint8_t *memory = mmap(NULL, length, PROT_NONE, MAP_PRIVATE | MAP_ANONYMOUS | MAP_NORESERVE, -1, 0);
+    if (memory == MAP_FAILED)
+        exit(2);
+    call c = new_call();
+    expect("a caller of 2^32 bytes: requests", witcall_enter_requests(
+        &package, function, c.flats, 5, memory, length, NULL, 0), refused(WITCALL_BAD_BLOCK));
+    expect("a caller of 2^32 bytes: enter", witcall_enter(
+        &package, function, c.flats, 5, memory, length, c.callee, LENGTH, c.blocks, 2, c.handed, ROOM), refused(WITCALL_BAD_BLOCK));
+    expect("a callee of 2^32 bytes", witcall_enter(
+        &package, function, c.flats, 5, c.caller, LENGTH, memory, length, c.blocks, 2, c.handed, ROOM), refused(WITCALL_BAD_BLOCK));
+    holds("nothing is written for it", is_zero(c.callee));
+    munmap(memory, length), free_call(c);
+}
+
 static void a_block_of_the_answer(void) {
     call c = new_call();
     witcall_value *back = array(1, sizeof *back);
     answer(c, back);
     c.blocks[0] = (witcall_block){.align = 1, .size = 3, .at = 30};
     expect("a block of another size for the answer", leave(c, back, 1), other_block(0));
+    c.blocks[0] = (witcall_block){.align = 1, .size = 2, .at = 63};
+    expect("a block past the end for the answer", leave(c, back, 1), refused(WITCALL_BAD_BLOCK));
     expect("no block for the answer", leave(c, back, 0), trap(6, WITCALL_LOWER_RESULT));
     free(back), free_call(c);
 }
@@ -227,12 +250,14 @@ static void blocks(void) {
     bad_block("a block within another", 0, (witcall_block){1, 2, 42});
     bad_block("a block of alignment 0", 0, (witcall_block){0, 2, 50});
     bad_block("a block of alignment 3", 0, (witcall_block){3, 2, 48});
+    bad_block("a block of alignment 16", 0, (witcall_block){16, 2, 48});
     another_block("a block of another size", 0, (witcall_block){1, 3, 50});
     another_block("a second block of another size", 1, (witcall_block){2, 4, 40});
     another_block("a block of another alignment", 0, (witcall_block){2, 2, 50});
     few_blocks("one block for two", 1);
     few_blocks("no block for two", 0);
     a_block_of_the_answer();
+    a_memory_that_is_too_long();
 }
 
 /* ---- arrays ---- */
@@ -309,6 +334,18 @@ static void bad_texts(void) {
     free(back), free_call(c);
 }
 
+static void bad_chars_and_cases(void) {
+    witcall_value *flats = array(3, sizeof *flats), *values = array(ROOM, sizeof *values);
+    flats[0].bits = 0xd800;
+    expect("a surrogate", witcall_enter_requests(&package, pick, flats, 3, NULL, 0, NULL, 0), trap(1, WITCALL_LIFT_ARGS));
+    flats[0].bits = 'a', flats[1].bits = 2;
+    expect("the third case of an option", witcall_enter(
+        &package, pick, flats, 3, NULL, 0, NULL, 0, NULL, 0, values, ROOM), trap(2, WITCALL_LIFT_ARGS));
+    flats[0].bits = 0x110000;
+    expect("an answer that is no char", witcall_leave_requests(&package, pick, flats, 1, NULL, 0, NULL, 0), trap(1, WITCALL_LIFT_RESULT));
+    free(flats), free(values);
+}
+
 /* A string that grew between the steps asks for another block than was granted. */
 static void a_source_that_changed(void) {
     call c = new_call();
@@ -343,6 +380,7 @@ static void return_areas(void) {
 static void each_call(const char *name, witcall_package *handle) {
     const wanted not_open = refused(WITCALL_NOT_OPEN);
     witcall_value *values = array(ROOM, sizeof *values);
+    witcall_call *kept = array(1, sizeof *kept);
     expect(name, witcall_find(handle, BYTES("a:b/c"), BYTES("f")), not_open);
     expect("its requests", witcall_enter_requests(handle, 0, NULL, 0, NULL, 0, NULL, 0), not_open);
     expect("its enter", witcall_enter(handle, 0, NULL, 0, NULL, 0, NULL, 0, NULL, 0, values, ROOM), not_open);
@@ -354,7 +392,12 @@ static void each_call(const char *name, witcall_package *handle) {
     expect("its lifted result", witcall_lifted_result(handle, 0, NULL, 0), not_open);
     expect("its lowered parameters", witcall_lowered_params(handle, 0, NULL, 0), not_open);
     expect("its lowered result", witcall_lowered_result(handle, 0, NULL, 0), not_open);
-    free(values);
+    expect("its begin", witcall_begin(handle, 0, NULL, 0, kept), not_open);
+    expect("its requests of a call", witcall_call_enter_requests(handle, kept, NULL, 0, NULL, 0), not_open);
+    expect("its enter of a call", witcall_call_enter(handle, kept, NULL, 0, NULL, 0, NULL, 0, values, ROOM), not_open);
+    expect("its requests back of a call", witcall_call_leave_requests(handle, kept, NULL, 0, NULL, 0, NULL, 0), not_open);
+    expect("its leave of a call", witcall_call_leave(handle, kept, NULL, 0, NULL, 0, NULL, 0, NULL, 0, values, ROOM), not_open);
+    free(values), free(kept);
 }
 
 /* A handle on nothing, and one that was closed, and closed again. */
@@ -365,6 +408,7 @@ static void closed_handles(void) {
     witcall_close(&handle);
     expect("a package to close", witcall_open(BYTES(TEXT), &handle), DONE_WITH_NONE);
     witcall_close(&handle);
+    holds("a handle that is closed is on nothing", handle.at == NULL && handle.is_open == 0);
     each_call("a handle that is closed", &handle);
     witcall_close(&handle);
     expect("a handle that is closed twice", witcall_find(&handle, NULL, 0, NULL, 0), refused(WITCALL_NOT_OPEN));
@@ -466,6 +510,12 @@ static void a_call_that_is_kept(void) {
     free(kept), free(back), free(many), free(asked), free_call(c);
 }
 
+/* A body runs in the host, which may have the library write the line of its trap. */
+static void a_body_that_stops(void) {
+    expect("a body that stops", (witcall_status){WITCALL_TRAP, 7, 4, 0}, trap(7, 4));
+    expect("a post-return that stops", (witcall_status){WITCALL_TRAP, 7, 7, 0}, trap(7, 7));
+}
+
 static void versions(void) {
     uint8_t version[WITCALL_MAX_STATUS_LINE];
     witcall_status told = witcall_version(version, sizeof version);
@@ -495,11 +545,26 @@ void *__wrap_realloc(void *old, size_t size) {
     return is_granted() ? __real_realloc(old, size) : NULL;
 }
 
+/* What opens a package: a text, a binary, a set. */
+typedef witcall_status opener(witcall_package *handle);
+
+static witcall_status opens_text(witcall_package *handle) {
+    return witcall_open(BYTES(TEXT), handle);
+}
+
+static witcall_status opens_binary(witcall_package *handle) {
+    return witcall_open(BINARY, sizeof BINARY, handle);
+}
+
+static witcall_status opens_set(witcall_package *handle) {
+    return open_set((size_t[]){strlen(USED), strlen(USING)}, 2, handle);
+}
+
 /* Opens a package while this block is refused: whether it was out of memory, and by which number. */
-static bool is_out_of_memory(long block, bool seen[100]) {
+static bool is_out_of_memory(opener *open, long block, bool seen[100]) {
     witcall_package opened = WITCALL_NONE;
     refused_block = block;
-    witcall_status status = witcall_open(BYTES(TEXT), &opened);
+    witcall_status status = open(&opened);
     refused_block = 0;
     witcall_close(&opened);
     if (status.code == WITCALL_DONE)
@@ -509,16 +574,70 @@ static bool is_out_of_memory(long block, bool seen[100]) {
     return true;
 }
 
-/* Each allocation of `open` is refused in turn. */
+/* Each allocation of a package that is opened is refused in turn. */
 static void refused_allocations(void) {
+    opener *const ways[] = {opens_text, opens_binary, opens_set};
     bool seen[100] = {false};
-    long block = 1;
-    while (is_out_of_memory(block, seen))
-        block++;
-    holds("it asks for memory", block > 1);
+    for (size_t i = 0; i < sizeof ways / sizeof *ways; i++) {
+        long block = 1;
+        while (is_out_of_memory(ways[i], block, seen))
+            block++;
+        holds("it asks for memory", block > 1);
+    }
     for (uint32_t number = 0; number < 100; number++)
         if (seen[number])
             expect("out of memory", (witcall_status){WITCALL_NO_MEMORY, number, 0, 0}, (wanted){WITCALL_NO_MEMORY, number, 0, 0});
+}
+
+static witcall_status finds(call c) {
+    (void)c;
+    return witcall_find(&package, BYTES("a:b/c"), BYTES("f"));
+}
+
+static witcall_status asks(call c) {
+    return requests(c, NULL, 0);
+}
+
+static witcall_status enters(call c) {
+    return enter(c, 2);
+}
+
+static witcall_status asks_back(call c) {
+    witcall_value back;
+    answer(c, &back);
+    return witcall_leave_requests(&package, function, &back, 1, c.callee, LENGTH, NULL, 0);
+}
+
+static witcall_status leaves(call c) {
+    witcall_value back;
+    answer(c, &back);
+    c.blocks[0].at = 30;
+    return leave(c, &back, 1);
+}
+
+/* Each allocation of a step is refused in turn: it is done without, or out of memory, and then nothing is written. */
+static void refused_in(witcall_status (*step)(call)) {
+    bool was_refused = true;
+    for (long block = 1; was_refused; block++) {
+        call c = new_call(), before = new_call();
+        refused_block = block;
+        witcall_status status = step(c);
+        was_refused = refused_block == 0;
+        refused_block = 0;
+        if (status.code != WITCALL_DONE) {
+            holds("a call is out of memory", was_refused && status.code == WITCALL_NO_MEMORY && status.number == 66);
+            holds("nothing is written", memcmp(c.caller, before.caller, LENGTH) == 0 && memcmp(c.callee + 10, before.callee + 10, LENGTH - 10) == 0);
+        }
+        free_call(c), free_call(before);
+    }
+}
+
+static void refused_in_calls(void) {
+    refused_in(finds);
+    refused_in(asks);
+    refused_in(enters);
+    refused_in(asks_back);
+    refused_in(leaves);
 }
 
 static void names_and_numbers(void) {
@@ -541,6 +660,7 @@ int main(void) {
     expect("a package", witcall_open(BYTES(TEXT), &package), DONE_WITH_NONE);
     function = found("f");
     number = found("number");
+    pick = found("pick");
     a_call();
     a_memory_that_moved();
     null_pointers();
@@ -549,14 +669,17 @@ int main(void) {
     core_values();
     other_flats_at_leave();
     bad_texts();
+    bad_chars_and_cases();
     a_source_that_changed();
     return_areas();
     closed_handles();
     a_package_refused();
     sets();
     a_call_that_is_kept();
+    a_body_that_stops();
     versions();
     refused_allocations();
+    refused_in_calls();
     names_and_numbers();
     witcall_close(&package);
     return failed;

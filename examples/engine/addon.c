@@ -1,7 +1,9 @@
 /* The library for Node: the functions of witcall.h that host.mjs needs, over views of the engine's memories. What the
  * library refuses, and what traps, is thrown.
  *
- *   open(bytes) -> package                     find(package, interface, function) -> number
+ *   open(bytes) -> package
+ *   openSet(bytes, [length]) -> package        bytes has all texts, and length is that of each
+ *   find(package, interface, function) -> number
  *   enterRequests(package, function, flats, caller) -> [{align, size}]
  *   enter(package, function, flats, caller, callee, [{align, size, at}]) -> flats
  *   leaveRequests(package, function, answer, callee) -> [{align, size}]
@@ -32,6 +34,12 @@ typedef struct {
     witcall_block *at;
     size_t len;
 } blocks;
+
+/* A set has at most 64 packages. */
+typedef struct {
+    size_t at[64];
+    size_t len;
+} sizes;
 
 /* ---- what JavaScript hands over; false where it is something else ---- */
 
@@ -99,6 +107,20 @@ static bool blocks_of(napi_env env, napi_value list, blocks *out) {
     return out->at != NULL;
 }
 
+static bool sizes_of(napi_env env, napi_value list, sizes *out) {
+    uint32_t count, size;
+    if (napi_get_array_length(env, list, &count) != napi_ok || count > 64)
+        return false;
+    for (uint32_t i = 0; i < count; i++) {
+        napi_value number;
+        if (napi_get_element(env, list, i, &number) != napi_ok || !number_of(env, number, &size))
+            return false;
+        out->at[i] = size;
+    }
+    out->len = count;
+    return true;
+}
+
 /* ---- what JavaScript gets ---- */
 
 static napi_value thrown(napi_env env, const char *message) {
@@ -113,10 +135,12 @@ static napi_value told(napi_env env, witcall_status status) {
     return thrown(env, line);
 }
 
-/* The line of a refusal by witcall_open, which frees the handle. */
-static napi_value refused(napi_env env, witcall_package *package) {
+/* A refusal by witcall_open or witcall_open_set, by its whole line if that has room, which frees the handle. */
+static napi_value refused(napi_env env, witcall_status status, witcall_package *package) {
     char line[512];
     witcall_status told = witcall_line(package, (uint8_t *)line, sizeof line - 1);
+    if (told.code != WITCALL_DONE)
+        told = witcall_status_line(status, (uint8_t *)line, sizeof line - 1);
     line[told.code == WITCALL_DONE ? told.count : 0] = '\0';
     witcall_close(package);
     free(package);
@@ -166,20 +190,44 @@ static bool function_of(napi_env env, napi_value *arguments, witcall_package **p
     return napi_get_value_external(env, arguments[0], (void **)package) == napi_ok && number_of(env, arguments[1], func);
 }
 
+/* A handle that JavaScript keeps as a package; NULL if there is no memory. */
+static witcall_package *new_package(void) {
+    witcall_package *package = malloc(sizeof *package);
+    if (package)
+        *package = (witcall_package)WITCALL_NONE;
+    return package;
+}
+
+static napi_value opened(napi_env env, witcall_status status, witcall_package *package) {
+    napi_value handle;
+    if (status.code != WITCALL_DONE)
+        return refused(env, status, package);
+    napi_create_external(env, package, NULL, NULL, &handle);
+    return handle;
+}
+
 static napi_value open_package(napi_env env, napi_callback_info info) {
-    napi_value argument, handle;
+    napi_value argument;
     bytes text;
     if (!arguments_of(env, info, &argument, 1) || !bytes_of(env, argument, &text))
         return thrown(env, "open(bytes)");
-    witcall_package *package = malloc(sizeof *package);
+    witcall_package *package = new_package();
     if (!package)
         return thrown(env, "no memory");
-    *package = (witcall_package)WITCALL_NONE;
-    witcall_status status = witcall_open(text.at, text.len, package);
-    if (status.code != WITCALL_DONE)
-        return refused(env, package);
-    napi_create_external(env, package, NULL, NULL, &handle);
-    return handle;
+    return opened(env, witcall_open(text.at, text.len, package), package);
+}
+
+static napi_value open_set(napi_env env, napi_callback_info info) {
+    napi_value arguments[2];
+    bytes texts;
+    sizes lengths;
+    if (!arguments_of(env, info, arguments, 2) || !bytes_of(env, arguments[0], &texts) ||
+        !sizes_of(env, arguments[1], &lengths))
+        return thrown(env, "openSet(bytes, lengths)");
+    witcall_package *package = new_package();
+    if (!package)
+        return thrown(env, "no memory");
+    return opened(env, witcall_open_set(texts.at, texts.len, lengths.at, lengths.len, package), package);
 }
 
 static napi_value close_package(napi_env env, napi_callback_info info) {
@@ -300,8 +348,14 @@ NAPI_MODULE_INIT() {
         const char *name;
         napi_callback function;
     } FUNCTIONS[] = {
-        {"open", open_package}, {"find", find},           {"enterRequests", enter_requests}, {"enter", enter},
-        {"leaveRequests", leave_requests}, {"leave", leave}, {"close", close_package},
+        {"open", open_package},
+        {"openSet", open_set},
+        {"close", close_package},
+        {"find", find},
+        {"enterRequests", enter_requests},
+        {"enter", enter},
+        {"leaveRequests", leave_requests},
+        {"leave", leave},
     };
     for (size_t i = 0; i < sizeof FUNCTIONS / sizeof FUNCTIONS[0]; i++) {
         napi_value function;

@@ -1,5 +1,5 @@
 /* The component that prints: the core function of `print`, and its post-return. */
-#include "guest.h"
+#include "press.h"
 
 static outcome answer;
 

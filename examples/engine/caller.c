@@ -1,14 +1,11 @@
 /* The component that has labels printed. What it imports as `print` is what its host makes of the press. */
-#include "guest.h"
+#include "press.h"
 
 #define LINE 60000
 
 __attribute__((import_module("demo:labels/press"), import_name("print"))) void print(
     const char *title, size_t title_len, uint32_t copies, const text *lines, size_t lines_len, uint32_t paper,
     const char *color, size_t color_len, outcome *area);
-
-/* How the host lets it speak. */
-__attribute__((import_module("host"), import_name("say"))) void say(const char *at, size_t len);
 
 static char first[LINE], second[LINE];
 
@@ -30,13 +27,5 @@ __attribute__((export_name("run"))) void run(void) {
     print("tea", 3, 2, lines, 3, COLORED, "red", 3, &area);
     say_all(&area);
     print("tea", 3, 0, lines, 0, PLAIN, 0, 0, &area);
-    say_all(&area);
-}
-
-/* Hands over a text that is no UTF-8. */
-__attribute__((export_name("run_badly"))) void run_badly(void) {
-    text lines[] = {{"tea", 3}, {"\300\200", 2}};
-    outcome area;
-    print("tea", 3, 1, lines, 2, PLAIN, 0, 0, &area);
     say_all(&area);
 }

@@ -1,4 +1,4 @@
-/* What both modules share: blocks of their own memory, and WIT's types as they stand in it (`witcall layout press.wit`). */
+/* What all modules share: blocks of their own memory, and strings as they stand in it. */
 #ifndef GUEST_H
 #define GUEST_H
 #include <stddef.h>
@@ -6,28 +6,22 @@
 
 #define PAGE 65536u
 
-/* A string, or a list: its address and its length. */
+/* A string: its address and its length in bytes. */
 typedef struct {
     const char *at;
     size_t len;
 } text;
 
-typedef struct {
-    const text *at;
-    size_t len;
-} texts;
+/* How the host lets a module speak. */
+__attribute__((import_module("host"), import_name("say"))) void say(const char *at, size_t len);
 
-enum { PLAIN, COLORED };
-enum { PRINTED, REFUSED };
+/* The steps of a call, by their numbers in witcall.h, and the one in which this module goes wrong on purpose. */
+enum { LIFT_ARGS = 2, LOWER_ARGS, BODY, LIFT_RESULT, LOWER_RESULT, POST };
+static int fault;
 
-/* variant outcome { printed(list<string>), refused(string) }: its case, and then the payload. */
-typedef struct {
-    uint8_t is;
-    union {
-        texts printed;
-        text refused;
-    };
-} outcome;
+__attribute__((export_name("go_wrong_in"))) void go_wrong_in(int step) {
+    fault = step;
+}
 
 extern char __heap_base;
 static uintptr_t top;
@@ -44,9 +38,9 @@ static void *block_of(size_t align, size_t size) {
     return (void *)at;
 }
 
-/* The allocator that the Canonical ABI asks for. Here it only makes new blocks. */
+/* The allocator that the Canonical ABI asks for. Here it only makes new blocks. If it has none, it traps. */
 __attribute__((export_name("cabi_realloc"))) void *cabi_realloc(void *old, size_t old_size, size_t align, size_t size) {
-    if (old || old_size)
+    if (old || old_size || fault == LOWER_ARGS || fault == LOWER_RESULT)
         __builtin_trap();
     return block_of(align, size);
 }

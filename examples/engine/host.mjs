@@ -1,70 +1,89 @@
-// Two components in one engine: caller.c imports the function that callee.c exports, and the library carries the
-// values between their two memories.
+// Two pairs of components in one engine. In each the one imports functions that the other exports, and the library carries the values
+// between their two memories.
 //
-// usage: node host.mjs BUILD      BUILD is the folder of witcall.node, caller.wasm and callee.wasm
+// usage: node host.mjs BUILD      BUILD is the folder of witcall.node and of the modules
 import { readFileSync } from "node:fs";
 import { createRequire } from "node:module";
 import { resolve } from "node:path";
+import { Link, bytesOf, granted } from "./link.mjs";
 
 const [build] = process.argv.slice(2);
 const library = createRequire(import.meta.url)(resolve(build, "witcall.node"));
-const PRESS = "demo:labels/press";
-
-const moduleOf = (name) => new WebAssembly.Module(readFileSync(resolve(build, name)));
+const read = (path) => readFileSync(new URL(path, import.meta.url));
+const moduleOf = (name) => new WebAssembly.Module(readFileSync(resolve(build, `${name}.wasm`)));
 const pagesOf = (instance) => instance.exports.memory.buffer.byteLength / 65536;
-// The bytes of an instance's memory. A view is good only up to the next call into the instance, whose memory may grow.
-const bytesOf = (instance) => new Uint8Array(instance.exports.memory.buffer);
 
-// Has an instance's own allocator grant the blocks, one after another.
-function granted(name, instance, asked) {
+const linkTo = (callee, opened) => new Link(library, opened, new WebAssembly.Instance(moduleOf(callee)));
+
+function connect(link, caller) {
+  const texts = new TextDecoder();
+  const say = (at, len) => console.log(`caller: ${texts.decode(bytesOf(link.caller).subarray(at, at + len))}`);
+  link.connect(moduleOf(caller), { host: { say } });
+}
+
+// Grants blocks, and says which, and whether the memory grew.
+function grantAloud(name, instance, asked) {
   const before = bytesOf(instance);
   const pages = pagesOf(instance);
-  const blocks = asked.map(({ align, size }) => ({
-    align,
-    size,
-    at: instance.exports.cabi_realloc(0, 0, align, size) >>> 0,
-  }));
-  console.log(`${name}: blocks of ${asked.map((block) => block.size).join(", ") || "no"} bytes`);
+  const blocks = granted(instance, asked);
+  console.log(`${name}: blocks of ${blocks.map((block) => block.size).join(", ")} bytes`);
   if (pagesOf(instance) > pages) {
     console.log(`${name}: its memory grew, ${pages} -> ${pagesOf(instance)} pages; the view from before has ${before.length} bytes`);
   }
   return blocks;
 }
 
-// The callee's function as the caller imports it.
-function lowered(opened, name, caller, callee) {
-  const func = library.find(opened, PRESS, name);
-  const run = callee.exports[`${PRESS}#${name}`];
-  const post = callee.exports[`cabi_post_${PRESS}#${name}`];
-  return (...flats) => {
-    const asked = library.enterRequests(opened, func, flats, bytesOf(caller()));
-    const blocks = granted("callee", callee, asked);
-    const handed = library.enter(opened, func, flats, bytesOf(caller()), bytesOf(callee), blocks);
-    const answer = [run(...handed)].filter((value) => value !== undefined);
-
-    const wanted = library.leaveRequests(opened, func, answer, bytesOf(callee));
-    const places = granted("caller", caller(), wanted);
-    const [result] = library.leave(opened, func, flats, answer, bytesOf(callee), bytesOf(caller()), places);
-    post?.(...answer);
-    return result;
-  };
+// A package alone, and a callee whose memory grows.
+function print() {
+  const opened = library.open(read("press.wit"));
+  const link = linkTo("callee", opened);
+  link.grant = (instance, asked) => grantAloud(instance === link.callee ? "callee" : "caller", instance, asked);
+  connect(link, "caller");
+  link.caller.exports.run();
+  library.close(opened);
 }
 
-function main() {
-  const opened = library.open(readFileSync(new URL("press.wit", import.meta.url)));
-  const callee = new WebAssembly.Instance(moduleOf("callee.wasm"));
-  const texts = new TextDecoder();
-  const caller = new WebAssembly.Instance(moduleOf("caller.wasm"), {
-    [PRESS]: { print: lowered(opened, "print", () => caller, callee) },
-    host: { say: (at, len) => console.log(`caller: ${texts.decode(bytesOf(caller).subarray(at, at + len))}`) },
-  });
-  caller.exports.run();
+// In each step of a call (docs/ERRORS.md) a component goes wrong. The row of crates/vectors has the trap that Link::call answers then.
+const FAULTS = [
+  { step: 2, who: "caller", row: "traps: arguments, no UTF-8" },
+  { step: 3, who: "callee", row: "traps: arguments, no block of a list" },
+  { step: 4, who: "callee", row: "traps: the body stops behind what it wrote" },
+  { step: 5, who: "callee", row: "traps: results, a case" },
+  { step: 6, who: "caller", row: "traps: results, no block" },
+  { step: 7, who: "callee", row: "traps: the post-return stops" },
+];
+
+// The trap of a stored call.
+function storedTrap(row) {
+  const [calls, answers] = ["stdin", "stdout"].map((name) => read(`../../crates/vectors/${name}`).toString().split("\n"));
+  return JSON.parse(answers[calls.findIndex((call) => call && JSON.parse(call).name === row)]).outcome.trap;
+}
+
+function trapOf(link) {
   try {
-    caller.exports.run_badly();
+    link.caller.exports.run();
+    return "no trap";
   } catch (error) {
-    console.log(`host: ${error.message}`);
+    return error.message;
+  }
+}
+
+// A set of packages: functions of two of them, and a call for each fault. What trapped isn't run again.
+function readDiary() {
+  const inputs = ["clocks", "random", "cli", "app"].map((name) => read(`../wasi/${name}.wit`));
+  const opened = library.openSet(Buffer.concat(inputs), inputs.map((input) => input.length));
+  const well = linkTo("notes", opened);
+  connect(well, "diary");
+  well.caller.exports.run();
+  for (const { step, who, row } of FAULTS) {
+    const link = linkTo("notes", opened);
+    connect(link, "diary");
+    link[who].exports.go_wrong_in(step);
+    const trap = trapOf(link);
+    console.log(`${who}: ${trap}, ${trap === storedTrap(row) ? "as" : "other than"} Link::call answers to "${row}"`);
   }
   library.close(opened);
 }
 
-main();
+print();
+readDiary();

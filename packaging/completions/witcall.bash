@@ -1,15 +1,14 @@
 # Completion of witcall for bash: the commands, --with, and files.
 _witcall() {
-    local current=${COMP_WORDS[COMP_CWORD]} IFS=$'\n'
+    local current=${COMP_WORDS[COMP_CWORD]}
     COMPREPLY=()
-    # bash parts --with=FILE at the `=`
-    [ "$current" = = ] && current=
     if [ "$COMP_CWORD" -eq 1 ]; then
-        COMPREPLY=($(compgen -W $'show\nlayout\ntext\nbin\ncall' -- "$current"))
+        mapfile -t COMPREPLY < <(compgen -W 'show layout text bin call' -- "$current")
     elif [[ $current == -* ]]; then
-        COMPREPLY=($(compgen -W --with -- "$current"))
+        mapfile -t COMPREPLY < <(compgen -W --with -- "$current")
     else
-        COMPREPLY=($(compgen -f -- "$current"))
+        # bash's own completion of files, which knows ~ and parts --with=FILE at the `=`
+        compopt -o default
     fi
 }
-complete -o filenames -F _witcall witcall
+complete -F _witcall witcall

@@ -1,6 +1,8 @@
-//! What `include/witcall.h` declares. `Package::open` compares the number of the binary interface, and nothing else is compared.
+//! What `include/witcall.h` declares. `Package::open` compares the number of the binary interface, and the compiler the sizes of the
+//! structs. Nothing else is compared.
 
 use std::ffi::c_void;
+use std::mem::size_of;
 
 /// The most core values that a core function takes.
 pub const MAX_VALUES: usize = 17;
@@ -54,6 +56,10 @@ pub struct Status {
 
 /// The number of the binary interface that this file declares.
 pub const ABI: u32 = 1;
+
+// The sizes of the structs, as the header asserts them.
+const _: () = assert!(size_of::<Value>() == 16 && size_of::<Request>() == 8 && size_of::<Block>() == 12);
+const _: () = assert!(size_of::<Handle>() == 16 && size_of::<Status>() == 16);
 
 extern "C" {
     pub fn witcall_abi() -> u32;
