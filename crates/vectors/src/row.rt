@@ -11,8 +11,8 @@ use std::alloc::Global;
 /// What a key has, unless that is null.
 pub fn field<'a>(row: &'a Value, key: &str) -> Option<&'a Value> {
     match row.get(key) {
-        Some(value) if !value.is_null() => Some(value),
-        _ => None,
+        Some(Value::Null) => None,
+        value => value,
     }
 }
 
@@ -41,8 +41,8 @@ pub fn number(value: Option<&Value>) -> anyhow::Result<u32> {
 /// The value of one side, 0 or 1, in the pair of a key.
 fn of_pair<'a>(row: &'a Value, key: &str, side: usize) -> Option<&'a Value> {
     match list(row.get(key)).get(side) {
-        Some(value) if !value.is_null() => Some(value),
-        _ => None,
+        Some(Value::Null) => None,
+        value => value,
     }
 }
 

@@ -125,9 +125,9 @@ fn steps_of(
 
 /// Why something ended.
 pub fn fault_told(alloc: Global, fault: Fault) -> anyhow::Result<String> {
-    match Refused::from(fault) {
-        Refused::NoMemory => Err(anyhow::anyhow!("no memory")),
-        refused => Ok(format!(in alloc; "{{\"trap\":\"{refused}\"}}")?),
+    match fault {
+        Fault::NoMemory => Err(anyhow::anyhow!("no memory")),
+        Fault::Trap(trap) => Ok(format!(in alloc; "{{\"trap\":\"{trap}\"}}")?),
     }
 }
 

@@ -18,14 +18,6 @@ use std::alloc::Global;
 use tables::ValType;
 use witcall::{Package, open};
 
-/// Whether a type has few bytes.
-fn is_small(package: &Package, ty: ValType) -> bool
-    requires { IsTypeOf «package».now.resolve ty }
-    ensures { IsTrue result → size (record_type (fields_of_types «package».now.resolve (ty ∷ []))) ≤ 16777216 }
-{
-    package.layouts().size(ty) < 1000
-}
-
 /// The type of the first parameter of the row's function, which is small.
 fn type_of(package: &Package, row: &Value) -> anyhow::Result<ValType>
     ensures known { IfOk result (IsTypeOf «package».now.resolve) }
@@ -33,7 +25,7 @@ fn type_of(package: &Package, row: &Value) -> anyhow::Result<ValType>
 {
     let f = function(package, "a:b/c", text(row.get("func"))?)?;
     let ty = parameter(package, f)?;
-    if package.is_type(ty) && is_small(package, ty) {
+    if package.is_type(ty) && package.types().fits_record(&[ty]) {
         return Ok(ty);
     }
     Err(anyhow::anyhow!("no small type"))
