@@ -14,7 +14,7 @@ use lift_lower::Val;
 use serde_json::Value;
 use std::alloc::Global;
 use tables::{FunctionId, ValType};
-use witcall::{Answer, Package, Refused, Session, Step, from_json, open, takes_steps, to_json};
+use witcall::{Answer, Package, Session, Step, from_json, open, takes_steps, to_json};
 
 /// The value of a type that a row says.
 pub fn value_of(

@@ -1,6 +1,6 @@
 //! Values that are lifted from core values or lowered to them, over the caller's memory.
 
-ghost use Rattle.std.specs.Prelude.{◌≤◌, [], ◌∷◌, IsTrue, IfOk};
+ghost use Rattle.std.specs.Prelude.{◌≤◌, [], ◌∷◌, IfOk};
 ghost use Rattle.canonical_abi.specs.Layout.{size};
 ghost use Rattle.canonical_abi.specs.Types.{record_type};
 ghost use Rattle.lift_lower.specs.Crossing.{fields_of_types};
