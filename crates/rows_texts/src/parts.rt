@@ -45,9 +45,9 @@ fn tokens_of(alloc: Global, line: &str) -> Result<Vec<Token<'_>>, AllocError> {
 }
 
 fn letter(digit: usize) -> char {
-    match b"abcdefghijklmnopqrstuvwxyz".get(digit) {
-        Some(letter) => char::from(*letter),
-        None => '?',
+    match u8::try_from(digit) {
+        Ok(digit) if digit < 26 => char::from(b'a' + digit),
+        _ => '?',
     }
 }
 
