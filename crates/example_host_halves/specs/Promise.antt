@@ -1,0 +1,70 @@
+-- A call in halves over two arrays of bytes, by a host that runs the core function itself: what is known of each step, and what the call promises.
+use Rattle.std.specs.Prelude.{◌≡◌, ℕ, List, [], drop, length, Option, Result, Ok, Err, MatchResult}
+use Rattle.arrayvec.specs.ArrayVec.{ArrayVec}
+use Rattle.canonical_abi.specs.Call.{Parties, PostRun, Run, World}
+use Rattle.canonical_abi.specs.Guest.{Memory, with_bytes}
+use Rattle.canonical_abi.specs.Halves.{source, world, HalvesKeep}
+use Rattle.canonical_abi.specs.Types.{FunctionType}
+use Rattle.canonical_abi.specs.declared.flat.Flat.{Flat}
+use Rattle.canonical_abi.specs.declared.trap.Fault.{Fault}
+use Rattle.canonical_abi.specs.declared.trap.Step.{Step}
+use Rattle.host_calls.specs.Calling.{KeepsArea}
+use Rattle.lending.specs.Halves.{full_in, EntersLent, EntryOfLentFails, ReturnsLent, ReturnOfLentFails}
+use Rattle.lending.specs.declared.error.HalfError.{HalfError}
+use Rattle.lending.specs.declared.error.HalfError.TheVariants as half
+use Rattle.memory.specs.Lent.{LentAllocates}
+use Rattle.memory.specs.declared.block.Block.{Block}
+
+-- ---- the steps
+
+-- the core function made this run over the bytes of a memory, whatever is live there, and keeps nothing but in the memory
+abbrev pub RunsOnBytes : Run → List ℕ → List Flat → List ℕ → Option (List Flat) → Type 0
+RunsOnBytes runs old arguments new answer = (memory : Memory) → runs [] (with_bytes memory old) arguments [] (with_bytes memory new) answer
+
+-- and its post-return this one
+abbrev pub PostsOnBytes : PostRun → List ℕ → List Flat → List ℕ → Option (Unit {0}) → Type 0
+PostsOnBytes posts old answer new done = (memory : Memory) → posts [] (with_bytes memory old) answer [] (with_bytes memory new) done
+
+-- the allocator of a memory ran in it: it writes its next free address to the first four bytes, and changes no other
+abbrev pub HasGranted : List ℕ → List ℕ → Type 0
+HasGranted old new = (length new ≡ length old) × (drop 4 new ≡ drop 4 old)
+
+-- the callee's allocator granted some blocks, and the arguments were put into them, or this half was broken off
+abbrev pub Enters : FunctionType → List Flat → List ℕ → List ℕ → Result (ArrayVec Flat) HalfError → List ℕ → Type 0
+Enters f flats caller callee result new =
+    (granted : List ℕ) × (blocks : List Block) × HasGranted callee granted × MatchResult result
+    (λ handed. (name : ℕ) × EntersLent name f flats caller granted blocks handed.items new)
+    (λ error. (name : ℕ) × EntryOfLentFails name f flats caller granted blocks error new)
+
+-- the caller's allocator granted some blocks, of which none meets the return area, and the answer was put into them, or this half was broken off
+abbrev pub Leaves : FunctionType → List Flat → List ℕ → List Flat → List ℕ → Result (ArrayVec Flat) HalfError → List ℕ → Type 0
+Leaves f flats callee answer caller result new =
+    (granted : List ℕ) × (blocks : List Block) × HasGranted caller granted × KeepsArea f flats granted blocks × MatchResult result
+    (λ given. (name : ℕ) × ReturnsLent name f flats callee answer granted blocks given.items new)
+    (λ error. (name : ℕ) × ReturnOfLentFails name f flats callee answer granted blocks error new)
+
+-- ---- the call
+
+-- who takes part: two allocators that hand out what was granted before, and the core function with its post-return
+abbrev pub hosting : Run → PostRun → Parties
+hosting runs posts = record { caller_allocates = LentAllocates; callee_allocates = LentAllocates; runs = runs; posts = posts }
+
+-- a call that ended so is told the host so: a block of another size or alignment than was asked for is a request that was refused
+abbrev pub IsToldAs : Result (List Flat) Fault → Result (ArrayVec Flat) HalfError → Type 0
+IsToldAs ended (Ok given) = ended ≡ Ok given.items
+IsToldAs ended (Err (half.Fault fault)) = ended ≡ Err fault
+IsToldAs ended (Err (half.OtherBlock index)) = (step : Step) × (ended ≡ Err (full_in step))
+
+-- The promise of a call in halves (`HalvesKeep`) holds of this call: from the callee as its allocator left it for the first half, and from
+-- the caller as its allocator left it for the second, to both memories as they are after the call.
+pub record MakesCall (runs : Run) (posts : PostRun) (f : FunctionType) (flats : List Flat) (caller callee : List ℕ) (result : Result (ArrayVec Flat) HalfError) (caller' callee' : List ℕ) : Type 0 where
+  pub entering : Memory
+  pub callee_granted : HasGranted callee entering.bytes
+  pub between : Memory
+  pub caller_granted : HasGranted caller between.bytes
+  pub ended : Result (List Flat) Fault
+  pub told : IsToldAs ended result
+  pub new : World
+  pub caller_is : caller' ≡ new.caller.bytes
+  pub callee_is : callee' ≡ new.callee.bytes
+  pub promise : HalvesKeep (hosting runs posts) f flats (world (source caller) entering []) between ended new
