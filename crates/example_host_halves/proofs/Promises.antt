@@ -4,7 +4,7 @@ use Rattle.std.specs.List.{list_all}
 use Rattle.std.proofs.lemmas.Bool.{and_from, lt-ltb}
 use Rattle.arrayvec.specs.ArrayVec.{ArrayVec}
 use Rattle.canonical_abi.specs.Call.{PostRun, Run, World}
-use Rattle.canonical_abi.specs.Halves.{source, world, body_stopped, post_stopped, CallsInHalves, RunsBetween, RunsAndReturns, HalvesKeepPromise, ends_at_entry, ends_at_run, ends_at_return, ends_at_post, completes}
+use Rattle.canonical_abi.specs.Halves.{source, world, body_stopped, post_stopped, CallsInHalves, HalvesKeepPromise, ends_at_entry, ends_at_run, ends_at_return, ends_at_post, completes}
 use Rattle.canonical_abi.specs.Headline.{IsStandardFunction, LendsArea}
 use Rattle.canonical_abi.specs.Types.{FunctionType}
 use Rattle.canonical_abi.specs.declared.flat.Flat.{Flat}

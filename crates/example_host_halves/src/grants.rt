@@ -44,12 +44,7 @@ pub fn grant(alloc: Global, memory: &mut [u8], requests: &[Request]) -> Vec<Bloc
 
 /// These blocks, if they can be handed out of a memory of `len` bytes beside a place that is lent. Otherwise the allocator is wrong, and
 /// there are none.
-pub fn lendable<'a>(
-    alloc: Global,
-    len: usize,
-    place: &Block,
-    blocks: &'a [Block],
-) -> &'a [Block]
+pub fn lendable<'a>(alloc: Global, len: usize, place: &Block, blocks: &'a [Block]) -> &'a [Block]
     ensures good { IsTrue (are_good len result.now) }
     ensures beside { IsTrue (list_all (is_apart place.now) result.now) }
 {

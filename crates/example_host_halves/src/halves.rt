@@ -43,7 +43,14 @@ pub fn enter(
     let (resolve, layouts) = (types.resolve(), types.layouts());
     let mut handed = Flats::new();
     enter_lent(
-        resolve, layouts, func, flats, caller, callee, blocks, &mut handed,
+        resolve,
+        layouts,
+        func,
+        flats,
+        caller,
+        callee,
+        blocks,
+        &mut handed,
     )?;
     Ok(handed)
 }

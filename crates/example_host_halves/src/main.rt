@@ -56,14 +56,5 @@ fn is_doubled(alloc: Global, package: &Package, caller: &mut [u8; 64]) -> bool {
     };
     let mut callee = [0; 64];
     callee[..4].copy_from_slice(&CALLEE);
-    call(
-        alloc,
-        &types,
-        func,
-        &FLATS,
-        caller,
-        &mut callee,
-        &Doubling,
-    )
-    .is_ok()
+    call(alloc, &types, func, &FLATS, caller, &mut callee, &Doubling).is_ok()
 }

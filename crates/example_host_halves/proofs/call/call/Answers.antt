@@ -1,5 +1,5 @@
 -- The steps are put together by the law.
-use Rattle.std.proofs.Common.{ℕ, List, Option, None, Some, Ok, Err, sym, subst}
+use Rattle.std.proofs.Common.{ℕ, List, None, Some, Ok, Err, sym, subst}
 use Rattle.std.proofs.lemmas.Result.{err_from_is_err_and}
 use Rattle.canonical_abi.specs.declared.flat.Flat.{Flat}
 use Rattle.tables.specs.Closed.{function_type}

@@ -1,5 +1,5 @@
 -- What the half says of the table and the memories that it was given is said of those of this host, and no block meets the return area.
-use Rattle.std.proofs.Common.{◌≡◌, ℕ, ◌<◌, true, List, length, sym, subst}
+use Rattle.std.proofs.Common.{◌≡◌, ℕ, ◌<◌, true, List, sym, subst}
 use Rattle.std.specs.List.{list_all}
 use Rattle.std.proofs.lemmas.Result.{err_from_is_err_and}
 use Rattle.lending.specs.Halves.{ReturnsLent, ReturnOfLentFails}
