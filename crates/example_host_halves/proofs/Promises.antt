@@ -41,15 +41,22 @@ module _ (runs : Run) (posts : PostRun) (law : HalvesKeepPromise (hosting runs p
       → (result : Result (ArrayVec Flat) HalfError) → IsToldAs ended result → (caller' callee' : List ℕ) → caller' ≡ new.caller.bytes → callee' ≡ new.callee.bytes
       → MakesCall runs posts f flats caller callee result caller' callee'
   promised name entering there grants other between back grants' lends ended n m new calls result told caller' callee' is is' = record {
-    entering = lent name entering there;
+    name = name;
+    entering = entering;
+    there = there;
     callee_granted = grants;
-    between = lent other between back;
+    other = other;
+    between = between;
+    back = back;
     caller_granted = grants';
     ended = ended;
     told = told;
     new = new;
     caller_is = is;
     callee_is = is';
+    nodes_there = n;
+    nodes_back = m;
+    calls = calls;
     promise =
         law f flats (world (source caller) (lent name entering there) []) (lent other between back) ended n m new standard calls
         (record { caller = LentIsHonest; callee = LentIsHonest })

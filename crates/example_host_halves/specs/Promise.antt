@@ -3,7 +3,7 @@ use Rattle.std.specs.Prelude.{◌≡◌, ℕ, List, [], drop, length, Option, Re
 use Rattle.arrayvec.specs.ArrayVec.{ArrayVec}
 use Rattle.canonical_abi.specs.Call.{Parties, PostRun, Run, World}
 use Rattle.canonical_abi.specs.Guest.{Memory, with_bytes}
-use Rattle.canonical_abi.specs.Halves.{source, world, HalvesKeep}
+use Rattle.canonical_abi.specs.Halves.{source, world, CallsInHalves, HalvesKeep}
 use Rattle.canonical_abi.specs.Types.{FunctionType}
 use Rattle.canonical_abi.specs.declared.flat.Flat.{Flat}
 use Rattle.canonical_abi.specs.declared.trap.Fault.{Fault}
@@ -12,7 +12,7 @@ use Rattle.host_calls.specs.Calling.{KeepsArea}
 use Rattle.lending.specs.Halves.{full_in, EntersLent, EntryOfLentFails, ReturnsLent, ReturnOfLentFails}
 use Rattle.lending.specs.declared.error.HalfError.{HalfError}
 use Rattle.lending.specs.declared.error.HalfError.TheVariants as half
-use Rattle.memory.specs.Lent.{LentAllocates}
+use Rattle.memory.specs.Lent.{lent, LentAllocates}
 use Rattle.memory.specs.declared.block.Block.{Block}
 
 -- ---- the steps
@@ -55,16 +55,25 @@ IsToldAs ended (Ok given) = ended ≡ Ok given.items
 IsToldAs ended (Err (half.Fault fault)) = ended ≡ Err fault
 IsToldAs ended (Err (half.OtherBlock index)) = (step : Step) × (ended ≡ Err (full_in step))
 
--- The promise of a call in halves (`HalvesKeep`) holds of this call: from the callee as its allocator left it for the first half, and from
--- the caller as its allocator left it for the second, to both memories as they are after the call.
+-- The steps of the host were a call in halves (`CallsInHalves`), from the callee as its allocator left it for the first half, and from the caller as its
+-- own left it for the second, each lent with the blocks that were granted. So the call keeps the promise (`HalvesKeep`).
 pub record MakesCall (runs : Run) (posts : PostRun) (f : FunctionType) (flats : List Flat) (caller callee : List ℕ) (result : Result (ArrayVec Flat) HalfError) (caller' callee' : List ℕ) : Type 0 where
-  pub entering : Memory
-  pub callee_granted : HasGranted callee entering.bytes
-  pub between : Memory
-  pub caller_granted : HasGranted caller between.bytes
+  pub name : ℕ
+  pub entering : List ℕ
+  pub there : List Block
+  pub callee_granted : HasGranted callee entering
+  pub other : ℕ
+  pub between : List ℕ
+  pub back : List Block
+  pub caller_granted : HasGranted caller between
+  -- how the call ended, as the host is told, and both memories then
   pub ended : Result (List Flat) Fault
   pub told : IsToldAs ended result
   pub new : World
   pub caller_is : caller' ≡ new.caller.bytes
   pub callee_is : callee' ≡ new.callee.bytes
-  pub promise : HalvesKeep (hosting runs posts) f flats (world (source caller) entering []) between ended new
+  -- by ways of so many nodes
+  pub nodes_there : ℕ
+  pub nodes_back : ℕ
+  pub calls : CallsInHalves (hosting runs posts) f flats (world (source caller) (lent name entering there) []) (lent other between back) ended nodes_there nodes_back new
+  pub promise : HalvesKeep (hosting runs posts) f flats (world (source caller) (lent name entering there) []) (lent other between back) ended new

@@ -1,7 +1,7 @@
 //! The second step of each half: a memory's own allocator grants the blocks, and the host tests them.
-ghost use Rattle.std.specs.Prelude.{IsTrue, length};
+ghost use Rattle.std.specs.Prelude.{◌≡◌, IsTrue, length};
 ghost use Rattle.std.specs.List.{list_all};
-ghost use Rattle.memory.specs.Blocks.{is_apart, are_good};
+ghost use Rattle.memory.specs.Blocks.{is_apart, are_good, can_lend, rise};
 ghost use Rattle.example_host_halves.specs.Promise.{HasGranted};
 
 use adapter::Request;
@@ -43,10 +43,11 @@ pub fn grant(alloc: Global, memory: &mut [u8], requests: &[Request]) -> Vec<Bloc
 }
 
 /// These blocks, if they can be handed out of a memory of `len` bytes beside a place that is lent. Otherwise the allocator is wrong, and
-/// there are none.
+/// there are none. Nor are there any if they don't rise, and the host has no memory to test them.
 pub fn lendable<'a>(alloc: Global, len: usize, place: &Block, blocks: &'a [Block]) -> &'a [Block]
     ensures good { IsTrue (are_good len result.now) }
     ensures beside { IsTrue (list_all (is_apart place.now) result.now) }
+    ensures all { IsTrue (can_lend len place.now blocks.now) → IsTrue (rise 0 blocks.now) → result.now ≡ blocks.now }
 {
     match can_lend(alloc, len, place, blocks) {
         Ok(true) => blocks,
