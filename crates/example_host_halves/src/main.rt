@@ -2,8 +2,8 @@
 //! given.
 //!
 //! The steps of a call are those of docs/LIBRARY.md: request the blocks, grant them, enter, run, and the same way back. `call` has them in
-//! order, and its contract has the promise of the call, by the law `halves_keep_promise` of `canonical_abi`. Nothing is asked of the
-//! allocators, which run in the two memories, and nothing of the core function.
+//! order, and its contract has the promise of the call, by the law `halves_keep_promise` of `canonical_abi`. The allocators run in the two
+//! memories, and what they grant is tested before it is handed out. Nothing is asked of the core function.
 #![tactic(auto)]
 
 mod call;
