@@ -1,6 +1,7 @@
 -- A call in halves over two arrays of bytes, by a host that runs the core function itself: what is known of each step, and what the call promises.
 use Rattle.std.specs.Prelude.{◌≡◌, ℕ, List, [], drop, length, Option, Result, Ok, Err, MatchResult}
 use Rattle.arrayvec.specs.ArrayVec.{ArrayVec}
+use Rattle.asking.specs.declared.request.Request.{Request}
 use Rattle.canonical_abi.specs.Call.{Parties, PostRun, Run, World}
 use Rattle.canonical_abi.specs.Guest.{Memory, with_bytes}
 use Rattle.canonical_abi.specs.Halves.{source, world, CallsInHalves, HalvesKeep}
@@ -24,6 +25,10 @@ RunsOnBytes runs old arguments new answer = (memory : Memory) → runs [] (with_
 -- and its post-return this one
 abbrev pub PostsOnBytes : PostRun → List ℕ → List Flat → List ℕ → Option (Unit {0}) → Type 0
 PostsOnBytes posts old answer new done = (memory : Memory) → posts [] (with_bytes memory old) answer [] (with_bytes memory new) done
+
+-- the request that a block was granted for
+abbrev pub request_of : Block → Request
+request_of b = record { align = b.align; size = b.size }
 
 -- the allocator of a memory ran in it: it writes its next free address to the first four bytes, and changes no other
 abbrev pub HasGranted : List ℕ → List ℕ → Type 0

@@ -1,8 +1,8 @@
 //! The second step of each half: a memory's own allocator grants the blocks, and the host tests them.
-ghost use Rattle.std.specs.Prelude.{◌≡◌, IsTrue, length};
+ghost use Rattle.std.specs.Prelude.{◌≡◌, IsTrue, IfSome, length, map, take};
 ghost use Rattle.std.specs.List.{list_all};
 ghost use Rattle.memory.specs.Blocks.{is_apart, are_good, can_lend, rise};
-ghost use Rattle.example_host_halves.specs.Promise.{HasGranted};
+ghost use Rattle.example_host_halves.specs.Promise.{request_of, HasGranted};
 
 use adapter::Request;
 use lending::{Block, can_lend};
@@ -10,7 +10,8 @@ use std::alloc::Global;
 
 /// Grants one block. The allocator runs in the memory, whose first four bytes are its next free address.
 fn allocate(memory: &mut [u8], request: Request) -> Option<Block>
-    ensures { HasGranted memory.old memory.new }
+    ensures asked { IfSome result (λ block. request_of block ≡ request) }
+    ensures kept { HasGranted memory.old memory.new }
 {
     let free = u32::from_le_bytes(*memory.first_chunk::<4>()?);
     let at = free.checked_next_multiple_of(request.align)?;
@@ -28,7 +29,8 @@ fn allocate(memory: &mut [u8], request: Request) -> Option<Block>
 
 /// Grants a block for each request, in their order, until the memory is full.
 pub fn grant(alloc: Global, memory: &mut [u8], requests: &[Request]) -> Vec<Block>
-    ensures { HasGranted memory.old memory.new }
+    ensures asked { map request_of result.items ≡ take (length result.items) requests.now }
+    ensures kept { HasGranted memory.old memory.new }
 {
     let mut blocks = Vec::new(alloc);
     for request in requests {

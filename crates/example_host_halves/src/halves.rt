@@ -37,8 +37,9 @@ pub fn enter(
     ensures same_caller { caller.new ≡ caller.old }
 {
     let mut slots = [NOTHING; MOST];
-    let count = request_arguments(types, func, flats, caller, &mut slots);
-    let granted = grant(alloc, callee, &slots[..count]);
+    // After a fault nothing is granted: the half finds it again.
+    let count = request_arguments(types, func, flats, caller, &mut slots).unwrap_or(0);
+    let granted = grant(alloc, callee, &slots[..count.min(MOST)]);
     let blocks = lendable(alloc, callee.len(), &NOWHERE, granted.as_slice());
     let (resolve, layouts) = (types.resolve(), types.layouts());
     let mut handed = Flats::new();
@@ -74,8 +75,8 @@ pub fn leave(
     ensures same_callee { callee.new ≡ callee.old }
 {
     let mut slots = [NOTHING; MOST];
-    let count = request_answer(types, func, answer, callee, &mut slots);
-    let granted = grant(alloc, caller, &slots[..count]);
+    let count = request_answer(types, func, answer, callee, &mut slots).unwrap_or(0);
+    let granted = grant(alloc, caller, &slots[..count.min(MOST)]);
     let area = return_area(types, func, flats);
     let blocks = lendable(alloc, caller.len(), &area, granted.as_slice());
     let (resolve, layouts) = (types.resolve(), types.layouts());
