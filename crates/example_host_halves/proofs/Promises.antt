@@ -1,5 +1,5 @@
 -- The steps of the host are a call in halves, so they keep its promise.
-use Rattle.std.proofs.Common.{◌≡◌, ◌&&◌, ℕ, ◌<◌, true, List, [], drop, length, nat_lt, Some, None, Result, Ok, Err, refl, sym, subst}
+use Rattle.std.proofs.Common.{◌≡◌, inl, inr, ◌&&◌, ℕ, ◌<◌, true, List, [], drop, length, nat_lt, Some, None, Result, Ok, Err, refl, sym, subst}
 use Rattle.std.specs.List.{list_all}
 use Rattle.std.proofs.lemmas.Bool.{and_from, lt-ltb}
 use Rattle.arrayvec.specs.ArrayVec.{ArrayVec}
@@ -38,7 +38,7 @@ module _ (runs : Run) (posts : PostRun) (law : HalvesKeepPromise (hosting runs p
   promised : (name : ℕ) (entering : List ℕ) (there : List Block) → HasGranted callee entering → (other : ℕ) (between : List ℕ) (back : List Block) → HasGranted caller between
       → LendsArea f flats (lent other between back) → (ended : Result (List Flat) Fault) (n m : ℕ) (new : World)
       → CallsInHalves (hosting runs posts) f flats (world (source caller) (lent name entering there) []) (lent other between back) ended n m new
-      → (result : Result (ArrayVec Flat) HalfError) → IsToldAs ended result → (caller' callee' : List ℕ) → caller' ≡ new.caller.bytes → callee' ≡ new.callee.bytes
+      → (result : Result (ArrayVec Flat) HalfError) → IsToldAs there back ended new result → (caller' callee' : List ℕ) → caller' ≡ new.caller.bytes → callee' ≡ new.callee.bytes
       → MakesCall runs posts f flats caller callee result caller' callee'
   promised name entering there grants other between back grants' lends ended n m new calls result told caller' callee' is is' = record {
     name = name;
@@ -50,8 +50,8 @@ module _ (runs : Run) (posts : PostRun) (law : HalvesKeepPromise (hosting runs p
     back = back;
     caller_granted = grants';
     ended = ended;
-    told = told;
     new = new;
+    told = told;
     caller_is = is;
     callee_is = is';
     nodes_there = n;
@@ -73,7 +73,7 @@ module _ (runs : Run) (posts : PostRun) (law : HalvesKeepPromise (hosting runs p
   pub not-entered : (error : HalfError) (caller' new : List ℕ) → caller' ≡ caller → Enters f flats caller callee (Err error) new → MakesCall runs posts f flats caller callee (Err error) caller' new
   not-entered (half.OtherBlock index) caller' new same (entering, there, grants, (name, (n, (below, (s, fails))))) =
       promised name entering there grants 0 caller [] (refl, refl) (all-live f flats caller) (Err (full_in s)) n 0 (world (lent 0 caller []) (lent name new (drop index there)) [])
-      (ends_at_entry (full_in s) n (lent name new (drop index there)) fails) (Err (half.OtherBlock index)) (s, refl) caller' new same refl
+      (ends_at_entry (full_in s) n (lent name new (drop index there)) fails) (Err (half.OtherBlock index)) (inl (below, (name, refl)), (s, refl)) caller' new same refl
   not-entered (half.Fault fault) caller' new same (entering, there, grants, (name, (n, (rest, fails, none)))) =
       promised name entering there grants 0 caller [] (refl, refl) (all-live f flats caller) (Err fault) n 0 (world (lent 0 caller []) (lent name new rest) [])
       (ends_at_entry fault n (lent name new rest) fails) (Err (half.Fault fault)) refl caller' new same refl
@@ -94,7 +94,7 @@ module _ (runs : Run) (posts : PostRun) (law : HalvesKeepPromise (hosting runs p
       (ends_at_return n m answer (full_in s) (lent other new (drop index back)) (lent name left rest) []
       (record { handed = handed.items; entered = lent name entered rest; enters = enters; run = run (lent name entered rest) })
       (return-fails LentAllocates f flats left answer (lent other between back) (full_in s) (lent other new (drop index back)) m enters.2.kinds fails))
-      (Err (half.OtherBlock index)) (s, refl) new callee' refl same
+      (Err (half.OtherBlock index)) (inr (below, (other, refl)), (s, refl)) new callee' refl same
   not-returned handed entered left answer (half.Fault fault) new callee' same (entering, there, grants, (name, (n, rest, enters))) run (between, back, grants', area, (other, (m, (remain, fails, none)))) =
       promised name entering there grants other between back grants' (area other) (Err fault) n m (world (lent other new remain) (lent name left rest) [])
       (ends_at_return n m answer fault (lent other new remain) (lent name left rest) []

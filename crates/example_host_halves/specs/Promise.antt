@@ -1,5 +1,5 @@
 -- A call in halves over two arrays of bytes, by a host that runs the core function itself: what is known of each step, and what the call promises.
-use Rattle.std.specs.Prelude.{◌≡◌, ℕ, List, [], drop, length, Option, Result, Ok, Err, MatchResult}
+use Rattle.std.specs.Prelude.{◌≡◌, ◌⊎◌, ◌<◌, ℕ, List, [], drop, length, Option, Result, Ok, Err, MatchResult}
 use Rattle.arrayvec.specs.ArrayVec.{ArrayVec}
 use Rattle.asking.specs.declared.request.Request.{Request}
 use Rattle.canonical_abi.specs.Call.{Parties, PostRun, Run, World}
@@ -54,11 +54,17 @@ Leaves f flats callee answer caller result new =
 abbrev pub hosting : Run → PostRun → Parties
 hosting runs posts = record { caller_allocates = LentAllocates; callee_allocates = LentAllocates; runs = runs; posts = posts }
 
--- a call that ended so is told the host so: a block of another size or alignment than was asked for is a request that was refused
-abbrev pub IsToldAs : Result (List Flat) Fault → Result (ArrayVec Flat) HalfError → Type 0
-IsToldAs ended (Ok given) = ended ≡ Ok given.items
-IsToldAs ended (Err (half.Fault fault)) = ended ≡ Err fault
-IsToldAs ended (Err (half.OtherBlock index)) = (step : Step) × (ended ≡ Err (full_in step))
+-- the block of this index is the first that is left in a memory
+abbrev pub IsFirstLeft : List Block → ℕ → Memory → Type 0
+IsFirstLeft blocks index memory = (index < length blocks) × ((name : ℕ) × (memory ≡ lent name memory.bytes (drop index blocks)))
+
+-- a call that ended so, between memories with these blocks, is told the host so: a block of another size or alignment than was asked for is a
+-- request that was refused
+abbrev pub IsToldAs : List Block → List Block → Result (List Flat) Fault → World → Result (ArrayVec Flat) HalfError → Type 0
+IsToldAs there back ended new (Ok given) = ended ≡ Ok given.items
+IsToldAs there back ended new (Err (half.Fault fault)) = ended ≡ Err fault
+IsToldAs there back ended new (Err (half.OtherBlock index)) =
+    (IsFirstLeft there index new.callee ⊎ IsFirstLeft back index new.caller) × ((step : Step) × (ended ≡ Err (full_in step)))
 
 -- The steps of the host were a call in halves (`CallsInHalves`), from the callee as its allocator left it for the first half, and from the caller as its
 -- own left it for the second, each lent with the blocks that were granted. So the call keeps the promise (`HalvesKeep`).
@@ -73,8 +79,8 @@ pub record MakesCall (runs : Run) (posts : PostRun) (f : FunctionType) (flats : 
   pub caller_granted : HasGranted caller between
   -- how the call ended, as the host is told, and both memories then
   pub ended : Result (List Flat) Fault
-  pub told : IsToldAs ended result
   pub new : World
+  pub told : IsToldAs there back ended new result
   pub caller_is : caller' ≡ new.caller.bytes
   pub callee_is : callee' ≡ new.callee.bytes
   -- by ways of so many nodes
