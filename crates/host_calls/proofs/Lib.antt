@@ -1,3 +1,3 @@
-mod Areas
+pub mod Areas
 mod Fields
 mod Halves

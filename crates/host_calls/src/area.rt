@@ -39,8 +39,9 @@ fn area_len(types: &Types, func: FunctionId) -> u32
     }
 }
 
-/// The return area of a call, as a block that others may meet.
-fn return_area(types: &Types, func: FunctionId, flats: &[Flat]) -> Block
+/// The return area of a call, as a block that others may meet: the address behind the flat values of the arguments, with the bytes of the
+/// result, of which there are none where it goes flat.
+pub fn return_area(types: &Types, func: FunctionId, flats: &[Flat]) -> Block
     requires within { ∥ AreWithin types.now ∥₁ }
     requires function { IsFunction types.now func }
     ensures { result ≡ area_block (function_type types.now func) flats.now }

@@ -11,6 +11,7 @@ mod parts;
 mod signature;
 mod status;
 
+pub use area::return_area;
 pub use calling::{begin, enter, enter_requests, function_of, leave, leave_requests};
 pub use error::CallError;
 pub use parts::{Part, parameter_parts, result_part};

@@ -1,0 +1,88 @@
+//! The two halves of a call.
+ghost use Rattle.std.specs.Prelude.{◌≡◌, ◌<◌, length};
+ghost use Rattle.layout.specs.Layout.{AreWithin};
+ghost use Rattle.tables.specs.Closed.{IsFunction, function_type};
+ghost use Rattle.example_host_halves.specs.Promise.{Enters, Leaves};
+
+use crate::grants::{grant, lendable};
+use crate::requests::{request_answer, request_arguments};
+use adapter::Request;
+use canonical_abi::Flat;
+use host_calls::return_area;
+use lending::{Flats, HalfError, NOWHERE, enter_lent, leave_lent};
+use lift_lower::Types;
+use std::alloc::Global;
+use tables::FunctionId;
+
+/// The most blocks that a half asks for here.
+const MOST: usize = 8;
+
+const NOTHING: Request = Request { align: 1, size: 0 };
+
+/// The first half: the callee's allocator grants what the arguments need, and they are put there. Answers the flat values that the core
+/// function is to be run on.
+pub fn enter(
+    alloc: Global,
+    types: &Types,
+    func: FunctionId,
+    flats: &[Flat],
+    caller: &mut [u8],
+    callee: &mut [u8],
+) -> Result<Flats, HalfError>
+    requires within { ∥ AreWithin types.now ∥₁ }
+    requires function { IsFunction types.now func }
+    requires short { length caller.old < 4294967296 }
+    requires limited { length callee.old < 4294967296 }
+    ensures entered { Enters (function_type types.now func) flats.now caller.old callee.old result callee.new }
+    ensures same_caller { caller.new ≡ caller.old }
+{
+    let mut slots = [NOTHING; MOST];
+    // After a fault nothing is granted: the half finds it again.
+    let count = request_arguments(types, func, flats, caller, &mut slots).unwrap_or(0);
+    let granted = grant(alloc, callee, &slots[..count.min(MOST)]);
+    let blocks = lendable(alloc, callee.len(), &NOWHERE, granted.as_slice());
+    let (resolve, layouts) = (types.resolve(), types.layouts());
+    let mut handed = Flats::new();
+    enter_lent(
+        resolve,
+        layouts,
+        func,
+        flats,
+        caller,
+        callee,
+        blocks,
+        &mut handed,
+    )?;
+    Ok(handed)
+}
+
+/// The second half: the caller's allocator grants what the core function's answer needs, and the answer is put there, and into the return
+/// area. Answers the flat values that the caller is given.
+pub fn leave(
+    alloc: Global,
+    types: &Types,
+    func: FunctionId,
+    flats: &[Flat],
+    answer: &[Flat],
+    callee: &mut [u8],
+    caller: &mut [u8],
+) -> Result<Flats, HalfError>
+    requires within { ∥ AreWithin types.now ∥₁ }
+    requires function { IsFunction types.now func }
+    requires short { length callee.old < 4294967296 }
+    requires limited { length caller.old < 4294967296 }
+    ensures left { Leaves (function_type types.now func) flats.now callee.old answer.now caller.old result caller.new }
+    ensures same_callee { callee.new ≡ callee.old }
+{
+    let mut slots = [NOTHING; MOST];
+    let count = request_answer(types, func, answer, callee, &mut slots).unwrap_or(0);
+    let granted = grant(alloc, caller, &slots[..count.min(MOST)]);
+    let area = return_area(types, func, flats);
+    let blocks = lendable(alloc, caller.len(), &area, granted.as_slice());
+    let (resolve, layouts) = (types.resolve(), types.layouts());
+    let mut given = Flats::new();
+    leave_lent(
+        resolve, layouts, func, flats, answer, callee, caller, blocks, &mut given,
+    )?;
+    Ok(given)
+}
