@@ -11,6 +11,7 @@
 # | cmake          | the same, built with CMake                        | CMake, make                                         |
 # | rust           | examples/rust, whose build script asks pkg-config | cargo                                               |
 # | faults         | wrong calls in C, under the sanitizers            | the compiler's sanitizers                           |
+# | lists          | what packages have, beside examples/c/shop.h      | the compiler's sanitizers                           |
 # | vectors        | the stored calls of crates/vectors, in C          | python3                                             |
 # | bindings       | examples/c/shop.h, made anew                      | python3                                             |
 # | engine         | two core modules in Node's engine                 | clang, lld, Node with its headers                   |
@@ -134,6 +135,10 @@ fi
 if has faults "$CC"; then
     step build-faults checked_c_program "$here/c/faults.c" "$build/faults" -Wl,--wrap=malloc -Wl,--wrap=realloc
     same faults "$here/c/faults.expected" "$build/faults"
+fi
+if has lists "$CC"; then
+    step build-lists checked_c_program "$here/c/lists.c" "$build/lists"
+    same lists "$here/c/lists.expected" "$build/lists"
 fi
 if has vectors python3; then
     step build-vectors c_program "$here/c/vectors.c" "$build/vectors"
