@@ -13,6 +13,7 @@
 # | faults         | wrong calls in C, under the sanitizers            | the compiler's sanitizers                           |
 # | threads        | two threads in C, under the thread sanitizer      | the compiler's thread sanitizer                     |
 # | helgrind       | the same under helgrind                           | valgrind                                            |
+# | lists          | what packages have, beside examples/c/shop.h      | the compiler's sanitizers                           |
 # | vectors        | the stored calls of crates/vectors, in C          | python3                                             |
 # | bindings       | examples/c/shop.h, made anew                      | python3                                             |
 # | engine         | core modules in Node's engine, their traps        | clang, lld, Node with its headers                   |
@@ -156,6 +157,10 @@ fi
 if has helgrind valgrind; then
     step build-helgrind c_program "$here/c/threads.c" "$build/threads-plain" -pthread -gdwarf-4
     same helgrind "$here/c/threads.expected" valgrind --quiet --tool=helgrind "$build/threads-plain"
+fi
+if has lists "$CC"; then
+    step build-lists checked_c_program "$here/c/lists.c" "$build/lists"
+    same lists "$here/c/lists.expected" "$build/lists"
 fi
 if has vectors python3; then
     step build-vectors c_program "$here/c/vectors.c" "$build/vectors"

@@ -70,6 +70,37 @@ extern "C" {
 #define WITCALL_BAD_BLOCK 72   /* a block is misaligned, outside, or meets another one or the return area; nothing was written */
 #define WITCALL_OTHER_BLOCK 73 /* the block of index count has another size or alignment than was asked for */
 #define WITCALL_BAD_LENGTHS 74 /* the lengths of a set's inputs are not together that of their bytes, or there is no input */
+#define WITCALL_NOT_THERE 75   /* no row, no member, no interface or no world has this number */
+
+/* The kind of a type. Those from WITCALL_LIST on are kinds of rows. */
+#define WITCALL_NO_TYPE 0 /* a case without payload, a label of flags, a function without result */
+#define WITCALL_BOOL 1
+#define WITCALL_S8 2
+#define WITCALL_U8 3
+#define WITCALL_S16 4
+#define WITCALL_U16 5
+#define WITCALL_S32 6
+#define WITCALL_U32 7
+#define WITCALL_S64 8
+#define WITCALL_U64 9
+#define WITCALL_CHAR 10
+#define WITCALL_STRING 11
+#define WITCALL_LIST 12
+#define WITCALL_OPTION 13
+#define WITCALL_RESULT 14
+#define WITCALL_TUPLE 15
+#define WITCALL_RECORD 16
+#define WITCALL_VARIANT 17
+#define WITCALL_ENUM 18
+#define WITCALL_FLAGS 19
+#define WITCALL_ALIAS 20 /* type a = b; */
+#define WITCALL_USE 21   /* a name that another interface declares */
+#define WITCALL_FUNCTION 22
+
+/* Where a row has its name. */
+#define WITCALL_NO_OWNER 0 /* a type without a name, which stands inside another one or in a function */
+#define WITCALL_INTERFACE 1
+#define WITCALL_WORLD 2
 
 typedef struct {
     uint32_t code;
@@ -121,6 +152,33 @@ typedef struct {
     uint32_t offset;
 } witcall_part;
 
+/* A type: its kind, the number of its row if it has one, and its size and alignment in a memory, in bytes. All are 0 of WITCALL_NO_TYPE. */
+typedef struct {
+    uint32_t kind;
+    uint32_t row;
+    uint32_t size;
+    uint32_t align;
+} witcall_type_info;
+
+/* A row of a package's table, which has one for each type and each function. type is the row itself: size and align of a function are those of
+ * the record of its parameters. target is the element of a list, the type that an alias or a used name stands for, or the result of a function.
+ * owner is the number of the interface or of the world, if owner_kind says that there is one. members is the number of fields, of a tuple's
+ * elements, of cases, of labels or of parameters. */
+typedef struct {
+    witcall_type_info type;
+    witcall_type_info target;
+    uint32_t owner_kind;
+    uint32_t owner;
+    uint32_t members;
+} witcall_row_info;
+
+/* A member of a row: a field, an element of a tuple, a case, a label or a parameter. offset is its place in the row, in bytes; of a case it is
+ * the place of the payload, which is one for all cases. The number of a case is its index, and label k is bit k. */
+typedef struct {
+    witcall_type_info type;
+    uint32_t offset;
+} witcall_member_info;
+
 /* The number of the library's binary interface: WITCALL_ABI, if it is that of this header. */
 uint32_t witcall_abi(void);
 
@@ -151,6 +209,25 @@ witcall_status witcall_status_line(witcall_status status, uint8_t *line, size_t 
 /* Finds a function by the full name of its interface (a:b/c, or a:b/c@1.0.0) and its own; count is its number. */
 witcall_status witcall_find(witcall_package *package, const uint8_t *interface, size_t interface_len,
                             const uint8_t *function, size_t function_len);
+
+/* What a package has: the rows of its table, from 0, and the members of each row, from 0. If there is none of this number, each of these is 75,
+ * and what it would write is as it was. The number of a function is that of its row. Of a set the table has all packages. */
+witcall_status witcall_row(witcall_package *package, uint32_t number, witcall_row_info *row);
+witcall_status witcall_member(witcall_package *package, uint32_t row, uint32_t index, witcall_member_info *member);
+
+/* The name of a row, and the label of a member: count bytes of UTF-8, with no end. A row with no owner and an element of a tuple have 0 bytes. The
+ * cases of an option are called none and some, those of a result ok and error. If there is no room, this is 71, and count is the length. */
+witcall_status witcall_row_name(witcall_package *package, uint32_t row, uint8_t *name, size_t name_len);
+witcall_status witcall_member_name(witcall_package *package, uint32_t row, uint32_t index, uint8_t *name, size_t name_len);
+
+/* The full name of an interface (WITCALL_INTERFACE) or of a world (WITCALL_WORLD), as a:b/c or a:b/c@1.0.0, in the same way. Both have numbers
+ * from 0. */
+witcall_status witcall_owner_name(witcall_package *package, uint32_t owner_kind, uint32_t owner, uint8_t *name, size_t name_len);
+
+/* The package as a binary, and as a text: count bytes. If there is no room, this is 71, and count is the length. Of a set it is the last package,
+ * which opens again behind the others. If it would have more than 1,048,576 bytes, this is 17 of a binary, and 36 of a text. */
+witcall_status witcall_to_binary(witcall_package *package, uint8_t *bytes, size_t bytes_len);
+witcall_status witcall_to_text(witcall_package *package, uint8_t *text, size_t text_len);
 
 /* How the parameters and the result of a function lie in memory; count parts. */
 witcall_status witcall_parameters(witcall_package *package, uint32_t func, witcall_part *parts, size_t parts_len);
@@ -223,6 +300,9 @@ WITCALL_HAS_SIZE(witcall_block, 12);
 WITCALL_HAS_SIZE(witcall_value, 16);
 WITCALL_HAS_SIZE(witcall_call, 280);
 WITCALL_HAS_SIZE(witcall_part, 12);
+WITCALL_HAS_SIZE(witcall_type_info, 16);
+WITCALL_HAS_SIZE(witcall_row_info, 44);
+WITCALL_HAS_SIZE(witcall_member_info, 20);
 #undef WITCALL_HAS_SIZE
 
 #endif

@@ -381,6 +381,8 @@ static void each_call(const char *name, witcall_package *handle) {
     const wanted not_open = refused(WITCALL_NOT_OPEN);
     witcall_value *values = array(ROOM, sizeof *values);
     witcall_call *kept = array(1, sizeof *kept);
+    witcall_row_info row;
+    witcall_member_info member;
     expect(name, witcall_find(handle, BYTES("a:b/c"), BYTES("f")), not_open);
     expect("its requests", witcall_enter_requests(handle, 0, NULL, 0, NULL, 0, NULL, 0), not_open);
     expect("its enter", witcall_enter(handle, 0, NULL, 0, NULL, 0, NULL, 0, NULL, 0, values, ROOM), not_open);
@@ -397,6 +399,13 @@ static void each_call(const char *name, witcall_package *handle) {
     expect("its enter of a call", witcall_call_enter(handle, kept, NULL, 0, NULL, 0, NULL, 0, values, ROOM), not_open);
     expect("its requests back of a call", witcall_call_leave_requests(handle, kept, NULL, 0, NULL, 0, NULL, 0), not_open);
     expect("its leave of a call", witcall_call_leave(handle, kept, NULL, 0, NULL, 0, NULL, 0, NULL, 0, values, ROOM), not_open);
+    expect("its rows", witcall_row(handle, 0, &row), not_open);
+    expect("its members", witcall_member(handle, 0, 0, &member), not_open);
+    expect("its names", witcall_row_name(handle, 0, NULL, 0), not_open);
+    expect("its labels", witcall_member_name(handle, 0, 0, NULL, 0), not_open);
+    expect("its interfaces", witcall_owner_name(handle, WITCALL_INTERFACE, 0, NULL, 0), not_open);
+    expect("its binary", witcall_to_binary(handle, NULL, 0), not_open);
+    expect("its text", witcall_to_text(handle, NULL, 0), not_open);
     free(values), free(kept);
 }
 
@@ -475,6 +484,83 @@ static void sets(void) {
     expect("no bytes, no lengths", witcall_open_set(NULL, 0, NULL, 0, &set), refused(WITCALL_BAD_LENGTHS));
     expect("an empty input", witcall_open_set(NULL, 0, (size_t[]){0}, 1, &set), refused(32));
     witcall_close(&set);
+}
+
+/* ---- what a package has ---- */
+
+/* Nothing has these numbers, and nothing is written. */
+static void not_there(void) {
+    const wanted w = refused(WITCALL_NOT_THERE);
+    witcall_row_info row, row_before;
+    witcall_member_info member, member_before;
+    memset(&row, 0xff, sizeof row), memset(&row_before, 0xff, sizeof row_before);
+    memset(&member, 0xff, sizeof member), memset(&member_before, 0xff, sizeof member_before);
+    expect("a row that is not there", witcall_row(&package, 4711, &row), w);
+    expect("the last number of a row", witcall_row(&package, UINT32_MAX, &row), w);
+    expect("the name of no row", witcall_row_name(&package, 4711, NULL, 0), w);
+    expect("a member that is not there", witcall_member(&package, function, 2, &member), w);
+    expect("the last index of a member", witcall_member(&package, function, UINT32_MAX, &member), w);
+    expect("a member of no row", witcall_member(&package, 4711, 0, &member), w);
+    expect("the label of no member", witcall_member_name(&package, function, 2, NULL, 0), w);
+    expect("the label of no row's member", witcall_member_name(&package, 4711, 0, NULL, 0), w);
+    expect("an interface that has no number", witcall_owner_name(&package, WITCALL_INTERFACE, 1, NULL, 0), w);
+    expect("a world that has no number", witcall_owner_name(&package, WITCALL_WORLD, 0, NULL, 0), w);
+    expect("no owner", witcall_owner_name(&package, WITCALL_NO_OWNER, 0, NULL, 0), w);
+    expect("an owner of another kind", witcall_owner_name(&package, 3, 0, NULL, 0), w);
+    holds("the row is as it was", memcmp(&row, &row_before, sizeof row) == 0);
+    holds("the member is as it was", memcmp(&member, &member_before, sizeof member) == 0);
+}
+
+static void names_told(void) {
+    uint8_t *name = array(5, 1), *one = array(1, 1);
+    expect("no room for a name", witcall_row_name(&package, number, name, 5), no_room(6));
+    expect("no room for a full name", witcall_owner_name(&package, WITCALL_INTERFACE, 0, name, 4), no_room(5));
+    expect("no room for a label", witcall_member_name(&package, function, 0, NULL, 0), no_room(1));
+    holds("no name is written", name[0] == 0);
+    expect("room for a full name", witcall_owner_name(&package, WITCALL_INTERFACE, 0, name, 5), done(5));
+    holds("the full name", memcmp(name, "a:b/c", 5) == 0);
+    expect("room for a label", witcall_member_name(&package, function, 1, one, 1), done(1));
+    holds("the label", one[0] == 't');
+    free(name), free(one);
+}
+
+/* What is written of a package opens as one that has the same functions. */
+static void written(const char *name, witcall_status (*write)(witcall_package *, uint8_t *, size_t)) {
+    witcall_status asked = write(&package, NULL, 0);
+    expect(name, asked, no_room(asked.count));
+    uint8_t *bytes = array(asked.count, 1);
+    expect("room for a part of it", write(&package, bytes, asked.count - 1), no_room(asked.count));
+    holds("no part of it is written", bytes[0] == 0 && bytes[asked.count - 2] == 0);
+    expect("room for it", write(&package, bytes, asked.count), done(asked.count));
+    witcall_package again = WITCALL_NONE;
+    expect("it opens", witcall_open(bytes, asked.count, &again), DONE_WITH_NONE);
+    holds("its function", witcall_find(&again, BYTES("a:b/c"), BYTES("number")).count == number);
+    witcall_close(&again), free(bytes);
+}
+
+/* A package that opens, and is too long to be written. count items, each of these parts with its number in between. */
+static void too_long(
+    const char *name, const char *front, const char *item, const char *end, unsigned count,
+    witcall_status (*write)(witcall_package *, uint8_t *, size_t), uint32_t wanted_number) {
+    const size_t room = strlen(front) + count * (strlen(item) + 8) + strlen(end) + 1;
+    char *text = array(room, 1);
+    size_t length = (size_t)snprintf(text, room, "%s", front);
+    for (unsigned i = 0; i < count; i++)
+        length += (size_t)snprintf(text + length, room - length, "a%05u%s", i, item);
+    length += (size_t)snprintf(text + length, room - length, "%s", end);
+    witcall_package big = WITCALL_NONE;
+    expect(name, witcall_open((const uint8_t *)text, length, &big), DONE_WITH_NONE);
+    expect("it is too long", write(&big, NULL, 0), refused(wanted_number));
+    witcall_close(&big), free(text);
+}
+
+static void lists(void) {
+    not_there();
+    names_told();
+    written("a binary", witcall_to_binary);
+    written("a text", witcall_to_text);
+    too_long("60,000 functions", "package a:b; interface c {", ":func();", "}", 60000, witcall_to_binary, 17);
+    too_long("90,000 labels", "package a:b; interface c { enum e {", ",", "} }", 90000, witcall_to_text, 36);
 }
 
 /* ---- calls that keep their values ---- */
@@ -640,6 +726,21 @@ static void refused_in_calls(void) {
     refused_in(leaves);
 }
 
+/* The first allocation of these is refused, and nothing is written. */
+static void refused_names(void) {
+    const wanted no_memory = {WITCALL_NO_MEMORY, 66, 0, 0};
+    uint8_t *bytes = array(LENGTH, 1);
+    refused_block = 1;
+    expect("a full name out of memory", witcall_owner_name(&package, WITCALL_INTERFACE, 0, bytes, LENGTH), no_memory);
+    refused_block = 1;
+    expect("a binary out of memory", witcall_to_binary(&package, bytes, LENGTH), no_memory);
+    refused_block = 1;
+    expect("a text out of memory", witcall_to_text(&package, bytes, LENGTH), no_memory);
+    refused_block = 0;
+    holds("nothing is written without memory", is_zero(bytes));
+    free(bytes);
+}
+
 static void names_and_numbers(void) {
     expect("an interface that is not there", witcall_find(&package, BYTES("a:b/d"), BYTES("f")), refused(63));
     expect("a function that is not there", witcall_find(&package, BYTES("a:b/c"), BYTES("g")), refused(63));
@@ -675,11 +776,13 @@ int main(void) {
     closed_handles();
     a_package_refused();
     sets();
+    lists();
     a_call_that_is_kept();
     a_body_that_stops();
     versions();
     refused_allocations();
     refused_in_calls();
+    refused_names();
     names_and_numbers();
     witcall_close(&package);
     return failed;

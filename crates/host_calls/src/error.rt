@@ -24,6 +24,15 @@ pub enum CallError {
     /// The lengths of a set's inputs are not together that of their bytes, or there is no input.
     #[error("error 74 bad lengths")]
     BadLengths,
+    /// Nothing has this number or this index.
+    #[error("error 75 not there")]
+    NotThere,
+    /// The package's binary would be longer than a binary may be.
+    #[error("error 17 limit")]
+    LongBinary,
+    /// The package's text would be longer than a text may be.
+    #[error("error 36 limit")]
+    LongText,
     #[error("{0}")]
     Fault(Fault),
 }

@@ -16,4 +16,4 @@ pub use calling::{begin, enter, enter_requests, function_of, leave, leave_reques
 pub use error::CallError;
 pub use parts::{Part, parameter_parts, result_part};
 pub use signature::{lifted_params, lifted_result, lowered_params, lowered_result};
-pub use status::{Status, out_of_memory, refused};
+pub use status::{Status, out_of_memory, refused, told};

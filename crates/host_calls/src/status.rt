@@ -51,7 +51,7 @@ fn step_number(step: Step) -> u32
 }
 
 /// A count as C is told it: the greatest number of 32 bits where it is more.
-fn told(count: usize) -> u32
+pub fn told(count: usize) -> u32
     ensures { result ≡ told count }
 {
     u32::try_from(count).unwrap_or(u32::MAX)
@@ -99,6 +99,9 @@ impl Status {
             Err(CallError::BadBlock) => refused(72, 0),
             Err(CallError::OtherBlock(index)) => refused(73, told(index)),
             Err(CallError::BadLengths) => refused(74, 0),
+            Err(CallError::NotThere) => refused(75, 0),
+            Err(CallError::LongBinary) => refused(17, 0),
+            Err(CallError::LongText) => refused(36, 0),
             Err(CallError::NoMemory | CallError::Fault(Fault::NoMemory)) => out_of_memory(66),
             Err(CallError::Fault(Fault::Trap(trap))) => Status {
                 code: 2,
@@ -153,6 +156,7 @@ fn numbered_error(number: u32, count: u32) -> Option<CallError> {
         72 => Some(CallError::BadBlock),
         73 => Some(CallError::OtherBlock(count as usize)),
         74 => Some(CallError::BadLengths),
+        75 => Some(CallError::NotThere),
         _ => None,
     }
 }

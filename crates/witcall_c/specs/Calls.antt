@@ -1,5 +1,6 @@
 -- What is told of what a handle stands for: a package, why the bytes are none, or a call.
-use Rattle.std.specs.Prelude.{◌++◌, length, drop, ◌≡◌, ◌⊎◌, ◌<◌, ◌≤◌, ℕ, List, Result, Ok, Err, Option, Some, None, MatchResult, if◌then◌else◌}
+use Rattle.std.specs.Prelude.{length, ◌≡◌, ◌⊎◌, ◌<◌, ◌≤◌, ℕ, List, Result, Ok, Err, Option, Some, None, MatchResult, if◌then◌else◌}
+use Rattle.std.specs.Option.{option_map}
 use Rattle.std.specs.Str.{IsUtf8}
 use Rattle.canonical_abi.specs.Types.{FunctionType}
 use Rattle.layout.specs.Layout.{AreWithin}
@@ -47,6 +48,10 @@ abbrev pub package_of : Option Held → Option Package
 package_of None = None
 package_of (Some held) = package_in held.opened
 
+-- its table
+abbrev pub table_of : Option Held → Option Resolve
+table_of held = option_map (λ p. p.resolve) (package_of held)
+
 -- the package has a function of this number
 abbrev pub HasFunction : Option Package → ℕ → Resolve → FunctionId → Type 0
 HasFunction None number r f = ⊥
@@ -74,12 +79,6 @@ FindsFunction (Some p) interface name done = MatchResult done
 -- a line in an array of this length, or how long it is
 abbrev pub LineDone : ℕ → Result ℕ CallError → Type 0
 LineDone room done = MatchResult done (λ count. count ≤ room) (λ e. (count : ℕ) × (e ≡ error.NoRoom count) × (room < count))
-
--- these bytes in front of an array, or how many they are
-abbrev pub BytesDone : List ℕ → List ℕ → List ℕ → Result ℕ CallError → Type 0
-BytesDone bytes old new done = MatchResult done
-    (λ count. (count ≡ length bytes) × (length bytes ≤ length old) × (new ≡ bytes ++ drop (length bytes) old))
-    (λ e. (e ≡ error.NoRoom (length bytes)) × (length old < length bytes) × (new ≡ old))
 
 -- the line of a refusal, and none of a package; 70 where there is neither
 abbrev pub LineIn : Opening → List ℕ → List ℕ → Result ℕ CallError → Type 0

@@ -4,3 +4,4 @@ pub mod Handle
 pub mod Inputs
 pub mod Refusals
 pub mod Version
+pub mod Written

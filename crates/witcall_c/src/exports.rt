@@ -7,19 +7,26 @@ ghost use Rattle.host_calls.specs.Parts.{PartsDone};
 ghost use Rattle.host_calls.specs.Signatures.{KindsDone};
 ghost use Rattle.host_calls.specs.Status.{status_of};
 ghost use Rattle.host_calls.specs.declared.error.CallError.{CallError};
+ghost use Rattle.host_lists.specs.Members.{member_at};
+ghost use Rattle.host_lists.specs.Names.{member_name_at, row_name_at};
+ghost use Rattle.host_lists.specs.Owners.{owner_name_at};
+ghost use Rattle.host_lists.specs.Rows.{row_at};
+ghost use Rattle.host_lists.specs.Told.{BytesDone, TellsName, TellsNewName, TellsOfTable};
 ghost use Rattle.opening.specs.Sets.{all_bytes};
 ghost use Rattle.witcall_c.specs.CallObject.{Begins, flats_of};
-ghost use Rattle.witcall_c.specs.Calls.{BytesDone, FindsFunction, LineDone, LineOf, Opens, OpensPieces, CallsOf, TellsOf, package_of, stands_for};
+ghost use Rattle.witcall_c.specs.Calls.{FindsFunction, LineDone, LineOf, Opens, OpensPieces, CallsOf, TellsOf, package_of, stands_for, table_of};
 ghost use Rattle.witcall_c.specs.Version.{abi, version};
+ghost use Rattle.witcall_c.specs.Written.{WritesBinary, WritesText};
 
 use crate::call::Call;
-use crate::calls;
 use crate::handle::Handle;
-use crate::held::{Held, find, line_of};
-use crate::line::{tell_bytes, tell_line};
+use crate::held::{Held, find, line_of, types};
+use crate::line::tell_line;
 use crate::set::pieces;
+use crate::{calls, writing};
 use adapter::Request;
 use host_calls::{CallError, Part, Status};
+use host_lists::{MemberInfo, RowInfo, tell_bytes};
 use lending::Value;
 use memory::Block;
 use std::alloc::Global;
@@ -41,7 +48,7 @@ pub extern "C" fn witcall_abi() -> u32
 /// The version's bytes, with no end.
 #[unsafe(no_mangle)]
 pub extern "C" fn witcall_version(bytes: &mut [u8]) -> Status
-    ensures { (done : Result ℕ CallError) × (result ≡ status_of done) × BytesDone version bytes.old bytes.new done }
+    ensures { (done : Result ℕ CallError) × (result ≡ status_of done) × BytesDone version bytes.old done bytes.new }
 {
     Status::of(tell_bytes(VERSION, bytes))
 }
@@ -431,6 +438,116 @@ pub extern "C" fn witcall_lowered_result(
 {
     let held = handle.take(alloc);
     let done = calls::lowered_result(&held, func, kinds);
+    handle.give(held);
+    Status::of(done)
+}
+
+/// The row of this number of the package's table.
+#[unsafe(no_mangle)]
+pub extern "C" fn witcall_row(
+    alloc: Global,
+    handle: &mut Handle,
+    number: u32,
+    row: &mut RowInfo,
+) -> Status
+    ensures { TellsOf (stands_for handle.old) (stands_for handle.new) result
+        (λ held done. TellsOfTable (table_of held) (λ r. row_at r number) row.old done row.new) }
+{
+    let held = handle.take(alloc);
+    let done = host_lists::row(&types(&held), number, row);
+    handle.give(held);
+    Status::of(done)
+}
+
+/// The name of a row, 0 bytes of one without a name.
+#[unsafe(no_mangle)]
+pub extern "C" fn witcall_row_name(
+    alloc: Global,
+    handle: &mut Handle,
+    row: u32,
+    name: &mut [u8],
+) -> Status
+    ensures { TellsOf (stands_for handle.old) (stands_for handle.new) result
+        (λ held done. TellsName (table_of held) (λ r. row_name_at r row) name.old done name.new) }
+{
+    let held = handle.take(alloc);
+    let done = host_lists::row_name(&types(&held), row, name);
+    handle.give(held);
+    Status::of(done)
+}
+
+/// The member of this index of a row.
+#[unsafe(no_mangle)]
+pub extern "C" fn witcall_member(
+    alloc: Global,
+    handle: &mut Handle,
+    row: u32,
+    index: u32,
+    member: &mut MemberInfo,
+) -> Status
+    ensures { TellsOf (stands_for handle.old) (stands_for handle.new) result
+        (λ held done. TellsOfTable (table_of held) (λ r. member_at r row index) member.old done member.new) }
+{
+    let held = handle.take(alloc);
+    let done = host_lists::member(&types(&held), row, index, member);
+    handle.give(held);
+    Status::of(done)
+}
+
+/// The label of a member, 0 bytes of an element of a tuple.
+#[unsafe(no_mangle)]
+pub extern "C" fn witcall_member_name(
+    alloc: Global,
+    handle: &mut Handle,
+    row: u32,
+    index: u32,
+    name: &mut [u8],
+) -> Status
+    ensures { TellsOf (stands_for handle.old) (stands_for handle.new) result
+        (λ held done. TellsName (table_of held) (λ r. member_name_at r row index) name.old done name.new) }
+{
+    let held = handle.take(alloc);
+    let done = host_lists::member_name(&types(&held), row, index, name);
+    handle.give(held);
+    Status::of(done)
+}
+
+/// The full name of the interface or of the world of this number.
+#[unsafe(no_mangle)]
+pub extern "C" fn witcall_owner_name(
+    alloc: Global,
+    handle: &mut Handle,
+    kind: u32,
+    number: u32,
+    name: &mut [u8],
+) -> Status
+    ensures { TellsOf (stands_for handle.old) (stands_for handle.new) result
+        (λ held done. TellsNewName (table_of held) (λ r. owner_name_at r kind number) name.old done name.new) }
+{
+    let held = handle.take(alloc);
+    let done = host_lists::owner_name(&types(&held), alloc, kind, number, name);
+    handle.give(held);
+    Status::of(done)
+}
+
+/// The package as a binary.
+#[unsafe(no_mangle)]
+pub extern "C" fn witcall_to_binary(alloc: Global, handle: &mut Handle, bytes: &mut [u8]) -> Status
+    ensures { TellsOf (stands_for handle.old) (stands_for handle.new) result (λ held done. WritesBinary (package_of held) bytes.old done bytes.new) }
+{
+    let held = handle.take(alloc);
+    let done = writing::to_binary(&held, alloc, bytes);
+    handle.give(held);
+    Status::of(done)
+}
+
+/// The package as a text.
+#[unsafe(no_mangle)]
+pub extern "C" fn witcall_to_text(alloc: Global, handle: &mut Handle, text: &mut [u8]) -> Status
+    ensures { TellsOf (stands_for handle.old) (stands_for handle.new) result (λ held done. WritesText (package_of held) text.old done text.new) }
+{
+    let held = handle.take(alloc);
+    let done = writing::to_text(&held, alloc, text);
     handle.give(held);
     Status::of(done)
 }

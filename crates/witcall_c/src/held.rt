@@ -2,7 +2,7 @@
 ghost use Rattle.std.specs.Prelude.{◌≡◌, ◌<◌, IfOk, IfErr, length};
 ghost use Rattle.std.specs.Option.{option_map};
 ghost use Rattle.opening.specs.Sets.{all_bytes};
-ghost use Rattle.witcall_c.specs.Calls.{IsOpening, opening_status, FindsFunction, HasFunction, HasNoFunction, LineOf, package_of};
+ghost use Rattle.witcall_c.specs.Calls.{IsOpening, opening_status, FindsFunction, HasFunction, HasNoFunction, LineOf, package_of, table_of};
 
 use crate::line::tell_line;
 use crate::refusal::{is_out_of_memory, open_number};
@@ -85,6 +85,16 @@ pub fn package(held: &Target) -> Option<&Package>
             Ok(package) => Some(package),
             Err(_) => None,
         },
+        None => None,
+    }
+}
+
+/// The types of the package, if one is open.
+pub fn types(held: &Target) -> Option<Types<'_>>
+    ensures { result ≡ table_of (option_map (λ held. held.value) held.now) }
+{
+    match package(held) {
+        Some(package) => Some(package.types()),
         None => None,
     }
 }

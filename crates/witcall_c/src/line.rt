@@ -1,6 +1,6 @@
 //! Lines of text in arrays of bytes.
 ghost use Rattle.std.specs.Prelude.{length};
-ghost use Rattle.witcall_c.specs.Calls.{BytesDone, LineDone};
+ghost use Rattle.witcall_c.specs.Calls.{LineDone};
 
 use host_calls::CallError;
 use std::fmt::{self, Display, Write};
@@ -22,17 +22,6 @@ impl<'a> fmt::Write for Line<'a> {
         }
         Ok(())
     }
-}
-
-/// Copies these bytes to the front of an array, and answers how many they are. 71 if there is no room for them.
-pub fn tell_bytes(bytes: &[u8], out: &mut [u8]) -> Result<usize, CallError>
-    ensures { BytesDone bytes.now out.old out.new result }
-{
-    if out.len() < bytes.len() {
-        return Err(CallError::NoRoom(bytes.len()));
-    }
-    out[..bytes.len()].copy_from_slice(bytes);
-    Ok(bytes.len())
 }
 
 /// Tells what is displayed, with no line end, and answers how many bytes it has: 71 where there is no room for them.

@@ -1,0 +1,46 @@
+-- WIT.md, "Types": what a type and a row of a table is, by number.
+use Rattle.std.specs.Prelude.{ℕ, List, Option, None, Some, slice_get}
+use Rattle.tables.specs.declared.tables.Primitive.{Primitive}
+use Rattle.tables.specs.declared.tables.Primitive.TheVariants as primitive
+use Rattle.tables.specs.declared.tables.ValType.{ValType}
+use Rattle.tables.specs.declared.tables.ValType.TheVariants as val
+use Rattle.tables.specs.declared.tables.TypeDefKind.{TypeDefKind}
+use Rattle.tables.specs.declared.tables.TypeDefKind.TheVariants as kind
+use Rattle.tables.specs.declared.tables.Definition.{Definition}
+use Rattle.tables.specs.declared.tables.Definition.TheVariants as row
+
+abbrev pub primitive_number : Primitive → ℕ
+primitive_number primitive.Bool = 1
+primitive_number primitive.S8 = 2
+primitive_number primitive.U8 = 3
+primitive_number primitive.S16 = 4
+primitive_number primitive.U16 = 5
+primitive_number primitive.S32 = 6
+primitive_number primitive.U32 = 7
+primitive_number primitive.S64 = 8
+primitive_number primitive.U64 = 9
+primitive_number primitive.Char = 10
+
+abbrev pub kind_number : TypeDefKind → ℕ
+kind_number (kind.List v) = 12
+kind_number (kind.Option v) = 13
+kind_number (kind.Result ok error) = 14
+kind_number (kind.Tuple vs) = 15
+kind_number (kind.Record fs) = 16
+kind_number (kind.Variant cs) = 17
+kind_number (kind.Enum names) = 18
+kind_number (kind.Flags names) = 19
+kind_number (kind.Alias v) = 20
+kind_number (kind.Use t) = 21
+
+-- a row of a table, if there is one
+abbrev pub row_number : Option Definition → ℕ
+row_number None = 0
+row_number (Some (row.Type d)) = kind_number d.kind
+row_number (Some (row.Function f)) = 22
+
+-- a type: of one of the table its row
+abbrev pub type_number : List Definition → ValType → ℕ
+type_number rows (val.Primitive p) = primitive_number p
+type_number rows val.String = 11
+type_number rows (val.Id t) = row_number (slice_get rows t.0)

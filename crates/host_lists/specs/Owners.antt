@@ -1,0 +1,42 @@
+-- WIT.md, "Package Names": where a row of a table has its name, and the full names of interfaces and worlds.
+use Rattle.std.specs.Prelude.{ℕ, ◌==◌, List, Option, None, Some, slice_get, if◌then◌else◌}
+use Rattle.std.specs.Option.{option_map}
+use Rattle.tables.specs.Names.{full_name, world_name}
+use Rattle.tables.specs.declared.tables.Definition.{Definition}
+use Rattle.tables.specs.declared.tables.Definition.TheVariants as row
+use Rattle.tables.specs.declared.tables.Owner.{Owner}
+use Rattle.tables.specs.declared.tables.Owner.TheVariants as owner
+use Rattle.tables.specs.declared.tables.Resolve.{Resolve}
+
+-- a type that stands inside another definition has no name
+abbrev pub owner_of : Definition → Option Owner
+owner_of (row.Type d) = option_map (λ n. owner.Interface n.interface) d.name
+owner_of (row.Function f) = Some f.owner
+
+abbrev pub owner_kind : Option Owner → ℕ
+owner_kind None = 0
+owner_kind (Some (owner.Interface i)) = 1
+owner_kind (Some (owner.World w)) = 2
+
+abbrev pub owner_number : Option Owner → ℕ
+owner_number None = 0
+owner_number (Some (owner.Interface i)) = i.0
+owner_number (Some (owner.World w)) = w.0
+
+-- the owner of these two numbers
+abbrev pub numbered_owner : ℕ → ℕ → Option Owner
+numbered_owner kind number =
+    if kind == 1 then Some (owner.Interface (record { 0 = number }))
+    else (if kind == 2 then Some (owner.World (record { 0 = number })) else None)
+
+-- its full name
+abbrev pub owner_name : Resolve → Owner → Option (List ℕ)
+owner_name r (owner.Interface i) = option_map (full_name r) (slice_get r.interfaces i.0)
+owner_name r (owner.World w) = option_map (world_name r) (slice_get r.worlds w.0)
+
+abbrev pub name_if : Resolve → Option Owner → Option (List ℕ)
+name_if r None = None
+name_if r (Some o) = owner_name r o
+
+abbrev pub owner_name_at : Resolve → ℕ → ℕ → Option (List ℕ)
+owner_name_at r kind number = name_if r (numbered_owner kind number)
