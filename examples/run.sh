@@ -12,6 +12,7 @@
 # | rust           | examples/rust, whose build script asks pkg-config | cargo                                               |
 # | faults         | wrong calls in C, under the sanitizers            | the compiler's sanitizers                           |
 # | lists          | what packages have, beside examples/c/shop.h      | the compiler's sanitizers                           |
+# | threads        | one package on many threads                       | the thread sanitizer                                |
 # | vectors        | the stored calls of crates/vectors, in C          | python3                                             |
 # | bindings       | examples/c/shop.h, made anew                      | python3                                             |
 # | engine         | two core modules in Node's engine                 | clang, lld, Node with its headers                   |
@@ -139,6 +140,10 @@ fi
 if has lists "$CC"; then
     step build-lists checked_c_program "$here/c/lists.c" "$build/lists"
     same lists "$here/c/lists.expected" "$build/lists"
+fi
+if has threads "$CC"; then
+    step build-threads c_program "$here/c/threads.c" "$build/threads" -g -pthread -fsanitize=thread
+    same threads "$here/c/threads.expected" "$build/threads"
 fi
 if has vectors python3; then
     step build-vectors c_program "$here/c/vectors.c" "$build/vectors"
