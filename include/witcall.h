@@ -11,8 +11,8 @@
  * witcall_call_enter, witcall_call_leave and their requests take it in place of both.
  *
  * What the host owes. No test of the library can find a break of these:
- *   - Each pointer is good for its length, and of length 0 it may be null. A pointer to a handle or to a call is not null. (A pointer
- *     doesn't tell what it points to.)
+ *   - Each pointer is good for its length, and of length 0 it may be null. A pointer to a handle, a call, a row or a member is not null.
+ *     (A pointer doesn't tell what it points to.)
  *   - No two arrays of one call overlap, the memories too. (The library writes one while it reads another, and compares no addresses.)
  *   - A handle is WITCALL_NONE, or was written by witcall_open or witcall_open_set. Of copies of a handle one is used. (An address tells
  *     nothing of who wrote it.)
