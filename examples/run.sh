@@ -11,7 +11,7 @@
 # | cmake          | the same, built with CMake                        | CMake, make                                         |
 # | rust           | examples/rust, whose build script asks pkg-config | cargo                                               |
 # | faults         | wrong calls in C, under the sanitizers            | the compiler's sanitizers                           |
-# | threads        | two threads in C, under the thread sanitizer      | the compiler's thread sanitizer                     |
+# | threads, moved | threads with handles of their own or one handle   | the compiler's thread sanitizer                     |
 # | helgrind       | the same under helgrind                           | valgrind                                            |
 # | lists          | what packages have, beside examples/c/shop.h      | the compiler's sanitizers                           |
 # | vectors        | the stored calls of crates/vectors, in C          | python3                                             |
@@ -151,12 +151,16 @@ if has faults "$CC" && has_sanitizer faults address,undefined; then
     same faults "$here/c/faults.expected" "$build/faults"
 fi
 if has threads "$CC" && has_sanitizer threads thread; then
-    step build-threads c_program "$here/c/threads.c" "$build/threads" -pthread -g -fsanitize=thread
-    same threads "$here/c/threads.expected" "$build/threads"
+    for host in threads moved; do
+        step "build-$host" c_program "$here/c/$host.c" "$build/$host" -pthread -g -fsanitize=thread
+        same "$host" "$here/c/$host.expected" "$build/$host"
+    done
 fi
 if has helgrind valgrind; then
-    step build-helgrind c_program "$here/c/threads.c" "$build/threads-plain" -pthread -gdwarf-4
-    same helgrind "$here/c/threads.expected" valgrind --quiet --tool=helgrind "$build/threads-plain"
+    for host in threads moved; do
+        step "build-helgrind-$host" c_program "$here/c/$host.c" "$build/$host-plain" -pthread -gdwarf-4
+        same "helgrind-$host" "$here/c/$host.expected" valgrind --quiet --tool=helgrind "$build/$host-plain"
+    done
 fi
 if has lists "$CC"; then
     step build-lists checked_c_program "$here/c/lists.c" "$build/lists"

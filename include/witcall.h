@@ -11,12 +11,12 @@
  * witcall_call_enter, witcall_call_leave and their requests take it in place of both.
  *
  * What the host owes. No test of the library can find a break of these:
- *   - Each pointer is good for its length, and of length 0 it may be null. A pointer to a handle or to a call is not null. (A pointer
- *     doesn't tell what it points to.)
+ *   - Each pointer is good for its length, and of length 0 it may be null. A pointer to a handle, a call, a row or a member is not null.
+ *     (A pointer doesn't tell what it points to.)
  *   - No two arrays of one call overlap, the memories too. (The library writes one while it reads another, and compares no addresses.)
  *   - A handle is WITCALL_NONE, or was written by witcall_open or witcall_open_set. Of copies of a handle one is used. (An address tells
  *     nothing of who wrote it.)
- *   - A handle stays on the thread that opened it; see below. (A call doesn't tell its thread.)
+ *   - One call at a time uses a handle, and calls of two threads are ordered; see below. (A call doesn't know of others.)
  *   - Each block was free in the memory that it is in. (Only that memory's allocator knows which bytes are free.)
  *   - func is the function that the host runs, and answer is what its core function returned. (Other values of the same kinds look the same.)
  *   - The flats of witcall_leave are those of witcall_enter. (The library keeps nothing between the halves; their number and kinds are
@@ -27,9 +27,9 @@
  *   - No call is made from a signal handler, or in the forked child of a process with threads. (A call may hold the allocator's lock.)
  * All else is tested, and told in the status.
  *
- * Threads. A handle is used by the thread that opened it, since no proof says that a package may move to another thread. Two handles share
- * nothing, so that each thread opens the package once for itself, and threads with handles of their own call at the same time. witcall_status_line
- * may be called by any thread at any time. */
+ * Threads. A handle may go to another thread, as is proved. If two threads use it, a lock, the start or the join of a thread, or a sequentially
+ * consistent atomic puts their calls in order: no proof says that two may read a package at once. Two handles share nothing, so that threads
+ * with handles of their own call at the same time. witcall_status_line may be called by any thread at any time. */
 #ifndef WITCALL_H
 #define WITCALL_H
 
@@ -50,6 +50,9 @@ extern "C" {
 
 /* The most bytes of the line of a status (witcall_status_line). */
 #define WITCALL_MAX_STATUS_LINE 64
+
+/* The most bytes of the name of a row and of the label of a member (witcall_row_name, witcall_member_name). */
+#define WITCALL_MAX_LABEL 255
 
 /* The code of a status. */
 #define WITCALL_DONE 0      /* done; count tells how many things were told, if any */
@@ -216,12 +219,12 @@ witcall_status witcall_row(witcall_package *package, uint32_t number, witcall_ro
 witcall_status witcall_member(witcall_package *package, uint32_t row, uint32_t index, witcall_member_info *member);
 
 /* The name of a row, and the label of a member: count bytes of UTF-8, with no end. A row with no owner and an element of a tuple have 0 bytes. The
- * cases of an option are called none and some, those of a result ok and error. If there is no room, this is 71, and count is the length. */
+ * cases of an option are called none and some, those of a result ok and error. WITCALL_MAX_LABEL bytes are room for each. */
 witcall_status witcall_row_name(witcall_package *package, uint32_t row, uint8_t *name, size_t name_len);
 witcall_status witcall_member_name(witcall_package *package, uint32_t row, uint32_t index, uint8_t *name, size_t name_len);
 
-/* The full name of an interface (WITCALL_INTERFACE) or of a world (WITCALL_WORLD), as a:b/c or a:b/c@1.0.0, in the same way. Both have numbers
- * from 0. */
+/* The full name of an interface (WITCALL_INTERFACE) or of a world (WITCALL_WORLD), as a:b/c or a:b/c@1.0.0: count bytes. Both have numbers from
+ * 0. If there is no room, this is 71, and count is the length. */
 witcall_status witcall_owner_name(witcall_package *package, uint32_t owner_kind, uint32_t owner, uint8_t *name, size_t name_len);
 
 /* The package as a binary, and as a text: count bytes. If there is no room, this is 71, and count is the length. Of a set it is the last package,

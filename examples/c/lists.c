@@ -62,10 +62,10 @@ static void print_type(witcall_type_info type) {
 }
 
 static void print_member(uint32_t row, uint32_t index) {
-    uint8_t label[ROOM];
+    uint8_t label[WITCALL_MAX_LABEL];
     witcall_member_info member;
     check(witcall_member(&package, row, index, &member));
-    witcall_status told = witcall_member_name(&package, row, index, label, ROOM);
+    witcall_status told = witcall_member_name(&package, row, index, label, sizeof label);
     check(told);
     printf("  %u %.*s at %u: ", index, (int)told.count, (const char *)label, member.offset);
     print_type(member.type);
@@ -74,12 +74,12 @@ static void print_member(uint32_t row, uint32_t index) {
 
 /* Where a row has its name, and the name. */
 static void print_name(uint32_t number, witcall_row_info row) {
-    uint8_t owner[ROOM], name[ROOM];
+    uint8_t owner[ROOM], name[WITCALL_MAX_LABEL];
     if (row.owner_kind == WITCALL_NO_OWNER)
         return;
     witcall_status told_owner = witcall_owner_name(&package, row.owner_kind, row.owner, owner, ROOM);
     check(told_owner);
-    witcall_status told = witcall_row_name(&package, number, name, ROOM);
+    witcall_status told = witcall_row_name(&package, number, name, sizeof name);
     check(told);
     printf(
         "%s %.*s: %.*s: ", row.owner_kind == WITCALL_WORLD ? "world" : "interface", (int)told_owner.count, (const char *)owner,
@@ -107,7 +107,7 @@ static void print_rows(void) {
 /* ---- functions alone, as docs/C.md has them ---- */
 
 static void print_functions(void) {
-    uint8_t name[ROOM];
+    uint8_t name[WITCALL_MAX_LABEL];
     witcall_row_info row;
     witcall_member_info parameter;
     for (uint32_t number = 0; witcall_row(&package, number, &row).code == WITCALL_DONE; number++) {
@@ -134,10 +134,10 @@ static void same(const char *what, uint32_t found, uint32_t wanted) {
 
 /* The row of this name. */
 static witcall_row_info named(const char *name) {
-    uint8_t found[ROOM];
+    uint8_t found[WITCALL_MAX_LABEL];
     witcall_row_info row;
     for (uint32_t number = 0; witcall_row(&package, number, &row).code == WITCALL_DONE; number++) {
-        witcall_status told = witcall_row_name(&package, number, found, ROOM);
+        witcall_status told = witcall_row_name(&package, number, found, sizeof found);
         check(told);
         if (told.count == strlen(name) && memcmp(found, name, told.count) == 0)
             return row;

@@ -1,2 +1,3 @@
 pub mod Handles
 mod Parted
+mod Sent

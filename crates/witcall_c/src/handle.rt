@@ -16,15 +16,20 @@ pub struct Handle {
     ghost closed: { (is_open ≡ 0) ↔ (kept.held ≡ None) },
 }
 
+/// Asks that a value may go to another thread.
+fn crosses_threads<T: Send>(_value: &T) {}
+
 impl Handle {
-    /// A handle on nothing.
+    /// A handle on nothing. Like any handle, it may go to another thread.
     pub fn none() -> Handle
         ensures { result.kept.held ≡ None }
     {
-        Handle {
+        let handle = Handle {
             kept: Kept::none(),
             is_open: 0,
-        }
+        };
+        crosses_threads(&handle);
+        handle
     }
 
     /// Takes what it stands for, if anything, and leaves a handle on nothing.

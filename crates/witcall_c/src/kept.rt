@@ -24,6 +24,9 @@ impl Model for Kept {
     ghost also_owns = { λ k. holds k.at k.held };
 }
 
+// The box that it owns has no part that is of one thread.
+unsafe impl Send for Kept {}
+
 impl Kept {
     /// An address of nothing.
     pub fn none() -> Kept
