@@ -61,7 +61,7 @@ def main():
     print(f"{run.answer_of('rt', 'version')}; {run.answer_of('rustc', '--version')}; {run.answer_of('clang', '--version').splitlines()[0]}.\n")
     print("| | the C library | beside it | | wanted |\n|---|---|---|---|---|")
     number, link = least["number"], least["link"]
-    print(f"| a call of a `u32`, both halves, ns | {number:.0f} | `Link::call` {link:.0f} | {number - link:+.0f} | at most +60 |")
+    print(f"| a call of a `u32`, both halves, ns | {number:.0f} | `Link::call` {link:.0f} | {number - link:+.0f} | at most +40 |")
     taken, copied = least["list"], least["copy"]
     print(f"| a `list<u8>` of 1 MiB, first half, ns | {taken:.0f} | a plain copy {copied:.0f} | {taken / copied:.2f} | at most 1.1 |")
 
