@@ -1,5 +1,5 @@
 //! Files whose texts were read.
-ghost use Rattle.std.specs.Prelude.{IsTrue, IfOk};
+ghost use Rattle.std.specs.Prelude.{◌≡◌, length, IsTrue, IfOk};
 ghost use Rattle.wit_syntax.specs.FullNames.{has_full_names};
 ghost use Rattle.wit_syntax.specs.View.{file_view};
 
@@ -68,12 +68,14 @@ fn lexed_of(alloc: Global, source: &Source) -> Lexed<'_> {
     Lexed::new(alloc, source.path.as_str(), text)
 }
 
-/// The files whose texts can be read. The faults of the others are reported.
+/// The files whose texts can be read. The faults of the others are reported: if the status is 0, there are none.
 pub fn members_of<'a>(
     alloc: Global,
     report: &mut Report,
     sources: &'a [Source],
-) -> Result<Vec<Member<'a>>, AllocError> {
+) -> Result<Vec<Member<'a>>, AllocError>
+    ensures { IfOk result (λ members. report.new.status ≡ 0 → length members.items ≡ length sources.now) }
+{
     let mut members = Vec::new(alloc);
     for source in sources {
         let lexed = lexed_of(alloc, source);

@@ -1,5 +1,5 @@
 -- The order that is made so far.
-use Rattle.std.proofs.Common.{◌≡◌, ◌+◌, ◌<◌, ◌≤◌, ℕ, Bool, List, All, length, get_or, arith}
+use Rattle.std.proofs.Common.{◌≡◌, ◌+◌, ◌<◌, ℕ, Bool, List, All, length, get_or, arith}
 use Rattle.std.proofs.lemmas.List.{get_or_default}
 use Rattle.placement.specs.Order.{IsPlacement}
 use Rattle.placement.proofs.OrderSteps.{PlacedSoFar, placed_all}

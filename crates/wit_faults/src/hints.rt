@@ -32,10 +32,16 @@ fn kebab(alloc: Global, word: &str) -> Result<String, AllocError> {
 }
 
 fn of_word(alloc: Global, word: &str) -> Result<String, AllocError> {
-    if word.len() < 2 {
+    if word.len() < 2 || !word.is_ascii() {
         return String::from_str(alloc, "WIT has no such character here");
     }
     let name = kebab(alloc, word)?;
+    if name.is_empty() || name.as_str() == word {
+        return String::from_str(
+            alloc,
+            "a name is words joined by `-`, each from a letter on",
+        );
+    }
     format!(in alloc;
         "a name is words joined by `-`, each in one case: write `{}`",
         name.as_str()
@@ -66,6 +72,9 @@ fn of_text(alloc: Global, lexed: &Lexed<'_>, error: &TextError) -> Result<String
     let hint = match error {
         TextError::BadChar(span) => return of_word(alloc, lexed.at(*span)),
         TextError::Expected(Expected::Identifier, span) => return of_keyword(alloc, lexed, *span),
+        TextError::Expected(Expected::Punctuation(mark), _) => {
+            return format!(in alloc; "write `{mark}` before it");
+        }
         TextError::Expected(_, _) => "",
         TextError::OpenComment(_) => "close it with `*/`; comments nest",
         TextError::Unsupported(feature, _) => of_feature(*feature),

@@ -1,4 +1,4 @@
-use Rattle.std.proofs.Common.{◌≡◌, ◌+◌, ◌-◌, ◌++◌, ◌∷◌, [], length, ◌∙◌, arith}
+use Rattle.std.proofs.Common.{◌∷◌, [], arith}
 use Rattle.std.proofs.lemmas.List.{length-append}
 use Rattle.placement.proofs.OrderSteps.{placed_more, cycle_of}
 use Rattle.package_order.proofs.order.arranged.Goals as goal
