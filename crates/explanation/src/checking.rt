@@ -1,0 +1,178 @@
+//! Files checked in the order in which their packages depend on each other.
+ghost use Rattle.std.specs.Prelude.{◌≡◌, ◌+◌, ◌<◌, ◌≤◌, All, IfOk, OnOk, length};
+ghost use Rattle.layout.specs.Layout.{layouts_of};
+
+use crate::graph::graph_of;
+use crate::members::Member;
+use layout::Layouts;
+use package_adding::PackageSet;
+use package_order::{Arrangement, arranged};
+use std::alloc::{AllocError, Global};
+use std::fmt::Write;
+use tables::{Resolve, Sequence};
+use wit_faults::{Cause, PackageRef, Report, first_path};
+
+/// A package without a fault: its own tables, which begin with what it uses of others.
+#[derive(Drop)]
+pub struct Checked {
+    pub is_dependency: bool,
+    pub tables: Resolve,
+    pub layouts: Layouts,
+    pub ghost laid_out: { layouts ≡ layouts_of tables },
+}
+
+/// The packages so far.
+#[derive(Drop)]
+struct Checker<'a> {
+    alloc: Global,
+    /// The package of each member.
+    known: Vec<PackageRef<'a>>,
+    /// Which members have no fault.
+    is_good: Vec<bool>,
+    /// The packages of these, and what was found of each.
+    set: PackageSet,
+    checked: Vec<Checked>,
+}
+
+/// Adds a package to a set.
+fn added(alloc: Global, set: &mut PackageSet, member: &Member<'_>) -> Result<Checked, Cause> {
+    set.has_room()?;
+    let (_, tables) = set.add_tree(alloc, &member.tree)?;
+    let layouts = Layouts::of(alloc, &tables)?;
+    Ok(Checked {
+        is_dependency: member.is_dependency,
+        tables,
+        layouts,
+    })
+}
+
+impl<'a> Checker<'a> {
+    fn new(alloc: Global, members: &'a [Member<'a>]) -> Result<Checker<'a>, AllocError>
+        ensures { IfOk result (λ c. length c.checked.items ≡ 0) }
+    {
+        let known = members.iter().map(|member| member.package());
+        Ok(Checker {
+            alloc,
+            known: known.collect(alloc)?,
+            is_good: vec![in alloc; false; members.len()]?,
+            set: PackageSet::new(alloc),
+            checked: Vec::new(alloc),
+        })
+    }
+
+    /// The package of the first of these members that has a fault.
+    fn first_bad(&self, used: &[usize]) -> Option<PackageRef<'a>> {
+        for place in used {
+            if !self.is_good.get(*place).copied().unwrap_or(false) {
+                return self.known.get(*place).copied();
+            }
+        }
+        None
+    }
+
+    /// Checks a member, which uses these. If one of them has a fault, it is left out.
+    fn check(
+        &mut self,
+        report: &mut Report,
+        place: usize,
+        member: &Member<'_>,
+        used: &[usize],
+    ) -> Result<(), AllocError>
+        ensures { OnOk result (report.new.status ≡ 0 → (report.old.status ≡ 0) × (length self.new.checked.items ≡ length self.old.checked.items + 1)) }
+    {
+        if let Some(package) = self.first_bad(used) {
+            return report.leave_out(member.lexed.path, package);
+        }
+        match added(self.alloc, &mut self.set, member) {
+            Ok(checked) => {
+                self.checked.push(checked)?;
+                if let Some(mark) = self.is_good.get_mut(place) {
+                    *mark = true;
+                }
+                Ok(())
+            }
+            Err(cause) => report.add(self.alloc, &member.lexed, self.known.as_slice(), &cause),
+        }
+    }
+}
+
+/// Checks members in an order.
+fn check_each<'a>(
+    alloc: Global,
+    report: &mut Report,
+    members: &'a [Member<'a>],
+    graph: &[Sequence<usize>],
+    order: &[usize],
+) -> Result<Vec<Checked>, AllocError>
+    requires graph { length graph.now ≡ length members.now }
+    requires order { All (λ place. place < length members.now) order.now }
+    ensures { IfOk result (λ found. report.new.status ≡ 0 → length found.items ≡ length order.now) }
+{
+    let mut checker = Checker::new(alloc, members)?;
+    for place in order {
+        let used = graph[*place].as_slice();
+        checker.check(report, *place, &members[*place], used)?;
+    }
+    Ok(checker.checked)
+}
+
+/// The packages of a ring, from the first to the first again.
+fn ring_words(alloc: Global, members: &[Member<'_>], ring: &[usize]) -> Result<String, AllocError>
+    requires { All (λ place. place < length members.now) ring.now }
+{
+    let mut words = String::from_str(alloc, "packages depend on each other: ")?;
+    for place in ring {
+        let package = members[*place].package();
+        write!(words, "{package} -> ")?;
+    }
+    if let Some(place) = ring.first() {
+        let package = members[*place].package();
+        write!(words, "{package}")?;
+    }
+    Ok(words)
+}
+
+/// Reports packages that depend on each other, at the path in the first that names the second.
+fn report_ring(
+    alloc: Global,
+    report: &mut Report,
+    members: &[Member<'_>],
+    ring: &[usize],
+) -> Result<(), AllocError>
+    requires some { 0 < length ring.now }
+    requires within { All (λ place. place < length members.now) ring.now }
+    ensures { OnOk result (report.new.status ≡ 1) }
+{
+    let words = ring_words(alloc, members, ring)?;
+    let lexed = &members[ring[0]].lexed;
+    let second = members[ring[1 % ring.len()]].package();
+    let hint = "move what both use into a package of its own";
+    report.add_at(
+        alloc,
+        lexed,
+        first_path(lexed, second),
+        words.as_str(),
+        hint,
+    )
+}
+
+/// Checks these members, each after those that it depends on, and reports each fault. Packages that depend on each other are
+/// reported, and then nothing else is checked. No fault is dropped: if the status is 0, each member's package was checked.
+pub fn check_members<'a>(
+    alloc: Global,
+    report: &mut Report,
+    members: &'a [Member<'a>],
+) -> Result<Vec<Checked>, AllocError>
+    ensures { IfOk result (λ found. report.new.status ≡ 0 → length members.now ≤ length found.items) }
+{
+    let graph = graph_of(alloc, members)?;
+    match arranged(alloc, graph.as_slice())? {
+        Arrangement::Order(order) => {
+            check_each(alloc, report, members, graph.as_slice(), order.as_slice())
+        }
+        Arrangement::Cycle(ring) => {
+            report_ring(alloc, report, members, ring.as_slice())?;
+            Ok(Vec::new(alloc))
+        }
+    }
+}

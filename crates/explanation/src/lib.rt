@@ -1,0 +1,15 @@
+//! What `wit-explain` does: it checks the WIT files of folders, and draws the bytes of their types.
+//!
+//! `run` does what the words of a command line ask for. It reads the files, puts their packages in order by `package_order`,
+//! adds each to a set by `package_adding`, and shows faults by `wit_faults` and types by `layout_picture`.
+#![tactic(auto)]
+
+mod checking;
+mod graph;
+mod help;
+mod members;
+mod running;
+mod sources;
+
+pub use running::run;
+pub use wit_faults::Report;

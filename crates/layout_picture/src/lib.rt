@@ -1,0 +1,15 @@
+//! Pictures of the bytes of types, for a terminal.
+//!
+//! `pictures` draws each type of a package: its fields with their offsets, sizes and alignments, padding, and cases side by
+//! side. It adds the flat core values of each type and the two core signatures of each function. The numbers are those of
+//! `TypeLayout`, whose contracts speak of `canonical_abi`. It stands on `layout` and `tables`.
+#![tactic(auto)]
+
+mod bands;
+mod boxes;
+mod names;
+mod picture;
+mod signatures;
+mod type_layout;
+
+pub use picture::pictures;

@@ -1,0 +1,39 @@
+-- How packages are arranged: in an order, or some of them in a ring. Packages are numbers; `uses` has what each of them depends on.
+use Rattle.std.specs.Prelude.{◌≡◌, ℕ, ◌<◌, ◌+◌, ◌-◌, Bool, false, not, List, [], length, slice_index, slice_index_or, All, Contains}
+use Rattle.placement.specs.Order.{IsPlacement}
+use Rattle.package_order.specs.declared.order.Arrangement.{Arrangement}
+use Rattle.package_order.specs.declared.order.Arrangement.TheVariants.{Order, Cycle}
+
+-- i depends on j
+abbrev pub Uses : List (List ℕ) → ℕ → ℕ → Type 0
+Uses uses i j = Contains (slice_index_or uses i []) j
+
+-- each of these depends on the next
+abbrev pub IsChain : List (List ℕ) → List ℕ → Type 0
+IsChain uses path = (k : ℕ) → k + 1 < length path → Uses uses (slice_index path k) (slice_index path (k + 1))
+
+-- there is one, each depends on the next, and the last on the first
+pub record IsRing (uses : List (List ℕ)) (path : List ℕ) : Type 0 where
+  pub some : 0 < length path
+  pub within : All (λ i. i < length uses) path
+  pub chain : IsChain uses path
+  pub closed : Uses uses (slice_index path (length path - 1)) (slice_index path 0)
+
+-- as many as there are, each after those that it depends on, and the first that can come next each time
+pub record IsOrder (uses : List (List ℕ)) (order : List ℕ) : Type 0 where
+  pub placement : IsPlacement uses order
+  pub within : All (λ i. i < length uses) order
+  pub count : length order ≡ length uses
+
+-- all in an order, or some that depend on each other
+abbrev pub IsArranged : List (List ℕ) → Arrangement → Type 0
+IsArranged uses (Order order) = IsOrder uses order
+IsArranged uses (Cycle path) = IsRing uses path
+
+-- package i is marked; one that isn't there has no mark
+abbrev pub is_marked : List Bool → ℕ → Bool
+is_marked marks i = slice_index_or marks i false
+
+-- .. and is not marked
+abbrev pub is_left : List Bool → ℕ → Bool
+is_left marks i = not (is_marked marks i)

@@ -1,0 +1,67 @@
+//! Why a file is no package, or can't be read.
+
+use layout::LayoutError;
+use package_adding::{AddError, AttachError};
+use tables::ResolveError;
+use thiserror::Error;
+use wit_text::TextError;
+
+/// Why a file can't be read.
+#[derive(Clone, Copy, Debug, PartialEq, Eq, Error)]
+pub enum ReadError {
+    /// It can be opened, and reading it failed after so many bytes.
+    #[error("error 20 read at {0}")]
+    Read(usize),
+    #[error("error 64 file")]
+    File,
+    /// It is a folder.
+    #[error("no file of this folder ends in `.wit`")]
+    Folder,
+    #[error("error 66 no memory")]
+    NoMemory,
+}
+
+/// Why a file is no package of a set. It is displayed as `witcall` displays it.
+#[derive(Debug, Drop, Error)]
+pub enum Cause {
+    #[error(transparent)]
+    Read(ReadError),
+    /// The length of the longest front that is UTF-8.
+    #[error("error 60 not UTF-8 at {0}")]
+    NotUtf8(usize),
+    #[error(transparent)]
+    Text(TextError),
+    #[error(transparent)]
+    Resolve(ResolveError),
+    #[error(transparent)]
+    Attach(AttachError),
+    #[error(transparent)]
+    Layout(LayoutError),
+}
+
+impl From<TextError> for Cause {
+    fn from(error: TextError) -> Cause {
+        Cause::Text(error)
+    }
+}
+
+impl From<AddError> for Cause {
+    fn from(error: AddError) -> Cause {
+        match error {
+            AddError::Resolve(error) => Cause::Resolve(error),
+            AddError::Attach(error) => Cause::Attach(error),
+        }
+    }
+}
+
+impl From<AttachError> for Cause {
+    fn from(error: AttachError) -> Cause {
+        Cause::Attach(error)
+    }
+}
+
+impl From<LayoutError> for Cause {
+    fn from(error: LayoutError) -> Cause {
+        Cause::Layout(error)
+    }
+}

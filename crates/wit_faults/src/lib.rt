@@ -1,0 +1,18 @@
+//! Faults of WIT texts: where they are, what to do about them, and how they are shown.
+//!
+//! A `Cause` says why a file is no package, in the words of `witcall`. `Report::add` shows it at a place of the text: the line
+//! with carets, and a hint. The place of a byte offset is that of `source_lines`. It stands on the crates whose errors it shows:
+//! `wit_text`, `package_adding` and `layout`.
+#![tactic(auto)]
+
+mod cause;
+mod drawing;
+mod hints;
+mod lexed;
+mod places;
+mod report;
+
+pub use cause::{Cause, ReadError};
+pub use lexed::{Lexed, PackagePath, PackageRef};
+pub use places::first_path;
+pub use report::Report;
