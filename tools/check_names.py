@@ -10,12 +10,15 @@ behind a crate `rows_..` or `vectors` are names of rows, and each has to be a li
 
 In the tables of docs/guarantees/ the cells of the column `clause` hold functions and clauses alone, as `open_set`: ok, only; `Package::takes`,
 each of which has to be there; a function without a clause has one that has no name. Those of the column `edit` hold must-fail edits alone, and
-docs/guarantees/edits.md has to name every one. The exit status is 1 where something isn't there.
+docs/guarantees/edits.md has to name every one. The text that an edit replaces has to be there once. The exit status is 1 where something
+isn't there.
 """
 import json
 import pathlib
 import re
 import sys
+
+from try_edits import edited
 
 ROOT = pathlib.Path(__file__).resolve().parent.parent
 NAME = re.compile(r"[A-Za-z_][A-Za-z0-9_]*(::[A-Za-z_][A-Za-z0-9_]*)*")
@@ -91,6 +94,14 @@ def edits():
     return {path.stem for path in [*ROOT.glob("crates/*/must-fail/*.edit"), *ROOT.glob("edits/*/*.edit")]}
 
 
+def stale_edits():
+    """The edits whose text isn't in the file that they change, or is there twice."""
+    for path in sorted([*ROOT.glob("crates/*/must-fail/*.edit"), *ROOT.glob("edits/*/*.edit")]):
+        name = path.parent.name if path.parent.parent.name == "edits" else path.parent.parent.name
+        if edited(path, ROOT / "crates" / name) is None:
+            yield f"{path.relative_to(ROOT)}: the text of an `old:` line isn't there once"
+
+
 def columns(text):
     """The cells of a page's tables: the number of a line, the head of the column, and the cell."""
     heads = []
@@ -156,6 +167,9 @@ def missing_rows(line):
 def main():
     words, all_contracts, all_edits = known(), contracts(), edits()
     missing = 0
+    for fault in stale_edits():
+        missing += 1
+        print(fault)
     for page in [ROOT / "README.md", *sorted((ROOT / "docs").rglob("*.md"))]:
         if page.parent.name == "guarantees":
             for number, fault in wrong_cells(page, all_contracts, all_edits):
