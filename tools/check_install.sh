@@ -53,7 +53,7 @@ explains() {
     [ "$("$1" --version)" = "wit-explain $version" ] && "$1" check examples/c.wit || return 1
     status=0
     "$1" check "$work/broken.wit" >"$work/faults" || status=$?
-    [ $status = 1 ] && grep -q 'broken.wit:2:26: error 41 unknown strng$' "$work/faults"
+    [ "$status" = 1 ] && grep -q 'broken.wit:2:26: error 41 unknown strng$' "$work/faults"
 }
 
 # Whether a program in C is built over what is installed, and needs only the C library.
