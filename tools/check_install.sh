@@ -7,8 +7,8 @@
 # witcall, and builds the hosts of docs/C.md, and that of examples/rust if cargo is there. The Debian package is installed and removed in a
 # folder as the root. Without lintian the script looks itself for what lintian asks of such a package.
 #
-# It needs a C compiler, pkg-config and dpkg; also unshare, CMake and make if it is run by root, and otherwise fakeroot. Each check says `ok`;
-# the exit status is 1 if one fails.
+# It needs a C compiler, pkg-config and dpkg; also unshare, CMake and make if it is run by root, and otherwise fakeroot. With --built,
+# crates/explain/out/explain is to be there. Each check says `ok`; the exit status is 1 if one fails.
 set -eu
 cd "$(dirname "$0")/.."
 origin=${1-}
@@ -47,6 +47,15 @@ calls() {
     [ "$("$1" call examples/c.wit a:b/c f '[7]' '[8]')" = 8 ]
 }
 
+# Whether wit-explain in a folder finds no fault in a text, and the fault of a broken one.
+explains() {
+    printf 'package a:b;\ninterface c { f: func(x: strng); }\n' >"$work/broken.wit"
+    [ "$("$1" --version)" = "wit-explain $version" ] && "$1" check examples/c.wit || return 1
+    status=0
+    "$1" check "$work/broken.wit" >"$work/faults" || status=$?
+    [ "$status" = 1 ] && grep -q 'broken.wit:2:26: error 41 unknown strng$' "$work/faults"
+}
+
 # Whether a program in C is built over what is installed, and needs only the C library.
 builds() {
     printf '%s\n' '#include <witcall.h>' 'int main(void) {' \
@@ -81,6 +90,8 @@ is_removed() {
 
 check install install_to "$work/prefix"
 check program calls "$work/prefix/bin/witcall"
+check wit-explain explains "$work/prefix/bin/wit-explain"
+check wit-explain-man cmp packaging/wit-explain.1 "$work/prefix/share/man/man1/wit-explain.1"
 check library builds "$work/prefix"
 check manifest is_listed "$work/prefix"
 check again is_same_again
@@ -100,6 +111,7 @@ cd "$HOME/witcall"
 prefix="$HOME/.local"
 tools/install.sh --prefix "$prefix" "$@"
 [ "$("$prefix/bin/witcall" call examples/c.wit a:b/c f '[7]' '[8]')" = 8 ]
+"$prefix/bin/wit-explain" check examples/c.wit
 export PKG_CONFIG_PATH="$prefix/lib/pkgconfig" CMAKE_PREFIX_PATH="$prefix"
 cc -o host examples/c/host.c $(pkg-config --cflags --libs witcall)
 ./host | diff examples/c/host.expected -
@@ -202,16 +214,16 @@ is_packed() {
     gzip -dc "$root/usr/share/$1" | gzip -9nc | cmp - "$root/usr/share/$1"
 }
 
-# Whether the package depends on the C library that the program needs.
+# Whether the package depends on the C library that the programs need.
 needs_libc() {
-    needed=$(objdump -T "$root/usr/bin/witcall" | grep -o 'GLIBC_[0-9.]*' | sort -uV | tail -n 1)
+    needed=$(objdump -T "$root/usr/bin/witcall" "$root/usr/bin/wit-explain" | grep -o 'GLIBC_[0-9.]*' | sort -uV | tail -n 1)
     [ "$(dpkg-deb -f "$deb" Depends)" = "libc6 (>= ${needed#GLIBC_})" ]
 }
 
-# Whether the man page is rendered without a warning, as lintian asks man.
+# Whether a man page is rendered without a warning, as lintian asks man.
 is_rendered() {
-    gzip -dc "$root/usr/share/man/man1/witcall.1.gz" >"$work/witcall.1"
-    LC_ALL=C.UTF-8 MANROFFSEQ='' MANWIDTH=80 man --warnings -E UTF-8 -l -Tutf8 -Z "$work/witcall.1" 2>&1 >/dev/null | tee "$work/warnings"
+    gzip -dc "$root/usr/share/man/man1/$1.gz" >"$work/$1"
+    LC_ALL=C.UTF-8 MANROFFSEQ='' MANWIDTH=80 man --warnings -E UTF-8 -l -Tutf8 -Z "$work/$1" 2>&1 >/dev/null | tee "$work/warnings"
     [ ! -s "$work/warnings" ]
 }
 
@@ -234,14 +246,17 @@ is_gone() {
 
 check deb-install dpkg_in -i "$deb"
 check deb-program calls "$root/usr/bin/witcall"
+check deb-wit-explain explains "$root/usr/bin/wit-explain"
 check deb-fields has_fields
 check deb-modes has_modes
 check deb-sums has_sums
 check deb-libc needs_libc
-for file in doc/witcall/changelog.gz doc/witcall/changelog.Debian.gz man/man1/witcall.1.gz; do
+for file in doc/witcall/changelog.gz doc/witcall/changelog.Debian.gz man/man1/witcall.1.gz man/man1/wit-explain.1.gz; do
     check "deb-${file##*/}" is_packed "$file"
 done
-command -v man >/dev/null && check deb-man is_rendered
+for page in witcall.1 wit-explain.1; do
+    command -v man >/dev/null && check "deb-man-$page" is_rendered "$page"
+done
 command -v dpkg-parsechangelog >/dev/null && check deb-changelog has_changelog
 check deb-again is_made_again
 check deb-licence grep -q 'has given no licence' "$root/usr/share/doc/witcall/copyright"

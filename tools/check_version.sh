@@ -1,5 +1,5 @@
 #!/bin/sh
-# Compares the version in VERSION with those that stand in other files: the header, the library's sources, the man page, the changelog, and
+# Compares the version in VERSION with those that stand in other files: the header, the library's sources, the man pages, the changelog, and
 # the release if it was built from these sources. The other files of an installation take it from VERSION (tools/install.sh).
 #
 # usage: tools/check_version.sh
@@ -23,7 +23,9 @@ compare include/witcall.h "$(sed -n 's/^#define WITCALL_VERSION "\(.*\)".*/\1/p'
 compare crates/explanation/src/help.rt "$(sed -n 's/^pub static VERSION.*"wit-explain \([^\\"]*\).*/\1/p' crates/explanation/src/help.rt | grep . || echo none)"
 # in the library's sources, each text that is a version and nothing else
 compare crates/witcall_c/src "$(grep -rhoE '"[0-9]+\.[0-9]+\.[0-9]+(\\0)?"' crates/witcall_c/src | grep -oE '[0-9.]+[0-9]')"
-compare packaging/witcall.1 "$(sed -n 's/^\.TH .*"witcall \([^"]*\)".*/\1/p' packaging/witcall.1 | grep . || echo none)"
+for program in witcall wit-explain; do
+    compare "packaging/$program.1" "$(sed -n "s/^\.TH .*\"$program \([^\"]*\)\".*/\1/p" "packaging/$program.1" | grep . || echo none)"
+done
 compare CHANGELOG.md "$(sed -n 's/^## \([0-9][0-9.]*\).*/\1/p' CHANGELOG.md | head -n 1 | grep . || echo none)"
 if [ "$(cat release/sources 2>/dev/null)" = "$(tools/sources.sh program)" ]; then
     compare release/version "$(cat release/version 2>/dev/null || echo none)"

@@ -43,7 +43,7 @@ witcall ($version) unstable; urgency=medium
 
  -- $maintainer  $(LC_ALL=C date -u -R -d "@$SOURCE_DATE_EPOCH")
 END
-gzip -9n "$doc/changelog" "$doc/changelog.Debian" "$stage/usr/share/man/man1/witcall.1"
+gzip -9n "$doc/changelog" "$doc/changelog.Debian" "$stage/usr/share/man/man1/"*.1
 install -m 644 packaging/copyright "$doc/copyright"
 install -m 644 packaging/lintian-overrides "$stage/usr/share/lintian/overrides/witcall"
 
@@ -63,8 +63,9 @@ Priority: optional
 Description: typed calls of WebAssembly components between two memories
  witcall reads WIT packages of the component model, computes their layouts by
  the Canonical ABI, and carries typed calls from one linear memory into
- another. This package has the program, and the library for hosts in C with
- its header. Each contract of its code is proved for all inputs.
+ another. wit-explain shows the faults of WIT files and the bytes of types.
+ This package has both programs, and the library for hosts in C with its
+ header. Each contract of its code is proved for all inputs.
 END
 (cd "$stage" && find usr -type f -print0 | LC_ALL=C sort -z | xargs -0 md5sum) >"$stage/DEBIAN/md5sums"
 chmod 644 "$stage/DEBIAN/control" "$stage/DEBIAN/md5sums"

@@ -1,5 +1,5 @@
 #!/bin/sh
-# Installs witcall: the program, the library for C in one archive, its header, and what finds and documents them.
+# Installs witcall: the programs witcall and wit-explain, the library for C in one archive, its header, and what finds and documents them.
 #
 # usage: tools/install.sh [--prefix DIR] [--libdir NAME] [--destdir DIR] [--released | --built]
 #        tools/install.sh --uninstall [--prefix DIR] [--destdir DIR]
@@ -8,8 +8,9 @@
 # for a package of a distribution.
 #
 # What is installed comes from release/ if that was built from the sources of this checkout, and otherwise from crates/ if the program was
-# proved and built there. --released and --built ask for one of them; --released does not compare the sources. It needs ar, gzip and the
-# usual commands of a POSIX system; --built needs rt too.
+# proved and built there. --released and --built ask for one of them; --released does not compare the sources. --built takes wit-explain as
+# crates/explain/out has it, or leaves it out if it is not there. It needs ar, gzip and the usual commands of a POSIX system; --built needs rt
+# too.
 #
 # PREFIX/share/doc/witcall/manifest has each file and folder that was made, and --uninstall removes these. An installation over an earlier
 # one removes that first. The exit status is 1 if something can't be done, and 2 for wrong words.
@@ -83,6 +84,7 @@ trap 'rm -rf "$work"' EXIT
 
 is_released() {
     [ "$(cat release/sources 2>/dev/null)" = "$(tools/sources.sh program)" ] &&
+        [ "$(cat release/explain-sources 2>/dev/null)" = "$(tools/sources.sh explain)" ] &&
         [ "$(cat release/library-sources 2>/dev/null)" = "$(tools/sources.sh witcall_c)" ]
 }
 
@@ -93,7 +95,7 @@ is_built() {
 
 # Unpacks the release, and compares its checksums.
 take_release() {
-    for file in witcall libwitcall_c.a liblibc_c.a; do
+    for file in witcall wit-explain libwitcall_c.a liblibc_c.a; do
         gzip -dc "release/$file.gz" >"$work/$file" || fail "release/$file.gz can't be unpacked"
     done
     (cd "$work" && sha256sum --quiet -c "$root/release/SHA256SUMS") || fail "release/ isn't what release/SHA256SUMS says"
@@ -104,6 +106,7 @@ take_built() {
     is_built || fail "no program was built from these sources: ./witcall --prove builds one"
     (cd crates/witcall_c && rt lib) >&2 || fail "the library can't be built"
     cp crates/program/out/program "$work/witcall"
+    [ ! -x crates/explain/out/explain ] || cp crates/explain/out/explain "$work/wit-explain"
     cp crates/witcall_c/out/libwitcall_c.a "$(dirname "$(rt doc)")/c/liblibc_c.a" "$work"
 }
 
@@ -159,6 +162,11 @@ put() {
 [ ! -f "$to/$manifest" ] || remove
 : >"$work/manifest"
 put 755 "$work/witcall" bin/witcall
+if [ -f "$work/wit-explain" ]; then
+    put 755 "$work/wit-explain" bin/wit-explain
+    put 644 packaging/wit-explain.1 share/man/man1/wit-explain.1
+    put 644 packaging/completions/wit-explain.bash share/bash-completion/completions/wit-explain
+fi
 put 644 "$work/libwitcall.a" "$libdir/libwitcall.a"
 put 644 include/witcall.h include/witcall.h
 put 644 "$work/witcall.pc" "$libdir/pkgconfig/witcall.pc"

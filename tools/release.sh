@@ -1,13 +1,16 @@
 #!/bin/sh
-# Makes release/ from the program and the static library for C, which it first proves and builds from the sources of this checkout.
+# Makes release/ from the programs witcall and wit-explain and the static library for C, which it first proves and builds from the sources of
+# this checkout.
 #
 # usage: tools/release.sh
 #
 # release/ has
-#   witcall.gz, libwitcall_c.a.gz         the program and the library
+#   witcall.gz, wit-explain.gz            the programs
+#   libwitcall_c.a.gz                     the library
 #   liblibc_c.a.gz                        the toolchain's archive that the library calls; tools/install.sh makes one archive of both
-#   SHA256SUMS                            the checksums of these three, unpacked
-#   sources, library-sources              the checksums of what the first two were built from, as tools/sources.sh prints them
+#   SHA256SUMS                            the checksums of these four, unpacked
+#   sources, explain-sources,             the checksums of what the first three were built from, as tools/sources.sh prints them
+#   library-sources
 #   toolchain, version                    the toolchain's own name for itself; the version of VERSION
 set -eu
 cd "$(dirname "$0")/.."
@@ -15,17 +18,21 @@ cd "$(dirname "$0")/.."
 mkdir -p release
 rm -f release/sources
 ./witcall --prove
+(cd crates/explain && rt run -- --version)
 (cd crates/witcall_c && rt lib)
 gzip -9nc crates/program/out/program >release/witcall.gz
+gzip -9nc crates/explain/out/explain >release/wit-explain.gz
 gzip -9nc crates/witcall_c/out/libwitcall_c.a >release/libwitcall_c.a.gz
 kit=$(dirname "$(rt doc)")
 gzip -9nc "$kit/c/liblibc_c.a" >release/liblibc_c.a.gz
 tools/sources.sh program >release/sources
+tools/sources.sh explain >release/explain-sources
 tools/sources.sh witcall_c >release/library-sources
 rt version >release/toolchain
 cp VERSION release/version
 {
     sha256sum <crates/program/out/program | sed 's/-$/witcall/'
+    sha256sum <crates/explain/out/explain | sed 's/-$/wit-explain/'
     sha256sum <crates/witcall_c/out/libwitcall_c.a | sed 's/-$/libwitcall_c.a/'
     sha256sum <"$kit/c/liblibc_c.a" | sed 's/-$/liblibc_c.a/'
 } >release/SHA256SUMS
