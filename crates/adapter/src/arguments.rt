@@ -6,7 +6,7 @@ ghost use Rattle.tables.specs.Closed.{IsFunction, function_type};
 use crate::fault::{fault_of, trap};
 use canonical_abi::{Fault, Flat, Guest, Step, TrapKind};
 use crossing::cross_params;
-use lift_lower::{Flats, Types, are_kinds};
+use lift_lower::{Flats, Types};
 use tables::{FunctionId, TypeId, ValType};
 
 /// Puts the arguments, as the caller holds them, into the callee: the flat values that carry them there into `handed`, where there
@@ -30,10 +30,10 @@ pub(crate) fn pass_arguments<C: Guest, E: Guest>(
         (E.memory callee.old) fault (E.memory callee.new) nodes.new) }
 {
     let layouts = table.layouts();
-    if !are_kinds(layouts.lowered(func).params.as_slice(), flats) {
+    if !layouts.takes(func, flats) {
         return Err(trap(TrapKind::CoreSignature, Step::LiftArgs));
     }
-    let count = layouts.lifted(func).params.len();
+    let count = layouts.lifted_count(func);
     // A memory's length is a number of 32 bits.
     let _len = caller.len();
     // A function's row is the record of its parameters.

@@ -33,10 +33,10 @@ pub(crate) fn ask_arguments<C: Guest>(
     ensures fault { IfErr result (IsTrapIn LiftArgs (IsArgumentFault (function_type table.now func) flats.now (C.memory caller.now))) }
 {
     let layouts = table.layouts();
-    if !are_kinds(layouts.lowered(func).params.as_slice(), flats) {
+    if !layouts.takes(func, flats) {
         return Err(trap(TrapKind::CoreSignature, Step::LiftArgs));
     }
-    let count = layouts.lifted(func).params.len();
+    let count = layouts.lifted_count(func);
     // A memory's length is a number of 32 bits.
     let _len = caller.len();
     // A function's row is the record of its parameters.
@@ -62,8 +62,8 @@ pub(crate) fn ask_answer<E: Guest>(
     ensures fault { let fs = result_fields (function_type table.now func).result in
         IfErr result (IsTrapIn LiftResult (DenotesFault max_flat_results fs (E.memory callee.now).bytes answer.now)) }
 {
-    let signature = table.layouts().lifted(func);
-    if !are_kinds(signature.result.as_slice(), answer) {
+    let result = table.layouts().lifted_result(func);
+    if !are_kinds(result.as_slice(), answer) {
         return Err(trap(TrapKind::CoreSignature, Step::LiftResult));
     }
     // A memory's length is a number of 32 bits.

@@ -38,14 +38,13 @@ pub(crate) fn pass_answer<C: Guest, E: Guest>(
     ensures no_shorter { OnOk result (length (C.memory caller.old).bytes ≤ length (C.memory caller.new).bytes) }
 {
     let layouts = table.layouts();
-    if !are_kinds(layouts.lowered(func).params.as_slice(), flats) {
+    if !layouts.takes(func, flats) {
         return Err(trap(TrapKind::CoreSignature, Step::LowerResult));
     }
-    let signature = layouts.lifted(func);
-    if !are_kinds(signature.result.as_slice(), answer) {
+    if !are_kinds(layouts.lifted_result(func).as_slice(), answer) {
         return Err(trap(TrapKind::CoreSignature, Step::LiftResult));
     }
-    let area = area_in(flats, signature.params.len());
+    let area = area_in(flats, layouts.lifted_count(func));
     // A memory's length is a number of 32 bits.
     let _len = callee.len();
     let types = table.resolve().signature(func).result.as_slice();

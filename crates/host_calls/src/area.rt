@@ -46,7 +46,7 @@ pub fn return_area(types: &Types, func: FunctionId, flats: &[Flat]) -> Block
     requires function { IsFunction types.now func }
     ensures { result ≡ area_block (function_type types.now func) flats.now }
 {
-    let count = types.layouts().lifted(func).params.len();
+    let count = types.layouts().lifted_count(func);
     Block {
         align: 1,
         size: area_len(types, func),

@@ -15,7 +15,7 @@ use adapter::{Link, Request};
 use arrayvec::ArrayVec;
 use canonical_abi::{Fault, Flat, Step, Trap, TrapKind};
 use lending::{HalfError, MAX_VALUES, NOWHERE, Value, enter_lent, leave_lent, put_flats, tell};
-use lift_lower::{Flats, Types, are_kinds};
+use lift_lower::{Flats, Types};
 use memory::{Block, Lent, can_lend};
 use std::alloc::Global;
 use tables::FunctionId;
@@ -68,7 +68,7 @@ fn fit(types: &Types, func: FunctionId, flats: &[Flat], step: Step) -> Result<()
     ensures ok { OnOk result (KindsFit (function_type types.now func) flats.now) }
     ensures other { IfErr result (AreOtherKinds (function_type types.now func) flats.now step) }
 {
-    if are_kinds(types.layouts().lowered(func).params.as_slice(), flats) {
+    if types.layouts().takes(func, flats) {
         return Ok(());
     }
     Err(CallError::Fault(Fault::Trap(Trap {

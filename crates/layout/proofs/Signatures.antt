@@ -52,6 +52,18 @@ pub record AreKinds (r : Resolve) (f : FunctionId) (params results : Kinds) : Ty
   pub taken : params ≡ kinds_of (field_kinds (function_type r f).params)
   pub answered : results ≡ kinds_of (field_kinds (result_fields (function_type r f).result))
 
+-- how the parameters of a function are passed
+pub params-are : (rows : List Row) (r : Resolve) (f : FunctionId) (x : Row) → rows ≡ (layouts_of r).rows → x ≡ get_or rows f.0 x → IsFunction r f
+    → passed x.kinds ≡ (lifted_signature (function_type r f)).params
+params-are rows r f x rows_are x_is h =
+    let s = stands r f h in
+    let ts = closed_types r in
+    let here : f.0 < length ts = omega (arith, length-closed_rows [] r.definitions, s.in_range) in
+    let row_is : x ≡ row_of (record_type (fields_of (closed_params ts s.function.params))) =
+    x_is ∙ ap (λ (rs : List Row). get_or rs f.0 x) rows_are ∙ get_or-map row_of ts f.0 string_type x here ∙ ap row_of (function-row r f s) in
+    let taken = ap (λ (y : Row). y.kinds) row_is ∙ ap (λ (g : FunctionType). kinds_of (field_kinds g.params)) (sym (function-type r f s)) in
+    ap passed taken ∙ passed-of (field_kinds (function_type r f).params)
+
 pub are-kinds : (rows : List Row) (results : List Kinds) (r : Resolve) (f : FunctionId) (x : Row) (k : Kinds) → rows ≡ (layouts_of r).rows → results ≡ (layouts_of r).results
     → x ≡ get_or rows f.0 x → k ≡ get_or results f.0 k → IsFunction r f → AreKinds r f x.kinds k
 are-kinds rows results r f x k rows_are results_are x_is k_is h =

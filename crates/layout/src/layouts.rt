@@ -5,8 +5,9 @@ ghost use Rattle.tables.specs.Closed.{closed_types, closed_type, function_type, 
 ghost use Rattle.tables.specs.Tables.{is_below};
 ghost use Rattle.canonical_abi.specs.Types.{fields_of, record_fields};
 ghost use Rattle.canonical_abi.specs.Layout.{extent_of, size, align, field_kinds, field_places, lifted_signature, lowered_signature};
+ghost use Rattle.canonical_abi.specs.Reading.{kind_of};
 ghost use Rattle.layout.specs.Kinds.{kinds_of};
-ghost use Rattle.layout.specs.Layout.{row_of, result_of, layouts_of, signature_of, RefusesFirst, AreWithin, IsSound};
+ghost use Rattle.layout.specs.Layout.{row_of, result_of, layouts_of, results_of, signature_of, RefusesFirst, AreWithin, IsSound};
 ghost use Rattle.layout.specs.Parts.{parts_from, AreEnded, end_of, is_end};
 ghost use Rattle.layout.specs.Queries.{shape_of, field_of, case_of, HasShape, TellsField, TellsCase};
 ghost use Rattle.layout.specs.Rows.{definition_result, result_below};
@@ -17,8 +18,11 @@ use crate::kinds::Kinds;
 use crate::parts::Parts;
 use crate::queries::{CaseInfo, FieldInfo, Shape};
 use crate::rows::{Row, end_of, lay_definition, look, row_in};
-use crate::signature::{CoreSignature, lifted_of, lowered_of};
+use crate::signature::{
+    CoreSignature, are_lowered, lifted_of, lowered_of, passed_count, result_of,
+};
 use crate::work::Steps;
+use canonical_abi::{CoreKind, Flat};
 use std::alloc::Global;
 use std::marker::Model;
 use tables::{Definition, FunctionId, Resolve, ValType};
@@ -190,6 +194,32 @@ impl Layouts {
     {
         let place = func.0 as usize;
         lowered_of(&self.rows[place].kinds, &self.results[place])
+    }
+
+    /// Whether the flat values are what the caller's import takes: those of `lowered`, which this doesn't make.
+    pub fn takes(&self, func: FunctionId, flats: &[Flat]) -> bool
+        requires { func.0 < length self.now.rows }
+        ensures { (r : Resolve) → self.now ≡ layouts_of r → IsFunction r func
+            → IsTrue result ↔ (map kind_of flats.now ≡ (lowered_signature (function_type r func)).params) }
+    {
+        let place = func.0 as usize;
+        are_lowered(&self.rows[place].kinds, &self.results[place], flats)
+    }
+
+    /// How many core values the callee's function takes: as many as `lifted` has.
+    pub fn lifted_count(&self, func: FunctionId) -> usize
+        requires { func.0 < length self.now.rows }
+        ensures { (r : Resolve) → self.now ≡ layouts_of r → IsFunction r func → result ≡ length (lifted_signature (function_type r func)).params }
+    {
+        passed_count(&self.rows[func.0 as usize].kinds)
+    }
+
+    /// The core value that the callee's function answers, if any.
+    pub fn lifted_result(&self, func: FunctionId) -> Option<CoreKind>
+        requires { func.0 < length self.now.rows }
+        ensures { (r : Resolve) → self.now ≡ layouts_of r → IsFunction r func → results_of result ≡ (lifted_signature (function_type r func)).results }
+    {
+        result_of(&self.results[func.0 as usize])
     }
 
     /// How many steps the table took, as they were counted while it was made: one for each definition, and one

@@ -21,4 +21,4 @@ pub use layouts::Layouts;
 pub use parts::Parts;
 pub use queries::{CaseInfo, FieldInfo, Shape};
 pub use rows::{MAX_DEPTH, MAX_SIZE, Row};
-pub use signature::CoreSignature;
+pub use signature::{CoreSignature, are_kinds};

@@ -1,12 +1,13 @@
 //! The core signatures of a function, of its parameters' kinds and its result's.
-ghost use Rattle.std.specs.Prelude.{◌≡◌, ◌≤◌, length};
+ghost use Rattle.std.specs.Prelude.{◌≡◌, ◌≤◌, ◌↔◌, length, map, IsTrue};
+ghost use Rattle.canonical_abi.specs.Reading.{kind_of};
 ghost use Rattle.layout.specs.Kinds.{passed};
 ghost use Rattle.layout.specs.Layout.{results_of, signature_of};
 ghost use Rattle.layout.specs.Signature.{is_one, single, lifted_by, lowered_by};
 
 use crate::kinds::{Kinds, copied};
 use arrayvec::ArrayVec;
-use canonical_abi::CoreKind;
+use canonical_abi::{CoreKind, Flat};
 
 /// The types of the values that a core function takes and answers.
 #[derive(Debug, Drop)]
@@ -40,7 +41,7 @@ fn is_one(kinds: &Kinds) -> bool
 }
 
 /// How a result of these kinds is passed: by one value, by none, or by an address.
-fn result_of(kinds: &Kinds) -> Option<CoreKind>
+pub(crate) fn result_of(kinds: &Kinds) -> Option<CoreKind>
     ensures { results_of result ≡ single kinds.now }
 {
     match kinds {
@@ -74,4 +75,52 @@ pub(crate) fn lowered_of(params: &Kinds, results: &Kinds) -> CoreSignature
         lowered.result = None;
     }
     lowered
+}
+
+/// Whether the flat values have these kinds.
+pub fn are_kinds(kinds: &[CoreKind], flats: &[Flat]) -> bool
+    ensures { IsTrue result ↔ (map kind_of flats.now ≡ kinds.now) }
+{
+    if flats.len() != kinds.len() {
+        return false;
+    }
+    for (i, kind) in kinds.iter().enumerate() {
+        if flats[i].kind() != *kind {
+            return false;
+        }
+    }
+    true
+}
+
+/// Whether the flat values are parameters of these kinds, as they are passed.
+fn are_passed(kinds: &Kinds, flats: &[Flat]) -> bool
+    ensures { IsTrue result ↔ (map kind_of flats.now ≡ passed kinds.now) }
+{
+    match kinds {
+        Kinds::Flat(kinds) => are_kinds(kinds.as_slice(), flats),
+        Kinds::Spilled => are_kinds(&[CoreKind::I32], flats),
+    }
+}
+
+/// Whether the flat values are what the caller's import takes: the parameters, and behind them an address if the result doesn't go flat.
+pub(crate) fn are_lowered(params: &Kinds, results: &Kinds, flats: &[Flat]) -> bool
+    ensures { IsTrue result ↔ (map kind_of flats.now ≡ (lowered_by params.now results.now).params) }
+{
+    if is_one(results) {
+        return are_passed(params, flats);
+    }
+    match flats.split_last() {
+        Some((area, arguments)) => area.kind() == CoreKind::I32 && are_passed(params, arguments),
+        None => false,
+    }
+}
+
+/// How many core values pass parameters of these kinds.
+pub(crate) fn passed_count(kinds: &Kinds) -> usize
+    ensures { result ≡ length (passed kinds.now) }
+{
+    match kinds {
+        Kinds::Flat(kinds) => kinds.len(),
+        Kinds::Spilled => 1,
+    }
 }

@@ -27,8 +27,9 @@ mod typing;
 mod val;
 
 pub use heads::{Head, head_at, head_of, put_head};
+pub use layout::are_kinds;
 pub use lift_flat::low_word;
-pub use lifting::{are_kinds, lift, lift_params, lift_result};
+pub use lifting::{lift, lift_params, lift_result};
 pub use loading::load;
 pub use lowering::{lower, lower_answer};
 pub use placing::{ask_area, is_area, lower_arguments, take_result};

@@ -23,7 +23,7 @@ use crate::no_value::NoValue;
 use crate::types::Types;
 use crate::val::Val;
 use canonical_abi::{CoreKind, Fault, Flat, Guest, Step, TrapKind};
-use layout::Layouts;
+use layout::{Layouts, are_kinds};
 use std::alloc::Global;
 use tables::{Resolve, ValType};
 
@@ -180,19 +180,4 @@ fn load_spilled(
     check_block(memory, at, align, size)?;
     let members = Members::Listed(types);
     load_fields(alloc, table, &members, types.len(), memory, at)
-}
-
-/// Whether the flat values have these kinds.
-pub fn are_kinds(kinds: &[CoreKind], flats: &[Flat]) -> bool
-    ensures { IsTrue result ↔ (map kind_of flats.now ≡ kinds.now) }
-{
-    if flats.len() != kinds.len() {
-        return false;
-    }
-    for (i, kind) in kinds.iter().enumerate() {
-        if flats[i].kind() != *kind {
-            return false;
-        }
-    }
-    true
 }

@@ -1,19 +1,18 @@
 use Rattle.std.proofs.Common.{map, refl, sym, ap, ◌∙◌, subst, arith, rules}
 use Rattle.canonical_abi.specs.Types.{record_type, record_fields}
-use Rattle.canonical_abi.specs.Layout.{max_flat_params, passed_kinds}
+use Rattle.canonical_abi.specs.Layout.{lifted_signature, max_flat_params, passed_kinds}
 use Rattle.canonical_abi.specs.Reading.{kind_of}
 use Rattle.canonical_abi.specs.Call.{KindsFit}
-use Rattle.layout.specs.Layout.{signature_of}
 use Rattle.tables.specs.Closed.{function_type}
 use Rattle.adapter.proofs.Signatures.{function-stands, params-row, params-inside}
 use Rattle.adapter.proofs.Crossings.{argument-kinds, same-arguments, EndsArguments, arguments-end}
 use Rattle.adapter.proofs.arguments.pass_arguments.Goals as goal
 
-pub lowered-requires : goal.lowered-requires
-lowered-requires g c = function-stands c.args.table.now c.layouts-layouts.result.now c.args.func c.layouts-layouts.ensures c.requires.function
+pub takes-requires : goal.takes-requires
+takes-requires g c = function-stands c.args.table.now c.layouts-layouts.result.now c.args.func c.layouts-layouts.ensures c.requires.function
 
-pub lifted-requires : goal.lifted-requires
-lifted-requires g c = function-stands c.args.table.now c.layouts-layouts.result.now c.args.func c.layouts-layouts.ensures c.requires.function
+pub lifted_count-count-requires : goal.lifted_count-count-requires
+lifted_count-count-requires g c = function-stands c.args.table.now c.layouts-layouts.result.now c.args.func c.layouts-layouts.ensures c.requires.function
 
 pub cross_params-crossed-requires-clause-inside : goal.cross_params-crossed-requires-clause-inside
 cross_params-crossed-requires-clause-inside g c = params-inside c.args.table.now c.args.func c.requires.function _ refl
@@ -30,7 +29,7 @@ cross_params-crossed-requires-clause-kinds g c =
     let flats = c.args.flats.now in
     let row = params-row r c.args.func c.requires.function _ refl in
     let kinds : KindsFit f flats = search rules in
-    let same = same-arguments f flats _ c.len-count.result (signature_of c.lifted.result) refl c.len-count.ensures.value (c.lifted.ensures r c.layouts-layouts.ensures c.requires.function) in
+    let same = same-arguments f flats _ c.lifted_count-count.result (lifted_signature f) refl (c.lifted_count-count.ensures r c.layouts-layouts.ensures c.requires.function) refl in
     ap (map kind_of) same ∙ argument-kinds f flats kinds ∙ sym (ap (λ t. passed_kinds max_flat_params (record_fields t)) row)
 
 pub returns-in-Ok-clause-entered : goal.returns-in-Ok-clause-entered
@@ -44,7 +43,7 @@ returns-in-Ok-clause-entered g c =
     let callee' = g.E.Guest.memory c.cross_params-crossed.new.guest in
     let row = params-row r c.args.func c.requires.function _ refl in
     let kinds : KindsFit f flats = search rules in
-    let same = same-arguments f flats _ c.len-count.result (signature_of c.lifted.result) refl c.len-count.ensures.value (c.lifted.ensures r c.layouts-layouts.ensures c.requires.function) in
+    let same = same-arguments f flats _ c.lifted_count-count.result (lifted_signature f) refl (c.lifted_count-count.ensures r c.layouts-layouts.ensures c.requires.function) refl in
     let ends = rw (row, same, c.bytes.ensures) at c.cross_params-crossed.ensures in
     let told = arguments-end EA f flats caller.bytes callee kinds _ c.cross_params-crossed.result callee' _ c.cross_params-crossed.new.out.items c.requires.fresh (omega arith) ends in
     subst (EndsArguments EA f flats caller.bytes callee callee' c.cross_params-crossed.new.nodes c.cross_params-crossed.new.out.items) c.in-Ok.is told
@@ -60,7 +59,7 @@ returns-in-Err-clause-fault g c =
     let callee' = g.E.Guest.memory c.cross_params-crossed.new.guest in
     let row = params-row r c.args.func c.requires.function _ refl in
     let kinds : KindsFit f flats = search rules in
-    let same = same-arguments f flats _ c.len-count.result (signature_of c.lifted.result) refl c.len-count.ensures.value (c.lifted.ensures r c.layouts-layouts.ensures c.requires.function) in
+    let same = same-arguments f flats _ c.lifted_count-count.result (lifted_signature f) refl (c.lifted_count-count.ensures r c.layouts-layouts.ensures c.requires.function) refl in
     let ends = rw (row, same, c.bytes.ensures) at c.cross_params-crossed.ensures in
     let told = arguments-end EA f flats caller.bytes callee kinds _ c.cross_params-crossed.result callee' _ c.cross_params-crossed.new.out.items c.requires.fresh (omega arith) ends in
     rw c.fault_of.ensures (subst (EndsArguments EA f flats caller.bytes callee callee' c.cross_params-crossed.new.nodes c.cross_params-crossed.new.out.items) c.in-Err.is told)

@@ -8,8 +8,8 @@ use Rattle.adapter.proofs.Functions.{same_types}
 use Rattle.adapter.proofs.Signatures.{function-stands, result-known, result-inside, result-is, result-fields, all-inside, result-small}
 use Rattle.adapter.proofs.requests.ask_answer.Goals as goal
 
-pub lifted-signature-requires : goal.lifted-signature-requires
-lifted-signature-requires g c = function-stands c.args.table.now c.layouts.result.now c.args.func c.layouts.ensures c.requires.function
+pub lifted_result-result-requires : goal.lifted_result-result-requires
+lifted_result-result-requires g c = function-stands c.args.table.now c.layouts.result.now c.args.func c.layouts.ensures c.requires.function
 
 pub ask_result-requires-clause-inside : goal.ask_result-requires-clause-inside
 ask_result-requires-clause-inside g c =

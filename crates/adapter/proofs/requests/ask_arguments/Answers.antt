@@ -1,19 +1,18 @@
 use Rattle.std.proofs.Common.{inr, refl, map, sym, ap, ◌∙◌, rules}
 use Rattle.canonical_abi.specs.Types.{record_type, record_fields}
-use Rattle.canonical_abi.specs.Layout.{max_flat_params, passed_kinds}
+use Rattle.canonical_abi.specs.Layout.{lifted_signature, max_flat_params, passed_kinds}
 use Rattle.canonical_abi.specs.Reading.{kind_of}
 use Rattle.canonical_abi.specs.Call.{KindsFit}
-use Rattle.layout.specs.Layout.{signature_of}
 use Rattle.tables.specs.Closed.{function_type}
 use Rattle.adapter.proofs.Signatures.{function-stands, params-row, params-inside}
 use Rattle.adapter.proofs.Crossings.{argument-kinds, same-arguments}
 use Rattle.adapter.proofs.requests.ask_arguments.Goals as goal
 
-pub lowered-requires : goal.lowered-requires
-lowered-requires g c = function-stands c.args.table.now c.layouts-layouts.result.now c.args.func c.layouts-layouts.ensures c.requires.function
+pub takes-requires : goal.takes-requires
+takes-requires g c = function-stands c.args.table.now c.layouts-layouts.result.now c.args.func c.layouts-layouts.ensures c.requires.function
 
-pub lifted-requires : goal.lifted-requires
-lifted-requires g c = function-stands c.args.table.now c.layouts-layouts.result.now c.args.func c.layouts-layouts.ensures c.requires.function
+pub lifted_count-count-requires : goal.lifted_count-count-requires
+lifted_count-count-requires g c = function-stands c.args.table.now c.layouts-layouts.result.now c.args.func c.layouts-layouts.ensures c.requires.function
 
 pub ask_params-requires-clause-inside : goal.ask_params-requires-clause-inside
 ask_params-requires-clause-inside g c = params-inside c.args.table.now c.args.func c.requires.function _ refl
@@ -30,7 +29,7 @@ ask_params-requires-clause-kinds g c =
     let flats = c.args.flats.now in
     let row = params-row r c.args.func c.requires.function _ refl in
     let kinds : KindsFit f flats = search rules in
-    let same = same-arguments f flats _ c.len-count.result (signature_of c.lifted.result) refl c.len-count.ensures.value (c.lifted.ensures r c.layouts-layouts.ensures c.requires.function) in
+    let same = same-arguments f flats _ c.lifted_count-count.result (lifted_signature f) refl (c.lifted_count-count.ensures r c.layouts-layouts.ensures c.requires.function) refl in
     ap (map kind_of) same ∙ argument-kinds f flats kinds ∙ sym (ap (λ t. passed_kinds max_flat_params (record_fields t)) row)
 
 pub returns-in-Ok-clause-told : goal.returns-in-Ok-clause-told
@@ -39,7 +38,7 @@ returns-in-Ok-clause-told g c =
     let f = function_type r c.args.func in
     let flats = c.args.flats.now in
     let row = params-row r c.args.func c.requires.function _ refl in
-    let same = same-arguments f flats _ c.len-count.result (signature_of c.lifted.result) refl c.len-count.ensures.value (c.lifted.ensures r c.layouts-layouts.ensures c.requires.function) in
+    let same = same-arguments f flats _ c.lifted_count-count.result (lifted_signature f) refl (c.lifted_count-count.ensures r c.layouts-layouts.ensures c.requires.function) refl in
     rw (row, same, c.bytes.ensures) at c.in-Ok.ensures.told
 
 pub returns-in-Err-clause-fault : goal.returns-in-Err-clause-fault
@@ -49,5 +48,5 @@ returns-in-Err-clause-fault g c =
     let flats = c.args.flats.now in
     let row = params-row r c.args.func c.requires.function _ refl in
     let kinds : KindsFit f flats = search rules in
-    let same = same-arguments f flats _ c.len-count.result (signature_of c.lifted.result) refl c.len-count.ensures.value (c.lifted.ensures r c.layouts-layouts.ensures c.requires.function) in
+    let same = same-arguments f flats _ c.lifted_count-count.result (lifted_signature f) refl (c.lifted_count-count.ensures r c.layouts-layouts.ensures c.requires.function) refl in
     rw c.trap-in-Err.ensures (refl, inr (kinds, rw (row, same, c.bytes.ensures) at c.in-Err.ensures.fault))

@@ -1,8 +1,7 @@
-use Rattle.std.proofs.Common.{◌≡◌, ◌≤◌, inr, sym, ap, ◌∙◌, subst, arith, rules}
+use Rattle.std.proofs.Common.{refl, ◌≡◌, ◌≤◌, inr, sym, ap, ◌∙◌, subst, arith, rules}
 use Rattle.canonical_abi.specs.Types.{record_type, result_fields}
-use Rattle.canonical_abi.specs.Layout.{size}
+use Rattle.canonical_abi.specs.Layout.{lifted_signature, size}
 use Rattle.canonical_abi.specs.Call.{KindsFit}
-use Rattle.layout.specs.Layout.{signature_of}
 use Rattle.tables.specs.Closed.{function_type}
 use Rattle.lift_lower.specs.Crossing.{fields_of_types}
 use Rattle.lift_lower.specs.Members.{AreAllInside}
@@ -11,11 +10,14 @@ use Rattle.adapter.proofs.Signatures.{function-stands, result-known, result-insi
 use Rattle.adapter.proofs.Crossings.{area-is, EndsResult, result-ends}
 use Rattle.adapter.proofs.results.pass_answer.Goals as goal
 
-pub lowered-requires : goal.lowered-requires
-lowered-requires g c = function-stands c.args.table.now c.layouts-layouts.result.now c.args.func c.layouts-layouts.ensures c.requires.function
+pub takes-requires : goal.takes-requires
+takes-requires g c = function-stands c.args.table.now c.layouts-layouts.result.now c.args.func c.layouts-layouts.ensures c.requires.function
 
-pub lifted-signature-requires : goal.lifted-signature-requires
-lifted-signature-requires g c = function-stands c.args.table.now c.layouts-layouts.result.now c.args.func c.layouts-layouts.ensures c.requires.function
+pub lifted_result-requires : goal.lifted_result-requires
+lifted_result-requires g c = function-stands c.args.table.now c.layouts-layouts.result.now c.args.func c.layouts-layouts.ensures c.requires.function
+
+pub lifted_count-requires : goal.lifted_count-requires
+lifted_count-requires g c = function-stands c.args.table.now c.layouts-layouts.result.now c.args.func c.layouts-layouts.ensures c.requires.function
 
 pub cross_result-crossed-requires-clause-inside : goal.cross_result-crossed-requires-clause-inside
 cross_result-crossed-requires-clause-inside g c =
@@ -43,7 +45,7 @@ returns-in-Ok-clause-returned g c =
     let s = c.signature.result.now in
     let is = result-is r c.args.func c.requires.function s (rw c.resolve.ensures at c.signature.ensures) in
     let own : fields_of_types r c.as_slice-types.result.now ≡ result_fields f.result = ap (fields_of_types r) (same_types s.result _ c.as_slice-types.ensures) ∙ result-fields r s.result ∙ ap result_fields (sym is) in
-    let area = area-is f flats c.area_in-area.result c.len.result (signature_of c.lifted-signature.result) c.area_in-area.ensures c.len.ensures.value (c.lifted-signature.ensures r c.layouts-layouts.ensures c.requires.function) in
+    let area = area-is f flats c.area_in-area.result c.lifted_count.result (lifted_signature f) c.area_in-area.ensures (c.lifted_count.ensures r c.layouts-layouts.ensures c.requires.function) refl in
     let ends = rw (own, area, c.bytes-bytes.ensures) at c.cross_result-crossed.ensures in
     let told = result-ends CA f flats caller callee.bytes c.args.answer.now _ c.cross_result-crossed.result caller' _ c.cross_result-crossed.new.out.items c.requires.fresh (omega arith) ends in
     subst (EndsResult CA f flats caller callee.bytes c.args.answer.now caller' c.cross_result-crossed.new.nodes c.cross_result-crossed.new.out.items) c.in-Ok.is told
@@ -60,7 +62,7 @@ returns-in-Err-clause-fault g c =
     let s = c.signature.result.now in
     let is = result-is r c.args.func c.requires.function s (rw c.resolve.ensures at c.signature.ensures) in
     let own : fields_of_types r c.as_slice-types.result.now ≡ result_fields f.result = ap (fields_of_types r) (same_types s.result _ c.as_slice-types.ensures) ∙ result-fields r s.result ∙ ap result_fields (sym is) in
-    let area = area-is f flats c.area_in-area.result c.len.result (signature_of c.lifted-signature.result) c.area_in-area.ensures c.len.ensures.value (c.lifted-signature.ensures r c.layouts-layouts.ensures c.requires.function) in
+    let area = area-is f flats c.area_in-area.result c.lifted_count.result (lifted_signature f) c.area_in-area.ensures (c.lifted_count.ensures r c.layouts-layouts.ensures c.requires.function) refl in
     let ends = rw (own, area, c.bytes-bytes.ensures) at c.cross_result-crossed.ensures in
     let told = result-ends CA f flats caller callee.bytes c.args.answer.now _ c.cross_result-crossed.result caller' _ c.cross_result-crossed.new.out.items c.requires.fresh (omega arith) ends in
     let kinds : KindsFit f flats = search rules in

@@ -2,5 +2,5 @@
 use Rattle.adapter.proofs.Signatures.{function-stands}
 use Rattle.host_calls.proofs.calling.fit.Goals as goal
 
-pub lowered-requires : goal.lowered-requires
-lowered-requires c = function-stands c.args.types.now c.layouts.result.now c.args.func c.layouts.ensures c.requires.function
+pub takes-requires : goal.takes-requires
+takes-requires c = function-stands c.args.types.now c.layouts.result.now c.args.func c.layouts.ensures c.requires.function
