@@ -1,5 +1,6 @@
 -- Rows in postfix order: the test answers the relation.
-use Rattle.std.proofs.Common.{◌≡◌, ℕ, suc, ◌+◌, ◌-◌, Bool, true, false, cond, not, ◌&&◌, ◌==◌, nat_eq, IsTrue, List, [], ◌∷◌, ◌++◌, take, drop, length, Option, None, Some, is_some, refl, ap, sym, subst, ◌∙◌, append_assoc, append-nil, arith, length-append}
+use Rattle.std.proofs.Common.{◌≡◌, ℕ, suc, ◌+◌, ◌-◌, Bool, true, false, cond, not, ◌&&◌, ◌==◌, nat_eq, IsTrue, List, [], ◌∷◌, ◌++◌, take, drop, length, Option, None, Some, is_some, refl, ap, sym, subst, ◌∙◌, append_assoc, append-nil, arith, length-append, Result, Ok, Err, IfOk}
+use Rattle.std.specs.Bool.{Decides}
 use Rattle.std.specs.List.{ends_with}
 use Rattle.std.proofs.Math.Seq.{drop-append_seam, take-append_seam}
 use Rattle.std.proofs.lemmas.List.{take-append-drop}
@@ -169,3 +170,8 @@ module _ (all : List Definition) (earlier : IsTrue (are_earlier 0 all)) where
 
 pub postfix-used : (rows : List Definition) → IsTrue (are_earlier 0 rows) → IsPostfix rows → are_used rows 0 [] rows ≡ true
 postfix-used rows h l = tested rows h rows [] l [] (sym (append-nil rows))
+
+pub decides-postfix : {E : Type 0} (rows : List Definition) → IsTrue (are_earlier 0 rows) → (result : Result Bool E) → IfOk result (λ b. b ≡ are_used rows 0 [] rows)
+    → IfOk result (λ b. Decides b (IsPostfix rows))
+decides-postfix rows h (Ok b) u = (λ q. used-postfix rows h (sym u ∙ q), λ p. u ∙ postfix-used rows h p)
+decides-postfix rows h (Err e) u = tt

@@ -25,3 +25,4 @@ pub use form::is_in_form;
 pub use indexed::{IndexedTable, PackageKey};
 pub use references::push_references;
 pub use scope::{FEW, Scope};
+pub use unused::is_postfix;

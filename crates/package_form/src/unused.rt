@@ -1,12 +1,12 @@
 //! Whether rows without names stand in postfix order.
-ghost use Rattle.std.specs.Prelude.{◌≡◌, ◌≤◌, ◌==◌, [], length, nat_eq, slice_get, IfOk};
+ghost use Rattle.std.specs.Prelude.{◌≡◌, ◌==◌, [], length, nat_eq, slice_get, Decides, IfOk};
 ghost use Rattle.std.specs.List.{ends_with};
-ghost use Rattle.package_form.specs.Postfix.{is_unnamed, is_unnamed_row, is_inner};
+ghost use Rattle.package_form.specs.Postfix.{is_unnamed, is_unnamed_row, is_inner, IsPostfix};
 ghost use Rattle.package_form.specs.Unused.{unnamed_at, inner_rows, is_alias, can_use, closes, is_next, are_used};
 
 use crate::references::references;
 use std::alloc::{AllocError, Global};
-use tables::{Definition, TypeDefKind, TypeId};
+use tables::{Definition, Resolve, TypeDefKind, TypeId};
 
 pub fn is_unnamed(row: &Definition) -> bool
     ensures { result ≡ is_unnamed row.now }
@@ -84,9 +84,18 @@ fn is_next(unused: &[u32], inner: &[u32], row: &Definition) -> bool
     can_use(row, inner) && unused.ends_with(inner) && closes(row, unused.len() - inner.len())
 }
 
+/// The id of the row at this place. No memory where an id can't tell it.
+fn row_id(place: usize) -> Result<u32, AllocError>
+    ensures { IfOk result (λ id. id ≡ place) }
+{
+    match u32::try_from(place) {
+        Ok(id) => Ok(id),
+        Err(_) => Err(AllocError),
+    }
+}
+
 /// Whether each row without a name is used once, in order, by the next row that is made of it.
 pub fn are_used(alloc: Global, rows: &[Definition]) -> Result<bool, AllocError>
-    requires { length rows.now ≤ 65535 }
     ensures { IfOk result (λ b. b ≡ are_used rows.now 0 [] rows.now) }
 {
     let mut unused = Vec::new(alloc);
@@ -97,8 +106,16 @@ pub fn are_used(alloc: Global, rows: &[Definition]) -> Result<bool, AllocError>
         }
         unused.truncate(unused.len() - inner.len());
         if is_unnamed(row) {
-            unused.push(place as u32)?;
+            unused.push(row_id(place)?)?;
         }
     }
     Ok(unused.is_empty())
+}
+
+/// Whether the definitions of a table stand in postfix order: each type without a name is used once, by the next
+/// definition that is made of it. No memory, too, where an id can't tell the place of such a type.
+pub fn is_postfix(alloc: Global, resolve: &Resolve) -> Result<bool, AllocError>
+    ensures { IfOk result (λ b. Decides b (IsPostfix resolve.now.definitions)) }
+{
+    are_used(alloc, resolve.definitions.as_slice())
 }

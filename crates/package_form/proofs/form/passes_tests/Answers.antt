@@ -14,7 +14,3 @@ have_items-requires-clause-parted c =
 pub have_items-requires-clause-few : goal.have_items-requires-clause-few
 have_items-requires-clause-few c =
     few-rows c.as_slice-worlds.result.now c.as_slice-rows.result.now _ (within-entries c.as_slice-worlds.result.now c.as_slice-rows.result.now _ c.passes_entries.result c.passes_entries.ensures c.if-passes_entries.false)
-
-pub are_used-requires : goal.are_used-requires
-are_used-requires c =
-    few-rows c.as_slice-worlds.result.now c.as_slice-rows.result.now _ (within-entries c.as_slice-worlds.result.now c.as_slice-rows.result.now _ c.passes_entries.result c.passes_entries.ensures c.if-passes_entries.false)
