@@ -2,7 +2,7 @@
 //!
 //! `from_ast` makes the tables of `tables` of a syntax tree: it tells each name apart from the others of its
 //! scope, finds what it stands for, puts interfaces and types in order, and lays the definitions in one table. It
-//! stands on `tree_names` for the names, on `tree_rows` for the table, and on `tree_forms` for what the table keeps.
+//! stands on `tree_rows` for that table, and on `tree_forms` for what it keeps.
 #![tactic(auto)]
 
 mod tree;
@@ -13,4 +13,4 @@ pub use tables::{
     ValType, World, WorldId, WorldItem, WorldItemKind, laws,
 };
 pub use tree::{closed_from_ast, from_ast};
-pub use tree_scopes::{has_package, package_key, package_name};
+pub use tree_scopes::{are_imports, has_package, package_key, package_name};

@@ -1,183 +1,20 @@
 //! The package of a syntax tree.
-ghost use Rattle.std.specs.Prelude.{◌≡◌, ◌<◌, ℕ, true, [], map, filter_map, length, slice_index_or, All, IsTrue, IfOk, IfErr, OnOk};
-ghost use Rattle.atoms.specs.Label.{IsLabel};
-ghost use Rattle.wit_syntax.specs.View.{item_view, file_view};
+ghost use Rattle.std.specs.Prelude.{◌≡◌, true, All, IsTrue, IfOk, IfErr, OnOk};
+ghost use Rattle.wit_syntax.specs.View.{file_view};
 ghost use Rattle.wit_syntax.specs.FullNames.{has_full_names};
-ghost use Rattle.placement.specs.Order.{IsPlacement};
 ghost use Rattle.package_form.specs.Closed.{is_closed};
 ghost use Rattle.package_form.specs.Form.{IsInPackageForm};
 ghost use Rattle.package_form.specs.Naming.{package_scopes};
 ghost use Rattle.package_form.specs.Scope.{AreDistinct};
-ghost use Rattle.tree_meaning.specs.Declarations.{interface_of, interface_at, interfaces, interface_names, package_named};
 ghost use Rattle.tree_meaning.specs.ImportForms.{IsNamedBehind, AreReachedFrom};
 ghost use Rattle.tree_meaning.specs.Imports.{imports_of};
-ghost use Rattle.tree_meaning.specs.Resolves.{interface_uses, type_uses, names_in_order, AreImports, IsPackageOf, IsClosedPackageOf, ResolveRefuses, ResolveRefusesOf, HasNoFaults, HasNoFaultsOf, AnswersOnly, AnswersOnlyBehind, file_fits};
-ghost use Rattle.tree_scopes.specs.KnownScopes.{AreImportScopes};
-ghost use Rattle.tree_scopes.specs.Sources.{declared_tree};
+ghost use Rattle.tree_meaning.specs.Resolves.{AreImports, IsPackageOf, IsClosedPackageOf, ResolveRefuses, ResolveRefusesOf, HasNoFaults, HasNoFaultsOf, AnswersOnly, AnswersOnlyBehind, file_fits};
 
-use atoms::{KeyedState, Label};
-use package_form::IndexedTable;
-use std::alloc::{AllocError, Global};
-use tables::{PackageName, Resolve, ResolveError, Sequence};
-use tree_names::{
-    are_nested, distinct_names, interface_order, keyed_by_tree, known_names, known_packages,
-    type_orders,
-};
-use tree_rows::{
-    Builder, copied_parts, define_package, define_worlds, finish, ordered_index, ordered_names,
-    package_id,
-};
-use tree_scopes::{Declarations, KnownTypes, Names, import_scopes, no_imports, package_name};
-use wit_syntax::{Ast, Item};
-
-fn all_declarations<'a>(
-    alloc: Global,
-    keyed: KeyedState,
-    items: &'a [Item],
-) -> Result<Vec<Declarations<'a>>, AllocError>
-    ensures { IfOk result (λ ds. map declared_tree ds.items ≡ filter_map interface_of (map item_view items.now)) }
-{
-    let mut all = Vec::new(alloc);
-    for item in items {
-        if let Item::Interface(interface) = item {
-            all.push(Declarations::of(alloc, keyed, interface)?)?;
-        }
-    }
-    Ok(all)
-}
-
-/// What the interfaces of a tree declare, where each name of the tree stands for something.
-fn declarations<'a>(
-    alloc: Global,
-    keyed: KeyedState,
-    package: &PackageName,
-    imports: &IndexedTable<'_>,
-    scopes: &[KnownTypes],
-    ast: &'a Ast,
-) -> Result<Vec<Declarations<'a>>, ResolveError>
-    requires named { «package».now ≡ package_named (file_view ast.now) }
-    requires scopes { AreImportScopes imports.now scopes.now }
-    ensures faults { IfOk result (λ _. HasNoFaultsOf (imports_of imports.now) (file_view ast.now)) }
-    ensures ok { IfOk result (λ ds. map declared_tree ds.items ≡ interfaces (file_view ast.now)) }
-    ensures labels { IfOk result (λ _. All IsLabel (interface_names (interfaces (file_view ast.now)))) }
-    ensures fits { OnOk result (file_fits (file_view ast.now) ≡ true) }
-    ensures err { IfErr result (ResolveRefusesOf (imports_of imports.now) (file_view ast.now)) }
-{
-    if ast.items.is_empty() {
-        return Err(ResolveError::EmptyPackage);
-    }
-    if !are_nested(&ast.items) {
-        return Err(ResolveError::Limit);
-    }
-    distinct_names(alloc, keyed, package, &ast.items)?;
-    known_packages(alloc, imports.table().packages.as_slice(), &ast.items)?;
-    let all = all_declarations(alloc, keyed, &ast.items)?;
-    known_names(alloc, keyed, imports, scopes, &all, &ast.items)?;
-    Ok(all)
-}
-
-/// The closed table of a tree, of these declarations, whose interfaces are defined in this order, and the types of each in
-/// its own. The names are those of the interfaces in that order.
-fn closed_table(
-    alloc: Global,
-    keyed: KeyedState,
-    imports: &IndexedTable<'_>,
-    scopes: Vec<KnownTypes>,
-    package: PackageName,
-    all: &[Declarations],
-    order: &[usize],
-    types: &[Sequence<usize>],
-    names: &Names,
-    labels: &[Label],
-    ast: &Ast,
-) -> Result<Resolve, ResolveError>
-    requires imports { AreImports imports.now }
-    requires scopes { AreImportScopes imports.now scopes.items }
-    requires named { «package» ≡ package_named (file_view ast.now) }
-    requires all { map declared_tree all.now ≡ interfaces (file_view ast.now) }
-    requires faults { HasNoFaultsOf (imports_of imports.now) (file_view ast.now) }
-    requires labelled { All IsLabel (interface_names (interfaces (file_view ast.now))) }
-    requires placed { IsPlacement (interface_uses (map declared_tree all.now)) order.now }
-    requires count { length types.now ≡ length all.now }
-    requires types { (k : ℕ) → k < length all.now → IsPlacement (type_uses (interface_at (map declared_tree all.now) k)) (slice_index_or types.now k []) }
-    requires names { names.now ≡ names_in_order (map declared_tree all.now) order.now }
-    requires labels { labels.now ≡ names_in_order (map declared_tree all.now) order.now }
-    ensures ok { IfOk result (IsClosedPackageOf imports.now (file_view ast.now)) }
-    ensures err { IfErr result (ResolveRefusesOf (imports_of imports.now) (file_view ast.now)) }
-{
-    let (packages, interfaces, rows) = copied_parts(alloc, imports)?;
-    let own = package_id(packages.len())?;
-    let mut builder = Builder::new(imports, labels, rows);
-    define_package(
-        alloc,
-        keyed,
-        imports,
-        &mut builder,
-        scopes,
-        names,
-        all,
-        order,
-        types,
-    )?;
-    let worlds = define_worlds(alloc, keyed, &mut builder, imports, names, own, &ast.items)?;
-    finish(
-        alloc, imports, packages, interfaces, labels, builder, worlds, package,
-    )
-}
-
-/// The closed table of a tree, of these declarations.
-fn defined(
-    alloc: Global,
-    keyed: KeyedState,
-    imports: &IndexedTable<'_>,
-    scopes: Vec<KnownTypes>,
-    package: PackageName,
-    all: &[Declarations],
-    ast: &Ast,
-) -> Result<Resolve, ResolveError>
-    requires imports { AreImports imports.now }
-    requires scopes { AreImportScopes imports.now scopes.items }
-    requires named { «package» ≡ package_named (file_view ast.now) }
-    requires all { map declared_tree all.now ≡ interfaces (file_view ast.now) }
-    requires faults { HasNoFaultsOf (imports_of imports.now) (file_view ast.now) }
-    requires labels { All IsLabel (interface_names (interfaces (file_view ast.now))) }
-    ensures ok { IfOk result (IsClosedPackageOf imports.now (file_view ast.now)) }
-    ensures err { IfErr result (ResolveRefusesOf (imports_of imports.now) (file_view ast.now)) }
-{
-    let order = interface_order(alloc, keyed, all)?;
-    let types = type_orders(alloc, keyed, all)?;
-    let names = ordered_index(alloc, keyed, all, order.as_slice())?;
-    let labels = ordered_names(alloc, all, order.as_slice())?;
-    closed_table(
-        alloc,
-        keyed,
-        imports,
-        scopes,
-        package,
-        all,
-        order.as_slice(),
-        &types,
-        &names,
-        &labels,
-        ast,
-    )
-}
-
-/// The closed table of a tree behind its imports, whose answer `closed_from_ast` weighs.
-fn resolved_behind(alloc: Global, ast: &Ast, imports: &Resolve) -> Result<Resolve, ResolveError>
-    requires { AreImports imports.now }
-    ensures ok { IfOk result (IsClosedPackageOf imports.now (file_view ast.now)) }
-    ensures faults { IfOk result (λ _. HasNoFaultsOf (imports_of imports.now) (file_view ast.now)) }
-    ensures fits { OnOk result (file_fits (file_view ast.now) ≡ true) }
-    ensures err { IfErr result (ResolveRefusesOf (imports_of imports.now) (file_view ast.now)) }
-{
-    let keyed = keyed_by_tree(ast, imports);
-    let package = package_name(alloc, &ast.package)?;
-    let scopes = import_scopes(alloc, keyed, imports)?;
-    let indexed = IndexedTable::of(alloc, imports)?;
-    let all = declarations(alloc, keyed, &package, &indexed, &scopes, ast)?;
-    defined(alloc, keyed, &indexed, scopes, package, &all, ast)
-}
+use std::alloc::Global;
+use tables::{Resolve, ResolveError};
+use tree_rows::closed_table;
+use tree_scopes::no_imports;
+use wit_syntax::Ast;
 
 /// The package of a syntax tree whose paths name interfaces of other packages: its closed table, in which these imports,
 /// their packages, interfaces and definitions, stand first, as they stand in their table, which has no worlds; the
@@ -200,7 +37,7 @@ pub fn closed_from_ast(alloc: Global, ast: &Ast, imports: &Resolve) -> Result<Re
     ensures err { IfErr result (ResolveRefusesOf (imports_of imports.now) (file_view ast.now)) }
     ensures only { AnswersOnlyBehind imports.now (file_view ast.now) result }
 {
-    resolved_behind(alloc, ast, imports)
+    closed_table(alloc, ast, imports)
 }
 
 /// The package of a syntax tree that stands alone, whose answer `from_ast` weighs.
@@ -210,7 +47,7 @@ fn resolved_package(alloc: Global, ast: &Ast) -> Result<Resolve, ResolveError>
     ensures err { IfErr result (ResolveRefuses (file_view ast.now)) }
 {
     let imports = no_imports(alloc);
-    resolved_behind(alloc, ast, &imports)
+    closed_table(alloc, ast, &imports)
 }
 
 /// The package of a syntax tree. Its definitions stand in package order, in which each interface comes after

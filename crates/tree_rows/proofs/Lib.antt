@@ -7,3 +7,4 @@ pub mod Finishing
 pub mod Closing
 pub mod PlacedWorlds
 pub mod PathRows
+pub mod Planned

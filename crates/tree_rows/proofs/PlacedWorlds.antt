@@ -5,7 +5,6 @@ use Rattle.std.proofs.lemmas.Bool.{eqb-true, le-leb, lt-ltb}
 use Rattle.tables.specs.Tables.{are_worlds_grouped, are_placed_worlds, is_placed_item, is_placed_world}
 use Rattle.tables.specs.declared.tables.World.{World}
 use Rattle.package_form.specs.Entries.{Table}
-use Rattle.tree_meaning.specs.Declarations.{interfaces}
 use Rattle.tree_meaning.specs.WorldRows.{item_stands, world_stands, worlds_stand}
 use Rattle.tables.proofs.Rows.{split, both}
 use Rattle.package_form.proofs.Lists.{list-grows}

@@ -1,20 +1,16 @@
-//! The table of a package's definitions.
-ghost use Rattle.std.specs.Prelude.{◌≡◌, ◌<◌, ℕ, [], length, map, All, IfOk, OnOk, slice_index_or};
-ghost use Rattle.tree_meaning.specs.Declarations.{interface_at, interface_names};
-ghost use Rattle.tree_meaning.specs.Imports.{AreApart, interfaces_of, imports_of};
-ghost use Rattle.placement.specs.Order.{IsPlacement};
-ghost use Rattle.tree_meaning.specs.Resolves.{interface_uses, type_uses, HasKnownNamesOf, names_in_order};
-ghost use Rattle.package_form.specs.Scope.{AreDistinct};
-ghost use Rattle.tree_scopes.specs.Sources.{declared_tree};
-ghost use Rattle.tree_scopes.specs.KnownScopes.{AreImportScopes};
+//! The interfaces of a tree in their order.
+ghost use Rattle.std.specs.Prelude.{◌≡◌, ◌<◌, length, map, All, IfOk, OnOk};
 ghost use Rattle.tree_meaning.specs.Building.{DefinesPackage, start_table};
+ghost use Rattle.tree_meaning.specs.Resolves.{names_in_order};
+ghost use Rattle.tree_scopes.specs.KnownScopes.{AreImportScopes};
+ghost use Rattle.tree_scopes.specs.Sources.{declared_tree};
+ghost use Rattle.tree_rows.specs.Planning.{IsPlan, trees};
 
 use crate::builder::Builder;
 use crate::define::define_interface;
+use crate::plan::{Own, Plan};
 use atoms::{KeyedState, Label};
-use package_form::IndexedTable;
 use std::alloc::{AllocError, Global};
-use tables::Sequence;
 use tree_scopes::{Declarations, KnownTypes, Names, interface_id, place_behind};
 
 /// The names of interfaces in this order.
@@ -53,40 +49,24 @@ pub fn ordered_index<'a>(
 /// Defines all interfaces in package order, the types of each in their order, behind the imports, whose scopes these are.
 pub fn define_package(
     alloc: Global,
-    keyed: KeyedState,
-    imports: &IndexedTable<'_>,
+    plan: &Plan<'_>,
     builder: &mut Builder,
     mut scopes: Vec<KnownTypes>,
-    names: &Names,
-    all: &[Declarations],
-    order: &[usize],
-    type_orders: &[Sequence<usize>],
 ) -> Result<(), AllocError>
-    requires apart { AreApart (interfaces_of imports.now) }
-    requires starts { builder.old ≡ start_table imports.now names.now }
-    requires scopes { AreImportScopes imports.now scopes.items }
-    requires names { names.now ≡ names_in_order (map declared_tree all.now) order.now }
-    requires placed { IsPlacement (interface_uses (map declared_tree all.now)) order.now }
-    requires count { length type_orders.now ≡ length all.now }
-    requires types { (k : ℕ) → k < length all.now → IsPlacement (type_uses (interface_at (map declared_tree all.now) k)) (slice_index_or type_orders.now k []) }
-    requires known { All (HasKnownNamesOf (imports_of imports.now) (map declared_tree all.now)) (map declared_tree all.now) }
-    requires distinct { AreDistinct (interface_names (map declared_tree all.now)) }
-    ensures { OnOk result (DefinesPackage (start_table imports.now names.now) (map declared_tree all.now) order.now type_orders.now builder.new) }
+    requires plan { IsPlan plan.now }
+    requires starts { builder.old ≡ start_table plan.now.imports.now plan.now.names.now }
+    requires scopes { AreImportScopes plan.now.imports.now scopes.items }
+    ensures { OnOk result (DefinesPackage (start_table plan.now.imports.now plan.now.names.now) (trees plan.now) plan.now.order.now plan.now.types.now builder.new) }
 {
-    for (place, index) in order.iter().enumerate() {
-        let id = interface_id(place_behind(imports, place)?)?;
-        let types = type_orders[*index].as_slice();
-        let scope = define_interface(
-            alloc,
-            keyed,
-            builder,
-            imports,
-            names,
-            &scopes,
+    for (place, index) in plan.order.iter().enumerate() {
+        let id = interface_id(place_behind(plan.imports, place)?)?;
+        let types = plan.types[*index].as_slice();
+        let own = Own {
             id,
-            &all[*index],
+            declared: &plan.all[*index],
             types,
-        )?;
+        };
+        let scope = define_interface(alloc, plan, builder, &scopes, &own)?;
         scopes.push(scope)?;
     }
     Ok(())

@@ -2,12 +2,15 @@
 ghost use Rattle.std.specs.Prelude.{◌≡◌, ◌<◌, ◌≤◌, ◌⊎◌, ◌+◌, ◌++◌, nat_lt, true, List, [], map, sum, length, IsTrue, IfOk, IfErr, OnOk, IfSome, IfNone, Some, ℕ};
 ghost use Rattle.tables.specs.Tables.{are_earlier, name_types};
 ghost use Rattle.tables.specs.Package.{interface_names};
+ghost use Rattle.wit_syntax.specs.View.{file_view};
+ghost use Rattle.tree_meaning.specs.Declarations.{package_named};
 ghost use Rattle.tree_meaning.specs.Resolves.{PassesLimit, interfaces_behind};
 ghost use Rattle.package_form.specs.Entries.{world_entries, entries_of};
 ghost use Rattle.tree_meaning.specs.Finished.{IsFinished, interface_of, with_row};
 ghost use Rattle.tree_meaning.specs.WorldRows.{worlds_stand, with_worlds};
 
 use crate::builder::Builder;
+use crate::plan::Plan;
 use atoms::Label;
 use package_form::{IndexedTable, passes_entries};
 use std::alloc::{AllocError, Global};
@@ -15,7 +18,7 @@ use tables::{
     Definition, FunctionId, Interface, Owner, PackageId, PackageName, Resolve, ResolveError,
     Sequence, TypeDefKind, TypeId, World, are_standard,
 };
-use tree_scopes::place_behind;
+use tree_scopes::{package_name, place_behind};
 
 /// The most type entries of a package, its imports counted.
 const MAX_ENTRIES: usize = 65535;
@@ -135,47 +138,44 @@ pub fn copied_parts(
     ))
 }
 
-/// The id of the package behind so many. No memory where an id can't tell it.
-pub fn package_id(place: usize) -> Result<PackageId, AllocError>
-    ensures { IfOk result (λ id. id.0 ≡ place) }
+/// The id of the package behind those of the imports. No memory where an id can't tell it.
+pub fn package_id(imports: &IndexedTable<'_>) -> Result<PackageId, AllocError>
+    ensures { IfOk result (λ id. id.0 ≡ length imports.now.packages) }
 {
-    match u32::try_from(place) {
+    match u32::try_from(imports.table().packages.len()) {
         Ok(place) => Ok(PackageId(place)),
         Err(_) => Err(AllocError),
     }
 }
 
-/// The closed table of these definitions with these worlds, under this name, behind its imports, whose packages and
-/// interfaces these are.
+/// The closed table of these definitions with these worlds behind the imports, whose packages and interfaces these are.
 pub fn finish(
     alloc: Global,
-    imports: &IndexedTable<'_>,
+    plan: &Plan<'_>,
     mut packages: Vec<PackageName>,
     mut interfaces: Vec<Interface>,
-    names: &[Label],
     builder: Builder,
     worlds: Vec<World>,
-    package: PackageName,
 ) -> Result<Resolve, ResolveError>
-    requires packages { packages.items ≡ imports.now.packages }
-    requires interfaces { interfaces.items ≡ imports.now.interfaces }
-    requires names { builder.interfaces ≡ interface_names imports.now ++ names.now }
-    requires rows { (own : List Definition) × (builder.rows ≡ imports.now.definitions ++ own) }
+    requires packages { packages.items ≡ plan.now.imports.now.packages }
+    requires interfaces { interfaces.items ≡ plan.now.imports.now.interfaces }
+    requires names { builder.interfaces ≡ interface_names plan.now.imports.now ++ plan.now.labels.now }
+    requires rows { (own : List Definition) × (builder.rows ≡ plan.now.imports.now.definitions ++ own) }
     requires earlier { IsTrue (are_earlier 0 builder.rows) }
     requires typed { IsTrue (name_types builder.rows) }
-    requires worlds { worlds_stand (length imports.now.packages) builder 0 worlds.items ≡ true }
-    ensures ok { IfOk result (IsFinished imports.now «package» names.now (with_worlds builder.entry worlds.items)) }
+    requires worlds { worlds_stand (length plan.now.imports.now.packages) builder 0 worlds.items ≡ true }
+    ensures ok { IfOk result (IsFinished plan.now.imports.now (package_named (file_view plan.now.ast.now)) plan.now.labels.now (with_worlds builder.entry worlds.items)) }
     ensures err { IfErr result (λ e. (e ≡ ResolveError.NoMemory) ⊎ ((e ≡ ResolveError.Limit) × PassesLimit (with_worlds builder.entry worlds.items))) }
 {
     let rows = builder.into_rows();
-    let count = place_behind(imports, names.len())?;
+    let count = place_behind(plan.imports, plan.labels.len())?;
     if passes_limit(count, &worlds, &rows) || !are_standard(&rows) {
         return Err(ResolveError::Limit);
     }
-    let id = package_id(packages.len())?;
-    let mut own = interfaces_in(alloc, &rows, id, interfaces.len(), names)?;
+    let id = package_id(plan.imports)?;
+    let mut own = interfaces_in(alloc, &rows, id, interfaces.len(), plan.labels)?;
     interfaces.append(&mut own)?;
-    packages.push(package)?;
+    packages.push(package_name(alloc, &plan.ast.package)?)?;
     Ok(Resolve {
         packages: Sequence::new(packages),
         interfaces: Sequence::new(interfaces),

@@ -16,11 +16,11 @@ ghost use Rattle.tables.specs.declared.tables.ValType.TheVariants.{Id};
 use crate::bodies::{lower_definition, lower_parameters};
 use crate::builder::Builder;
 use crate::lower::lower_optional;
-use atoms::{KeyedState, Label};
-use package_form::IndexedTable;
+use crate::plan::{Own, Plan};
+use atoms::Label;
 use std::alloc::{AllocError, Global};
-use tables::{Definition, Function, InterfaceId, Owner, TypeDef, TypeDefKind, TypeId, TypeName};
-use tree_scopes::{Declarations, KnownTypes, Names, TypeIds, UsedType, interface_place};
+use tables::{Definition, Function, Owner, TypeDef, TypeDefKind, TypeId, TypeName};
+use tree_scopes::{KnownTypes, TypeIds, UsedType, interface_place};
 use wit_syntax::Func;
 
 /// Puts a type under a name at the end of the table; the scope then knows it.
@@ -135,18 +135,17 @@ fn define_functions(
 
 /// The type that a used name is in the used interface.
 fn target(
+    plan: &Plan<'_>,
     builder: &Builder,
-    imports: &IndexedTable<'_>,
-    names: &Names,
     scopes: &[KnownTypes],
     used: &UsedType,
 ) -> Result<TypeId, AllocError>
-    requires known { CanUse (interfaces_of imports.now) names.now builder.now scopes.now (used_item_of used.now) }
+    requires known { CanUse (interfaces_of plan.now.imports.now) plan.now.names.now builder.now scopes.now (used_item_of used.now) }
     requires scoped { All (IsScope builder.now) scopes.now }
     requires placed { ArePlaced scopes.now }
     ensures { IfOk result (λ id. TreeStands builder.now (Id id) (Reference (used_key (used_item_of used.now)))) }
 {
-    match interface_place(imports, names, used.path)? {
+    match interface_place(plan.imports, plan.names, used.path)? {
         Some(place) => Ok(scopes[place].entries.get(used.name)),
         None => unreachable!(),
     }
@@ -155,14 +154,13 @@ fn target(
 /// Defines the names that an interface uses.
 fn define_uses(
     alloc: Global,
+    plan: &Plan<'_>,
     builder: &mut Builder,
-    imports: &IndexedTable<'_>,
-    names: &Names,
     scopes: &[KnownTypes],
     scope: &mut KnownTypes,
     uses: &[UsedType],
 ) -> Result<(), AllocError>
-    requires known { All (CanUse (interfaces_of imports.now) names.now builder.old scopes.now) (map used_item_of uses.now) }
+    requires known { All (CanUse (interfaces_of plan.now.imports.now) plan.now.names.now builder.old scopes.now) (map used_item_of uses.now) }
     requires others { All (IsScope builder.old) scopes.now }
     requires placed { ArePlaced scopes.now }
     requires scoped { IsScope builder.old scope.old }
@@ -170,47 +168,36 @@ fn define_uses(
         (map (use_meaning (scope_name builder.old scope.old)) (map used_item_of uses.now))) }
 {
     for used in uses {
-        let target = target(builder, imports, names, scopes, used)?;
+        let target = target(plan, builder, scopes, used)?;
         define_use(alloc, builder, scope, used, target)?;
     }
     Ok(())
 }
 
-/// Defines all of an interface, its types in this order; its scope is then complete.
+/// Defines all of an interface; its scope is then complete.
 pub fn define_interface(
     alloc: Global,
-    keyed: KeyedState,
+    plan: &Plan<'_>,
     builder: &mut Builder,
-    imports: &IndexedTable<'_>,
-    names: &Names,
     scopes: &[KnownTypes],
-    place: InterfaceId,
-    interface: &Declarations,
-    order: &[usize],
+    own: &Own<'_>,
 ) -> Result<KnownTypes, AllocError>
-    requires named { name_at builder.old place.0 ≡ interface.now.name.now }
+    requires named { name_at builder.old own.now.id.0 ≡ own.now.declared.now.name.now }
     requires others { All (IsScope builder.old) scopes.now }
     requires ids { ArePlaced scopes.now }
-    requires uses { All (CanUse (interfaces_of imports.now) names.now builder.old scopes.now) (declared_tree interface.now).uses }
-    requires placed { IsPlacement (type_uses (declared_tree interface.now)) order.now }
-    requires types { TypesKnown (declared_tree interface.now) }
-    requires functions { FunctionsKnown (declared_tree interface.now) }
-    ensures { IfOk result (λ scope. DefinesInterface builder.old builder.new scope place (declared_tree interface.now) order.now) }
+    requires uses { All (CanUse (interfaces_of plan.now.imports.now) plan.now.names.now builder.old scopes.now) (declared_tree own.now.declared.now).uses }
+    requires placed { IsPlacement (type_uses (declared_tree own.now.declared.now)) own.now.types.now }
+    requires types { TypesKnown (declared_tree own.now.declared.now) }
+    requires functions { FunctionsKnown (declared_tree own.now.declared.now) }
+    ensures { IfOk result (λ scope. DefinesInterface builder.old builder.new scope own.now.id (declared_tree own.now.declared.now) own.now.types.now) }
 {
     let mut scope = KnownTypes {
-        interface: place,
-        entries: TypeIds::new(alloc, keyed),
+        interface: own.id,
+        entries: TypeIds::new(alloc, plan.keyed),
     };
-    define_uses(
-        alloc,
-        builder,
-        imports,
-        names,
-        scopes,
-        &mut scope,
-        &interface.uses,
-    )?;
-    define_types(alloc, builder, &mut scope, &interface.types, order)?;
-    define_functions(alloc, builder, &scope, &interface.functions)?;
+    let declared = own.declared;
+    define_uses(alloc, plan, builder, scopes, &mut scope, &declared.uses)?;
+    define_types(alloc, builder, &mut scope, &declared.types, own.types)?;
+    define_functions(alloc, builder, &scope, &declared.functions)?;
     Ok(scope)
 }

@@ -1,7 +1,8 @@
-//! The rows of a tree's table.
+//! The table of a tree.
 //!
-//! `define_package` and `define_worlds` put the definitions of interfaces and worlds into a `Builder`, each type before
-//! what names it; `finish` makes the closed table of them. It stands on `tree_scopes`.
+//! `closed_table` finds what the names of a tree stand for, by `tree_names`, and puts interfaces and types in order. The
+//! definitions of interfaces and worlds go into a `Builder`, each type before what names it, and the closed table is made
+//! of them.
 #![tactic(auto)]
 
 mod assembly;
@@ -10,9 +11,8 @@ mod builder;
 mod closed;
 mod define;
 mod lower;
+mod plan;
+mod tree;
 mod worlds;
 
-pub use assembly::{define_package, ordered_index, ordered_names};
-pub use builder::Builder;
-pub use closed::{copied_parts, finish, package_id};
-pub use worlds::define_worlds;
+pub use tree::closed_table;

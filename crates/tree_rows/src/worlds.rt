@@ -1,5 +1,5 @@
 //! The worlds of a tree: their functions as rows of the table, and their items.
-ghost use Rattle.std.specs.Prelude.{◌≡◌, ◌++◌, [], map, filter_map, All, IfOk};
+ghost use Rattle.std.specs.Prelude.{◌≡◌, ◌++◌, [], map, filter_map, length, All, IfOk};
 ghost use Rattle.wit_syntax.specs.View.{item_view};
 ghost use Rattle.tree_meaning.specs.Declarations.{FunctionOf, world_of, named_function};
 ghost use Rattle.tree_meaning.specs.Resolved.{direction_meaning, item_meaning, world_meaning};
@@ -13,15 +13,16 @@ ghost use Rattle.tables.specs.declared.tables.WorldItemKind.TheVariants.{Functio
 
 use crate::bodies::lower_parameters;
 use crate::builder::Builder;
+use crate::closed::package_id;
 use crate::lower::lower_optional;
+use crate::plan::Plan;
 use atoms::KeyedState;
-use package_form::IndexedTable;
 use std::alloc::{AllocError, Global};
 use tables::{
-    Definition, Function, FunctionId, InterfaceId, Owner, PackageId, Sequence, World, WorldId,
-    WorldItem, WorldItemKind,
+    Definition, Function, FunctionId, InterfaceId, Owner, Sequence, World, WorldId, WorldItem,
+    WorldItemKind,
 };
-use tree_scopes::{KnownTypes, Names, TypeIds, interface_id, interface_place, side_of};
+use tree_scopes::{KnownTypes, TypeIds, interface_id, interface_place, side_of};
 use wit_syntax::{Func, Item};
 
 /// Defines a function of a world. It names no type, so no type is known to it.
@@ -54,21 +55,19 @@ fn define_function(
 /// Defines an item of a world: an interface, or a function of its own.
 fn define_item(
     alloc: Global,
-    keyed: KeyedState,
+    plan: &Plan<'_>,
     builder: &mut Builder,
-    imports: &IndexedTable<'_>,
-    names: &Names,
     world: WorldId,
     item: &wit_syntax::WorldItem,
 ) -> Result<WorldItem, AllocError>
-    requires known { IsKnownItemOf (imports_of imports.now) names.now (declared_item item.now) }
-    requires names { builder.old.interfaces ≡ named_imports imports.now ++ names.now }
+    requires known { IsKnownItemOf (imports_of plan.now.imports.now) plan.now.names.now (declared_item item.now) }
+    requires names { builder.old.interfaces ≡ named_imports plan.now.imports.now ++ plan.now.names.now }
     ensures { IfOk result (λ i. DefinesItem builder.old builder.new world.0 i (item_meaning (declared_item item.now))) }
 {
     let direction = side_of(item.direction);
     match &item.kind {
         wit_syntax::WorldItemKind::Interface(path) => {
-            match interface_place(imports, names, path)? {
+            match interface_place(plan.imports, plan.names, path)? {
                 Some(place) => {
                     let kind = WorldItemKind::Interface(interface_id(place)?);
                     Ok(WorldItem { direction, kind })
@@ -77,7 +76,7 @@ fn define_item(
             }
         }
         wit_syntax::WorldItemKind::Func(function) => {
-            let id = define_function(alloc, keyed, builder, world, function)?;
+            let id = define_function(alloc, plan.keyed, builder, world, function)?;
             let kind = WorldItemKind::Function(id);
             Ok(WorldItem { direction, kind })
         }
@@ -86,20 +85,18 @@ fn define_item(
 
 fn define_items(
     alloc: Global,
-    keyed: KeyedState,
+    plan: &Plan<'_>,
     builder: &mut Builder,
-    imports: &IndexedTable<'_>,
-    names: &Names,
     world: WorldId,
     items: &[wit_syntax::WorldItem],
 ) -> Result<Vec<WorldItem>, AllocError>
-    requires known { All (IsKnownItemOf (imports_of imports.now) names.now) (map declared_item items.now) }
-    requires names { builder.old.interfaces ≡ named_imports imports.now ++ names.now }
+    requires known { All (IsKnownItemOf (imports_of plan.now.imports.now) plan.now.names.now) (map declared_item items.now) }
+    requires names { builder.old.interfaces ≡ named_imports plan.now.imports.now ++ plan.now.names.now }
     ensures { IfOk result (λ is. DefinesItems builder.old builder.new world.0 is.items (map item_meaning (map declared_item items.now))) }
 {
     let mut defined = Vec::new(alloc);
     for item in items {
-        let item = define_item(alloc, keyed, builder, imports, names, world, item)?;
+        let item = define_item(alloc, plan, builder, world, item)?;
         defined.push(item)?;
     }
     Ok(defined)
@@ -107,19 +104,17 @@ fn define_items(
 
 fn define_world(
     alloc: Global,
-    keyed: KeyedState,
+    plan: &Plan<'_>,
     builder: &mut Builder,
-    imports: &IndexedTable<'_>,
-    names: &Names,
-    package: PackageId,
     id: WorldId,
     world: &wit_syntax::World,
 ) -> Result<World, AllocError>
-    requires known { IsKnownWorldOf (imports_of imports.now) names.now (declared_world world.now) }
-    requires names { builder.old.interfaces ≡ named_imports imports.now ++ names.now }
-    ensures { IfOk result (λ w. DefinesWorld builder.old builder.new «package».0 id.0 w (world_meaning (declared_world world.now))) }
+    requires known { IsKnownWorldOf (imports_of plan.now.imports.now) plan.now.names.now (declared_world world.now) }
+    requires names { builder.old.interfaces ≡ named_imports plan.now.imports.now ++ plan.now.names.now }
+    ensures { IfOk result (λ w. DefinesWorld builder.old builder.new (length plan.now.imports.now.packages) id.0 w (world_meaning (declared_world world.now))) }
 {
-    let items = define_items(alloc, keyed, builder, imports, names, id, &world.items)?;
+    let package = package_id(plan.imports)?;
+    let items = define_items(alloc, plan, builder, id, &world.items)?;
     Ok(World {
         package,
         name: world.name.copy(alloc)?,
@@ -137,25 +132,22 @@ fn world_id(place: usize) -> Result<WorldId, AllocError>
     }
 }
 
-/// Defines the worlds of a tree, which are of this package, in source order, their items in source order.
+/// Defines these worlds of the tree, in source order, their items in source order.
 pub fn define_worlds(
     alloc: Global,
-    keyed: KeyedState,
+    plan: &Plan<'_>,
     builder: &mut Builder,
-    imports: &IndexedTable<'_>,
-    names: &Names,
-    package: PackageId,
     items: &[Item],
 ) -> Result<Vec<World>, AllocError>
-    requires known { All (IsKnownWorldOf (imports_of imports.now) names.now) (filter_map world_of (map item_view items.now)) }
-    requires names { builder.old.interfaces ≡ named_imports imports.now ++ names.now }
-    ensures { IfOk result (λ ws. DefinesWorlds builder.old builder.new «package».0 ws.items (map world_meaning (filter_map world_of (map item_view items.now)))) }
+    requires known { All (IsKnownWorldOf (imports_of plan.now.imports.now) plan.now.names.now) (filter_map world_of (map item_view items.now)) }
+    requires names { builder.old.interfaces ≡ named_imports plan.now.imports.now ++ plan.now.names.now }
+    ensures { IfOk result (λ ws. DefinesWorlds builder.old builder.new (length plan.now.imports.now.packages) ws.items (map world_meaning (filter_map world_of (map item_view items.now)))) }
 {
     let mut worlds = Vec::new(alloc);
     for item in items {
         if let Item::World(world) = item {
             let id = world_id(worlds.len())?;
-            let world = define_world(alloc, keyed, builder, imports, names, package, id, world)?;
+            let world = define_world(alloc, plan, builder, id, world)?;
             worlds.push(world)?;
         }
     }

@@ -1,5 +1,5 @@
 -- What is declared by parts of a tree that are lent.
-use Rattle.std.proofs.Common.{◌≡◌, ◌+◌, List, [], ◌∷◌, ◌++◌, map, ap, sym, ◌∙◌, ℕ, ◌<◌, Some, length, get_or, subst, arith, Contains, All, Bor}
+use Rattle.std.proofs.Common.{◌≡◌, List, [], ◌∷◌, ◌++◌, map, ap, sym, ◌∙◌, ℕ, ◌<◌, Some, length, get_or, subst, arith, Contains, All, Bor}
 use Rattle.tree_meaning.specs.Declarations.{InterfaceTree, interface_names, interface_name, interface_at, no_interface, type_names}
 use Rattle.tree_scopes.specs.Sources.{declared_tree}
 use Rattle.tree_scopes.specs.declared.declared.Declarations.{Declarations}

@@ -21,7 +21,7 @@ use Rattle.package_form.proofs.Lists.{all-append, all-cons, all-none, map-more}
 use Rattle.package_form.proofs.Meeting.{below_or_at, take-more}
 use Rattle.tree_meaning.specs.Imports.{Import, no_import, import_at, name_within, type_within, types_within, interfaces_of}
 use Rattle.tree_meaning.specs.Building.{IsEntry, name_at, table_trees}
-use Rattle.tree_scopes.specs.KnownScopes.{IsScope, ArePlaced, AreImportScopes, scope_names}
+use Rattle.tree_scopes.specs.KnownScopes.{IsScope, ArePlaced, HaveImportNames, scope_names}
 use Rattle.tree_scopes.specs.declared.known.KnownTypes.{KnownTypes}
 use Rattle.tree_meaning.proofs.Imported.{imports-at, imports-length}
 use Rattle.tree_meaning.proofs.TableRows.{tree-here}
@@ -129,11 +129,11 @@ scopes-more r k scopes after s i l at h names place scoped more = subst (ScopesS
 
 -- ---- what the scopes have
 
-module _ (r : Resolve) (scopes : List KnownTypes) (h : AreImportScopes r scopes) where
+module _ (r : Resolve) (scopes : List KnownTypes) (h : HaveImportNames r scopes) where
   pub scopes-long : length scopes ≡ length (interfaces_of r)
-  scopes-long = sym (length-map scopes scope_names) ∙ ap length h.names ∙ length-map (interfaces_of r) (λ (x : Import). x.types)
+  scopes-long = sym (length-map scopes scope_names) ∙ ap length h ∙ length-map (interfaces_of r) (λ (x : Import). x.types)
 
   pub scope-types : (k : ℕ) (s : KnownTypes) → k < length scopes → scope_names (get_or scopes k s) ≡ (import_at (interfaces_of r) k).types
   scope-types k s l =
-      sym (get_or-map scope_names scopes k s [] l) ∙ ap (λ (ns : List (List (List ℕ))). get_or ns k []) h.names
+      sym (get_or-map scope_names scopes k s [] l) ∙ ap (λ (ns : List (List (List ℕ))). get_or ns k []) h
       ∙ get_or-map (λ (x : Import). x.types) (interfaces_of r) k no_import [] (omega (arith, l, scopes-long))

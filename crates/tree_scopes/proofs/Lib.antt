@@ -2,3 +2,4 @@ pub mod Places
 pub mod ImportPlaces
 pub mod DeclaredTrees
 pub mod ImportScopes
+pub mod ImportTests

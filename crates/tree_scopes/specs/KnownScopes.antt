@@ -25,7 +25,10 @@ abbrev pub ArePlaced : List KnownTypes → Type 0
 ArePlaced scopes = (m : ℕ) (d : KnownTypes) → m < length scopes → (slice_index_or scopes m d).interface.0 ≡ m
 
 -- a scope for each import, with the names of its types
+abbrev pub HaveImportNames : Resolve → List KnownTypes → Type 0
+HaveImportNames r scopes = map scope_names scopes ≡ map (λ k. k.types) (interfaces_of r)
+
 pub record AreImportScopes (r : Resolve) (scopes : List KnownTypes) : Type 0 where
-  pub names : map scope_names scopes ≡ map (λ k. k.types) (interfaces_of r)
+  pub names : HaveImportNames r scopes
   pub placed : ArePlaced scopes
   pub scoped : (t : Table) → t.rows ≡ r.definitions → All (IsScope t) scopes

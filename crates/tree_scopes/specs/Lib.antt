@@ -1,3 +1,4 @@
 pub mod KnownScopes
 pub mod Sources
 pub mod Lent
+pub mod Tested

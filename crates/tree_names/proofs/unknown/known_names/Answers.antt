@@ -16,15 +16,15 @@ use Rattle.tree_meaning.proofs.FileEntries.{given-at, given-next, interfaces-kno
 use Rattle.tree_names.proofs.unknown.known_names.Goals as goal
 use Rattle.tree_names.proofs.unknown.known_names.Goals.{in-Interface, in_default-item}
 
-pub unknown_in_entry-requires-clause-place : goal.unknown_in_entry-requires-clause-place
-unknown_in_entry-requires-clause-place c = λ i e.
+pub unknown_in_entry-requires : goal.unknown_in_entry-requires
+unknown_in_entry-requires c = λ i e.
     let all = c.args.all.now in
     let xs = c.args.items.now in
     let x = c.item-item.result in
     let at = given-at interface_of item_view xs c.loop-item.item-index x i no_interface (omega arith) c.item-item.is e in
     let here = c.loop-item.invariant.place_is in (
-      omega (arith, at.0, here, ap length c.requires.all, length-map all declared_tree),
-      ap (λ (ts : List InterfaceTree). get_or ts c.loop-item.place no_interface) c.requires.all
+      omega (arith, at.0, here, ap length c.requires, length-map all declared_tree),
+      ap (λ (ts : List InterfaceTree). get_or ts c.loop-item.place no_interface) c.requires
           ∙ ap (λ (n : ℕ). get_or (filter_map interface_of (map item_view xs)) n no_interface) here ∙ at.1,
     )
 
@@ -34,25 +34,25 @@ returns-in-Some-clause-err c =
     let xs = c.args.items.now in
     let x = c.item-item.result in
     let there = contains-map item_view xs x (contains-at xs c.loop-item.item-index x (omega arith) c.item-item.is) in
-    let lacks = subst (λ (o : Option (Bor (List ℕ))). IfSome o (λ m. LacksFileEntry (imports_of c.args.imports.now) is (item_view x) m.now)) c.in-Some.is c.in_ok-unknown.ensures.some in
-    subst (λ (n : List ℕ). RefusesUnknown (imports_of c.args.imports.now) is (filter_map world_of (map item_view xs)) (error.Unknown n)) (sym c.in_ok-copy.ensures)
-    (entry-lacks (imports_of c.args.imports.now) is (map item_view xs) (item_view x) c.in-Some.name.now (sym c.requires.all) there lacks)
+    let lacks = subst (λ (o : Option (Bor (List ℕ))). IfSome o (λ m. LacksFileEntry (imports_of c.args.imports.now.table) is (item_view x) m.now)) c.in-Some.is c.in_ok-unknown.ensures.some in
+    subst (λ (n : List ℕ). RefusesUnknown (imports_of c.args.imports.now.table) is (filter_map world_of (map item_view xs)) (error.Unknown n)) (sym c.in_ok-copy.ensures)
+    (entry-lacks (imports_of c.args.imports.now.table) is (map item_view xs) (item_view x) c.in-Some.name.now (sym c.requires) there lacks)
 
 pub returns-clause-ok : goal.returns-clause-ok
 returns-clause-ok c =
     let is = map declared_tree c.args.all.now in
-    let known = all-taken (λ (xs : List Item). All (KnowsFileEntry (imports_of c.args.imports.now) is) (map item_view xs)) c.args.items.now c.loop-item.item-index (omega arith) c.loop-item.invariant.known in
-    subst (All (HasKnownNamesOf (imports_of c.args.imports.now) is)) (sym c.requires.all) (interfaces-known (imports_of c.args.imports.now) is (map item_view c.args.items.now) known)
+    let known = all-taken (λ (xs : List Item). All (KnowsFileEntry (imports_of c.args.imports.now.table) is) (map item_view xs)) c.args.items.now c.loop-item.item-index (omega arith) c.loop-item.invariant.known in
+    subst (All (HasKnownNamesOf (imports_of c.args.imports.now.table) is)) (sym c.requires) (interfaces-known (imports_of c.args.imports.now.table) is (map item_view c.args.items.now) known)
 
 pub returns-clause-worlds : goal.returns-clause-worlds
 returns-clause-worlds c =
     let is = map declared_tree c.args.all.now in
-    let known = all-taken (λ (xs : List Item). All (KnowsFileEntry (imports_of c.args.imports.now) is) (map item_view xs)) c.args.items.now c.loop-item.item-index (omega arith) c.loop-item.invariant.known in
-    worlds-known (imports_of c.args.imports.now) is (map item_view c.args.items.now) known
+    let known = all-taken (λ (xs : List Item). All (KnowsFileEntry (imports_of c.args.imports.now.table) is) (map item_view xs)) c.args.items.now c.loop-item.item-index (omega arith) c.loop-item.invariant.known in
+    worlds-known (imports_of c.args.imports.now.table) is (map item_view c.args.items.now) known
 
 pub loop-item-preserved : goal.loop-item-preserved
 loop-item-preserved c =
-    let P = KnowsFileEntry (imports_of c.args.imports.now) (map declared_tree c.args.all.now) in
+    let P = KnowsFileEntry (imports_of c.args.imports.now.table) (map declared_tree c.args.all.now) in
     let xs = c.args.items.now in
     let k = c.loop-item.item-index in
     let x = c.item-item.result in
@@ -77,5 +77,5 @@ overflow_add-place c =
     let all = c.args.all.now in
     let x = c.item-item.result in
     let at = given-at interface_of item_view c.args.items.now c.loop-item.item-index x _ no_interface (omega arith) c.item-item.is (ap (λ (y : Item). interface_of (item_view y)) c.in-Interface.is) in
-    let l : c.loop-item.place < length all = omega (arith, at.0, c.loop-item.invariant.place_is, ap length c.requires.all, length-map all declared_tree) in
+    let l : c.loop-item.place < length all = omega (arith, at.0, c.loop-item.invariant.place_is, ap length c.requires, length-map all declared_tree) in
     omega (arith, l)

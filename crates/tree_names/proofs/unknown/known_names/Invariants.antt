@@ -10,5 +10,5 @@ use Rattle.tree_names.proofs.unknown.known_names.Given as goal
 abbrev pub invariant-loop-item : goal.invariant-loop-item
 invariant-loop-item l = record {
   place_is : l.place ≡ length (filter_map interface_of (map item_view (take l.item-index l.items)));
-  known : All (KnowsFileEntry (imports_of l.imports) (map declared_tree l.all)) (map item_view (take l.item-index l.items));
+  known : All (KnowsFileEntry (imports_of l.imports.table) (map declared_tree l.all)) (map item_view (take l.item-index l.items));
 }

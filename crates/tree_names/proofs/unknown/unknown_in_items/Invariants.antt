@@ -6,4 +6,4 @@ use Rattle.tree_meaning.specs.Knowing.{KnowsEntry}
 use Rattle.tree_names.proofs.unknown.unknown_in_items.Given as goal
 
 abbrev pub invariant-loop-item : goal.invariant-loop-item
-invariant-loop-item l = All (KnowsEntry (imports_of l.imports) (map declared_tree l.all) (declared_tree l.declared)) (map entry_view (take l.item-index l.items))
+invariant-loop-item l = All (KnowsEntry (imports_of l.tree.imports.now.table) (map declared_tree l.tree.all.now) (declared_tree l.declared)) (map entry_view (take l.item-index l.items))

@@ -19,7 +19,7 @@ returns-in-Some-clause-some c =
 
 pub loop-item-preserved : goal.loop-item-preserved
 loop-item-preserved c =
-    let P = IsKnownUseOf (imports_of c.args.imports.now) (map declared_tree c.args.all.now) in
+    let P = IsKnownUseOf (imports_of c.args.tree.now.imports.now.table) (map declared_tree c.args.tree.now.all.now) in
     let x = c.item-item.result in
     let item = used_item (path_view c.args.path.now) in
     let known = if-none c.unknown_used.result _ (λ n e. c.in_default.not-Some n e) c.unknown_used.ensures.none in
@@ -28,6 +28,6 @@ loop-item-preserved c =
 
 pub returns-clause-none : goal.returns-clause-none
 returns-clause-none c =
-    let P = IsKnownUseOf (imports_of c.args.imports.now) (map declared_tree c.args.all.now) in
+    let P = IsKnownUseOf (imports_of c.args.tree.now.imports.now.table) (map declared_tree c.args.tree.now.all.now) in
     let item = used_item (path_view c.args.path.now) in
     all-taken (λ (us : List UsedName). All P (map item (map used_view us))) c.args.used.now c.loop-item.item-index (omega arith) c.loop-item.invariant

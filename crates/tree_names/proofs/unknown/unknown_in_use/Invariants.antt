@@ -7,4 +7,4 @@ use Rattle.tree_scopes.specs.Sources.{declared_tree}
 use Rattle.tree_names.proofs.unknown.unknown_in_use.Given as goal
 
 abbrev pub invariant-loop-item : goal.invariant-loop-item
-invariant-loop-item l = All (IsKnownUseOf (imports_of l.imports) (map declared_tree l.all)) (map (used_item (path_view l.path)) (map used_view (take l.item-index l.used)))
+invariant-loop-item l = All (IsKnownUseOf (imports_of l.tree.imports.now.table) (map declared_tree l.tree.all.now)) (map (used_item (path_view l.path)) (map used_view (take l.item-index l.used)))

@@ -15,9 +15,9 @@ returns-in-Some-clause-some c =
     let x = c.item-item.result in (
       item_tree (world_entry_view x),
       contains-map item_tree (map world_entry_view xs) (world_entry_view x) (contains-map world_entry_view xs x (contains-at xs c.loop-item.item-index x (omega arith) c.item-item.is)),
-      subst (λ (o : Option (Bor (List ℕ))). IfSome o (λ m. IsUnknownItem (imports_of c.args.imports.now) c.args.names.now (item_tree (world_entry_view x)) m.now)) c.in-Some.is c.in_ok-name.ensures.some,
+      subst (λ (o : Option (Bor (List ℕ))). IfSome o (λ m. IsUnknownItem (imports_of c.args.tree.now.imports.now.table) c.args.tree.now.names (item_tree (world_entry_view x)) m.now)) c.in-Some.is c.in_ok-name.ensures.some,
     )
 
 pub returns-clause-none : goal.returns-clause-none
 returns-clause-none c =
-    all-taken (λ (xs : List WorldItem). All (IsKnownItemOf (imports_of c.args.imports.now) c.args.names.now) (map item_tree (map world_entry_view xs))) c.args.items.now c.loop-item.item-index (omega arith) c.loop-item.invariant
+    all-taken (λ (xs : List WorldItem). All (IsKnownItemOf (imports_of c.args.tree.now.imports.now.table) c.args.tree.now.names) (map item_tree (map world_entry_view xs))) c.args.items.now c.loop-item.item-index (omega arith) c.loop-item.invariant

@@ -6,4 +6,4 @@ use Rattle.tree_meaning.specs.Resolves.{IsKnownItemOf}
 use Rattle.tree_names.proofs.unknown.unknown_in_world.Given as goal
 
 abbrev pub invariant-loop-item : goal.invariant-loop-item
-invariant-loop-item l = All (IsKnownItemOf (imports_of l.imports) l.names) (map item_tree (map world_entry_view (take l.item-index l.items)))
+invariant-loop-item l = All (IsKnownItemOf (imports_of l.tree.imports.now.table) l.tree.names) (map item_tree (map world_entry_view (take l.item-index l.items)))

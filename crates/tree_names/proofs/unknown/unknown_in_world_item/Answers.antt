@@ -10,16 +10,16 @@ use Rattle.tree_names.proofs.unknown.unknown_in_world_item.Goals as goal
 
 pub returns-then-is_there-clause-none : goal.returns-then-is_there-clause-none
 returns-then-is_there-clause-none c =
-    let m = imports_of c.args.imports.now in
+    let m = imports_of c.args.tree.now.imports.now.table in
     let way = c.args.item.now.direction in
     let there = c.is_there.ensures.0 c.if-is_there.true in
-    subst (λ (k : WorldItemKind). IsKnownItemOf m c.args.names.now (item_tree (world_entry_view (record { direction = way; kind = k })))) (sym c.in-Interface.is)
-    (item-known m c.args.names.now way (path_view c.in-Interface.path) there)
+    subst (λ (k : WorldItemKind). IsKnownItemOf m c.args.tree.now.names (item_tree (world_entry_view (record { direction = way; kind = k })))) (sym c.in-Interface.is)
+    (item-known m c.args.tree.now.names way (path_view c.in-Interface.path) there)
 
 pub returns-in-Interface-clause-some : goal.returns-in-Interface-clause-some
 returns-in-Interface-clause-some c =
-    let m = imports_of c.args.imports.now in
+    let m = imports_of c.args.tree.now.imports.now.table in
     let way = c.args.item.now.direction in
-    subst (λ (k : WorldItemKind). IsUnknownItem m c.args.names.now (item_tree (world_entry_view (record { direction = way; kind = k }))) c.interface_label.result.now) (sym c.in-Interface.is)
-    (subst (λ (n : List ℕ). IsUnknownItem m c.args.names.now (item_tree (world_entry_view (record { direction = way; kind = world.Interface c.in-Interface.path }))) n) (sym c.interface_label.ensures)
-    (item-unknown m c.args.names.now way (path_view c.in-Interface.path) (λ h. let t = c.is_there.ensures.1 h in absurd (cc (t, c.if-is_there.false)))))
+    subst (λ (k : WorldItemKind). IsUnknownItem m c.args.tree.now.names (item_tree (world_entry_view (record { direction = way; kind = k }))) c.interface_label.result.now) (sym c.in-Interface.is)
+    (subst (λ (n : List ℕ). IsUnknownItem m c.args.tree.now.names (item_tree (world_entry_view (record { direction = way; kind = world.Interface c.in-Interface.path }))) n) (sym c.interface_label.ensures)
+    (item-unknown m c.args.tree.now.names way (path_view c.in-Interface.path) (λ h. let t = c.is_there.ensures.1 h in absurd (cc (t, c.if-is_there.false)))))

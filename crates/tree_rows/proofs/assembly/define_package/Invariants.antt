@@ -4,4 +4,4 @@ use Rattle.tree_rows.proofs.Packaging.{PackageSoFar}
 use Rattle.tree_rows.proofs.assembly.define_package.Given as goal
 
 abbrev pub invariant-loop-place : goal.invariant-loop-place
-invariant-loop-place l = PackageSoFar l.imports l.place (map declared_tree l.all) l.order l.type_orders l.initial.builder l.builder l.scopes.items
+invariant-loop-place l = PackageSoFar l.plan.imports.now l.place (map declared_tree l.plan.all.now) l.plan.order.now l.plan.types.now l.initial.builder l.builder l.scopes.items

@@ -25,18 +25,18 @@ interfaces_in-requires c =
 pub invariant_of-result : goal.invariant_of-result
 invariant_of-result c =
     let t = c.args.builder in
-    let imports = c.args.imports.now in
-    let names = c.args.names.now in
+    let imports = c.args.plan.now.imports.now in
+    let names = c.args.plan.now.labels.now in
     let n = length imports.packages in
     let first = length imports.interfaces in
     let rows : c.new-4.result ≡ t.rows = c.new-4.ensures ∙ c.into_rows-rows.ensures in
     let tested : c.new-4.result ≡ c.deref-else-passes_limit.result.now = c.new-4.ensures ∙ sym c.deref-else-passes_limit.ensures.value in
     let listed : c.deref-3.result.now ≡ t.rows = c.deref-3.ensures.value ∙ c.into_rows-rows.ensures in
-    let many : length c.new.result ≡ n + 1 = omega (arith, ap length (c.new.ensures ∙ c.in_ok-push.ensures.items), length-append c.args.packages.items (c.args.«package» ∷ []), ap length c.requires.packages) in
-    let last : c.in_ok-id.id.0 ≡ n = omega (arith, c.in_ok-id.ensures, c.len.ensures, c.args.packages.ok.0, ap length c.requires.packages) in
-    let behind : c.len-2.result ≡ first = omega (arith, c.len-2.ensures, c.args.interfaces.ok.0, ap length c.requires.interfaces) in
+    let many : length c.new.result ≡ n + 1 = omega (arith, ap length (c.new.ensures ∙ c.in_ok-push.ensures.items), length-append c.args.packages.items (c.in_ok-package_name.field-0 ∷ []), ap length c.requires.packages) in
+    let last : c.in_ok-id.id.0 ≡ n = c.in_ok-id.ensures in
+    let behind : c.len.result ≡ first = omega (arith, c.len.ensures, c.args.interfaces.ok.0, ap length c.requires.interfaces) in
     let own : c.in_ok-own.own.items ≡ interfaces_behind n first t.rows names =
-    c.in_ok-own.ensures ∙ ap (λ (k : ℕ). interfaces_behind k c.len-2.result c.deref-3.result.now names) last
+    c.in_ok-own.ensures ∙ ap (λ (k : ℕ). interfaces_behind k c.len.result c.deref-3.result.now names) last
     ∙ ap (λ (k : ℕ). interfaces_behind n k c.deref-3.result.now names) behind ∙ ap (λ (ds : List Definition). interfaces_behind n first ds names) listed in
     let is : c.new-2.result ≡ imports.interfaces ++ interfaces_behind n first t.rows names =
     c.new-2.ensures ∙ c.in_ok-append.ensures.items ∙ ap (λ (xs : List Interface). xs ++ c.in_ok-own.own.items) c.requires.interfaces ∙ ap (λ (xs : List Interface). imports.interfaces ++ xs) own in

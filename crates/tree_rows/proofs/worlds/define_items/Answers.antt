@@ -12,7 +12,7 @@ loop-item-init c = rw c.new-defined.ensures.items (items-none c.args.builder.now
 
 pub define_item-requires-clause-known : goal.define_item-requires-clause-known
 define_item-requires-clause-known c =
-    all_map-at (IsKnownItemOf (imports_of c.args.imports.now) c.args.names.now) declared_item c.args.items.now c.loop-item.item-index c.item-item.result c.requires.known (omega arith) c.item-item.is
+    all_map-at (IsKnownItemOf (imports_of c.args.plan.now.imports.now) c.args.plan.now.names.now) declared_item c.args.items.now c.loop-item.item-index c.item-item.result c.requires.known (omega arith) c.item-item.is
 
 pub define_item-requires-clause-names : goal.define_item-requires-clause-names
 define_item-requires-clause-names c = c.loop-item.invariant.adds.front.interfaces ∙ c.requires.names

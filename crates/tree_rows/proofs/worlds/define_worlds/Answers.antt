@@ -1,4 +1,4 @@
-use Rattle.std.proofs.Common.{◌≡◌, ◌+◌, ◌++◌, ◌∷◌, ◌∙◌, [], Option, Some, map, take, ap, arith, append-nil}
+use Rattle.std.proofs.Common.{◌≡◌, ◌+◌, ◌++◌, ◌∷◌, ◌∙◌, [], Option, Some, map, take, length, ap, arith, append-nil}
 use Rattle.std.specs.List.{cons_option, filter_map}
 use Rattle.std.proofs.lemmas.List.{map-append}
 use Rattle.wit_syntax.specs.View.{item_view}
@@ -15,7 +15,7 @@ use Rattle.tree_meaning.specs.Imports.{imports_of}
 use Rattle.tree_rows.proofs.worlds.define_worlds.Goals.{in-World+in_ok-id+in_ok-world+in_ok-push, in_default}
 
 pub loop-item-init : goal.loop-item-init
-loop-item-init c = rw c.new-worlds.ensures.items (worlds-none c.args.«package».0 c.args.builder.now)
+loop-item-init c = rw c.new-worlds.ensures.items (worlds-none (length c.args.plan.now.imports.now.packages) c.args.builder.now)
 
 pub define_world-requires-clause-known : goal.define_world-requires-clause-known
 define_world-requires-clause-known c =
@@ -24,7 +24,7 @@ define_world-requires-clause-known c =
     let w = declared_world c.in-World.world in
     let here = contains-map item_view xs x (contains-at xs c.loop-item.item-index x (omega arith) c.item-item.is) in
     let there = found world_of (map item_view xs) (item_view x) w here (ap (λ (y : Item). world_of (item_view y)) c.in-World.is) in
-    all-contained (IsKnownWorldOf (imports_of c.args.imports.now) c.args.names.now) (filter_map world_of (map item_view xs)) w c.requires.known there
+    all-contained (IsKnownWorldOf (imports_of c.args.plan.now.imports.now) c.args.plan.now.names.now) (filter_map world_of (map item_view xs)) w c.requires.known there
 
 pub loop-item-preserved : goal.loop-item-preserved
 loop-item-preserved c =
@@ -39,7 +39,7 @@ loop-item-preserved c =
           let is : world_of (item_view x) ≡ Some tree = ap (λ (y : Item). world_of (item_view y)) w.in-World.is in
           let named : map world_meaning (filter_map world_of (map item_view (take (k + 1) xs))) ≡ map world_meaning before ++ world_meaning tree ∷ [] =
           ap (map world_meaning) (next ∙ ap (λ (o : Option WorldTree). before ++ cons_option o []) is) ∙ map-append world_meaning before (tree ∷ []) in
-          let more = worlds-more c.args.«package».0 c.args.builder.now c.loop-item.builder w.define_world.new.builder c.loop-item.worlds.items (map world_meaning before) w.in_ok-id.id.0 w.in_ok-world.world (world_meaning tree)
+          let more = worlds-more (length c.args.plan.now.imports.now.packages) c.args.builder.now c.loop-item.builder w.define_world.new.builder c.loop-item.worlds.items (map world_meaning before) w.in_ok-id.id.0 w.in_ok-world.world (world_meaning tree)
           (omega (arith, w.in_ok-id.ensures, w.len.ensures, c.loop-item.worlds.ok.0)) c.loop-item.invariant w.in_ok-world.ensures in
           rw (w.builder-is, w.worlds-is, w.in_ok-push.ensures.items, named) more
       | in_default w ↦

@@ -7,8 +7,8 @@ use Rattle.tree_scopes.specs.Sources.{declared_tree}
 use Rattle.tree_scopes.specs.declared.declared.Declarations.{Declarations}
 use Rattle.tree_meaning.proofs.FileEntries.{given-next}
 use Rattle.tree_scopes.proofs.DeclaredTrees.{declared-more}
-use Rattle.resolve.proofs.tree.all_declarations.Goals as goal
-use Rattle.resolve.proofs.tree.all_declarations.Goals.{in-Interface+in_ok-of+in_ok-push, in_default}
+use Rattle.tree_names.proofs.tree.all_declarations.Goals as goal
+use Rattle.tree_names.proofs.tree.all_declarations.Goals.{in-Interface+in_ok-of+in_ok-push, in_default}
 
 pub loop-item-preserved : goal.loop-item-preserved
 loop-item-preserved c =

@@ -3,7 +3,7 @@ use Rattle.std.specs.List.{filter_map}
 use Rattle.wit_syntax.specs.View.{item_view}
 use Rattle.tree_meaning.specs.Declarations.{interface_of}
 use Rattle.tree_scopes.specs.Sources.{declared_tree}
-use Rattle.resolve.proofs.tree.all_declarations.Given as goal
+use Rattle.tree_names.proofs.tree.all_declarations.Given as goal
 
 abbrev pub invariant-loop-item : goal.invariant-loop-item
 invariant-loop-item l = map declared_tree l.all.items ≡ filter_map interface_of (map item_view (take l.item-index l.items))

@@ -3,7 +3,7 @@ use Rattle.placement.specs.Order.{IsPlacement}
 use Rattle.tree_meaning.specs.Resolves.{interface_uses}
 use Rattle.tree_scopes.specs.Sources.{declared_tree}
 use Rattle.tree_scopes.proofs.DeclaredTrees.{order-below}
-use Rattle.resolve.proofs.tree.defined.Goals as goal
+use Rattle.tree_rows.proofs.tree.defined.Goals as goal
 
 pub ordered_names-requires : goal.ordered_names-requires
 ordered_names-requires c =

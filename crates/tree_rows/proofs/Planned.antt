@@ -1,0 +1,36 @@
+-- What a plan tells of its tree.
+use Rattle.std.proofs.Common.{◌≡◌, ◌∙◌, ◌<◌, ℕ, List, [], All, length, get_or, ap, sym, subst, arith}
+use Rattle.std.proofs.lemmas.List.{length-map}
+use Rattle.placement.specs.Order.{IsPlacement}
+use Rattle.package_form.specs.Scope.{AreDistinct}
+use Rattle.tree_meaning.specs.Declarations.{InterfaceTree, interfaces, worlds, interface_at, interface_names}
+use Rattle.tree_meaning.specs.Imports.{imports_of}
+use Rattle.tree_meaning.specs.Resolves.{interface_uses, type_uses, names_in_order, HasKnownNamesOf, IsKnownWorldOf}
+use Rattle.tree_scopes.specs.Sources.{declared_tree}
+use Rattle.tree_forms.proofs.FinishedTrees.{distinct-interfaces}
+use Rattle.tree_forms.proofs.WorldTables.{worlds-known}
+use Rattle.tree_rows.specs.Planning.{IsPlan, imported, file, trees}
+use Rattle.tree_rows.specs.declared.plan.Plan.{Plan}
+
+module _ (p : Plan) (h : IsPlan p) where
+  pub known : All (HasKnownNamesOf (imports_of (imported p)) (trees p)) (trees p)
+  known = subst (λ (is : List InterfaceTree). All (HasKnownNamesOf (imports_of (imported p)) is) is) (sym h.declared) h.faults.known.in_interfaces
+
+  pub distinct : AreDistinct (interface_names (trees p))
+  distinct = subst (λ (is : List InterfaceTree). AreDistinct (interface_names is)) (sym h.declared) (distinct-interfaces (file p) h.faults)
+
+  pub known-worlds : All (IsKnownWorldOf (imports_of (imported p)) p.names.now) (worlds (file p))
+  known-worlds =
+      worlds-known (imports_of (imported p)) (trees p) p.order.now p.names.now (worlds (file p)) h.names h.placed
+      (subst (λ (is : List InterfaceTree). All (IsKnownWorldOf (imports_of (imported p)) (interface_names is)) (worlds (file p))) (sym h.declared) h.faults.known.in_worlds)
+
+  pub placed : IsPlacement (interface_uses (interfaces (file p))) p.order.now
+  placed = subst (λ (is : List InterfaceTree). IsPlacement (interface_uses is) p.order.now) h.declared h.placed
+
+  pub types-placed : (k : ℕ) → k < length (interfaces (file p)) → IsPlacement (type_uses (interface_at (interfaces (file p)) k)) (get_or p.types.now k [])
+  types-placed k l =
+      subst (λ (is : List InterfaceTree). IsPlacement (type_uses (interface_at is k)) (get_or p.types.now k [])) h.declared
+      (h.types k (omega (arith, l, ap length h.declared, length-map p.all.now declared_tree)))
+
+  pub ordered : p.names.now ≡ names_in_order (interfaces (file p)) p.order.now
+  ordered = h.names ∙ ap (λ (is : List InterfaceTree). names_in_order is p.order.now) h.declared

@@ -1,0 +1,6 @@
+use Rattle.std.proofs.Common.{◌<◌, ℕ}
+use Rattle.tree_scopes.specs.Tested.{IsFirst}
+use Rattle.tree_scopes.proofs.tested.names_differ.Given as goal
+
+abbrev pub invariant-loop-place : goal.invariant-loop-place
+invariant-loop-place l = (k : ℕ) → k < l.place → IsFirst l.imports k
