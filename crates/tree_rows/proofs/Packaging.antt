@@ -12,15 +12,13 @@ use Rattle.tables.specs.declared.tables.Resolve.{Resolve}
 use Rattle.tree_meaning.specs.Declarations.{UsedItem, InterfaceTree, interface_at, no_interface, interface_name, interface_names, type_names}
 use Rattle.tree_meaning.specs.Resolved.{interface_meaning}
 use Rattle.package_form.specs.Entries.{Table}
-use Rattle.tree_meaning.specs.Imports.{Import, Imports, AreApart, no_import, interfaces_of, imports_of}
+use Rattle.tree_meaning.specs.Imports.{Import, AreApart, no_import, interfaces_of, imports_of}
 use Rattle.tree_meaning.specs.Resolves.{interface_uses, own_uses, uses_of_interface, type_uses, IsKnownIn, IsKnownUseOf, HasKnownNamesOf, names_in_order, place_of, used_place}
 use Rattle.tree_meaning.specs.Building.{name_at, Adds, DefinesPackage, package_meaning, start_table}
 use Rattle.tree_scopes.specs.KnownScopes.{IsScope, scope_names, ArePlaced, AreImportScopes}
 use Rattle.tree_rows.specs.Defining.{CanUse, DefinesInterface}
 use Rattle.tables.specs.declared.tables.InterfaceId.{InterfaceId}
 use Rattle.tree_scopes.specs.declared.known.KnownTypes.{KnownTypes}
-use Rattle.tree_scopes.specs.declared.declared.Declarations.{Declarations}
-use Rattle.tree_scopes.specs.Sources.{declared_tree}
 use Rattle.tables.proofs.Rows.{split}
 use Rattle.package_form.proofs.Lists.{all-append, all-cons, all-none, all-contained, contains-map, flat_map-append, flat_map-one}
 use Rattle.package_form.proofs.OneRow.{same-place}
@@ -193,6 +191,3 @@ pub defines-package : (imports : Resolve) (is : List InterfaceTree) (order : Lis
     → start ≡ start_table imports names → length order ≤ k → PackageSoFar imports k is order orders start t scopes → DefinesPackage (start_table imports names) is order orders t
 defines-package imports is order orders start t scopes k names e l h =
     subst (λ (x : Table). DefinesPackage x is order orders t) e (record { adds = subst (λ (ks : List ℕ). Adds start t (package_meaning is orders ks)) (take_all k order l) h.adds })
-
-pub known-at : (m : Imports) (all : List Declarations) (j : ℕ) → j < length all → All (HasKnownNamesOf m (map declared_tree all)) (map declared_tree all) → HasKnownNamesOf m (map declared_tree all) (interface_at (map declared_tree all) j)
-known-at m all j l h = h j no_interface (omega (arith, l, length-map all declared_tree))

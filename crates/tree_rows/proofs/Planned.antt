@@ -1,20 +1,34 @@
 -- What a plan tells of its tree.
 use Rattle.std.proofs.Common.{◌≡◌, ◌∙◌, ◌<◌, ℕ, List, [], All, length, get_or, ap, sym, subst, arith}
-use Rattle.std.proofs.lemmas.List.{length-map}
+use Rattle.std.proofs.lemmas.List.{length-map, get_or_default}
 use Rattle.placement.specs.Order.{IsPlacement}
 use Rattle.package_form.specs.Scope.{AreDistinct}
-use Rattle.tree_meaning.specs.Declarations.{InterfaceTree, interfaces, worlds, interface_at, interface_names}
+use Rattle.tree_meaning.specs.Declarations.{InterfaceTree, interfaces, worlds, interface_at, interface_names, no_interface}
 use Rattle.tree_meaning.specs.Imports.{imports_of}
 use Rattle.tree_meaning.specs.Resolves.{interface_uses, type_uses, names_in_order, HasKnownNamesOf, IsKnownWorldOf}
 use Rattle.tree_scopes.specs.Sources.{declared_tree}
+use Rattle.tree_scopes.specs.declared.declared.Declarations.{Declarations}
+use Rattle.tree_scopes.proofs.DeclaredTrees.{order-below, tree-at}
 use Rattle.tree_forms.proofs.FinishedTrees.{distinct-interfaces}
 use Rattle.tree_forms.proofs.WorldTables.{worlds-known}
 use Rattle.tree_rows.specs.Planning.{IsPlan, imported, file, trees}
 use Rattle.tree_rows.specs.declared.plan.Plan.{Plan}
 
 module _ (p : Plan) (h : IsPlan p) where
-  pub known : All (HasKnownNamesOf (imports_of (imported p)) (trees p)) (trees p)
-  known = subst (λ (is : List InterfaceTree). All (HasKnownNamesOf (imports_of (imported p)) is) is) (sym h.declared) h.faults.known.in_interfaces
+  -- the interface that is defined behind k others
+  pub below : (k : ℕ) → k < length p.order.now → get_or p.order.now k 0 < length p.all.now
+  below k l = order-below p.all.now p.order.now h.placed k 0 l
+
+  pub declares : (k : ℕ) (x : Declarations) → k < length p.order.now → interface_at (trees p) (get_or p.order.now k 0) ≡ declared_tree (get_or p.all.now (get_or p.order.now k 0) x)
+  declares k x l =
+      let j = get_or p.order.now k 0 in
+      let d : Declarations = get_or p.all.now j x in
+      tree-at p.all.now j d (below k l) (get_or_default p.all.now j x d (below k l))
+
+  pub known : (k : ℕ) → k < length p.order.now → HasKnownNamesOf (imports_of (imported p)) (trees p) (interface_at (trees p) (get_or p.order.now k 0))
+  known k l =
+      let all = subst (λ (is : List InterfaceTree). All (HasKnownNamesOf (imports_of (imported p)) is) is) (sym h.declared) h.faults.known.in_interfaces in
+      all (get_or p.order.now k 0) no_interface (omega (arith, below k l, length-map p.all.now declared_tree))
 
   pub distinct : AreDistinct (interface_names (trees p))
   distinct = subst (λ (is : List InterfaceTree). AreDistinct (interface_names is)) (sym h.declared) (distinct-interfaces (file p) h.faults)
