@@ -10,6 +10,7 @@ use Rattle.package_sets.specs.Attached.{HasRoom, has_package, IsRefused}
 use Rattle.package_sets.specs.SetForm.{IsInSetForm}
 use Rattle.package_sets.specs.declared.error.AttachError.{AttachError}
 use Rattle.package_sets.specs.declared.error.AttachError.TheVariants as attach
+use Rattle.package_sets.proofs.Imported.{follows}
 use Rattle.package_sets.proofs.Lists.{behind-get}
 use Rattle.tree_meaning.specs.Declarations.{package_named}
 use Rattle.tree_meaning.specs.ImportForms.{IsNamedBehind, AreReachedFrom}
@@ -48,7 +49,7 @@ module _ (f : File) (s r : Resolve) (from : AreImportsFrom f s r) (form : ∥ Is
 
   pub distinct-scopes : (closed : Resolve) → (IsNamedBehind r f → All AreDistinct (package_scopes r) → All AreDistinct (package_scopes closed)) → ∥ All AreDistinct (package_scopes closed) ∥₁
   distinct-scopes closed h =
-      ∥∥₁_map form (λ t. h (named-behind s from.packages from.interfaces r from.are f t labels names new) (from.are.scopes t.rows t.postfix t.scopes))
+      ∥∥₁_map form (λ t. h (named-behind s from.packages from.interfaces r from.are f t labels names new) ((follows s from.packages from.interfaces r from.are).scopes t.rows t.postfix t.scopes))
 
 -- ---- behind the set
 
@@ -66,7 +67,7 @@ module _ (f : File) (s closed : Resolve) (t : IsOfTree f s closed) where
   not-put form new (attach.SamePackage p) h = absurd (true≢false (sym h.1.stands ∙ subst (λ (q : PackageParts). has_package s q ≡ false) (sym (own-is p h.1.own)) new))
   not-put form new (attach.NoPackage p) h =
       let none : IsProp ⊥ = hlevel in
-      ∥∥₁_elim form none (λ g. true≢false (sym ((t.from.are.found g.rows g.apart closed (begins-with t.imports f closed t.resolved)).have h.2.place p h.2.stands) ∙ h.2.lacks))
+      ∥∥₁_elim form none (λ g. true≢false (sym (((follows s t.from.packages t.from.interfaces t.imports t.from.are).found g.rows g.apart closed (begins-with t.imports f closed t.resolved)).have h.2.place p h.2.stands) ∙ h.2.lacks))
   not-put form new attach.NotThisShape h =
       let none : IsProp ⊥ = hlevel in
-      ∥∥₁_elim form none (λ g. h.3 (t.from.are.found g.rows g.apart closed (begins-with t.imports f closed t.resolved)).fits)
+      ∥∥₁_elim form none (λ g. h.3 ((follows s t.from.packages t.from.interfaces t.imports t.from.are).found g.rows g.apart closed (begins-with t.imports f closed t.resolved)).fits)

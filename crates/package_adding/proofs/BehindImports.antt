@@ -2,7 +2,7 @@
 use Rattle.std.proofs.Common.{◌≡◌, ◌≢◌, ◌⊎◌, inl, inr, ◌↔◌, ◌<◌, ◌≤◌, ◌+◌, ◌-◌, ◌&&◌, ◌||◌, ◌==◌, ℕ, zero, suc, Bool, true, false, List, [], ◌∷◌, length, take, get_or, slice_get, Option, None, Some, refl, ap, sym, subst, ◌∙◌, arith, Contains, replicate}
 use Rattle.std.specs.Prelude.{Decides}
 use Rattle.std.proofs.lemmas.List.Folds.{Any-from_list_any, list_any-from_Any}
-use Rattle.std.proofs.lemmas.List.{get_or_default, get_or-replicate, length-map, length-replicate, length-take}
+use Rattle.std.proofs.lemmas.List.{get_or_default, get_or-replicate, length-replicate, length-take}
 use Rattle.std.proofs.lemmas.Option.{slice_get_within}
 use Rattle.std.specs.Str.{bytes_eq}
 use Rattle.std.proofs.lemmas.Slice.Eq.{bytes_eq-Decides}
@@ -23,8 +23,9 @@ use Rattle.tables.proofs.Rows.{split, both}
 use Rattle.tables.specs.PackageNames.{PackageParts}
 use Rattle.tables.specs.declared.tables.Interface.{Interface}
 use Rattle.tables.specs.declared.tables.Resolve.{Resolve}
-use Rattle.package_adding.specs.NamedIn.{own_reached, IsImportAt, NamesIn, AreNamedIn}
-use Rattle.package_adding.specs.BehindImports.{import_names, any_marked, marked_names, HasImportTable, IsBehindImports}
+use Rattle.package_sets.specs.NamedIn.{own_reached, NamesIn, AreNamedIn}
+use Rattle.package_adding.specs.ImportNames.{import_names, any_marked, marked_names}
+use Rattle.package_sets.specs.BehindImports.{HasImportTable, IsBehindImports}
 use Rattle.package_adding.proofs.Marks.{one-marks}
 
 -- ---- marks

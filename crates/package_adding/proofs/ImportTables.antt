@@ -18,6 +18,7 @@ use Rattle.package_sets.specs.Imports.{IsImportsOf}
 use Rattle.package_sets.specs.Joining.{imports}
 use Rattle.package_sets.specs.Set.{IsSet}
 use Rattle.package_sets.specs.SetForm.{IsInSetForm}
+use Rattle.package_sets.proofs.Imported.{follows}
 use Rattle.package_sets.proofs.Beginning.{imports-front, begins-packages, begins-imports, begins-rows}
 use Rattle.package_sets.proofs.Lists.{not-is}
 use Rattle.package_text.specs.Imports.{AreImportsOf}
@@ -35,7 +36,7 @@ use Rattle.tables.specs.declared.tables.Resolve.{Resolve}
 use Rattle.tables.specs.declared.tables.World.{World}
 use Rattle.wit_syntax.specs.Syntax.{File}
 use Rattle.package_adding.specs.Added.{IsOfTree}
-use Rattle.package_adding.specs.BehindImports.{HasImportTable, IsBehindImports}
+use Rattle.package_sets.specs.BehindImports.{HasImportTable, IsBehindImports}
 use Rattle.package_adding.proofs.SameNames.{named-of-tree}
 
 -- the own package is the last
@@ -56,14 +57,16 @@ interfaces-parted closed form =
 
 -- the rows of a set's imports end with those of the last interface
 import-ends : (set t : Resolve) (packages interfaces : List Bool) → IsImportsOf set packages interfaces t → IsSet set → is_parted (length t.definitions) 0 t.interfaces [] ≡ true
-import-ends set t packages interfaces n s = subst (λ (ws : List World). is_parted (length t.definitions) 0 t.interfaces ws ≡ true) n.worlds_are (n.in_form s).parted
+import-ends set t packages interfaces n s =
+    let its = follows set packages interfaces t n in
+    subst (λ (ws : List World). is_parted (length t.definitions) 0 t.interfaces ws ≡ true) its.worlds_are (its.in_form s).parted
 
 pub behind-imports : (t closed : Resolve) → HasImportTable closed t → (set : Resolve) (packages interfaces : List Bool) → IsImportsOf set packages interfaces t → IsSet set → IsInPackageForm closed
     → AreImportsOf closed t
 behind-imports t closed h set packages interfaces n s form = record {
   packages = last-own closed.packages (some-package closed form.closed) ∙ ap (λ (ps : List PackageParts). ps ++ own_parts closed.packages ∷ []) h.packages;
   interfaces = interfaces-parted closed form ∙ ap (λ (is : List Interface). is ++ own_interfaces closed) h.interfaces;
-  worlds = n.worlds_are;
+  worlds = (follows set packages interfaces t n).worlds_are;
   rows =
       let behind = drop (length t.definitions) closed.definitions in
       (behind, sym (take-append-drop (length t.definitions) closed.definitions) ∙ ap (λ (ds : List Definition). ds ++ behind) h.rows);

@@ -15,7 +15,9 @@ use Rattle.package_form.proofs.Lists.{all-contained, all-get, contains-map}
 use Rattle.package_form.proofs.OwnPackage.{package-there, apart-places, full-name-parts, same-itself}
 use Rattle.package_form.proofs.Postfix.{used-postfix, postfix-used}
 use Rattle.package_sets.specs.Attached.{HasRoom, has_package}
-use Rattle.package_sets.specs.Imports.{IsOfInterfaces, IsImportsOf}
+use Rattle.package_sets.specs.Follows.{IsOfInterfaces, OfImports}
+use Rattle.package_sets.specs.Imports.{IsImportsOf}
+use Rattle.package_sets.proofs.Imported.{follows}
 use Rattle.package_sets.specs.Owners.{owner_of}
 use Rattle.package_sets.specs.Restricted.{IsReachedIn}
 use Rattle.package_sets.specs.SetForm.{HasNamesApart, IsInSetForm}
@@ -83,6 +85,9 @@ module _ (m : Imports) (f : File) (faults : HasNoFaultsOf m f) where
       all-contained (IsKnownItemOf m _) w.items _ (all-contained (IsKnownWorldOf m _) (worlds f) w faults.known.in_worlds c) d
 
 module _ (s : Resolve) (packages interfaces : List Bool) (r : Resolve) (n : IsImportsOf s packages interfaces r) where
+  its : OfImports s packages interfaces r n
+  its = follows s packages interfaces r n
+
   abbrev one : ℕ → Interface
   one j = get_or r.interfaces j nowhere
 
@@ -113,30 +118,30 @@ module _ (s : Resolve) (packages interfaces : List Bool) (r : Resolve) (n : IsIm
     each = λ j k l m e f.
         let a : j < length r.interfaces = omega (arith, l, counted) in
         let b : k < length r.interfaces = omega (arith, m, counted) in
-        (n.apart h).each j k (one j) (one k) (here j a) (here k b) (of-package j a ∙ (ap (λ (p : PackageParts). Some p) e ∙ sym (of-package k b))) (named-one j a ∙ (f ∙ sym (named-one k b)));
+        (its.apart h).each j k (one j) (one k) (here j a) (here k b) (of-package j a ∙ (ap (λ (p : PackageParts). Some p) e ∙ sym (of-package k b))) (named-one j a ∙ (f ∙ sym (named-one k b)));
   }
 
   pub are-imports : ∥ IsInSetForm s ∥₁ → AreImports r
   are-imports h = record {
     apart = record { each = λ j k l m e f. eqb-true j k (∥∥₁_elim h (Bool-set (j == k) true) (λ form. eq-eqb j k ((each-apart form.apart).each j k l m e f))) };
-    worlds = n.worlds_are;
-    owned = ∥∥₁_elim h (Bool-set _ true) (λ form. all-by (is_of_interfaces (length r.interfaces)) r.definitions (λ k d e. row-owned (length r.interfaces) d (n.owned form.rows k d e)));
-    postfix = used-postfix r.definitions r.earlier (∥∥₁_elim h (Bool-set _ true) (λ form. postfix-used r.definitions r.earlier (n.postfix form.postfix)));
+    worlds = its.worlds_are;
+    owned = ∥∥₁_elim h (Bool-set _ true) (λ form. all-by (is_of_interfaces (length r.interfaces)) r.definitions (λ k d e. row-owned (length r.interfaces) d (its.owned form.rows k d e)));
+    postfix = used-postfix r.definitions r.earlier (∥∥₁_elim h (Bool-set _ true) (λ form. postfix-used r.definitions r.earlier (its.postfix form.postfix)));
   }
 
   module _ (f : File) (form : IsInSetForm s) where
     not-there : has_package s (package_named f) ≡ false → Contains r.packages (package_named f) → ⊥
     not-there new c =
-        let k = kept-from n.needed s.packages (package_named f) (subst (λ (ps : List PackageParts). Contains ps (package_named f)) n.packages_are c) in
+        let k = kept-from n.to.packages s.packages (package_named f) (subst (λ (ps : List PackageParts). Contains ps (package_named f)) n.table.packages c) in
         true≢false (sym (one-any (is_same_package (package_named f)) s.packages (package_named f) (get-contains s.packages k.0 (package_named f) k.2) (same-itself (package_named f))) ∙ new)
 
     pub named-behind : All IsLabelled r.interfaces → IsTrue (has_full_names f) → has_package s (package_named f) ≡ false → IsNamedBehind r f
     named-behind labels names new = record {
       form = record {
-        names = n.names form.names;
+        names = its.names form.names;
         labels = labels;
-        parted = subst (λ (ws : List World). is_parted (length r.definitions) 0 r.interfaces ws ≡ true) n.worlds_are (n.in_form form.rows).parted;
-        interfaces = (n.in_form form.rows).interfaces;
+        parted = subst (λ (ws : List World). is_parted (length r.definitions) 0 r.interfaces ws ≡ true) its.worlds_are (its.in_form form.rows).parted;
+        interfaces = (its.in_form form.rows).interfaces;
       };
       names = names;
       other = not-there new;
@@ -151,25 +156,25 @@ module _ (s : Resolve) (packages interfaces : List Bool) (r : Resolve) (n : IsIm
         pub place : ℕ
         pub interface : Interface
         pub at : slice_get s.interfaces place ≡ Some interface
-        pub marked : get_or n.marks.interfaces place false ≡ true
+        pub marked : get_or n.kept.marks.interfaces place false ≡ true
         pub of : slice_get s.packages interface.«package».0 ≡ Some q
         pub name : interface.name ≡ i
 
       of-set : (j : ℕ) (x : Interface) (q : PackageParts) → slice_get r.interfaces j ≡ Some x → slice_get r.packages x.«package».0 ≡ Some q → IsOfSet q x.name
       of-set j x q e g =
           let c : Contains r.interfaces x = get-contains r.interfaces j x e in
-          let named = subst (λ (ns : List (List ℕ)). Contains ns (full_name r x)) n.interfaces_are (contains-map (full_name r) r.interfaces x c) in
-          let k = kept-from n.marks.interfaces (interface_names s) (full_name r x) named in
+          let named = subst (λ (ns : List (List ℕ)). Contains ns (full_name r x)) its.interfaces_are (contains-map (full_name r) r.interfaces x c) in
+          let k = kept-from n.kept.marks.interfaces (interface_names s) (full_name r x) named in
           let y = map-unget (full_name s) s.interfaces k.0 (full_name r x) k.2 in
           let d : Contains s.interfaces y.0 = get-contains s.interfaces k.0 y.0 y.1 in
           let p = package-there s.packages y.0.«package».0 (grouped-at (length s.packages) 0 s.interfaces d.0 y.0 s.grouped d.1 d.2) in
           let whole = ap (λ (o : Option PackageParts). full_name_in o y.0.name) (sym p.1) ∙ (y.2 ∙ ap (λ (o : Option PackageParts). full_name_in o x.name) g) in
-          let parts = full-name-parts p.0 q y.0.name x.name (all-get is_package_name s.packages y.0.«package».0 p.0 form.names p.1) (all-get is_package_name r.packages x.«package».0 q (n.names form.names) g)
+          let parts = full-name-parts p.0 q y.0.name x.name (all-get is_package_name s.packages y.0.«package».0 p.0 form.names p.1) (all-get is_package_name r.packages x.«package».0 q (its.names form.names) g)
           (all-contained IsLabelled s.interfaces y.0 set-labels d) (all-contained IsLabelled r.interfaces x labels c) whole in
           record { place = k.0; interface = y.0; at = y.1; marked = k.1; of = p.1 ∙ ap (λ (z : PackageParts). Some z) parts.0; name = parts.1 }
 
       module _ (named : AreNamed f s packages interfaces) (faults : HasNoFaultsOf (imports_of r) f) where
-        reached-in : (k : ℕ) → k < length s.packages → get_or packages k false ≡ true → IsReachedIn s n.marks k
+        reached-in : (k : ℕ) → k < length s.packages → get_or packages k false ≡ true → IsReachedIn s n.kept.marks k
         reached-in k l h =
             let p = package-there s.packages k l in
             let t = (named.packages_are k p.0 p.1).0 h in
@@ -178,21 +183,21 @@ module _ (s : Resolve) (packages interfaces : List Bool) (r : Resolve) (n : IsIm
             let a : j < length r.interfaces = omega (arith, i.1.1, counted) in
             let is : import_at (interfaces_of r) j ≡ i.0 = get_or_default (interfaces_of r) j no_import i.0 i.1.1 ∙ i.1.2 in
             let o = of-set j (one j) p.0 (here j a) (of-package j a ∙ ap (λ (x : PackageParts). Some x) (ap (λ (x : Import). x.«package») is ∙ i.2)) in
-            (o.place, o.interface, o.at, marked-anyway n.marks.interfaces o.place o.marked, apart-places s.packages packages-apart o.interface.«package».0 k p.0 o.of p.1)
+            (o.place, o.interface, o.at, marked-anyway n.kept.marks.interfaces o.place o.marked, apart-places s.packages packages-apart o.interface.«package».0 k p.0 o.of p.1)
 
         reached : (k : ℕ) → k < length r.interfaces → Contains (reached_by r.definitions []) k ⊎ NamesImport f (import_at (interfaces_of r) k)
         reached k l =
             let q = (import_at (interfaces_of r) k).«package» in
             let o = of-set k (one k) q (here k l) (of-package k l) in
-            elim (n.used form.rows form.postfix form.apart k o.place (one k) o.interface (here k l) o.at (of-package k l ∙ sym o.of) (sym o.name)) [
+            elim (its.used form.rows form.postfix form.apart k o.place (one k) o.interface (here k l) o.at (of-package k l ∙ sym o.of) (sym o.name)) [
               | inl c ↦ inl c
               | inr g ↦ inr (subst (NamesInterface f q) (o.name ∙ named-one k l) ((named.interfaces_are o.place o.interface q o.at o.of).0 g))
             ]
 
         pub reached-from : HasRoom s → AreReachedFrom r f
         reached-from room = record {
-          few = omega (arith, room, ap length n.packages_are, kept-fewer n.needed s.packages);
-          apart = (split (nat_le (length r.packages) 64) (are_apart r.packages) (n.packages_of_set form.packages)).1;
-          each = n.each_package reached-in;
+          few = omega (arith, room, ap length n.table.packages, kept-fewer n.to.packages s.packages);
+          apart = (split (nat_le (length r.packages) 64) (are_apart r.packages) (its.packages_of_set form.packages)).1;
+          each = its.each_package reached-in;
           reached = reached;
         }

@@ -1,4 +1,5 @@
 pub mod Adding
+pub mod Again
 pub mod BehindImports
 pub mod ImportTables
 pub mod Importing

@@ -6,7 +6,7 @@ use Rattle.package_sets.proofs.Lists.{one-there}
 use Rattle.package_sets.proofs.MarkedPlaces.{interface-in}
 use Rattle.tables.specs.PackageNames.{PackageParts}
 use Rattle.tables.specs.declared.tables.Resolve.{Resolve}
-use Rattle.package_adding.specs.Named.{AreMarksOf}
+use Rattle.package_sets.specs.NamedIn.{AreMarksOf}
 
 -- two tests of one thing
 same-test : (P : Type 0) (a b : Bool) → (a ≡ true) ↔ P → (b ≡ true) ↔ P → a ≡ b

@@ -17,7 +17,8 @@ use Rattle.package_form.specs.Scope.{AreDistinct}
 use Rattle.package_form.proofs.Lists.{all-contained, contains-here, contains-left, contains-right, contains-either, contains-map, contains-unmap, contains-flat}
 use Rattle.package_form.proofs.OwnPackage.{HasOneOfEachInterface, labelled-interfaces}
 use Rattle.package_form.proofs.Postfix.{postfix-used}
-use Rattle.package_sets.specs.Imports.{BeginsWith}
+use Rattle.package_sets.specs.Follows.{BeginsWith, OfImports}
+use Rattle.package_sets.proofs.Imported.{follows}
 use Rattle.package_sets.specs.Joining.{import_count}
 use Rattle.package_sets.specs.SetForm.{IsInSetForm}
 use Rattle.package_sets.proofs.Beginning.{own-is, begins-count, begins-imports}
@@ -57,7 +58,7 @@ use Rattle.tables.specs.declared.tables.WorldItemKind.TheVariants as item
 use Rattle.wit_syntax.specs.Syntax.{File}
 use Rattle.package_adding.specs.Added.{IsOfTree}
 use Rattle.package_adding.specs.Named.{NamesInterface, AreNamed}
-use Rattle.package_adding.specs.NamedIn.{own_rows, own_reached, IsImportAt, NamesIn, AreNamedIn}
+use Rattle.package_sets.specs.NamedIn.{own_rows, own_reached, IsImportAt, NamesIn, AreNamedIn}
 use Rattle.package_adding.proofs.Importing.{named-there, are-imports}
 use Rattle.package_adding.proofs.TreeBeginning.{begins-with}
 use Rattle.package_adding.proofs.Marks.{also-marks}
@@ -433,12 +434,15 @@ stands-behind t f p faults resolved are ends form distinct labels = record { fau
 -- .. of a file over a set
 module _ (f : File) (set closed : Resolve) (t : IsOfTree f set closed) (form : ∥ IsInSetForm set ∥₁) (formed : ∥ IsInPackageForm closed ∥₁) (distinct : ∥ All AreDistinct (package_scopes closed) ∥₁)
     (labels : All IsLabelled closed.interfaces) where
+  its : OfImports set t.from.packages t.from.interfaces t.imports t.from.are
+  its = follows set t.from.packages t.from.interfaces t.imports t.from.are
+
   ends-are : interfaces_end 0 t.imports.interfaces ≡ length t.imports.definitions
   ends-are =
       let n = interfaces_end 0 t.imports.interfaces in
       let m = length t.imports.definitions in
       eqb-true n m (∥∥₁_elim form (Bool-set (n == m) true) (λ g.
-      eq-eqb n m (last-end m 0 t.imports.interfaces (subst (λ (ws : List World). is_parted m 0 t.imports.interfaces ws ≡ true) t.from.are.worlds_are (t.from.are.in_form g.rows).parted))))
+      eq-eqb n m (last-end m 0 t.imports.interfaces (subst (λ (ws : List World). is_parted m 0 t.imports.interfaces ws ≡ true) its.worlds_are (its.in_form g.rows).parted))))
 
   pub tree-behind : StandsBehind t.imports f closed
   tree-behind = stands-behind t.imports f closed t.faults t.resolved (are-imports set t.from.packages t.from.interfaces t.imports t.from.are form) ends-are formed distinct labels

@@ -1,7 +1,7 @@
 -- The closed table of a file begins with its imports.
 use Rattle.std.proofs.Common.{ap, length, sym}
 use Rattle.package_form.proofs.Lists.{contains-unmap}
-use Rattle.package_sets.specs.Imports.{BeginsWith}
+use Rattle.package_sets.specs.Follows.{BeginsWith}
 use Rattle.tree_meaning.specs.Declarations.{package_named}
 use Rattle.tree_meaning.specs.Resolves.{in_package, IsClosedPackageOf}
 use Rattle.tables.specs.declared.tables.Interface.{Interface}

@@ -1,6 +1,6 @@
 -- What a set is with a package more, and why one is not added: a package may use interfaces of those before it (WIT.md, "Package Names", "Item:
 -- `use`"; Binary.md, "Import and Export Definitions").
-use Rattle.std.specs.Prelude.{◌≡◌, ℕ, Bool, true, false, List, [], All}
+use Rattle.std.specs.Prelude.{◌≡◌, ◌<◌, ℕ, Bool, true, false, List, [], length, All}
 use Rattle.ctype_bin.specs.declared.component.RawComponent.{RawComponent}
 use Rattle.package_form.specs.Naming.{package_scopes}
 use Rattle.package_form.specs.Scope.{AreDistinct}
@@ -9,6 +9,8 @@ use Rattle.package_sets.specs.declared.error.AttachError.{AttachError}
 use Rattle.package_sets.specs.declared.error.AttachError.TheVariants as attach
 use Rattle.tables.specs.declared.tables.Resolve.{Resolve}
 use Rattle.package_sets.specs.Imports.{IsImportsOf}
+use Rattle.package_sets.specs.Restricted.{IsRestricted}
+use Rattle.tables.specs.Same.{IsSamePackage}
 use Rattle.tree_meaning.specs.Declarations.{package_named}
 use Rattle.tree_meaning.specs.Imports.{imports_of}
 use Rattle.tree_meaning.specs.Resolves.{HasEntries, HasNoFaultsOf, IsClosedPackageOf, ResolveRefusesOf}
@@ -17,7 +19,7 @@ use Rattle.tables.specs.declared.error.ResolveError.TheVariants as cause
 use Rattle.wit_syntax.specs.Syntax.{File}
 use Rattle.wit_component.specs.FromComponent.{ClosedComponentRefuses}
 use Rattle.wit_component.specs.ToComponent.{ComponentStands}
-use Rattle.package_adding.specs.BehindImports.{IsBehindImports}
+use Rattle.package_sets.specs.BehindImports.{IsBehindImports}
 use Rattle.package_adding.specs.Named.{AreNamed}
 use Rattle.package_adding.specs.declared.error.AddError.{AddError}
 use Rattle.package_adding.specs.declared.error.AddError.TheVariants as error
@@ -91,6 +93,16 @@ TreeNotAdded f set (error.Attach attach.NotThisShape) = ⊥
 TreeNotAdded f set (error.Resolve cause.EmptyPackage) = HasRoom set × (f.entries ≡ [])
 TreeNotAdded f set (error.Resolve cause.NoMemory) = HasRoom set
 TreeNotAdded f set (error.Resolve e) = HasRoom set × HasEntries f × IsNewName f set × IsRefusedTree f set e
+
+-- ---- the tables of its packages
+
+-- the table of what the package at this place reaches is this one
+abbrev pub HasTable : Resolve → ℕ → Resolve → Type 0
+HasTable set id table = (r : Resolve) → IsRestricted set id r → IsSamePackage r table
+
+-- the table of each package that the set had is what it was
+abbrev pub KeepsTables : Resolve → Resolve → Type 0
+KeepsTables set new = (id : ℕ) → id < length set.packages → (table : Resolve) → IsRestricted set id table → HasTable new id table
 
 -- ---- want of memory
 

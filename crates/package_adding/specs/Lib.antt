@@ -1,5 +1,4 @@
 pub mod Added
-pub mod BehindImports
+pub mod ImportNames
 pub mod Named
 pub mod Noted
-pub mod NamedIn

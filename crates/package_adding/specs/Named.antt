@@ -1,12 +1,12 @@
 -- What the paths of a file name of a set: packages, and interfaces of theirs (WIT.md, "Item: `use`", "Item: `world`").
-use Rattle.std.specs.Prelude.{◌≡◌, ◌↔◌, ◌⊎◌, ◌&&◌, ◌==◌, ℕ, Bool, true, false, not, List, length, slice_get, slice_index_or, Some}
+use Rattle.std.specs.Prelude.{◌⊎◌, ◌&&◌, ◌==◌, ℕ, Bool, false, not, List, length}
 use Rattle.std.specs.List.{list_any}
 use Rattle.std.specs.Str.{bytes_eq}
 use Rattle.package_form.specs.Closed.{is_same_package}
 use Rattle.tree_meaning.specs.ImportForms.{UsesImport, HasImportItem}
 use Rattle.tables.specs.PackageNames.{PackageParts}
-use Rattle.tables.specs.declared.tables.Interface.{Interface}
 use Rattle.tables.specs.declared.tables.Resolve.{Resolve}
+use Rattle.package_sets.specs.NamedIn.{AreMarksOf}
 use Rattle.wit_syntax.specs.Syntax.{PathTo, Local, Foreign, Entry, Uses, Defines, Declares, WorldEntry, Whole, Single, FileEntry, AnInterface, AWorld, File}
 
 -- the interface of this name of the package: an interface of the file uses a type of it, or it is an item of a world
@@ -16,14 +16,6 @@ NamesInterface f q i = UsesImport f q i ⊎ HasImportItem f q i
 -- .. one of its interfaces
 abbrev pub NamesPackage : File → PackageParts → Type 0
 NamesPackage f q = (i : List ℕ) × NamesInterface f q i
-
--- These are marks of just the interfaces of the set that are named, and of just the packages of which any interface is, whether they have it or not.
-pub record AreMarksOf (names : PackageParts → List ℕ → Type 0) (set : Resolve) (packages interfaces : List Bool) : Type 0 where
-  pub each_package : length packages ≡ length set.packages
-  pub each_interface : length interfaces ≡ length set.interfaces
-  pub packages_are : (k : ℕ) (q : PackageParts) → slice_get set.packages k ≡ Some q → (slice_index_or packages k false ≡ true) ↔ ((i : List ℕ) × names q i)
-  pub interfaces_are : (k : ℕ) (i : Interface) (q : PackageParts) → slice_get set.interfaces k ≡ Some i → slice_get set.packages i.«package».0 ≡ Some q
-      → (slice_index_or interfaces k false ≡ true) ↔ names q i.name
 
 -- .. of what the file names
 abbrev pub AreNamed : File → Resolve → List Bool → List Bool → Type 0

@@ -6,8 +6,9 @@ ghost use Rattle.package_form.specs.Reached.{reached_by_item, reached_by_row, re
 ghost use Rattle.package_sets.specs.Attached.{others};
 ghost use Rattle.package_sets.specs.Joining.{imports};
 ghost use Rattle.package_adding.specs.Noted.{also, AreNoted};
-ghost use Rattle.package_adding.specs.NamedIn.{own_rows, own_reached, AreNamedIn};
-ghost use Rattle.package_adding.specs.BehindImports.{import_names, marked_names, HasImportTable, IsBehindImports};
+ghost use Rattle.package_sets.specs.NamedIn.{own_rows, own_reached, AreNamedIn};
+ghost use Rattle.package_adding.specs.ImportNames.{import_names, marked_names};
+ghost use Rattle.package_sets.specs.BehindImports.{HasImportTable, IsBehindImports};
 
 use crate::marking::{Named, mark, mark_named};
 use package_form::{IndexedTable, PackageKey, interfaces_end, own_package, used_name};

@@ -4,7 +4,7 @@ ghost use Rattle.std.specs.Str.{bytes_eq};
 ghost use Rattle.package_form.specs.Closed.{is_same_package};
 ghost use Rattle.package_form.specs.Indexed.{key_parts};
 ghost use Rattle.tables.specs.PackageNames.{PackageParts};
-ghost use Rattle.package_adding.specs.Named.{AreMarksOf};
+ghost use Rattle.package_sets.specs.NamedIn.{AreMarksOf};
 ghost use Rattle.package_adding.specs.Noted.{also, nothing, AreNoted, marked_at, first_mark};
 
 use atoms::Label;

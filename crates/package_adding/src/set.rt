@@ -9,8 +9,8 @@ ghost use Rattle.package_sets.specs.Attached.{HasRoom, IsAttached, IsRefused};
 ghost use Rattle.package_sets.specs.SetForm.{IsEmpty};
 ghost use Rattle.package_sets.specs.Tower.{IsInTower};
 ghost use Rattle.package_sets.specs.declared.error.AttachError.TheVariants.{SetLimit, NoMemory, SamePackage};
-ghost use Rattle.package_adding.specs.Added.{AddsComponent, ComponentNotAdded, IsRefusedBehind, AddsTree, IsNewName, HasName, TreeNotAdded, IsWantOfMemory};
-ghost use Rattle.package_adding.specs.BehindImports.{IsBehindImports};
+ghost use Rattle.package_adding.specs.Added.{AddsComponent, ComponentNotAdded, IsRefusedBehind, AddsTree, IsNewName, HasName, TreeNotAdded, HasTable, KeepsTables, IsWantOfMemory};
+ghost use Rattle.package_sets.specs.BehindImports.{IsBehindImports};
 ghost use Rattle.package_text.specs.Writable.{IsWritable};
 ghost use Rattle.tree_meaning.specs.Resolves.{file_fits};
 ghost use Rattle.tables.specs.Same.{IsSamePackage};
@@ -96,6 +96,8 @@ impl PackageSet {
         requires form { ∥ IsInPackageForm closed.now ∥₁ }
         requires distinct { ∥ All AreDistinct (package_scopes closed.now) ∥₁ }
         ensures ok { IfOk result (λ id. IsAttached self.old.resolve closed.now self.new.resolve id.0) }
+        ensures again { IfOk result (λ id. IsBehindImports self.old.resolve closed.now → HasTable self.new.resolve id.0 closed.now) }
+        ensures earlier { OnOk result (KeepsTables self.old.resolve self.new.resolve) }
         ensures err { IfErr result (IsRefused self.old.resolve closed.now) }
         ensures same { OnErr result (self.new ≡ self.old) }
     {
@@ -114,6 +116,8 @@ impl PackageSet {
         requires distinct { ∥ All AreDistinct (package_scopes closed.now) ∥₁ }
         ensures ok { IfOk result (λ id. IsAttached self.old.resolve closed.now self.new.resolve id.0) }
         ensures behind { OnOk result (IsBehindImports self.old.resolve closed.now) }
+        ensures again { IfOk result (λ id. HasTable self.new.resolve id.0 closed.now) }
+        ensures earlier { OnOk result (KeepsTables self.old.resolve self.new.resolve) }
         ensures err { IfErr result (IsRefusedBehind self.old.resolve closed.now) }
         ensures same { OnErr result (self.new ≡ self.old) }
     {
@@ -131,7 +135,8 @@ impl PackageSet {
     /// imports isn't there or differs from the earlier package's, or where its imports stand in another order than the set's; 46 where memory
     /// is wanting. The set is as it was then. (Binary.md)
     pub fn add_raw(&mut self, alloc: Global, raw: &RawComponent) -> Result<PackageId, AddError>
-        ensures ok { IfOk result (λ id. (closed : Resolve) × AddsComponent raw.now self.old.resolve closed self.new.resolve id.0) }
+        ensures ok { IfOk result (λ id. (closed : Resolve) × AddsComponent raw.now self.old.resolve closed self.new.resolve id.0 × HasTable self.new.resolve id.0 closed) }
+        ensures earlier { OnOk result (KeepsTables self.old.resolve self.new.resolve) }
         ensures err { IfErr result (ComponentNotAdded raw.now self.old.resolve) }
         ensures same { OnErr result (self.new ≡ self.old) }
     {
@@ -152,6 +157,8 @@ impl PackageSet {
         requires spelled { ∥ file.spells bytes.now (component_view raw.now) ∥₁ }
         requires room { HasRoom self.old.resolve }
         ensures ok { IfOk result (λ x. AddsComponent raw.now self.old.resolve x.1 self.new.resolve x.0.0) }
+        ensures again { IfOk result (λ x. HasTable self.new.resolve x.0.0 x.1) }
+        ensures earlier { OnOk result (KeepsTables self.old.resolve self.new.resolve) }
         ensures writable { IfOk result (λ x. ∥ IsWritable x.1 ∥₁) }
         ensures only { (closed r : Resolve) (id : ℕ) → AddsComponent raw.now self.old.resolve closed r id
             → MatchResult result (λ x. IsSamePackage x.1 closed × IsSamePackage self.new.resolve r) IsWantOfMemory }
@@ -184,7 +191,8 @@ impl PackageSet {
     /// and nothing else is used of it. The set is as it was then. (WIT.md)
     pub fn add_ast(&mut self, alloc: Global, ast: &Ast) -> Result<PackageId, AddError>
         requires names { IsTrue (has_full_names (file_view ast.now)) }
-        ensures ok { IfOk result (λ id. (closed : Resolve) × AddsTree (file_view ast.now) self.old.resolve closed self.new.resolve id.0) }
+        ensures ok { IfOk result (λ id. (closed : Resolve) × AddsTree (file_view ast.now) self.old.resolve closed self.new.resolve id.0 × HasTable self.new.resolve id.0 closed) }
+        ensures earlier { OnOk result (KeepsTables self.old.resolve self.new.resolve) }
         ensures err { IfErr result (TreeNotAdded (file_view ast.now) self.old.resolve) }
         ensures same { OnErr result (self.new ≡ self.old) }
     {
@@ -198,6 +206,8 @@ impl PackageSet {
         requires names { IsTrue (has_full_names (file_view ast.now)) }
         requires room { HasRoom self.old.resolve }
         ensures ok { IfOk result (λ x. AddsTree (file_view ast.now) self.old.resolve x.1 self.new.resolve x.0.0) }
+        ensures again { IfOk result (λ x. HasTable self.new.resolve x.0.0 x.1) }
+        ensures earlier { OnOk result (KeepsTables self.old.resolve self.new.resolve) }
         ensures writable { IfOk result (λ x. ∥ IsWritable x.1 ∥₁) }
         ensures fits { OnOk result (file_fits (file_view ast.now) ≡ true) }
         ensures behind { IfOk result (λ x. IsBehindImports self.old.resolve x.1) }

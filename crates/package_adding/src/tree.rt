@@ -7,7 +7,7 @@ ghost use Rattle.package_form.specs.Form.{IsInPackageForm};
 ghost use Rattle.package_form.specs.Laws.{IsLabelled};
 ghost use Rattle.package_form.specs.Naming.{package_scopes};
 ghost use Rattle.package_form.specs.Scope.{AreDistinct};
-ghost use Rattle.package_adding.specs.BehindImports.{IsBehindImports};
+ghost use Rattle.package_sets.specs.BehindImports.{IsBehindImports};
 ghost use Rattle.package_text.specs.Writable.{IsWritable, package_labels};
 ghost use Rattle.tree_meaning.specs.Resolves.{HasEntries, file_fits};
 ghost use Rattle.tables.specs.declared.error.ResolveError.TheVariants.{EmptyPackage, NoMemory};

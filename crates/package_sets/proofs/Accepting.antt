@@ -1,5 +1,5 @@
 -- What the worlds of a set with a package more mean, and that the set is accepted as its definition says.
-use Rattle.std.proofs.Common.{◌≡◌, ◌≤◌, ℕ, ◌+◌, true, List, [], ◌++◌, length, map, take, drop, slice_get, Option, None, Some, refl, ap, sym, subst, ◌∙◌, arith, true≢false, eqb-true}
+use Rattle.std.proofs.Common.{false, ◌≡◌, ◌≤◌, ℕ, ◌+◌, true, List, [], ◌++◌, length, map, take, drop, slice_get, Option, None, Some, refl, ap, sym, subst, ◌∙◌, arith, true≢false, eqb-true}
 use Rattle.std.specs.List.{list_all}
 use Rattle.std.proofs.lemmas.Bool.{ltb-true, lt-ltb}
 use Rattle.std.proofs.lemmas.List.{map-append, take-append-drop}
@@ -24,8 +24,9 @@ use Rattle.package_sets.specs.Moved.{Renaming, put_val, put_row, put_function, p
 use Rattle.package_sets.specs.Set.{IsPackageByPackage, HasRowsInForm}
 use Rattle.package_sets.specs.Joining.{imports, own_interfaces, joined, HasImports}
 use Rattle.package_sets.specs.Joined.{renaming_of, IsJoined, IsPut}
-use Rattle.package_sets.specs.Attached.{IsOwn, IsNew, HasRoom, HasAll, others, IsOwnBehind, IsAttached}
-use Rattle.package_sets.specs.declared.joining.Joined.{Joined}
+use Rattle.package_sets.specs.Attached.{IsOwn, IsNew, HasRoom, HasAll, has_package, others, IsOwnBehind, IsAttached}
+use Rattle.package_sets.specs.Follows.{OfAttached}
+use Rattle.package_sets.specs.Joined.{JoinedPlaces}
 use Rattle.package_sets.proofs.Lists.{front-get}
 use Rattle.package_sets.proofs.Kept.{list-at, map-put-as, placed-at, worlds-grouped-at}
 use Rattle.package_sets.proofs.Named.{definition-put}
@@ -64,7 +65,7 @@ function-told p old new a way g h =
 function-stays : (g : Function) → put_function in_place g ≡ g
 function-stays g = let h : row.Function (put_function in_place g) ≡ row.Function g = row-stays (row.Function g) in cc
 
-module _ (s c : Resolve) (j : Joined) (q : IsJoined s c j) (own : PackageParts) (is : IsOwn c own) (r : Resolve) (put : IsPut s c own j r) where
+module _ (s c : Resolve) (j : JoinedPlaces) (q : IsJoined s c j) (own : PackageParts) (is : IsOwn c own) (r : Resolve) (put : IsPut s c own j r) where
   abbrev to : Renaming
   to = renaming_of j
 
@@ -171,6 +172,11 @@ module _ (s c : Resolve) (j : Joined) (q : IsJoined s c j) (own : PackageParts) 
     fits = record { own = own; own_is = is; imports = imports-of s c j q };
     packages_are = put.packages;
     id_is = q.are_joined.package_is;
+    own_behind = own-there (imports-of s c j q);
+  }
+
+  pub of-attached : HasRoom s → has_package s own ≡ false → OfAttached s c r
+  of-attached room new = record {
     behind = record {
       interfaces = map (put_interface (renaming_of j)) (own_interfaces c);
       worlds = map (put_world (renaming_of j)) c.worlds;
@@ -179,11 +185,10 @@ module _ (s c : Resolve) (j : Joined) (q : IsJoined s c j) (own : PackageParts) 
       worlds_are = put.worlds;
       rows_are = put.definitions;
     };
-    own_behind = own-there (imports-of s c j q);
     interfaces_are = names-are s c j q own is r put;
-    stands = stands-there s c j q own r put;
     definitions_are = λ h. definitions-are s c j q own is r put h.set_is h.rows h.closed_is;
     worlds_are = λ h. worlds-are h.set_is h.rows h.closed_is;
+    stands = stands-there s c j q own r put;
     in_form = λ set closed distinct.
-        set-form s c j q own is r put room (new own is) set closed distinct (worlds-are set.rows.stands (record { parted = closed.parted; interfaces = closed.interfaces; items = closed.worlds }) closed.closed);
+        set-form s c j q own is r put room new set closed distinct (worlds-are set.rows.stands (record { parted = closed.parted; interfaces = closed.interfaces; items = closed.worlds }) closed.closed);
   }

@@ -23,7 +23,7 @@ use Rattle.package_sets.specs.Moved.{Renaming, put_kind, put_row}
 use Rattle.package_sets.specs.Set.{HasRowsInForm}
 use Rattle.package_sets.specs.Joining.{import_count, imports}
 use Rattle.package_sets.specs.Joined.{renaming_of, IsJoined}
-use Rattle.package_sets.specs.declared.joining.Joined.{Joined}
+use Rattle.package_sets.specs.Joined.{JoinedPlaces}
 use Rattle.package_sets.proofs.Blocks.{places-in, end-is-id}
 use Rattle.package_sets.proofs.Lists.{map-get, front-get, behind-get, none-within, not-is}
 use Rattle.package_sets.proofs.Named.{unnamed-same}
@@ -100,7 +100,7 @@ drop-past (suc m) (x ∷ xs) h = drop-past m xs (omega (arith, h))
 
 -- ---- the own rows of the closed table, one after the other
 
-module _ (s c : Resolve) (j : Joined) (q : IsJoined s c j) where
+module _ (s c : Resolve) (j : JoinedPlaces) (q : IsJoined s c j) where
   abbrev to : Renaming
   to = renaming_of j
 

@@ -18,8 +18,9 @@ use Rattle.tables.specs.declared.tables.Resolve.{Resolve}
 use Rattle.package_sets.specs.Moved.{put_interface}
 use Rattle.package_sets.specs.Joining.{import_count, own_interfaces, are_same_packages, has_name_of}
 use Rattle.package_sets.specs.Joined.{renaming_of, IsJoined, IsPut}
-use Rattle.package_sets.specs.Attached.{IsOwn, own_interface_names}
-use Rattle.package_sets.specs.declared.joining.Joined.{Joined}
+use Rattle.package_sets.specs.Attached.{IsOwn}
+use Rattle.package_sets.specs.Follows.{own_interface_names}
+use Rattle.package_sets.specs.Joined.{JoinedPlaces}
 use Rattle.package_sets.proofs.Lists.{map-get, behind-get}
 use Rattle.package_sets.proofs.Kept.{map-put-as}
 use Rattle.package_sets.proofs.Behind.{own-behind}
@@ -43,7 +44,7 @@ name-found s c i x h =
     let name : i.name ≡ x.name = (bytes_eq-Decides i.name x.name).0 p.1 in
     ap (λ (o : Option PackageParts). full_name_in o x.name) (sym (same-packages _ _ p.0)) ∙ ap (full_name_in (slice_get c.packages i.«package».0)) (sym name)
 
-module _ (s c : Resolve) (j : Joined) (q : IsJoined s c j) (own : PackageParts) (is : IsOwn c own) (r : Resolve) (put : IsPut s c own j r) where
+module _ (s c : Resolve) (j : JoinedPlaces) (q : IsJoined s c j) (own : PackageParts) (is : IsOwn c own) (r : Resolve) (put : IsPut s c own j r) where
   pub set-package : (k : ℕ) (name : List ℕ) → k < length s.packages → full_name_in (slice_get r.packages k) name ≡ full_name_in (slice_get s.packages k) name
   set-package k name l = ap (λ (o : Option PackageParts). full_name_in o name) (ap (λ (ps : List PackageParts). slice_get ps k) put.packages ∙ get-front s.packages (own ∷ []) k l)
 

@@ -7,7 +7,7 @@ use Rattle.package_form.specs.Closed.{own_package}
 use Rattle.tables.specs.declared.tables.Interface.{Interface}
 use Rattle.tables.specs.declared.tables.Resolve.{Resolve}
 use Rattle.package_sets.specs.Attached.{others}
-use Rattle.package_sets.specs.Imports.{BeginsWith}
+use Rattle.package_sets.specs.Follows.{BeginsWith}
 use Rattle.package_sets.specs.Joining.{before_own, import_count, imports}
 use Rattle.package_sets.specs.Reaches.{is_own_interface}
 use Rattle.package_sets.proofs.MarkedPlaces.{interface-in}

@@ -26,7 +26,7 @@ use Rattle.package_sets.specs.Moved.{Renaming, put_id, put_function_id, put_val,
 use Rattle.package_sets.specs.Reaches.{is_own_interface}
 use Rattle.package_sets.specs.Joining.{before_own, import_count, imports, own_interfaces, IsFirst, has_name_of, import_rows, all_places}
 use Rattle.package_sets.specs.Joined.{renaming_of, IsJoined}
-use Rattle.package_sets.specs.declared.joining.Joined.{Joined}
+use Rattle.package_sets.specs.Joined.{JoinedPlaces}
 use Rattle.package_sets.proofs.Lists.{map-get, front-get, behind-get, front-place, behind-place, all-append, all-put, all-drop, none-within}
 use Rattle.package_sets.proofs.Kept.{list-filter}
 use Rattle.package_sets.proofs.Named.{definition-put, standard-put}
@@ -205,7 +205,7 @@ worlds-stay ds es count more w (x ∷ xs) l h =
 
 -- ---- what is put behind the set
 
-module _ (s c : Resolve) (j : Joined) (q : IsJoined s c j) where
+module _ (s c : Resolve) (j : JoinedPlaces) (q : IsJoined s c j) where
   abbrev pub to : Renaming
   to = renaming_of j
 

@@ -31,7 +31,7 @@ use Rattle.package_sets.specs.Reaches.{is_marked, own_marks, is_own_interface, i
 use Rattle.package_sets.specs.SetForm.{IsInSetForm}
 use Rattle.package_sets.specs.Joining.{import_count, own_interfaces}
 use Rattle.package_sets.specs.Joined.{renaming_of, IsJoined, IsPut}
-use Rattle.package_sets.specs.declared.joining.Joined.{Joined}
+use Rattle.package_sets.specs.Joined.{JoinedPlaces}
 use Rattle.package_sets.proofs.Apart.{part-owner}
 use Rattle.package_sets.proofs.Behind.{before, rows-behind, interfaces-behind, worlds-behind, row-there}
 use Rattle.package_sets.proofs.Belonging.{Belongs, belongs, owner-some}
@@ -56,7 +56,7 @@ named-whose (row.Type d) h = by d.name refl
     by None e = absurd (true≢false (sym (ap (λ (n : Option TypeName). not (is_some n)) e) ∙ h))
     by (Some n) e = (owner.Interface n.interface, ap (option_map (λ x. owner.Interface x.interface)) e)
 
-owner-put : (to : Renaming) (d : Definition) (o : Owner) → owner_of d ≡ Some o → owner_of (put_row to d) ≡ Some (put_owner to o)
+pub owner-put : (to : Renaming) (d : Definition) (o : Owner) → owner_of d ≡ Some o → owner_of (put_row to d) ≡ Some (put_owner to o)
 owner-put to (row.Function f) o e = let same : f.owner ≡ o = cc in ap (λ (x : Owner). Some (put_owner to x)) same
 owner-put to (row.Type d) o e = by d.name e
   where
@@ -79,7 +79,7 @@ pub record IsPlaced (c : Resolve) (to : ℕ → ℕ) (k : ℕ) : Type 0 where
   pub at : slice_get c.definitions from ≡ Some one
   pub is : to from ≡ k
 
-module _ (s c : Resolve) (j : Joined) (q : IsJoined s c j) (own : PackageParts) (r : Resolve) (put : IsPut s c own j r) (set : IsInSetForm s) (closed : IsInPackageForm c) (there : IsInSetForm r) where
+module _ (s c : Resolve) (j : JoinedPlaces) (q : IsJoined s c j) (own : PackageParts) (r : Resolve) (put : IsPut s c own j r) (set : IsInSetForm s) (closed : IsInPackageForm c) (there : IsInSetForm r) where
   abbrev to : Renaming
   to = renaming_of j
 
@@ -108,7 +108,7 @@ module _ (s c : Resolve) (j : Joined) (q : IsJoined s c j) (own : PackageParts) 
 
   -- ---- whose a row is that is put there
 
-  closed-owner : (t : ℕ) (d : Definition) → slice_get c.definitions t ≡ Some d → IsOwnedFrom 0 (0 + length c.interfaces) (owner_of d) ⊎ IsOfWorlds (0 + length c.worlds) (owner_of d)
+  pub closed-owner : (t : ℕ) (d : Definition) → slice_get c.definitions t ≡ Some d → IsOwnedFrom 0 (0 + length c.interfaces) (owner_of d) ⊎ IsOfWorlds (0 + length c.worlds) (owner_of d)
   closed-owner t d e = by (cut t (interfaces_end 0 c.interfaces))
     where
       by : (t < interfaces_end 0 c.interfaces) ⊎ (interfaces_end 0 c.interfaces ≤ t) → IsOwnedFrom 0 (0 + length c.interfaces) (owner_of d) ⊎ IsOfWorlds (0 + length c.worlds) (owner_of d)

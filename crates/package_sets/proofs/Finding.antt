@@ -16,7 +16,7 @@ use Rattle.package_sets.specs.Moved.{Renaming}
 use Rattle.package_sets.specs.Joining.{imports, import_rows, IsFirst, are_same_packages, has_name_of, AreFound, AreRowsThere, AreIdsThere, HasImports, joined, all_places, place_in}
 use Rattle.package_sets.specs.Joined.{renaming_of, AreJoined, IsJoined}
 use Rattle.package_sets.specs.Attached.{has_package, LacksFirst}
-use Rattle.package_sets.specs.declared.joining.Joined.{Joined}
+use Rattle.package_sets.specs.Joined.{JoinedPlaces}
 use Rattle.package_sets.proofs.Lists.{each-more}
 
 -- ---- the first of a name
@@ -116,11 +116,11 @@ found-same set closed is ps qs a b = same-places ps qs (a.count ∙ sym b.count)
 
 -- ---- the places are those of the definition
 
-pub renaming-is : (set closed : Resolve) (j : Joined) (a : AreJoined set closed j) → renaming_of j ≡ joined set closed a.places
+pub renaming-is : (set closed : Resolve) (j : JoinedPlaces) (a : AreJoined set closed j) → renaming_of j ≡ joined set closed a.places
 renaming-is set closed j a =
-    ap (λ (n : ℕ). record { packages = λ k. n; interfaces = place_in j.interfaces.items; worlds = place_in j.worlds.items; rows = place_in j.rows.items; keeps = λ k. true }) a.package_is
-    ∙ (ap (λ (xs : List ℕ). record { packages = λ k. length set.packages; interfaces = place_in xs; worlds = place_in j.worlds.items; rows = place_in j.rows.items; keeps = λ k. true }) a.interfaces_are
-    ∙ (ap (λ (xs : List ℕ). record { packages = λ k. length set.packages; interfaces = place_in (all_places a.places (length set.interfaces) (length closed.interfaces)); worlds = place_in xs; rows = place_in j.rows.items; keeps = λ k. true }) a.worlds_are
+    ap (λ (n : ℕ). record { packages = λ k. n; interfaces = place_in j.interfaces; worlds = place_in j.worlds; rows = place_in j.rows; keeps = λ k. true }) a.package_is
+    ∙ (ap (λ (xs : List ℕ). record { packages = λ k. length set.packages; interfaces = place_in xs; worlds = place_in j.worlds; rows = place_in j.rows; keeps = λ k. true }) a.interfaces_are
+    ∙ (ap (λ (xs : List ℕ). record { packages = λ k. length set.packages; interfaces = place_in (all_places a.places (length set.interfaces) (length closed.interfaces)); worlds = place_in xs; rows = place_in j.rows; keeps = λ k. true }) a.worlds_are
     ∙ ap (λ (xs : List ℕ). record {
       packages = λ k. length set.packages;
       interfaces = place_in (all_places a.places (length set.interfaces) (length closed.interfaces));
@@ -130,20 +130,20 @@ renaming-is set closed j a =
     }) a.rows_are))
 
 -- what the definition says of imports is said of these places
-pub rows-as : (set closed : Resolve) (j : Joined) (a : AreJoined set closed j) → HasImports set closed → AreRowsThere set (renaming_of j) (take j.imported closed.definitions)
+pub rows-as : (set closed : Resolve) (j : JoinedPlaces) (a : AreJoined set closed j) → HasImports set closed → AreRowsThere set (renaming_of j) (take j.imported closed.definitions)
 rows-as set closed j a h =
     let same : h.places ≡ a.places = found-same set closed (imports closed) h.places a.places h.found a.found in
     subst (λ (n : ℕ). AreRowsThere set (renaming_of j) (take n closed.definitions)) (sym a.imported_is)
     (subst (λ (r : Renaming). AreRowsThere set r (take (length (import_rows set closed a.places)) closed.definitions)) (sym (renaming-is set closed j a))
     (subst (λ (ps : List ℕ). AreRowsThere set (joined set closed ps) (take (length (import_rows set closed ps)) closed.definitions)) same h.rows))
 
-pub ids-as : (set closed : Resolve) (j : Joined) (a : AreJoined set closed j) → HasImports set closed → AreIdsThere set (renaming_of j) (imports closed)
+pub ids-as : (set closed : Resolve) (j : JoinedPlaces) (a : AreJoined set closed j) → HasImports set closed → AreIdsThere set (renaming_of j) (imports closed)
 ids-as set closed j a h =
     let same : h.places ≡ a.places = found-same set closed (imports closed) h.places a.places h.found a.found in
     subst (λ (r : Renaming). AreIdsThere set r (imports closed)) (sym (renaming-is set closed j a)) (subst (λ (ps : List ℕ). AreIdsThere set (joined set closed ps) (imports closed)) same h.ids)
 
 -- .. and the other way round
-pub imports-of : (set closed : Resolve) (j : Joined) → IsJoined set closed j → HasImports set closed
+pub imports-of : (set closed : Resolve) (j : JoinedPlaces) → IsJoined set closed j → HasImports set closed
 imports-of set closed j q =
     let a = q.are_joined in
     record {

@@ -30,8 +30,8 @@ use Rattle.package_sets.specs.Reaches.{is_marked}
 use Rattle.package_sets.specs.Renamed.{renaming}
 use Rattle.package_sets.specs.Moved.{Renaming, put_row, put_interface}
 use Rattle.package_sets.specs.Part.{IsPart, IsTableOf}
-use Rattle.package_sets.specs.Imports.{BeginsWith}
-use Rattle.package_sets.specs.Joining.{IsFirst, are_same_packages, has_name_of, AreFound, import_rows, row_places, joined, AreRowsThere, HasIds, AreIdsThere, HasImports}
+use Rattle.package_sets.specs.Follows.{BeginsWith}
+use Rattle.package_sets.specs.Joining.{imports, IsFirst, are_same_packages, has_name_of, AreFound, import_rows, row_places, joined, AreRowsThere, HasIds, AreIdsThere, HasImports}
 use Rattle.package_sets.specs.Attached.{others, HasAll, Fits}
 use Rattle.package_sets.specs.Set.{AreRowsOf, ArePackageByPackage, behind_all, an_interface, a_world, IsSet, HasRowsInForm}
 use Rattle.package_sets.specs.SetForm.{HasNamesApart}
@@ -45,7 +45,7 @@ use Rattle.package_sets.proofs.Belonging.{owner-some, belongs, Belongs, one-late
 use Rattle.package_sets.proofs.Reading.{is_kept}
 use Rattle.package_sets.proofs.Restricting as table
 use Rattle.package_sets.proofs.Standing.{interface-marks, interface-mark, id-kept}
-use Rattle.package_sets.proofs.Roundtrip.{IsBack, row-back, types-back, functions-back}
+use Rattle.package_sets.proofs.Roundtrip.{IsBack, ComesBack, row-back, types-back, functions-back}
 use Rattle.package_sets.proofs.MarkedPlaces.{marked_places, marked-at, length-marked, was-kept, interface-in, kept-package, rows-found}
 
 -- ---- lists
@@ -89,14 +89,14 @@ ids-kept s to n set k i e h x d = (ids-within s to n set k i e h x d).0
 module _ (s : Resolve) (to : Moved) (n : IsPart s to) (set : IsSet s) (apart : HasNamesApart s) (none : (k : ℕ) → get_or to.worlds k false ≡ true → ⊥) (r : Resolve) (t : IsTableOf s to r) (no-worlds : r.worlds ≡ []) (form : HasRowsInForm r) (c : Resolve) (b : BeginsWith r c) where
   -- ---- the imports
 
-  abbrev places : List ℕ
+  abbrev pub places : List ℕ
   places = marked_places 0 to.interfaces
 
   none-plus : (k : ℕ) → 0 + k ≡ k
   none-plus k = omega arith
 
   -- an import, as the set has it
-  record IsOne (a : ℕ) (i : Interface) : Type 0 where
+  pub record IsOne (a : ℕ) (i : Interface) : Type 0 where
     pub one : Interface
     pub from : ℕ
     pub marked : get_or to.interfaces from false ≡ true
@@ -105,7 +105,7 @@ module _ (s : Resolve) (to : Moved) (n : IsPart s to) (set : IsSet s) (apart : H
     pub put : put_interface (renaming to) one ≡ i
     pub at : get_or places a 0 ≡ from
 
-  one-of : (a : ℕ) (i : Interface) → slice_get r.interfaces a ≡ Some i → IsOne a i
+  pub one-of : (a : ℕ) (i : Interface) → slice_get r.interfaces a ≡ Some i → IsOne a i
   one-of a i e =
       let u = map-unget (put_interface (renaming to)) (kept to.interfaces s.interfaces) a i (ap (λ (is : List Interface). slice_get is a) (sym t.interfaces) ∙ e) in
       let w = was-kept to.interfaces s.interfaces a u.0 u.1 in
@@ -120,7 +120,7 @@ module _ (s : Resolve) (to : Moved) (n : IsPart s to) (set : IsSet s) (apart : H
       }
 
   -- its package is the set's
-  package-same : (a : ℕ) (i : Interface) (e : slice_get r.interfaces a ≡ Some i) (o : IsOne a i) → slice_get c.packages i.«package».0 ≡ slice_get s.packages o.one.«package».0
+  pub package-same : (a : ℕ) (i : Interface) (e : slice_get r.interfaces a ≡ Some i) (o : IsOne a i) → slice_get c.packages i.«package».0 ≡ slice_get s.packages o.one.«package».0
   package-same a i e o =
       let number : place to.packages o.one.«package».0 ≡ i.«package».0 = ap (λ (x : Interface). x.«package».0) o.put in
       ap (λ (ps : List PackageParts). slice_get ps i.«package».0) b.packages_are
@@ -164,7 +164,7 @@ module _ (s : Resolve) (to : Moved) (n : IsPart s to) (set : IsSet s) (apart : H
 
   -- ---- rows
 
-  abbrev J : Renaming
+  abbrev pub J : Renaming
   J = joined s c places
 
   rows-are : import_rows s c places ≡ row_places s 0 r.interfaces places
@@ -174,7 +174,7 @@ module _ (s : Resolve) (to : Moved) (n : IsPart s to) (set : IsSet s) (apart : H
   take-all [] = refl
   take-all (x ∷ xs) = ap (λ ys. x ∷ ys) (take-all xs)
 
-  length-is : length (import_rows s c places) ≡ length r.definitions
+  pub length-is : length (import_rows s c places) ≡ length r.definitions
   length-is =
       let whole = take-all r.interfaces in
       let count : length places ≡ length (take (length r.interfaces) r.interfaces) = found-are.count ∙ sym (ap length whole) in
@@ -195,7 +195,7 @@ module _ (s : Resolve) (to : Moved) (n : IsPart s to) (set : IsSet s) (apart : H
       omega (arith, ap length t.definitions, length-map (kept to.rows s.definitions) (put_row (renaming to)), slice_get_within (kept to.rows s.definitions) (place to.rows u) d (kept-at to.rows s.definitions u d h e))
 
   -- a row that is kept comes back to its place
-  row-found : (u : ℕ) (d : Definition) → slice_get s.definitions u ≡ Some d → get_or to.rows u false ≡ true → J.rows (place to.rows u) ≡ u
+  pub row-found : (u : ℕ) (d : Definition) → slice_get s.definitions u ≡ Some d → get_or to.rows u false ≡ true → J.rows (place to.rows u) ≡ u
   row-found u d e h =
       front-place (import_rows s c places) (length s.definitions) (length c.definitions) (place to.rows u) (omega (arith, length-is, place-within u d e h))
       ∙ (ap (λ (xs : List ℕ). get_or xs (place to.rows u) 0) rows-are
@@ -205,7 +205,7 @@ module _ (s : Resolve) (to : Moved) (n : IsPart s to) (set : IsSet s) (apart : H
   id-found : (u : ℕ) → u < length s.definitions → get_or to.rows u false ≡ true → J.rows (place to.rows u) ≡ u
   id-found u l h = let d = one-there s.definitions u l in row-found u d.0 d.1 h
 
-  interface-found : (k : ℕ) (i : Interface) → slice_get s.interfaces k ≡ Some i → get_or to.interfaces k false ≡ true → J.interfaces (place to.interfaces k) ≡ k
+  pub interface-found : (k : ℕ) (i : Interface) → slice_get s.interfaces k ≡ Some i → get_or to.interfaces k false ≡ true → J.interfaces (place to.interfaces k) ≡ k
   interface-found k i e h =
       front-place places (length s.interfaces) (length c.interfaces) (place to.interfaces k) within ∙ (marked-at 0 to.interfaces k h ∙ none-plus k)
     where
@@ -270,15 +270,15 @@ module _ (s : Resolve) (to : Moved) (n : IsPart s to) (set : IsSet s) (apart : H
 
   -- ---- ids
 
-  id-back : (k : ℕ) (i : Interface) → slice_get s.interfaces k ≡ Some i → get_or to.interfaces k false ≡ true → (x : ℕ) → Contains (ids_of i) x → (get_or to.rows x false ≡ true) × (J.rows (place to.rows x) ≡ x)
-  id-back k i e h x d = let p = ids-within s to n set k i e h x d in (p.0, id-found x p.1 p.0)
+  id-back : (k : ℕ) (i : Interface) → slice_get s.interfaces k ≡ Some i → get_or to.interfaces k false ≡ true → (x : ℕ) → Contains (ids_of i) x → ComesBack (renaming to) J x
+  id-back k i e h x d = let p = ids-within s to n set k i e h x d in (p.0, refl, id-found x p.1 p.0)
 
   ids-are : (k : ℕ) (i : Interface) → slice_get s.interfaces k ≡ Some i → get_or to.interfaces k false ≡ true → HasIds J (put_interface (renaming to) i) i
   ids-are k i e h = record {
-    uses = sym (types-back (renaming to) J (λ m. refl) i.uses (λ x d. id-back k i e h x.0 (Contains-append_left (map (λ y. y.0) i.uses) _ x.0 (contains-map (λ (y : TypeId). y.0) i.uses x d))));
-    types = sym (types-back (renaming to) J (λ m. refl) i.types
+    uses = sym (types-back (renaming to) J i.uses (λ x d. id-back k i e h x.0 (Contains-append_left (map (λ y. y.0) i.uses) _ x.0 (contains-map (λ (y : TypeId). y.0) i.uses x d))));
+    types = sym (types-back (renaming to) J i.types
         (λ x d. id-back k i e h x.0 (Contains-append_right (map (λ y. y.0) i.uses) _ x.0 (Contains-append_left (map (λ y. y.0) i.types) _ x.0 (contains-map (λ (y : TypeId). y.0) i.types x d)))));
-    functions = sym (functions-back (renaming to) J (λ m. refl) i.functions
+    functions = sym (functions-back (renaming to) J i.functions
         (λ x d. id-back k i e h x.0 (Contains-append_right (map (λ y. y.0) i.uses) _ x.0 (Contains-append_right (map (λ y. y.0) i.types) _ x.0 (contains-map (λ (y : FunctionId). y.0) i.functions x d)))));
   }
 
@@ -289,10 +289,13 @@ module _ (s : Resolve) (to : Moved) (n : IsPart s to) (set : IsSet s) (apart : H
 
   -- ---- all of it
 
+  pub imports-found : AreFound s c (imports c) places
+  imports-found = subst (λ (is : List Interface). AreFound s c is places) (sym (begins-imports r c b)) found-are
+
   has-imports : HasImports s c
   has-imports = record {
     places = places;
-    found = subst (λ (is : List Interface). AreFound s c is places) (sym (begins-imports r c b)) found-are;
+    found = imports-found;
     rows = subst (λ (ds : List Definition). AreRowsThere s J ds) (sym imported-are) rows-there;
     ids = subst (λ (is : List Interface). AreIdsThere s J is) (sym (begins-imports r c b)) ids-there;
   }

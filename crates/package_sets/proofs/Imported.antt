@@ -18,7 +18,8 @@ use Rattle.package_sets.specs.Renamed.{renaming}
 use Rattle.package_sets.specs.Moved.{put_interface, put_world}
 use Rattle.package_sets.specs.Part.{IsTableOf}
 use Rattle.package_sets.specs.Reaches.{OfInterfaces, padded}
-use Rattle.package_sets.specs.Imports.{IsImported, imported, IsOfInterfaces, IsImportsOf}
+use Rattle.package_sets.specs.Follows.{IsOfInterfaces, OfImports}
+use Rattle.package_sets.specs.Imports.{IsImported, IsImportsOf}
 use Rattle.package_sets.specs.Set.{IsSet, HasRowsInForm}
 use Rattle.package_sets.specs.SetForm.{HasNamesApart}
 use Rattle.tables.specs.PackageNames.{PackageParts}
@@ -49,7 +50,7 @@ of-interfaces count (Some (owner.World w)) h = h
 of-interfaces count (Some (owner.Interface i)) h = h.1
 
 -- what isn't given has no mark
-given-there : (n : ℕ) (bs : List Bool) (j : ℕ) → j < n → get_or (padded n bs) j true ≡ true → get_or bs j false ≡ true
+pub given-there : (n : ℕ) (bs : List Bool) (j : ℕ) → j < n → get_or (padded n bs) j true ≡ true → get_or bs j false ≡ true
 given-there zero bs j l h = absurd (omega (arith, l))
 given-there (suc n) [] zero l h = h
 given-there (suc n) [] (suc j) l h = given-there n [] j (omega (arith, l)) h
@@ -65,9 +66,6 @@ module _ (s : Resolve) (packages interfaces : List Bool) (to : Moved) (n : IsImp
       let v = contains-unmap (put_world (renaming to)) (kept to.worlds s.worlds) w (b, slice_get_within _ b w f, get_or_from_slice_get _ b w w f) in
       let k = kept-from to.worlds s.worlds v.0 v.1 in
       absurd (no-world s packages interfaces to n k.0 k.1)
-
-  is-imported : to ≡ imported s n.marks to.packages
-  is-imported = λ j. record { packages = to.packages; interfaces = n.interfaces_are j; worlds = n.worlds_are j; rows = n.rows_are j }
 
   module _ (r : Resolve) (t : IsTableOf s to r) where
     worlds-none : r.worlds ≡ []
@@ -123,19 +121,13 @@ module _ (s : Resolve) (packages interfaces : List Bool) (to : Moved) (n : IsImp
         subst (λ (m : ℕ). Contains (reached r.definitions []) m ⊎ (get_or interfaces j false ≡ true)) (ap (place to.interfaces) (sym same) ∙ a.3)
         (subst (λ (ws : List World). Contains (reached r.definitions ws) (place to.interfaces j) ⊎ (get_or interfaces j false ≡ true)) worlds-none cited)
 
-    pub imports-are : IsImportsOf s packages interfaces r
-    imports-are =
+    of-imports : OfImports s packages interfaces r (record { to = to; kept = n; table = t })
+    of-imports =
         let p = interfaces-part s packages interfaces to n in
         record {
-          marks = n.marks;
-          needed = to.packages;
-          are_reached = n.are_reached;
-          are_needed = n.packages_are;
-          packages_are = t.packages;
           interfaces_are = interfaces-same s to p r t.packages t.interfaces t.worlds t.definitions;
           definitions_are = definitions-same s to p r t.packages t.interfaces t.worlds t.definitions;
           worlds_are = worlds-none;
-          table = subst (λ (m : Moved). IsTableOf s m r) is-imported t;
           in_form = form;
           owned = owned;
           apart = names-apart;
@@ -147,3 +139,6 @@ module _ (s : Resolve) (packages interfaces : List Bool) (to : Moved) (n : IsImp
           found = λ h k c b. record { have = has-all s to p h k (no-world s packages interfaces to n) r t worlds-none (form h) c b; fits = fits-there s to p h k (no-world s packages interfaces to n) r t worlds-none (form h) c b };
           postfix = λ h. subst IsPostfix (sym t.definitions) (postfix-kept to s.definitions (blocks s to p) h);
         }
+
+pub follows : (s : Resolve) (packages interfaces : List Bool) (r : Resolve) (n : IsImportsOf s packages interfaces r) → OfImports s packages interfaces r n
+follows s packages interfaces r n = of-imports s packages interfaces n.to n.kept r n.table

@@ -31,7 +31,7 @@ use Rattle.package_sets.specs.Restricted.{number_or, package_of_owner}
 use Rattle.package_sets.specs.Set.{HasRowsInForm}
 use Rattle.package_sets.specs.SetForm.{IsInSetForm, IsEmpty}
 use Rattle.package_sets.specs.Tower.{has_entry, package_entries, IsFew, IsInTower}
-use Rattle.package_sets.specs.declared.joining.Joined.{Joined}
+use Rattle.package_sets.specs.Joined.{JoinedPlaces}
 use Rattle.package_sets.proofs.Attaching.{map-each}
 use Rattle.package_sets.proofs.Behind.{before, import-other, worlds-behind}
 use Rattle.package_sets.proofs.Belonging.{Belongs, belongs}
@@ -60,12 +60,12 @@ marked-front f (x ∷ xs) ys zero l e = e
 marked-front f (x ∷ xs) ys (suc k) l e = marked-front f xs ys k (omega (arith, l)) e
 
 -- the owner is one of so many interfaces or worlds
-abbrev IsOf : Resolve → Option Owner → Type 0
+abbrev pub IsOf : Resolve → Option Owner → Type 0
 IsOf s None = Unit {0}
 IsOf s (Some (owner.Interface i)) = i.0 < length s.interfaces
 IsOf s (Some (owner.World w)) = w.0 < length s.worlds
 
-module _ (s c : Resolve) (j : Joined) (q : IsJoined s c j) (own : PackageParts) (r : Resolve) (put : IsPut s c own j r) (tower : IsInTower s) (closed : IsInPackageForm c) (there : IsInSetForm r) where
+module _ (s c : Resolve) (j : JoinedPlaces) (q : IsJoined s c j) (own : PackageParts) (r : Resolve) (put : IsPut s c own j r) (tower : IsInTower s) (closed : IsInPackageForm c) (there : IsInSetForm r) where
   abbrev to : Renaming
   to = renaming_of j
 
@@ -179,10 +179,10 @@ module _ (s c : Resolve) (j : Joined) (q : IsJoined s c j) (own : PackageParts) 
 
   -- ---- an earlier package reaches what it did
 
-  same-owner : (k : ℕ) (d : Definition) → slice_get s.definitions k ≡ Some d → get_or (owners r.definitions) k None ≡ get_or (owners s.definitions) k None
+  pub same-owner : (k : ℕ) (d : Definition) → slice_get s.definitions k ≡ Some d → get_or (owners r.definitions) k None ≡ get_or (owners s.definitions) k None
   same-owner = ordering.same-owner s c j q own r put tower.form.rows.stands
 
-  same-named : (k : ℕ) (d : Definition) → slice_get s.definitions k ≡ Some d → named_owners (owners r.definitions) d ≡ named_owners (owners s.definitions) d
+  pub same-named : (k : ℕ) (d : Definition) → slice_get s.definitions k ≡ Some d → named_owners (owners r.definitions) d ≡ named_owners (owners s.definitions) d
   same-named k d at = map-each (owner_at (owners r.definitions)) (owner_at (owners s.definitions)) (names d) each
     where
       each : (n : ℕ) (u : TypeId) → slice_get (names d) n ≡ Some u → owner_at (owners r.definitions) u ≡ owner_at (owners s.definitions) u
@@ -191,7 +191,7 @@ module _ (s c : Resolve) (j : Joined) (q : IsJoined s c j) (own : PackageParts) 
           let x = one-there s.definitions u.0 (omega (arith, l, slice_get_within s.definitions k d at)) in
           same-owner u.0 x.0 x.1
 
-  owner-in : (k : ℕ) (d : Definition) → slice_get s.definitions k ≡ Some d → IsOf s (get_or (owners s.definitions) k None)
+  pub owner-in : (k : ℕ) (d : Definition) → slice_get s.definitions k ≡ Some d → IsOf s (get_or (owners s.definitions) k None)
   owner-in k d e = by (belongs s.definitions 0 0 s.interfaces 0 s.worlds tower.form.rows.stands k d (omega arith) e)
     where
       by : Belongs s.definitions 0 (0 + length s.interfaces) 0 (0 + length s.worlds) k d → IsOf s (get_or (owners s.definitions) k None)
@@ -252,7 +252,7 @@ module _ (s c : Resolve) (j : Joined) (q : IsJoined s c j) (own : PackageParts) 
     start-there (Some (owner.Interface i)) l h = subst (λ (is : List Interface). get_or (map (is_own_interface id) is) i.0 true ≡ true) (sym put.interfaces) (marked-front (is_own_interface id) s.interfaces own-put i.0 l h)
     start-there (Some (owner.World w)) l h = subst (λ (ws : List World). get_or (map (is_own_world id) ws) w.0 true ≡ true) (sym put.worlds) (marked-front (is_own_world id) s.worlds worlds-put w.0 l h)
 
-    reached-there : (o : Option Owner) → IsOf s o → Reaches s (OfPackage id) o → Reaches r (OfPackage id) o
+    pub reached-there : (o : Option Owner) → IsOf s o → Reaches s (OfPackage id) o → Reaches r (OfPackage id) o
     reached-there o l (of_start _ e) = elim e [
       | inl h ↦ of_start o (inl (start-there o l h))
       | inr h ↦ (let w = item-of id s.worlds o h in of_start o (inr (from-world r w.0 o (subst (λ (ws : List World). Contains ws w.0) (sym put.worlds) (contains-left s.worlds worlds-put w.0 w.1)) w.2 w.3)))
@@ -263,7 +263,7 @@ module _ (s c : Resolve) (j : Joined) (q : IsJoined s c j) (own : PackageParts) 
         (subst (λ (os : List (Option Owner)). Contains os o) (sym (same-named k d at)) n)
 
     module _ (m : Marks) (h : AreReached r (OfPackage id) m) where
-      abbrev set-marks : Marks
+      abbrev pub set-marks : Marks
       set-marks = record { interfaces = take (length s.interfaces) m.interfaces; worlds = take (length s.worlds) m.worlds }
 
       past : (n k : ℕ) (bs : List Bool) → n ≤ k → get_or (take n bs) k true ≡ true
@@ -297,10 +297,10 @@ module _ (s c : Resolve) (j : Joined) (q : IsJoined s c j) (own : PackageParts) 
       count : length r.interfaces ≡ length s.interfaces + length own-put
       count = ap length put.interfaces ∙ length-append s.interfaces own-put
 
-      set-reached : AreReached s (OfPackage id) set-marks
+      pub set-reached : AreReached s (OfPackage id) set-marks
       set-reached = record { count = omega (arith, h.count, count, length-take (length s.interfaces) m.interfaces); sound = sound; complete = complete }
 
-      one-interface : (k : ℕ) (x : Interface) → get_or m.interfaces k false ≡ true → slice_get (s.interfaces ++ own-put) k ≡ Some x → (k < length s.interfaces) × (get_or (take (length s.interfaces) m.interfaces) k false ≡ true)
+      pub one-interface : (k : ℕ) (x : Interface) → get_or m.interfaces k false ≡ true → slice_get (s.interfaces ++ own-put) k ≡ Some x → (k < length s.interfaces) × (get_or (take (length s.interfaces) m.interfaces) k false ≡ true)
       one-interface k x e at = by (cut k (length s.interfaces))
         where
           within : k < length s.interfaces + length own-put
@@ -313,7 +313,7 @@ module _ (s c : Resolve) (j : Joined) (q : IsJoined s c j) (own : PackageParts) 
               let marked : is_marked m o ≡ true = get_or_default m.interfaces k true false (omega (arith, within, count, h.count)) ∙ e in
               absurd (omega (arith, earlier, reached-before r id there.earlier o (h.sound o marked), ordering.own-interface s c j q own r put k g within))
 
-      one-world : (k : ℕ) (x : World) → get_or (map (is_own_world id) r.worlds) k false ≡ true → slice_get (s.worlds ++ worlds-put) k ≡ Some x → (k < length s.worlds) × (get_or (map (is_own_world id) s.worlds) k false ≡ true)
+      pub one-world : (k : ℕ) (x : World) → get_or (map (is_own_world id) r.worlds) k false ≡ true → slice_get (s.worlds ++ worlds-put) k ≡ Some x → (k < length s.worlds) × (get_or (map (is_own_world id) s.worlds) k false ≡ true)
       one-world k x e at =
           let there-at : slice_get r.worlds k ≡ Some x = ap (λ (ws : List World). slice_get ws k) put.worlds ∙ at in
           let is : is_own_world id x ≡ true = ap (is_own_world id) (sym (get_or_from_slice_get r.worlds k x x there-at)) ∙ (sym (get_or-map (is_own_world id) r.worlds k x false (slice_get_within r.worlds k x there-at)) ∙ e) in
@@ -329,7 +329,7 @@ module _ (s c : Resolve) (j : Joined) (q : IsJoined s c j) (own : PackageParts) 
               let number : package_of_owner r (Some (owner.World (record { 0 = k }))) ≡ x.«package».0 = ap (λ (o : Option World). number_or (option_map (λ y. y.«package».0) o)) there-at in
               absurd (omega (arith, earlier, eqb-true x.«package».0 id is, of-new, number))
 
-      one-row : (k : ℕ) (x : Definition) → get_or (map (is_marked m) (owners r.definitions)) k false ≡ true → slice_get (s.definitions ++ rows-put) k ≡ Some x
+      pub one-row : (k : ℕ) (x : Definition) → get_or (map (is_marked m) (owners r.definitions)) k false ≡ true → slice_get (s.definitions ++ rows-put) k ≡ Some x
           → (k < length s.definitions) × (get_or (map (is_marked set-marks) (owners s.definitions)) k false ≡ true)
       one-row k x e at =
           let there-at : slice_get r.definitions k ≡ Some x = ap (λ (ds : List Definition). slice_get ds k) put.definitions ∙ at in

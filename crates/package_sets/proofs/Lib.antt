@@ -1,4 +1,5 @@
 pub mod Accepting
+pub mod Again
 pub mod Apart
 pub mod Appending
 pub mod Attaching
@@ -13,7 +14,9 @@ pub mod Covering
 pub mod Finding
 pub mod Forming
 pub mod Found
+pub mod FromAttached
 pub mod Identified
+pub mod Images
 pub mod Imported
 pub mod ImportPackages
 pub mod ImportScopes
@@ -49,6 +52,7 @@ pub mod Scopes
 pub mod SetForm
 pub mod SetScopes
 pub mod Standing
+pub mod Staying
 pub mod Subnames
 pub mod Telling
 pub mod TowerForm

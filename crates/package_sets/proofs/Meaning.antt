@@ -26,8 +26,9 @@ use Rattle.package_sets.specs.Restricted.{definitions_where, number_or}
 use Rattle.package_sets.specs.Set.{IsPackageByPackage, HasRowsInForm}
 use Rattle.package_sets.specs.Joining.{import_count, imports, own_interfaces}
 use Rattle.package_sets.specs.Joined.{renaming_of, IsJoined, IsPut}
-use Rattle.package_sets.specs.Attached.{IsOwn, is_own, own_definitions, own_interface_names}
-use Rattle.package_sets.specs.declared.joining.Joined.{Joined}
+use Rattle.package_sets.specs.Attached.{IsOwn}
+use Rattle.package_sets.specs.Follows.{is_own, own_definitions, own_interface_names}
+use Rattle.package_sets.specs.Joined.{JoinedPlaces}
 use Rattle.package_sets.proofs.Lists.{none-within}
 use Rattle.package_sets.proofs.Kept.{list-at}
 use Rattle.package_sets.proofs.Reading.{nameless}
@@ -182,7 +183,7 @@ owned-drop many m ds h k d e = h (m + k) d (sym (slice_get-drop m ds k) ∙ e)
 
 -- ---- the set with the package
 
-module _ (s c : Resolve) (j : Joined) (q : IsJoined s c j) (own : PackageParts) (is : IsOwn c own) (r : Resolve) (put : IsPut s c own j r) (set : IsPackageByPackage s) (form : HasRowsInForm c) (closed : is_closed c ≡ true) where
+module _ (s c : Resolve) (j : JoinedPlaces) (q : IsJoined s c j) (own : PackageParts) (is : IsOwn c own) (r : Resolve) (put : IsPut s c own j r) (set : IsPackageByPackage s) (form : HasRowsInForm c) (closed : is_closed c ≡ true) where
   abbrev to : Renaming
   to = renaming_of j
 

@@ -20,7 +20,7 @@ use Rattle.package_sets.specs.SetForm.{HasNamesApart}
 use Rattle.package_sets.specs.Joining.{import_count, own_interfaces}
 use Rattle.package_sets.specs.Joined.{renaming_of, IsJoined, IsPut}
 use Rattle.package_sets.specs.Attached.{IsOwn, has_package}
-use Rattle.package_sets.specs.declared.joining.Joined.{Joined}
+use Rattle.package_sets.specs.Joined.{JoinedPlaces}
 use Rattle.package_sets.proofs.Lists.{behind-get, map-unget}
 use Rattle.package_sets.proofs.Behind.{before, own-behind}
 
@@ -75,7 +75,7 @@ any-is f (y ∷ xs) (suc k) x e h n = by (any-is f xs k x e h) (f y) refl n
     by rest true q z = true≢false (sym (ap (λ (c : Bool). c || list_any f xs) q) ∙ z)
     by rest false q z = rest (sym (ap (λ (c : Bool). c || list_any f xs) q) ∙ z)
 
-module _ (s c : Resolve) (j : Joined) (q : IsJoined s c j) (own : PackageParts) (is : IsOwn c own) (r : Resolve) (put : IsPut s c own j r) (new : has_package s own ≡ false) (set : HasNamesApart s) (closed : HasNamesApart c) where
+module _ (s c : Resolve) (j : JoinedPlaces) (q : IsJoined s c j) (own : PackageParts) (is : IsOwn c own) (r : Resolve) (put : IsPut s c own j r) (new : has_package s own ≡ false) (set : HasNamesApart s) (closed : HasNamesApart c) where
   -- the place of an interface in the set, or in the closed table
   record IsOfSet (k : ℕ) (x : Interface) : Type 0 where
     pub at : slice_get s.interfaces k ≡ Some x

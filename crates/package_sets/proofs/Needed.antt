@@ -11,6 +11,7 @@ use Rattle.package_sets.specs.Places.{kept, place}
 use Rattle.package_sets.specs.Renamed.{renaming}
 use Rattle.package_sets.specs.Moved.{put_interface, put_world}
 use Rattle.package_sets.specs.Part.{IsTableOf}
+use Rattle.package_sets.specs.Follows.{OfRestricted}
 use Rattle.package_sets.specs.Restricted.{IsNeeded, IsRestricted, NamesEarlierPackages}
 use Rattle.package_sets.specs.declared.moved.Moved.{Moved}
 use Rattle.package_sets.proofs.Closing.{kept-from, functions-same}
@@ -36,20 +37,19 @@ module _ (s : Resolve) (own : ℕ) (to : Moved) (n : IsNeeded s own to) where
       let q : place to.packages v.0.«package».0 ≡ w.«package».0 = ap (λ (z : World). z.«package».0) v.2 in
       omega (arith, order, p, q)
 
-  pub restricts : (r : Resolve) → IsTableOf s to r → IsRestricted s own r
-  restricts r t =
-      let p = package-part s own to n in
-      record {
-        marks = n.marks;
-        needed = to.packages;
-        are_reached = n.are_reached;
-        are_needed = n.packages_are;
-        packages_are = t.packages;
-        interfaces_are = interfaces-same s to p r t.packages t.interfaces t.worlds t.definitions;
-        definitions_are = definitions-same s to p r t.packages t.interfaces t.worlds t.definitions;
-        worlds_are = worlds-same s to p r t.packages t.interfaces t.worlds t.definitions ∙ ap (λ (bs : List Bool). kept bs (worlds s)) n.worlds_are;
-        own_is_last = λ h k e. last-own s own to n h k (n.packages_are.only k e);
-        in_form = λ h e. rows-in-form s to p r t.interfaces t.worlds t.definitions h (before-there e);
-        functions_are = functions-same s to p r t.interfaces t.definitions (name-same s to p r t.packages t.interfaces t.worlds t.definitions);
-        postfix = λ h. subst IsPostfix (sym t.definitions) (postfix-kept to s.definitions (blocks s to p) h);
-      }
+  module _ (r : Resolve) (t : IsTableOf s to r) where
+    of-restricted : OfRestricted s own r (record { to = to; needed = n; table = t })
+    of-restricted =
+        let p = package-part s own to n in
+        record {
+          interfaces_are = interfaces-same s to p r t.packages t.interfaces t.worlds t.definitions;
+          definitions_are = definitions-same s to p r t.packages t.interfaces t.worlds t.definitions;
+          worlds_are = worlds-same s to p r t.packages t.interfaces t.worlds t.definitions ∙ ap (λ (bs : List Bool). kept bs (worlds s)) n.worlds_are;
+          own_is_last = λ h k e. last-own s own to n h k (n.packages_are.only k e);
+          in_form = λ h e. rows-in-form s to p r t.interfaces t.worlds t.definitions h (before-there e);
+          functions_are = functions-same s to p r t.interfaces t.definitions (name-same s to p r t.packages t.interfaces t.worlds t.definitions);
+          postfix = λ h. subst IsPostfix (sym t.definitions) (postfix-kept to s.definitions (blocks s to p) h);
+        }
+
+pub follows : (s : Resolve) (own : ℕ) (r : Resolve) (n : IsRestricted s own r) → OfRestricted s own r n
+follows s own r n = of-restricted s own n.to n.needed r n.table

@@ -13,7 +13,7 @@ use Rattle.package_sets.specs.Restricted.{IsReachedIn}
 use Rattle.package_sets.specs.Joining.{imports}
 use Rattle.package_sets.specs.Part.{IsTableOf}
 use Rattle.package_sets.specs.Attached.{IsOwnBehind}
-use Rattle.package_sets.specs.Imports.{AreNeededBy, imported}
+use Rattle.package_sets.specs.Imports.{AreNeededBy}
 use Rattle.package_sets.specs.One.{AttachesOne, ImportsOne}
 use Rattle.package_sets.specs.declared.moved.Moved.{Moved}
 use Rattle.package_sets.proofs.Finding.{found-same}
@@ -39,7 +39,7 @@ attached-one set closed r s i j a b =
 -- ---- what is reached has one mark each
 
 module _ (set : Resolve) (from : Start) (m n : Marks) (a : AreReached set from m) (b : AreReached set from n) where
-  marked-same : (o : Option Owner) → is_marked m o ≡ is_marked n o
+  pub marked-same : (o : Option Owner) → is_marked m o ≡ is_marked n o
   marked-same o = same_from_decides (is_marked m o) (is_marked n o) (a.sound o, a.complete o) (b.sound o, b.complete o)
 
   mark-same : (k : ℕ) → get_or m.interfaces k true ≡ get_or n.interfaces k true
@@ -80,19 +80,30 @@ one-table set to r s a b = record {
 }
 
 pub imports-one : (set : Resolve) (packages interfaces : List Bool) → ImportsOne set packages interfaces
-imports-one set packages interfaces r s a b = one-table set (imported set b.marks b.needed) r s (subst (λ (to : Moved). IsTableOf set to r) same a.table) b.table
+imports-one set packages interfaces r s a b = one-table set b.to r s (subst (λ (to : Moved). IsTableOf set to r) same a.table) b.table
   where
     from : Start
     from = OfInterfaces interfaces
 
-    rows : map (is_marked a.marks) (owners set.definitions) ≡ map (is_marked b.marks) (owners set.definitions)
-    rows = ap (λ (f : Option Owner → Bool). map f (owners set.definitions)) (λ j o. marked-same set from a.marks b.marks a.are_reached b.are_reached o j)
+    m : Marks
+    m = a.kept.marks
 
-    needed : a.needed ≡ b.needed
-    needed = needed-same set from a.marks b.marks a.are_reached b.are_reached packages a.needed b.needed a.are_needed b.are_needed
+    n : Marks
+    n = b.kept.marks
 
-    names : a.marks.interfaces ≡ b.marks.interfaces
-    names = marks-same set from a.marks b.marks a.are_reached b.are_reached
+    rows : map (is_marked m) (owners set.definitions) ≡ map (is_marked n) (owners set.definitions)
+    rows = ap (λ (f : Option Owner → Bool). map f (owners set.definitions)) (λ j o. marked-same set from m n a.kept.are_reached b.kept.are_reached o j)
 
-    same : imported set a.marks a.needed ≡ imported set b.marks b.needed
-    same = λ j. record { packages = needed j; interfaces = names j; worlds = (imported set b.marks b.needed).worlds; rows = rows j }
+    needed : a.to.packages ≡ b.to.packages
+    needed = needed-same set from m n a.kept.are_reached b.kept.are_reached packages a.to.packages b.to.packages a.kept.packages_are b.kept.packages_are
+
+    names : m.interfaces ≡ n.interfaces
+    names = marks-same set from m n a.kept.are_reached b.kept.are_reached
+
+    same : a.to ≡ b.to
+    same = λ j. record {
+      packages = needed j;
+      interfaces = (a.kept.interfaces_are ∙ (names ∙ sym b.kept.interfaces_are)) j;
+      worlds = (a.kept.worlds_are ∙ sym b.kept.worlds_are) j;
+      rows = (a.kept.rows_are ∙ (rows ∙ sym b.kept.rows_are)) j;
+    }

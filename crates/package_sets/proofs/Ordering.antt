@@ -25,7 +25,7 @@ use Rattle.package_sets.specs.Restricted.{number_or, package_of_owner, NamesEarl
 use Rattle.package_sets.specs.Set.{IsPackageByPackage, HasRowsInForm}
 use Rattle.package_sets.specs.Joining.{own_interfaces}
 use Rattle.package_sets.specs.Joined.{renaming_of, IsJoined, IsPut}
-use Rattle.package_sets.specs.declared.joining.Joined.{Joined}
+use Rattle.package_sets.specs.Joined.{JoinedPlaces}
 use Rattle.package_sets.proofs.Lists.{map-get, behind-get, contains-unflat, one-there}
 use Rattle.package_sets.proofs.Kept.{list-at, placed-at, worlds-grouped-at}
 use Rattle.package_sets.proofs.Named.{named-before}
@@ -39,7 +39,7 @@ get-behind xs ys k l =
     let whole : length xs + (k - length xs) ≡ k = omega arith in
     ap (slice_get (xs ++ ys)) (sym whole) ∙ behind-get xs ys (k - length xs)
 
-module _ (s c : Resolve) (j : Joined) (q : IsJoined s c j) (own : PackageParts) (r : Resolve) (put : IsPut s c own j r) where
+module _ (s c : Resolve) (j : JoinedPlaces) (q : IsJoined s c j) (own : PackageParts) (r : Resolve) (put : IsPut s c own j r) where
   abbrev to : Renaming
   to = renaming_of j
 

@@ -35,7 +35,7 @@ use Rattle.package_form.specs.Closed.{own_package}
 use Rattle.package_sets.specs.Set.{AreRowsOf, AreRowsOfWorld, ArePackageByPackage, behind_all, an_interface, a_world, IsPackageByPackage, HasRowsInForm}
 use Rattle.package_sets.specs.Joining.{import_count, imports, own_interfaces}
 use Rattle.package_sets.specs.Joined.{renaming_of, IsJoined}
-use Rattle.package_sets.specs.declared.joining.Joined.{Joined}
+use Rattle.package_sets.specs.Joined.{JoinedPlaces}
 use Rattle.package_sets.proofs.Blocks.{places-in}
 use Rattle.package_sets.proofs.Lists.{front-get, none-within, all-put, all-drop, drop-map, take-mapped}
 use Rattle.package_sets.proofs.Kept.{worlds-grouped-at}
@@ -222,7 +222,7 @@ module _ (ds es : List Definition) where
 
 -- ---- rows of the closed table, put behind the set
 
-module _ (s c : Resolve) (j : Joined) (q : IsJoined s c j) where
+module _ (s c : Resolve) (j : JoinedPlaces) (q : IsJoined s c j) where
   abbrev to : Renaming
   to = renaming_of j
 

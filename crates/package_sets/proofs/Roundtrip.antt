@@ -1,9 +1,10 @@
 -- What is put into another table, and from there back: what it was.
-use Rattle.std.proofs.Common.{◌≡◌, ℕ, Bool, true, List, [], ◌∷◌, map, Option, None, Some, refl, ap, ◌∙◌, arith}
+use Rattle.std.proofs.Common.{◌≡◌, ℕ, Bool, true, List, [], ◌∷◌, map, Option, None, Some, refl, ap, sym, ◌∙◌, arith}
 use Rattle.std.specs.Prelude.{Contains}
 use Rattle.std.specs.Option.{option_map}
 use Rattle.std.specs.List.{list_all}
 use Rattle.std.proofs.lemmas.List.Elements.{Contains-append_right}
+use Rattle.package_form.proofs.Lists.{contains-unmap}
 use Rattle.tables.specs.Tables.{option_all, kind_all, definition_all}
 use Rattle.tables.proofs.Rows.{split}
 use Rattle.tables.specs.declared.tables.TypeId.{TypeId}
@@ -28,7 +29,7 @@ use Rattle.package_sets.proofs.Standing.{filter-all, all-from}
 abbrev pub IsBack : Renaming → Renaming → Option Owner → Type 0
 IsBack f g None = Unit {0}
 IsBack f g (Some (owner.Interface i)) = g.interfaces (f.interfaces i.0) ≡ i.0
-IsBack f g (Some (owner.World w)) = ⊥
+IsBack f g (Some (owner.World w)) = g.worlds (f.worlds w.0) ≡ w.0
 
 module _ (f g : Renaming) (within : ValType → Bool) (each : (t : ℕ) → within (val.Id (record { 0 = t })) ≡ true → g.rows (f.rows t) ≡ t) where
   val-back : (v : ValType) → within v ≡ true → put_val g (put_val f v) ≡ v
@@ -67,7 +68,7 @@ module _ (f g : Renaming) (within : ValType → Bool) (each : (t : ℕ) → with
 
   owner-back : (o : Owner) → IsBack f g (Some o) → put_owner g (put_owner f o) ≡ o
   owner-back (owner.Interface i) h = ap (λ (n : ℕ). owner.Interface (record { 0 = n })) h
-  owner-back (owner.World w) h = absurd h
+  owner-back (owner.World w) h = ap (λ (n : ℕ). owner.World (record { 0 = n })) h
 
   type-back : (d : TypeDef) → IsBack f g (owner_of (row.Type d)) → kind_all within d.kind ≡ true → put_type g (put_type f d) ≡ d
   type-back d o h =
@@ -88,25 +89,34 @@ module _ (f g : Renaming) (within : ValType → Bool) (each : (t : ℕ) → with
   row-back (row.Function d) o h = ap row.Function (function-back d o h)
 
 -- ids that are all kept, in both tables
-module _ (f g : Renaming) (keeps : (k : ℕ) → g.keeps k ≡ true) where
-  types-map : (ts : List TypeId) → ((t : TypeId) → Contains ts t → g.rows (f.rows t.0) ≡ t.0) → map (put_id g) (map (put_id f) ts) ≡ ts
-  types-map [] h = refl
-  types-map (t ∷ ts) h =
-      ap (λ (n : ℕ). record { 0 = n } ∷ map (put_id g) (map (put_id f) ts)) (h t (0, omega arith, refl))
-      ∙ ap (λ (xs : List TypeId). t ∷ xs) (types-map ts (λ x c. h x (Contains-append_right (t ∷ []) ts x c)))
+module _ (f g : Renaming) where
+  abbrev pub ComesBack : ℕ → Type 0
+  ComesBack t = (f.keeps t ≡ true) × (g.keeps (f.rows t) ≡ true) × (g.rows (f.rows t) ≡ t)
 
-  functions-map : (ts : List FunctionId) → ((t : FunctionId) → Contains ts t → g.rows (f.rows t.0) ≡ t.0) → map (put_function_id g) (map (put_function_id f) ts) ≡ ts
-  functions-map [] h = refl
-  functions-map (t ∷ ts) h =
-      ap (λ (n : ℕ). record { 0 = n } ∷ map (put_function_id g) (map (put_function_id f) ts)) (h t (0, omega arith, refl))
-      ∙ ap (λ (xs : List FunctionId). t ∷ xs) (functions-map ts (λ x c. h x (Contains-append_right (t ∷ []) ts x c)))
-
-  pub types-back : (ts : List TypeId) → ((t : TypeId) → Contains ts t → (f.keeps t.0 ≡ true) × (g.rows (f.rows t.0) ≡ t.0)) → put_types g (put_types f ts) ≡ ts
+  pub types-back : (ts : List TypeId) → ((t : TypeId) → Contains ts t → ComesBack t.0) → put_types g (put_types f ts) ≡ ts
   types-back ts h =
-      ap (map (put_id g)) (filter-all (has_type g) (put_types f ts) (all-from (has_type g) (put_types f ts) (λ t c. keeps t.0)))
-      ∙ (ap (λ (xs : List TypeId). map (put_id g) (map (put_id f) xs)) (filter-all (has_type f) ts (all-from (has_type f) ts (λ t c. (h t c).0))) ∙ types-map ts (λ t c. (h t c).1))
+      ap (λ (xs : List TypeId). put_types g (map (put_id f) xs)) (filter-all (has_type f) ts (all-from (has_type f) ts (λ t c. (h t c).0)))
+      ∙ (ap (map (put_id g)) (filter-all (has_type g) (map (put_id f) ts) (all-from (has_type g) (map (put_id f) ts) (λ t c. kept t c))) ∙ ids ts h)
+    where
+      kept : (t : TypeId) → Contains (map (put_id f) ts) t → has_type g t ≡ true
+      kept t c = let u = contains-unmap (put_id f) ts t c in ap (λ (x : TypeId). g.keeps x.0) (sym u.2) ∙ (h u.0 u.1).1
 
-  pub functions-back : (ts : List FunctionId) → ((t : FunctionId) → Contains ts t → (f.keeps t.0 ≡ true) × (g.rows (f.rows t.0) ≡ t.0)) → put_functions g (put_functions f ts) ≡ ts
+      ids : (ts : List TypeId) → ((t : TypeId) → Contains ts t → ComesBack t.0) → map (put_id g) (map (put_id f) ts) ≡ ts
+      ids [] h = refl
+      ids (t ∷ ts) h =
+          ap (λ (n : ℕ). record { 0 = n } ∷ map (put_id g) (map (put_id f) ts)) (h t (0, omega arith, refl)).2
+          ∙ ap (λ (xs : List TypeId). t ∷ xs) (ids ts (λ x c. h x (Contains-append_right (t ∷ []) ts x c)))
+
+  pub functions-back : (ts : List FunctionId) → ((t : FunctionId) → Contains ts t → ComesBack t.0) → put_functions g (put_functions f ts) ≡ ts
   functions-back ts h =
-      ap (map (put_function_id g)) (filter-all (has_function g) (put_functions f ts) (all-from (has_function g) (put_functions f ts) (λ t c. keeps t.0)))
-      ∙ (ap (λ (xs : List FunctionId). map (put_function_id g) (map (put_function_id f) xs)) (filter-all (has_function f) ts (all-from (has_function f) ts (λ t c. (h t c).0))) ∙ functions-map ts (λ t c. (h t c).1))
+      ap (λ (xs : List FunctionId). put_functions g (map (put_function_id f) xs)) (filter-all (has_function f) ts (all-from (has_function f) ts (λ t c. (h t c).0)))
+      ∙ (ap (map (put_function_id g)) (filter-all (has_function g) (map (put_function_id f) ts) (all-from (has_function g) (map (put_function_id f) ts) (λ t c. kept t c))) ∙ ids ts h)
+    where
+      kept : (t : FunctionId) → Contains (map (put_function_id f) ts) t → has_function g t ≡ true
+      kept t c = let u = contains-unmap (put_function_id f) ts t c in ap (λ (x : FunctionId). g.keeps x.0) (sym u.2) ∙ (h u.0 u.1).1
+
+      ids : (ts : List FunctionId) → ((t : FunctionId) → Contains ts t → ComesBack t.0) → map (put_function_id g) (map (put_function_id f) ts) ≡ ts
+      ids [] h = refl
+      ids (t ∷ ts) h =
+          ap (λ (n : ℕ). record { 0 = n } ∷ map (put_function_id g) (map (put_function_id f) ts)) (h t (0, omega arith, refl)).2
+          ∙ ap (λ (xs : List FunctionId). t ∷ xs) (ids ts (λ x c. h x (Contains-append_right (t ∷ []) ts x c)))

@@ -20,7 +20,7 @@ use Rattle.package_sets.specs.SetForm.{IsInSetForm, IsEmpty}
 use Rattle.package_sets.specs.Joining.{own_interfaces}
 use Rattle.package_sets.specs.Joined.{renaming_of, IsJoined, IsPut}
 use Rattle.package_sets.specs.Attached.{IsOwn, HasRoom, has_package}
-use Rattle.package_sets.specs.declared.joining.Joined.{Joined}
+use Rattle.package_sets.specs.Joined.{JoinedPlaces}
 use Rattle.package_sets.proofs.Lists.{all-append, not-is}
 use Rattle.package_sets.proofs.Kept.{list-at}
 use Rattle.package_sets.proofs.Behind.{rows-there}
@@ -67,7 +67,7 @@ set-push ps p l h e =
 
 -- ---- a set with a package more
 
-module _ (s c : Resolve) (j : Joined) (q : IsJoined s c j) (own : PackageParts) where
+module _ (s c : Resolve) (j : JoinedPlaces) (q : IsJoined s c j) (own : PackageParts) where
   module _ (r : Resolve) (put : IsPut s c own j r) where
     pub stands-there : IsPackageByPackage s → HasRowsInForm c → IsPackageByPackage r
     stands-there h form =

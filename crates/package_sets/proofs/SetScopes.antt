@@ -34,7 +34,7 @@ use Rattle.package_sets.specs.SetForm.{IsEmpty}
 use Rattle.package_sets.specs.SetScopes.{names_if, members_if, names_at, members_at, interface_scopes, HasDistinctScopes}
 use Rattle.package_sets.specs.Joining.{import_count, imports, own_interfaces}
 use Rattle.package_sets.specs.Joined.{renaming_of, IsJoined, IsPut}
-use Rattle.package_sets.specs.declared.joining.Joined.{Joined}
+use Rattle.package_sets.specs.Joined.{JoinedPlaces}
 use Rattle.package_sets.proofs.Kept.{list-at, worlds-grouped-at}
 use Rattle.package_sets.proofs.Lists.{front-get, contains-get}
 use Rattle.package_sets.proofs.Renaming.{in_place, row-stays}
@@ -176,7 +176,7 @@ worlds-same put k m (i ∷ is) h =
 
 -- ---- a set with a package more
 
-module _ (s c : Resolve) (j : Joined) (q : IsJoined s c j) (own : PackageParts) (r : Resolve) (put : IsPut s c own j r) (form : HasRowsInForm c) (closed : is_closed c ≡ true) (old : HasDistinctScopes s) (new : HasDistinctScopes c) where
+module _ (s c : Resolve) (j : JoinedPlaces) (q : IsJoined s c j) (own : PackageParts) (r : Resolve) (put : IsPut s c own j r) (form : HasRowsInForm c) (closed : is_closed c ≡ true) (old : HasDistinctScopes s) (new : HasDistinctScopes c) where
   abbrev to : Renaming
   to = renaming_of j
 

@@ -6,33 +6,43 @@ use Rattle.package_sets.specs.declared.joining.Joined.{Joined}
 use Rattle.tables.specs.PackageNames.{PackageParts}
 use Rattle.tables.specs.declared.tables.Resolve.{Resolve}
 
-abbrev pub renaming_of : Joined → Renaming
+pub record JoinedPlaces : Type 0 where
+  pub «package» : ℕ
+  pub interfaces : List ℕ
+  pub worlds : List ℕ
+  pub rows : List ℕ
+  pub imported : ℕ
+
+abbrev pub listed : Joined → JoinedPlaces
+listed j = record { «package» = j.«package»; interfaces = j.interfaces.items; worlds = j.worlds.items; rows = j.rows.items; imported = j.imported }
+
+abbrev pub renaming_of : JoinedPlaces → Renaming
 renaming_of j = record {
   packages = λ k. j.«package»;
-  interfaces = place_in j.interfaces.items;
-  worlds = place_in j.worlds.items;
-  rows = place_in j.rows.items;
+  interfaces = place_in j.interfaces;
+  worlds = place_in j.worlds;
+  rows = place_in j.rows;
   keeps = λ k. true;
 }
 
 -- what the closed table has stands at these places: its imports where they are found, its own behind all of the set
-pub record AreJoined (set closed : Resolve) (j : Joined) : Type 0 where
+pub record AreJoined (set closed : Resolve) (j : JoinedPlaces) : Type 0 where
   pub places : List ℕ
   pub found : AreFound set closed (imports closed) places
   pub package_is : j.«package» ≡ length set.packages
-  pub interfaces_are : j.interfaces.items ≡ all_places places (length set.interfaces) (length closed.interfaces)
-  pub worlds_are : j.worlds.items ≡ all_places [] (length set.worlds) (length closed.worlds)
+  pub interfaces_are : j.interfaces ≡ all_places places (length set.interfaces) (length closed.interfaces)
+  pub worlds_are : j.worlds ≡ all_places [] (length set.worlds) (length closed.worlds)
   pub imported_is : j.imported ≡ length (import_rows set closed places)
-  pub rows_are : j.rows.items ≡ all_places (import_rows set closed places) (length set.definitions) (length closed.definitions)
+  pub rows_are : j.rows ≡ all_places (import_rows set closed places) (length set.definitions) (length closed.definitions)
 
 -- .. and its imports are as the set has them
-pub record IsJoined (set closed : Resolve) (j : Joined) : Type 0 where
+pub record IsJoined (set closed : Resolve) (j : JoinedPlaces) : Type 0 where
   pub are_joined : AreJoined set closed j
   pub rows : AreRowsThere set (renaming_of j) (take j.imported closed.definitions)
   pub ids : AreIdsThere set (renaming_of j) (imports closed)
 
 -- the set with what is the closed table's own behind it, at these places
-pub record IsPut (set closed : Resolve) (own : PackageParts) (j : Joined) (r : Resolve) : Type 0 where
+pub record IsPut (set closed : Resolve) (own : PackageParts) (j : JoinedPlaces) (r : Resolve) : Type 0 where
   pub packages : r.packages ≡ set.packages ++ own ∷ []
   pub interfaces : r.interfaces ≡ set.interfaces ++ map (put_interface (renaming_of j)) (own_interfaces closed)
   pub worlds : r.worlds ≡ set.worlds ++ map (put_world (renaming_of j)) closed.worlds

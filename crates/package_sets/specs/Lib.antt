@@ -1,9 +1,12 @@
 pub mod Attached
+pub mod BehindImports
+pub mod Follows
 pub mod Imports
 pub mod Joined
 pub mod Joining
 pub mod Marking
 pub mod Moved
+pub mod NamedIn
 pub mod One
 pub mod Owners
 pub mod Part

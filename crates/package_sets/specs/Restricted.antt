@@ -2,15 +2,10 @@
 use Rattle.std.specs.Prelude.{◌≡◌, ◌≤◌, ◌<◌, ◌⊎◌, ℕ, Bool, true, false, List, [], ◌∷◌, ◌++◌, map, flat_map, length, slice_get, slice_index_or, Option, None, Some, Contains, if◌then◌else◌}
 use Rattle.std.specs.Option.{option_map}
 use Rattle.package_sets.specs.Owners.{owner_of, owners}
-use Rattle.package_sets.specs.Places.{kept}
 use Rattle.package_sets.specs.declared.moved.Moved.{Moved}
-use Rattle.package_sets.specs.Set.{IsSet, HasRowsInForm}
+use Rattle.package_sets.specs.Part.{IsTableOf}
 use Rattle.package_sets.specs.Reaches.{Marks, is_marked, is_own_world, owners_in, named_owners, OfPackage, AreReached}
-use Rattle.tables.specs.Package.{Tree, NamedDefinition, reference, definition_of, interface_names, definitions, worlds}
-use Rattle.package_form.specs.Postfix.{IsPostfix}
-use Rattle.tables.specs.Closed.{function_type}
-use Rattle.tables.specs.Names.{IsNamed}
-use Rattle.tables.specs.declared.tables.FunctionId.{FunctionId}
+use Rattle.tables.specs.Package.{Tree, NamedDefinition, reference, definition_of, interface_names}
 use Rattle.tables.specs.declared.tables.Owner.{Owner}
 use Rattle.tables.specs.declared.tables.Owner.TheVariants as owner
 use Rattle.tables.specs.declared.tables.World.{World}
@@ -64,21 +59,8 @@ pub record IsNeeded (set : Resolve) (own : ℕ) (to : Moved) : Type 0 where
   pub worlds_are : to.worlds ≡ map (is_own_world own) set.worlds
   pub rows_are : to.rows ≡ map (is_marked marks) (owners set.definitions)
 
--- it has just what the package reaches: interfaces, definitions and worlds as the set's names tell them, in the set's order
+-- The table of what is kept: just what the package reaches, in the set's order.
 pub record IsRestricted (set : Resolve) (own : ℕ) (r : Resolve) : Type 0 where
-  pub marks : Marks
-  pub needed : List Bool
-  pub are_reached : AreReached set (OfPackage own) marks
-  pub are_needed : AreNeeded set own marks needed
-  pub packages_are : r.packages ≡ kept needed set.packages
-  pub interfaces_are : interface_names r ≡ kept marks.interfaces (interface_names set)
-  pub definitions_are : definitions r ≡ reached_definitions set marks
-  pub worlds_are : worlds r ≡ kept (map (is_own_world own) set.worlds) (worlds set)
-  -- where each package stands behind those that it names, none that is needed stands behind the own one
-  pub own_is_last : NamesEarlierPackages set → (k : ℕ) → slice_index_or needed k false ≡ true → k ≤ own
-  -- the rows of a set's package stand as those of a package in form
-  pub in_form : IsSet set → NamesEarlierPackages set → HasRowsInForm r
-  -- a function of it is the set's of that name, with the same type
-  pub functions_are : (iface name : List ℕ) (f : FunctionId) → IsNamed r iface name f → (g : FunctionId) × IsNamed set iface name g × (function_type r f ≡ function_type set g)
-  -- rows in postfix order stay so
-  pub postfix : IsPostfix set.definitions → IsPostfix r.definitions
+  pub to : Moved
+  pub needed : IsNeeded set own to
+  pub table : IsTableOf set to r

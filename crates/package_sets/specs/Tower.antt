@@ -8,7 +8,11 @@ use Rattle.package_form.specs.Scope.{AreDistinct}
 use Rattle.package_sets.specs.Owners.{owners}
 use Rattle.package_sets.specs.Places.{kept}
 use Rattle.package_sets.specs.Reaches.{Marks, is_marked, is_own_interface, is_own_world, OfPackage, AreReached}
+use Rattle.package_sets.specs.Attached.{IsAttached}
+use Rattle.package_sets.specs.BehindImports.{IsBehindImports}
+use Rattle.package_sets.specs.Restricted.{IsRestricted}
 use Rattle.package_sets.specs.SetForm.{IsInSetForm, IsEmpty}
+use Rattle.tables.specs.Same.{IsSamePackage}
 use Rattle.tables.specs.declared.tables.Resolve.{Resolve}
 
 -- the type entries of what is kept of a set
@@ -37,10 +41,17 @@ pub record IsInTower (r : Resolve) : Type 0 where
 abbrev pub IsFormedOf : Resolve → ℕ → Resolve → Type 0
 IsFormedOf set own r = IsInTower set → own < length set.packages → IsInPackageForm r × All AreDistinct (package_scopes r)
 
--- the set stays in the tower with the package of a closed table that is in form, and whose names differ in each scope
-abbrev pub KeepsTower : Resolve → Resolve → Resolve → Type 0
-KeepsTower set closed r = IsInTower set → IsInPackageForm closed → All AreDistinct (package_scopes closed) → IsInTower r
+-- What holds of a set in the tower with the package of a closed table that is in form, and whose names differ in each scope: it stays in the tower;
+-- the table of its last package is that closed table, if its imports are just those that its own part names; and the table of each earlier package is
+-- what it was.
+pub record StaysInTower (set closed r : Resolve) : Type 0 where
+  pub tower : IsInTower r
+  pub again : IsBehindImports set closed → (table : Resolve) → IsRestricted r (length set.packages) table → IsSamePackage table closed
+  pub earlier : (id : ℕ) → id < length set.packages → (table then : Resolve) → IsRestricted r id table → IsRestricted set id then → IsSamePackage table then
 
--- .. and is in it with none
+abbrev pub KeepsTower : Resolve → Resolve → Type 0
+KeepsTower set closed = IsInTower set → IsInPackageForm closed → All AreDistinct (package_scopes closed) → (r : Resolve) (id : ℕ) → IsAttached set closed r id → StaysInTower set closed r
+
+-- a set of none is in the tower
 abbrev pub IsSetOfNone : Resolve → Type 0
 IsSetOfNone r = IsEmpty r → IsInTower r

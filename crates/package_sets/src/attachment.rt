@@ -4,8 +4,7 @@ ghost use Rattle.package_sets.specs.Moved.{put_row};
 ghost use Rattle.package_sets.specs.Attached.{HasAll, LacksFirst, IsAttached, IsRefused};
 ghost use Rattle.tables.specs.PackageNames.{PackageParts};
 ghost use Rattle.package_sets.specs.Joining.{AreRowsThere, AreIdsThere, HasIds, HasIdsAt, HasImports};
-ghost use Rattle.package_sets.specs.Joined.{IsJoined, IsPut, renaming_of};
-ghost use Rattle.package_sets.specs.Tower.{KeepsTower};
+ghost use Rattle.package_sets.specs.Joined.{listed, IsJoined, IsPut, renaming_of};
 ghost use Rattle.package_sets.specs.declared.error.AttachError.TheVariants.{NotThisShape, NoMemory, NoPackage};
 
 use crate::error::AttachError;
@@ -27,7 +26,7 @@ fn is_row_at(
     row: &Definition,
     to: &Joined,
 ) -> Result<bool, AllocError>
-    ensures { IfOk result (λ b. Decides b (slice_get set.now.definitions place ≡ Some (put_row (renaming_of to.now) row.now))) }
+    ensures { IfOk result (λ b. Decides b (slice_get set.now.definitions place ≡ Some (put_row (renaming_of (listed to.now)) row.now))) }
 {
     match set.definitions.as_slice().get(place as usize) {
         Some(other) => Ok(other.is_same(&row.moved(alloc, to)?)),
@@ -43,7 +42,7 @@ fn are_rows_there(
     to: &Joined,
 ) -> Result<bool, AllocError>
     requires { length rows.now ≤ length to.now.rows.items }
-    ensures { IfOk result (λ b. Decides b (AreRowsThere set.now (renaming_of to.now) rows.now)) }
+    ensures { IfOk result (λ b. Decides b (AreRowsThere set.now (renaming_of (listed to.now)) rows.now)) }
 {
     for (place, row) in rows.iter().enumerate() {
         if !is_row_at(alloc, set, to.rows[place], row, to)? {
@@ -60,7 +59,7 @@ fn has_ids(
     other: &Interface,
     to: &Joined,
 ) -> Result<bool, AllocError>
-    ensures { IfOk result (λ b. Decides b (HasIds (renaming_of to.now) import.now other.now)) }
+    ensures { IfOk result (λ b. Decides b (HasIds (renaming_of (listed to.now)) import.now other.now)) }
 {
     let uses = moved_types(alloc, &import.uses, to)?;
     let types = moved_types(alloc, &import.types, to)?;
@@ -80,7 +79,7 @@ fn has_ids_at(
     import: &Interface,
     to: &Joined,
 ) -> Result<bool, AllocError>
-    ensures { IfOk result (λ b. Decides b (HasIdsAt set.now (renaming_of to.now) import.now place)) }
+    ensures { IfOk result (λ b. Decides b (HasIdsAt set.now (renaming_of (listed to.now)) import.now place)) }
 {
     match set.interfaces.as_slice().get(place as usize) {
         Some(other) => has_ids(alloc, import, other, to),
@@ -96,7 +95,7 @@ fn are_ids_there(
     to: &Joined,
 ) -> Result<bool, AllocError>
     requires { length imports.now ≤ length to.now.interfaces.items }
-    ensures { IfOk result (λ b. Decides b (AreIdsThere set.now (renaming_of to.now) imports.now)) }
+    ensures { IfOk result (λ b. Decides b (AreIdsThere set.now (renaming_of (listed to.now)) imports.now)) }
 {
     for (place, import) in imports.iter().enumerate() {
         if !has_ids_at(alloc, set, to.interfaces[place], import, to)? {
@@ -108,7 +107,7 @@ fn are_ids_there(
 
 /// The places of what a closed table has, if its imports are as the set has them: 44 where they aren't.
 fn placed(alloc: Global, set: &Resolve, closed: &Resolve) -> Result<Joined, AttachError>
-    ensures ok { IfOk result (IsJoined set.now closed.now) }
+    ensures ok { IfOk result (λ j. IsJoined set.now closed.now (listed j)) }
     ensures err { IfErr result (λ e. (e ≡ NoMemory) ⊎ ((e ≡ NotThisShape) × (¬ HasImports set.now closed.now))) }
 {
     let to = places_of(alloc, set, closed)?;
@@ -142,8 +141,8 @@ fn put_behind(
     own: &PackageName,
     to: &Joined,
 ) -> Result<Resolve, AllocError>
-    requires { IsJoined set.now closed.now to.now }
-    ensures { IfOk result (IsPut set.now closed.now own.now to.now) }
+    requires { IsJoined set.now closed.now (listed to.now) }
+    ensures { IfOk result (IsPut set.now closed.now own.now (listed to.now)) }
 {
     let copy = set.copy(alloc)?;
     let mut packages = copy.packages;
@@ -174,7 +173,6 @@ pub fn attached(
     closed: &Resolve,
 ) -> Result<(Resolve, PackageId), AttachError>
     ensures ok { IfOk result (λ r. IsAttached set.now closed.now r.0 r.1.0) }
-    ensures tower { IfOk result (λ r. KeepsTower set.now closed.now r.0) }
     ensures err { IfErr result (IsRefused set.now closed.now) }
 {
     if MOST_PACKAGES <= set.packages.len() {

@@ -5,7 +5,7 @@ ghost use Rattle.package_form.specs.Ends.{end_of};
 ghost use Rattle.package_form.specs.Closed.{is_same_package};
 ghost use Rattle.package_sets.specs.Joining.{before_own, import_count, imports, own_interfaces, has_name_of, place_in, IsFirst, AreFound, places_from, end_in, row_places, import_rows, all_places};
 ghost use Rattle.package_sets.specs.Attached.{has_package};
-ghost use Rattle.package_sets.specs.Joined.{AreJoined};
+ghost use Rattle.package_sets.specs.Joined.{listed, AreJoined};
 ghost use Rattle.package_sets.specs.declared.error.AttachError.TheVariants.{NotThisShape, NoMemory};
 
 use crate::error::AttachError;
@@ -55,9 +55,9 @@ fn place_in(places: &[u32], old: u32) -> u32
 }
 
 impl Placed for Joined {
-    ghost use Rattle.package_sets.specs.Joined.{renaming_of};
+    ghost use Rattle.package_sets.specs.Joined.{listed, renaming_of};
 
-    ghost renaming = { renaming_of };
+    ghost renaming = { λ j. renaming_of (listed j) };
 
     fn package(&self, _old: u32) -> u32 {
         self.package
@@ -227,7 +227,7 @@ fn push_others(places: &mut Vec<u32>, behind: usize, count: usize) -> Result<(),
 
 /// What a closed table has is placed in the set with its package.
 pub fn places_of(alloc: Global, set: &Resolve, closed: &Resolve) -> Result<Joined, AttachError>
-    ensures ok { IfOk result (AreJoined set.now closed.now) }
+    ensures ok { IfOk result (λ j. AreJoined set.now closed.now (listed j)) }
     ensures err { IfErr result (λ e. (e ≡ NoMemory) ⊎ ((e ≡ NotThisShape) × ((places : List ℕ) → ¬ AreFound set.now closed.now (imports closed.now) places))) }
 {
     let indexed = IndexedTable::of(alloc, set)?;

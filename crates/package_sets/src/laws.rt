@@ -1,7 +1,11 @@
 //! Laws of sets.
-ghost use Rattle.std.specs.Prelude.{Bool, List};
+ghost use Rattle.std.specs.Prelude.{Bool, List, ℕ};
+ghost use Rattle.package_sets.specs.Attached.{IsAttached};
+ghost use Rattle.package_sets.specs.Follows.{OfAttached, OfImports, OfRestricted};
+ghost use Rattle.package_sets.specs.Imports.{IsImportsOf};
 ghost use Rattle.package_sets.specs.One.{AttachesOne, ImportsOne};
-ghost use Rattle.package_sets.specs.Tower.{IsSetOfNone};
+ghost use Rattle.package_sets.specs.Restricted.{IsRestricted};
+ghost use Rattle.package_sets.specs.Tower.{IsSetOfNone, KeepsTower};
 ghost use Rattle.tables.specs.declared.tables.Resolve.{Resolve};
 
 use tables::Resolve;
@@ -16,7 +20,27 @@ pub fn attaches_one()
     ensures { (set closed : Resolve) → AttachesOne set closed }
 {}
 
+/// What follows of a set with a package more.
+pub fn of_attached()
+    ensures { (set closed r : Resolve) (id : ℕ) → IsAttached set closed r id → OfAttached set closed r }
+{}
+
+/// A set stays in the tower with a package more. What was attached is the table of the last package, and the others keep theirs.
+pub fn keeps_tower()
+    ensures { (set closed : Resolve) → KeepsTower set closed }
+{}
+
 /// The table of some interfaces of a set, with those that they reach, is one.
 pub fn imports_one()
     ensures { (set : Resolve) (packages interfaces : List Bool) → ImportsOne set packages interfaces }
+{}
+
+/// What follows of the table of some interfaces of a set.
+pub fn of_imports()
+    ensures { (set : Resolve) (packages interfaces : List Bool) (r : Resolve) (n : IsImportsOf set packages interfaces r) → OfImports set packages interfaces r n }
+{}
+
+/// What follows of the table of one package of a set.
+pub fn of_restricted()
+    ensures { (set : Resolve) (own : ℕ) (r : Resolve) (n : IsRestricted set own r) → OfRestricted set own r n }
 {}

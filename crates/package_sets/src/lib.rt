@@ -1,10 +1,10 @@
 //! Sets of packages, as tables: the table of one package of a set, which begins with what the package reaches of the others,
 //! the table of what a package may import from the set, and the set with such a package behind it.
 //!
-//! `Reaches` in `specs/Reaches.antt` says what a package of a set reaches, and `IsRestricted` in `specs/Restricted.antt`
-//! what the table of one package has of the set's, as `IsImportsOf` in `specs/Imports.antt` does of imports. `HasImports` in `specs/Joining.antt` says when the imports of such a
-//! table are the set's, and `IsAttached` in `specs/Attached.antt` what the set is with it. The crate knows neither text nor bytes, and stands on
-//! `package_form`, `tables` and `atoms`.
+//! `Reaches` in `specs/Reaches.antt` says what a package of a set reaches. `IsRestricted` in `specs/Restricted.antt` defines the
+//! table of one package, and `IsImportsOf` in `specs/Imports.antt` that of imports. `HasImports` in `specs/Joining.antt` says
+//! when the imports of such a table are the set's. `IsAttached` in `specs/Attached.antt` defines the set with it.
+//! `specs/Follows.antt` and `specs/Tower.antt` have what follows of these, as laws. The crate knows neither text nor bytes.
 #![tactic(auto)]
 
 mod attachment;

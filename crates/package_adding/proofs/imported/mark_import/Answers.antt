@@ -6,7 +6,7 @@ use Rattle.package_form.specs.Indexed.{key_parts}
 use Rattle.package_sets.specs.Joining.{are_same_packages}
 use Rattle.package_sets.proofs.Lists.{item-get}
 use Rattle.tables.specs.PackageNames.{PackageParts}
-use Rattle.package_adding.specs.BehindImports.{import_names}
+use Rattle.package_adding.specs.ImportNames.{import_names}
 use Rattle.package_adding.specs.Noted.{nothing, also}
 use Rattle.package_adding.proofs.Noting.{noted-as, noted-none}
 use Rattle.package_adding.proofs.imported.mark_import.Goals as goal

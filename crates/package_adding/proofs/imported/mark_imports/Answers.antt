@@ -1,9 +1,8 @@
-use Rattle.std.proofs.Common.{◌≡◌, ◌<◌, ◌∙◌, ◌+◌, ◌&&◌, ◌||◌, Bool, false, List, ℕ, length, get_or, take, ap, sym, subst, arith}
+use Rattle.std.proofs.Common.{◌≡◌, ◌<◌, ◌∙◌, ◌+◌, ◌&&◌, ◌||◌, Bool, false, List, length, get_or, take, ap, sym, subst, arith}
 use Rattle.package_form.proofs.Meeting.{all-taken}
 use Rattle.package_sets.specs.Joining.{imports}
-use Rattle.tables.specs.PackageNames.{PackageParts}
 use Rattle.tables.specs.declared.tables.Interface.{Interface}
-use Rattle.package_adding.specs.BehindImports.{import_names, marked_names}
+use Rattle.package_adding.specs.ImportNames.{import_names, marked_names}
 use Rattle.package_adding.specs.Noted.{also, AreNoted}
 use Rattle.package_adding.specs.declared.marking.Named.{Named}
 use Rattle.package_adding.proofs.BehindImports.{any-more}

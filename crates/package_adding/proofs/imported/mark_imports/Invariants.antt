@@ -1,7 +1,7 @@
 use Rattle.std.proofs.Common.{Bool, List, ℕ, take}
 use Rattle.tables.specs.PackageNames.{PackageParts}
 use Rattle.package_sets.specs.Joining.{imports}
-use Rattle.package_adding.specs.BehindImports.{marked_names}
+use Rattle.package_adding.specs.ImportNames.{marked_names}
 use Rattle.package_adding.specs.Noted.{also, AreNoted}
 use Rattle.package_adding.proofs.imported.mark_imports.Given as goal
 

@@ -2,9 +2,9 @@ use Rattle.std.proofs.Common.{◌≡◌, Bool, true, List, sym, subst}
 use Rattle.tables.specs.declared.tables.Resolve.{Resolve}
 use Rattle.tree_meaning.proofs.Trees.{ok-map}
 use Rattle.package_sets.specs.Joining.{imports}
-use Rattle.package_adding.specs.BehindImports.{marked_names}
-use Rattle.package_adding.specs.Named.{AreMarksOf}
-use Rattle.package_adding.specs.NamedIn.{NamesIn}
+use Rattle.package_adding.specs.ImportNames.{marked_names}
+use Rattle.package_sets.specs.NamedIn.{AreMarksOf}
+use Rattle.package_sets.specs.NamedIn.{NamesIn}
 use Rattle.package_adding.specs.Noted.{nothing, also, AreNoted}
 use Rattle.package_adding.proofs.BehindImports.{imports-tell}
 use Rattle.package_adding.proofs.Marks.{also-marks}

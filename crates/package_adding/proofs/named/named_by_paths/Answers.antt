@@ -3,7 +3,8 @@ use Rattle.wit_syntax.specs.View.{item_view, file_view}
 use Rattle.wit_syntax.specs.declared.ast.Item.{Item}
 use Rattle.tables.specs.declared.tables.Resolve.{Resolve}
 use Rattle.tree_meaning.proofs.Trees.{ok-map}
-use Rattle.package_adding.specs.Named.{NamesInterface, AreMarksOf, file_entry_names, any_names}
+use Rattle.package_adding.specs.Named.{NamesInterface, file_entry_names, any_names}
+use Rattle.package_sets.specs.NamedIn.{AreMarksOf}
 use Rattle.package_adding.specs.Noted.{nothing, also, AreNoted}
 use Rattle.package_adding.proofs.Marks.{also-marks}
 use Rattle.package_adding.proofs.Naming.{file-names}

@@ -2,9 +2,9 @@ use Rattle.std.proofs.Common.{rules, ◌≡◌, ◌∙◌, List, take, slice_get
 use Rattle.tables.specs.PackageNames.{PackageParts}
 use Rattle.package_form.specs.Closed.{own_package}
 use Rattle.package_sets.specs.Attached.{HasRoom, HasAll, IsOwn, IsNew, has_package, others}
+use Rattle.package_sets.specs.Joined.{listed}
 use Rattle.package_sets.proofs.Lists.{item-get}
 use Rattle.package_sets.proofs.Accepting.{attaches}
-use Rattle.package_sets.proofs.InTower.{tower-there}
 use Rattle.package_sets.proofs.attachment.attached.Goals as goal
 
 pub returns-clause-ok : goal.returns-clause-ok
@@ -22,8 +22,4 @@ returns-clause-ok c =
     let have : HasAll s (others closed) =
     subst (λ (ps : List PackageParts). HasAll s (take (own_package ps) ps)) c.as_slice-packages.ensures
     (subst (λ n. HasAll s (take n c.as_slice-packages.result.now)) c.own_package-own.ensures c.in_ok-has_packages.ensures.ok) in
-    attaches s closed c.in_ok-to.to c.in_ok-to.ensures.ok own is c.in_ok-resolve.resolve c.in_ok-resolve.ensures room new have
-
-pub returns-clause-tower : goal.returns-clause-tower
-returns-clause-tower c = λ tower form distinct.
-    tower-there c.args.set.now c.args.closed.now c.in_ok-to.to c.in_ok-to.ensures.ok c.in-Some.name.now c.in_ok-resolve.resolve c.in_ok-resolve.ensures tower form ((returns-clause-ok c).in_form tower.form form distinct)
+    attaches s closed (listed c.in_ok-to.to) c.in_ok-to.ensures.ok own is c.in_ok-resolve.resolve c.in_ok-resolve.ensures room new have

@@ -1,7 +1,7 @@
 use Rattle.std.proofs.Common.{◌∷◌, [], map, ap}
 use Rattle.tables.specs.PackageNames.{PackageParts}
 use Rattle.package_sets.specs.Moved.{put_interface, put_world, put_row}
-use Rattle.package_sets.specs.Joined.{renaming_of}
+use Rattle.package_sets.specs.Joined.{listed, renaming_of}
 use Rattle.package_sets.proofs.Behind as table
 use Rattle.package_sets.proofs.Putting.{put-behind}
 use Rattle.package_sets.proofs.attachment.put_behind.Goals as goal
@@ -9,7 +9,7 @@ use Rattle.package_sets.proofs.attachment.put_behind.Goals as goal
 pub invariant_of-result : goal.invariant_of-result
 invariant_of-result c =
     let s = c.args.set.now in
-    let j = c.args.to.now in
+    let j = listed c.args.to.now in
     let packages = put-behind c.in_ok-push.ensures.ok c.in_ok-copy.ensures.packages (ap (λ (p : PackageParts). p ∷ []) c.in_ok-copied_name.ensures) in
     let interfaces = put-behind c.in_ok-push_moved.ensures c.in_ok-copy.ensures.interfaces (ap (map (put_interface (renaming_of j))) c.own_interfaces.ensures) in
     let worlds = put-behind c.in_ok-push_moved-2.ensures c.in_ok-copy.ensures.worlds (ap (map (put_world (renaming_of j))) c.as_slice.ensures) in
@@ -26,7 +26,7 @@ invariant_of-result c =
 
 pub returns : goal.returns
 returns c =
-    let j = c.args.to.now in
+    let j = listed c.args.to.now in
     record {
       packages = put-behind c.in_ok-push.ensures.ok c.in_ok-copy.ensures.packages (ap (λ (p : PackageParts). p ∷ []) c.in_ok-copied_name.ensures);
       interfaces = put-behind c.in_ok-push_moved.ensures c.in_ok-copy.ensures.interfaces (ap (map (put_interface (renaming_of j))) c.own_interfaces.ensures);

@@ -1,5 +1,4 @@
 use Rattle.package_sets.proofs.Parts.{package-part}
-use Rattle.package_sets.proofs.Needed.{restricts}
 use Rattle.package_sets.proofs.TowerForm.{table-form, table-distinct}
 use Rattle.package_sets.proofs.restriction.restricted.Goals as goal
 
@@ -7,7 +6,7 @@ pub table-requires : goal.table-requires
 table-requires c = package-part c.args.set.now c.args.id.0 c.in_ok-to.to c.in_ok-to.ensures
 
 pub returns-clause-ok : goal.returns-clause-ok
-returns-clause-ok c = restricts c.args.set.now c.args.id.0 c.in_ok-to.to c.in_ok-to.ensures _ c.in_ok-table.ensures
+returns-clause-ok c = record { to = c.in_ok-to.to; needed = c.in_ok-to.ensures; table = c.in_ok-table.ensures }
 
 pub returns-clause-form : goal.returns-clause-form
 returns-clause-form c = λ tower within. (

@@ -16,4 +16,5 @@ returns-clause-ok c = (
     behind = c.in_ok-id.ensures.behind;
     attached = c.in_ok-id.ensures.ok;
   },
+  c.in_ok-id.ensures.again,
 )

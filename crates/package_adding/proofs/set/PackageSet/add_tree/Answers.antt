@@ -33,3 +33,6 @@ returns-in_err-id-clause-only c = λ closed r id h w fits.
 
 pub closed_over-requires-clause-form : goal.closed_over-requires-clause-form
 closed_over-requires-clause-form c = ∥∥₁_map c.args.self.now.tower (λ t. t.form)
+
+pub returns-clause-again : goal.returns-clause-again
+returns-clause-again c = c.in_ok-id.ensures.again c.in_ok-closed.ensures.behind

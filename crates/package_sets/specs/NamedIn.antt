@@ -1,6 +1,6 @@
 -- What a closed table names of other packages: an own row uses a type of an interface, or an interface is an item of a world (WIT.md, "Item: `use`",
 -- "Item: `world`").
-use Rattle.std.specs.Prelude.{◌≡◌, ◌<◌, ℕ, Bool, List, ◌++◌, drop, flat_map, slice_get, Some, Contains}
+use Rattle.std.specs.Prelude.{◌≡◌, ◌↔◌, ◌<◌, ℕ, Bool, true, false, List, ◌++◌, drop, flat_map, length, slice_get, slice_index_or, Some, Contains}
 use Rattle.package_form.specs.Closed.{own_package}
 use Rattle.package_form.specs.Ends.{interfaces_end}
 use Rattle.package_form.specs.Reached.{reached_by_row, reached_by_world}
@@ -9,7 +9,18 @@ use Rattle.tables.specs.PackageNames.{PackageParts}
 use Rattle.tables.specs.declared.tables.Definition.{Definition}
 use Rattle.tables.specs.declared.tables.Interface.{Interface}
 use Rattle.tables.specs.declared.tables.Resolve.{Resolve}
-use Rattle.package_adding.specs.Named.{AreMarksOf}
+
+-- ---- marks of what is named of a set
+
+-- These are marks of just the interfaces of the set that are named, and of just the packages of which any interface is, whether they have it or not.
+pub record AreMarksOf (names : PackageParts → List ℕ → Type 0) (set : Resolve) (packages interfaces : List Bool) : Type 0 where
+  pub each_package : length packages ≡ length set.packages
+  pub each_interface : length interfaces ≡ length set.interfaces
+  pub packages_are : (k : ℕ) (q : PackageParts) → slice_get set.packages k ≡ Some q → (slice_index_or packages k false ≡ true) ↔ ((i : List ℕ) × names q i)
+  pub interfaces_are : (k : ℕ) (i : Interface) (q : PackageParts) → slice_get set.interfaces k ≡ Some i → slice_get set.packages i.«package».0 ≡ Some q
+      → (slice_index_or interfaces k false ≡ true) ↔ names q i.name
+
+-- ---- what a closed table names
 
 -- the rows behind those of the imports
 abbrev pub own_rows : Resolve → List Definition

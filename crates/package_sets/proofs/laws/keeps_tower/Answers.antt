@@ -1,0 +1,5 @@
+use Rattle.package_sets.proofs.FromAttached.{keeps-tower}
+use Rattle.package_sets.proofs.laws.keeps_tower.Goals as goal
+
+pub returns : goal.returns
+returns c = keeps-tower

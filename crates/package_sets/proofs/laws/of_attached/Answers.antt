@@ -1,0 +1,5 @@
+use Rattle.package_sets.proofs.FromAttached.{follows}
+use Rattle.package_sets.proofs.laws.of_attached.Goals as goal
+
+pub returns : goal.returns
+returns c = follows
