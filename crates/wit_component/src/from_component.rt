@@ -92,28 +92,6 @@ fn first_import(resolve: &Resolve) -> Option<&PackageName>
     }
 }
 
-/// The package that a component stands for which these bytes spell: the same as `from_raw` answers, which has to write
-/// the component first.
-pub fn from_spelled(
-    alloc: Global,
-    raw: &RawComponent,
-    bytes: &[u8],
-) -> Result<Resolve, ResolveError>
-    requires { ∥ file.spells bytes.now (file_view raw.now) ∥₁ }
-    ensures ok { IfOk result (λ r. ∥ ComponentStands raw.now r ∥₁) }
-    ensures alone { IfOk result (λ r. IsAlone r) }
-    ensures distinct { IfOk result (λ r. All AreDistinct (package_scopes r)) }
-    ensures only { (r : Resolve) → ComponentStands raw.now r → All AreDistinct (package_scopes r) → IsAlone r
-        → MatchResult result (λ p. IsSamePackage p r) (λ e. e ≡ ResolveError.NoMemory) }
-    ensures err { IfErr result (FromComponentRefuses raw.now) }
-{
-    let package = closed_from_spelled(alloc, raw, bytes)?;
-    if let Some(first) = first_import(&package) {
-        return Err(ResolveError::NoPackage(copy_package(alloc, first)?));
-    }
-    Ok(package)
-}
-
 /// The package that a component stands for which stands alone: `closed_from_raw`, and 47 `NoPackage` with the first
 /// package that it imports, where it imports any. (Binary.md)
 pub fn from_raw(alloc: Global, raw: &RawComponent) -> Result<Resolve, ResolveError>
@@ -124,6 +102,9 @@ pub fn from_raw(alloc: Global, raw: &RawComponent) -> Result<Resolve, ResolveErr
         → MatchResult result (λ p. IsSamePackage p r) (λ e. e ≡ ResolveError.NoMemory) }
     ensures err { IfErr result (FromComponentRefuses raw.now) }
 {
-    let bytes = spelling(alloc, raw)?;
-    from_spelled(alloc, raw, &bytes)
+    let package = closed_from_raw(alloc, raw)?;
+    if let Some(first) = first_import(&package) {
+        return Err(ResolveError::NoPackage(copy_package(alloc, first)?));
+    }
+    Ok(package)
 }

@@ -3,7 +3,7 @@ use Rattle.std.proofs.Math.Logic.{∥∥₁_map}
 use Rattle.tables.specs.PackageNames.{PackageParts}
 use Rattle.package_form.proofs.OwnPackage.{some-package}
 use Rattle.wit_component.specs.FromComponent.{HasFirstImport}
-use Rattle.wit_component.proofs.from_component.from_spelled.Goals as goal
+use Rattle.wit_component.proofs.from_component.from_raw.Goals as goal
 
 pub returns-in-Some-clause-err : goal.returns-in-Some-clause-err
 returns-in-Some-clause-err c =
