@@ -1,4 +1,3 @@
-pub mod Before
 pub mod Behind
 pub mod Binaries
 pub mod Members

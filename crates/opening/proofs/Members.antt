@@ -9,7 +9,7 @@ use Rattle.ctype_format.specs.File.{decoded}
 use Rattle.ctype_format.specs.Raw.{File as Component}
 use Rattle.package_adding.specs.Added as adding
 use Rattle.package_adding.specs.Added.{AddsComponent, ComponentNotAdded, AddsTree, TreeNotAdded}
-use Rattle.package_adding.specs.BehindImports.{IsBehindImports}
+use Rattle.package_sets.specs.BehindImports.{IsBehindImports}
 use Rattle.package_adding.specs.declared.error.AddError.{AddError}
 use Rattle.package_adding.specs.declared.error.AddError.TheVariants as add
 use Rattle.package_sets.specs.Attached.{HasRoom}

@@ -2,7 +2,7 @@
 use Rattle.std.proofs.Common.{◌≡◌, ◌≤◌, List, ℕ, length, Result, Ok, refl, ap, ◌∙◌}
 use Rattle.std.specs.Prelude.{false}
 use Rattle.std.specs.Str.{IsUtf8}
-use Rattle.std.proofs.Math.Logic.{∥∥₁_map₂}
+use Rattle.std.proofs.Math.Logic.{∥∥₁_map}
 use Rattle.wit_tokens.specs.Lexing.{limit}
 use Rattle.wit_tokens.specs.declared.error.TextError.{TextError}
 use Rattle.wit_tokens.specs.declared.error.TextError.TheVariants as text_error
@@ -41,6 +41,5 @@ text-begins : (r : Resolve) → is_binary (text_of r) ≡ false
 text-begins r = refl
 
 -- what is printed of the last package
-pub printed-as : (bytes : List ℕ) (r closed : Resolve) → bytes ≡ text_of closed → IsUtf8 bytes → length bytes ≤ limit → ∥ IsLast r closed ∥₁ → ∥ AreWithin r ∥₁ → ∥ IsPrintedAs bytes r ∥₁
-printed-as bytes r closed is utf8 short last within =
-    ∥∥₁_map₂ last within (λ l w. record { begins = ap is_binary is ∙ text-begins closed; closed = closed; last = l; text = is; utf8 = utf8; short = short; within = w })
+pub printed-as : (bytes : List ℕ) (r closed : Resolve) → bytes ≡ text_of closed → IsUtf8 bytes → length bytes ≤ limit → IsLast r closed → ∥ AreWithin r ∥₁ → ∥ IsPrintedAs bytes r ∥₁
+printed-as bytes r closed is utf8 short last within = ∥∥₁_map within (λ w. record { begins = ap is_binary is ∙ text-begins closed; closed = closed; last = last; text = is; utf8 = utf8; short = short; within = w })

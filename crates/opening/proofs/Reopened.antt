@@ -1,10 +1,8 @@
 -- Several packages are opened as those before the last and the last; what is written of it opens as it.
-use Rattle.std.proofs.Common.{◌≡◌, ◌<◌, ◌+◌, ◌-◌, ◌∙◌, ℕ, zero, suc, List, [], ◌∷◌, ◌++◌, length, take, get_or, Result, Ok, Err, IfOk, IfErr, refl, ap, sym, subst, arith}
+use Rattle.std.proofs.Common.{◌≡◌, ◌<◌, ◌+◌, ◌-◌, ℕ, zero, suc, List, [], ◌∷◌, ◌++◌, length, take, get_or, Result, Ok, Err, IfOk, refl, ap, subst, arith}
 use Rattle.std.specs.Prelude.{MatchResult}
-use Rattle.std.specs.Borrow.{Bor}
 use Rattle.std.proofs.Math.Logic.{∥∥₁_elim}
 use Rattle.std.proofs.Props.{props}
-use Rattle.std.proofs.lemmas.List.{length-map}
 use Rattle.ctype_format.specs.declared.error.BinError.{BinError}
 use Rattle.ctype_format.specs.declared.error.Fault.{Fault}
 use Rattle.layout.specs.declared.error.LayoutError.{LayoutError}
@@ -16,34 +14,15 @@ use Rattle.tables.specs.Same.{IsSamePackage}
 use Rattle.tables.specs.declared.error.ResolveError.{ResolveError}
 use Rattle.tables.specs.declared.tables.Resolve.{Resolve}
 use Rattle.wit_tokens.specs.declared.error.TextError.{TextError}
-use Rattle.opening.specs.Opening.{IsOpened, IsWrittenAs, IsPrintedAs, IsWantOfMemory, OpenRefuses}
-use Rattle.opening.specs.Sets.{all_bytes, earlier_of, last_of, IsSetOf}
+use Rattle.opening.specs.Opening.{IsOpened, IsWrittenAs, IsPrintedAs, IsWantOfMemory}
+use Rattle.opening.specs.Sets.{earlier_of, last_of, IsSetOf}
 use Rattle.opening.specs.declared.package.OpenError.{OpenError}
 use Rattle.opening.specs.declared.package.OpenError.TheVariants as error
 use Rattle.opening.specs.declared.package.Package.{Package}
-use Rattle.opening.proofs.Behind.{is-alone, is-in-form, rewritten, reprinted}
+use Rattle.opening.proofs.Behind.{count-packages, is-in-tower, rewritten, reprinted}
 use Rattle.opening.proofs.Sets.{set-more, last-of}
 
 -- ---- the last, and those before it
-
-front-bytes : (n : ℕ) (xs : List (Bor (List ℕ))) → all_bytes (take n xs) ≡ take n (all_bytes xs)
-front-bytes zero xs = refl
-front-bytes (suc n) [] = refl
-front-bytes (suc n) (x ∷ xs) = ap (λ (ys : List (List ℕ)). x.now ∷ ys) (front-bytes n xs)
-
-bytes-at : (xs : List (Bor (List ℕ))) (k : ℕ) (d : Bor (List ℕ)) → k < length xs → (get_or xs k d).now ≡ get_or (all_bytes xs) k []
-bytes-at [] k d l = absurd (omega (arith, l))
-bytes-at (x ∷ xs) zero d l = refl
-bytes-at (x ∷ xs) (suc k) d l = bytes-at xs k d (omega (arith, l))
-
-counted : (xs : List (Bor (List ℕ))) → length (all_bytes xs) ≡ length xs
-counted xs = length-map xs (λ b. b.now)
-
-earlier-is : (xs : List (Bor (List ℕ))) → all_bytes (take (length xs - 1) xs) ≡ earlier_of (all_bytes xs)
-earlier-is xs = front-bytes (length xs - 1) xs ∙ ap (λ (n : ℕ). take (n - 1) (all_bytes xs)) (sym (counted xs))
-
-last-is : (xs : List (Bor (List ℕ))) (d : Bor (List ℕ)) → 0 < length xs → (get_or xs (length xs - 1) d).now ≡ last_of (all_bytes xs)
-last-is xs d some = bytes-at xs (length xs - 1) d (omega (arith, some)) ∙ ap (λ (n : ℕ). get_or (all_bytes xs) (n - 1) []) (sym (counted xs))
 
 whole-is : (ys : List (List ℕ)) → 0 < length ys → earlier_of ys ++ last_of ys ∷ [] ≡ ys
 whole-is ys some = by (length ys - 1) ys (omega (arith, some))
@@ -96,51 +75,25 @@ answers-is-prop (Err e) p = want-is-prop e
 -- ---- what is opened of one package
 
 pub alone : (bytes : List ℕ) (answer : Result Package OpenError) → IfOk answer (λ p. IsOpened (bytes ∷ []) p.resolve) → IfOk answer (λ p. IsAlone p.resolve)
-alone bytes (Ok p) h = is-alone bytes p.resolve h.set
+alone bytes (Ok p) h = count-packages (bytes ∷ []) p.resolve h.set
 alone bytes (Err e) h = h
 
--- ---- what is opened of several packages
+-- ---- the last is what is written of a package behind the others
 
-module _ (xs : List (Bor (List ℕ))) (d : Bor (List ℕ)) (some : 0 < length xs) (answer : Result Package OpenError) where
-  abbrev ys : List (List ℕ)
-  ys = all_bytes xs
+module _ (ys : List (List ℕ)) (some : 0 < length ys) (answer : Result Package OpenError) (only : (r : Resolve) → IsOpened ys r → Answers answer r) where
+  pub opens-written : (bytes : List ℕ) (r : Resolve) → IsOpened (earlier_of ys ++ bytes ∷ []) r → IsWrittenAs (last_of ys) r → Answers answer r
+  opens-written bytes r h w =
+      let l = last-of (earlier_of ys) bytes r h.set in
+      ∥∥₁_elim (is-in-tower (earlier_of ys) l.set l.made) (answers-is-prop answer r) (λ tower.
+      ∥∥₁_elim l.adds.puts.writable (answers-is-prop answer r) (λ writable.
+      let adds = rewritten l.set l.closed r bytes (last_of ys) l.adds tower writable w in
+      only r (record { set = subst (λ (zs : List (List ℕ)). IsSetOf zs r) (whole-is ys some) (set-more (earlier_of ys) (last_of ys) l.set w.closed r l.made adds); within = h.within })))
 
-  abbrev inputs : List (List ℕ)
-  inputs = all_bytes (take (length xs - 1) xs) ++ (get_or xs (length xs - 1) d).now ∷ []
-
-  parts-are : earlier_of ys ++ last_of ys ∷ [] ≡ ys
-  parts-are = whole-is ys (omega (arith, some, counted xs))
-
-  inputs-are : inputs ≡ ys
-  inputs-are =
-      ap (λ (b : List ℕ). all_bytes (take (length xs - 1) xs) ++ b ∷ []) (last-is xs d some)
-      ∙ (ap (λ (zs : List (List ℕ)). zs ++ last_of ys ∷ []) (earlier-is xs) ∙ parts-are)
-
-  pub is-opened : IfOk answer (λ p. IsOpened inputs p.resolve) → IfOk answer (λ p. IsOpened ys p.resolve)
-  is-opened h = subst (λ (zs : List (List ℕ)). IfOk answer (λ p. IsOpened zs p.resolve)) inputs-are h
-
-  pub is-refused : IfErr answer (OpenRefuses inputs) → IfErr answer (OpenRefuses ys)
-  is-refused h = subst (λ (zs : List (List ℕ)). IfErr answer (OpenRefuses zs)) inputs-are h
-
-  module _ (only : (r : Resolve) → IsOpened inputs r → Answers answer r) where
-    pub is-only : (r : Resolve) → IsOpened ys r → Answers answer r
-    is-only r h = only r (subst (λ (zs : List (List ℕ)). IsOpened zs r) (sym inputs-are) h)
-
-    -- the last is what is written of a package behind the others
-    pub opens-written : (bytes : List ℕ) (r : Resolve) → IsOpened (earlier_of ys ++ bytes ∷ []) r → IsWrittenAs (last_of ys) r → Answers answer r
-    opens-written bytes r h w =
-        let l = last-of (earlier_of ys) bytes r h.set in
-        ∥∥₁_elim (is-in-form (earlier_of ys) l.set l.made) (answers-is-prop answer r) (λ form.
-        ∥∥₁_elim w.last.form (answers-is-prop answer r) (λ before.
-        let adds = rewritten l.set l.closed r bytes (last_of ys) l.adds form w before in
-        is-only r (record { set = subst (λ (zs : List (List ℕ)). IsSetOf zs r) parts-are (set-more (earlier_of ys) (last_of ys) l.set w.closed r l.made adds); within = h.within })))
-
-    pub opens-printed : ((r imports : Resolve) → IsTextOfClosed r imports) → ((r : Resolve) → NestsAsText r) → (bytes : List ℕ) (r : Resolve) → IsOpened (earlier_of ys ++ bytes ∷ []) r
-        → IsPrintedAs (last_of ys) r → Answers answer r
-    opens-printed texts nests bytes r h w =
-        let l = last-of (earlier_of ys) bytes r h.set in
-        ∥∥₁_elim (is-in-form (earlier_of ys) l.set l.made) (answers-is-prop answer r) (λ form.
-        ∥∥₁_elim w.last.form (answers-is-prop answer r) (λ before.
-        ∥∥₁_elim w.last.puts.writable (answers-is-prop answer r) (λ writable.
-        let adds = reprinted l.set l.closed r bytes (last_of ys) l.adds form texts nests w before writable in
-        is-only r (record { set = subst (λ (zs : List (List ℕ)). IsSetOf zs r) parts-are (set-more (earlier_of ys) (last_of ys) l.set w.closed r l.made adds); within = h.within }))))
+  pub opens-printed : ((r imports : Resolve) → IsTextOfClosed r imports) → ((r : Resolve) → NestsAsText r) → (bytes : List ℕ) (r : Resolve) → IsOpened (earlier_of ys ++ bytes ∷ []) r
+      → IsPrintedAs (last_of ys) r → Answers answer r
+  opens-printed texts nests bytes r h w =
+      let l = last-of (earlier_of ys) bytes r h.set in
+      ∥∥₁_elim (is-in-tower (earlier_of ys) l.set l.made) (answers-is-prop answer r) (λ tower.
+      ∥∥₁_elim l.adds.puts.writable (answers-is-prop answer r) (λ writable.
+      let adds = reprinted l.set l.closed r bytes (last_of ys) l.adds tower writable texts nests w in
+      only r (record { set = subst (λ (zs : List (List ℕ)). IsSetOf zs r) (whole-is ys some) (set-more (earlier_of ys) (last_of ys) l.set w.closed r l.made adds); within = h.within })))

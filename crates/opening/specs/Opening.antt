@@ -11,7 +11,8 @@ use Rattle.layout.specs.Layout.{AreWithin, RefusesFirst}
 use Rattle.layout.specs.declared.error.LayoutError.TheVariants as layout_error
 use Rattle.package_adding.specs.declared.error.AddError.{AddError}
 use Rattle.package_adding.specs.declared.error.AddError.TheVariants as add
-use Rattle.package_sets.specs.SetForm.{IsInSetForm}
+use Rattle.package_form.specs.Closed.{own_package}
+use Rattle.package_sets.specs.Restricted.{IsRestricted}
 use Rattle.package_sets.specs.declared.error.AttachError.TheVariants as attach_error
 use Rattle.package_text.specs.Text.{text_of}
 use Rattle.tables.specs.declared.tables.Resolve.{Resolve}
@@ -20,7 +21,7 @@ use Rattle.wit_component.specs.Component.{component_of}
 use Rattle.wit_tokens.specs.Lexing.{limit}
 use Rattle.wit_tokens.specs.declared.error.TextError.{TextError}
 use Rattle.wit_tokens.specs.declared.error.TextError.TheVariants as text_error
-use Rattle.opening.specs.Sets.{is_binary, IsBinaryOf, PutsBehind, IsSetOf, FirstRefused}
+use Rattle.opening.specs.Sets.{is_binary, IsBinaryOf, IsSetOf, FirstRefused}
 use Rattle.opening.specs.declared.package.OpenError.{OpenError}
 use Rattle.opening.specs.declared.package.OpenError.TheVariants as error
 
@@ -31,11 +32,9 @@ pub record IsOpened (inputs : List (List ℕ)) (r : Resolve) : Type 0 where
   pub set : IsSetOf inputs r
   pub within : AreWithin r
 
--- the closed table of the set's last package: what is its own, behind what it reaches of the packages before it
-pub record IsLast (r closed : Resolve) : Type 0 where
-  pub set : Resolve
-  pub form : ∥ IsInSetForm set ∥₁
-  pub puts : PutsBehind set closed r
+-- the closed table of the set's last package: what the package reaches of the set
+abbrev pub IsLast : Resolve → Resolve → Type 0
+IsLast r closed = IsRestricted r (own_package r.packages) closed
 
 -- The bytes are a binary of the set's last package, and the set is within the limits of layout: what `to_binary` gives.
 pub record IsWrittenAs (bytes : List ℕ) (r : Resolve) : Type 0 where
@@ -80,10 +79,26 @@ abbrev pub OpenRefuses : List (List ℕ) → OpenError → Type 0
 OpenRefuses inputs (error.Layout e) = (r : Resolve) × IsSetOf inputs r × RefusesFirst e r
 OpenRefuses inputs e = FirstRefused inputs e
 
--- the shortest bytes of the closed table's package are more than a binary may have
-abbrev pub IsTooLong : Resolve → BinError → Type 0
-IsTooLong closed e = (e ≡ At Limit max_length) × (max_length < length (file_bytes (component_of closed)))
+-- ---- what is written of the last package
 
--- its canonical text is more than a text may have
+-- the shortest bytes of its component
+abbrev pub AreBytesOf : Resolve → List ℕ → Type 0
+AreBytesOf r bytes = (closed : Resolve) × IsLast r closed × (bytes ≡ file_bytes (component_of closed))
+
+-- they are more than a binary may have
+abbrev pub HasLongBinary : Resolve → Type 0
+HasLongBinary r = (bytes : List ℕ) × AreBytesOf r bytes × (max_length < length bytes)
+
+abbrev pub IsTooLong : Resolve → BinError → Type 0
+IsTooLong r e = (e ≡ At Limit max_length) × HasLongBinary r
+
+-- its canonical text
+abbrev pub IsCanonicalText : Resolve → List ℕ → Type 0
+IsCanonicalText r text = (closed : Resolve) × IsLast r closed × (text ≡ text_of closed)
+
+-- it is more than a text may have
+abbrev pub HasLongText : Resolve → Type 0
+HasLongText r = (text : List ℕ) × IsCanonicalText r text × (limit < length text)
+
 abbrev pub IsLongText : Resolve → TextError → Type 0
-IsLongText closed e = (e ≡ text_error.Limit) × (limit < length (text_of closed))
+IsLongText r e = (e ≡ text_error.Limit) × HasLongText r

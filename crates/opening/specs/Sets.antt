@@ -9,7 +9,7 @@ use Rattle.ctype_bin.specs.declared.component.RawComponent.{RawComponent}
 use Rattle.ctype_format.specs.File as binary
 use Rattle.ctype_format.specs.File.{decoded}
 use Rattle.package_adding.specs.Added.{IsOfComponent, ComponentNotAdded, IsOfTree, TreeNotAdded}
-use Rattle.package_adding.specs.BehindImports.{IsBehindImports}
+use Rattle.package_sets.specs.BehindImports.{IsBehindImports}
 use Rattle.package_adding.specs.declared.error.AddError.{AddError}
 use Rattle.package_adding.specs.declared.error.AddError.TheVariants as add
 use Rattle.package_sets.specs.Attached.{HasRoom, IsAttached}

@@ -1,9 +1,7 @@
 //! The binary of a package.
 
 ghost use Rattle.std.specs.Prelude.{◌≡◌, ◌⊎◌, true, IfOk, IfErr};
-ghost use Rattle.ctype_format.specs.Writing.{file_bytes};
-ghost use Rattle.wit_component.specs.Component.{component_of};
-ghost use Rattle.opening.specs.Opening.{IsWrittenAs, IsTooLong};
+ghost use Rattle.opening.specs.Opening.{AreBytesOf, IsWrittenAs, IsTooLong};
 ghost use Rattle.opening.specs.Sets.{is_binary};
 
 use crate::package::{MAX_INPUT, Package};
@@ -28,10 +26,13 @@ impl Package {
     pub fn to_binary(&self, alloc: Global) -> Result<Vec<u8>, BinError>
         ensures written { IfOk result (λ bytes. ∥ IsWrittenAs bytes.items self.now.resolve ∥₁) }
         ensures begins { IfOk result (λ bytes. is_binary bytes.items ≡ true) }
-        ensures exact { IfOk result (λ bytes. bytes.items ≡ file_bytes (component_of self.now.closed)) }
-        ensures err { IfErr result (λ e. (e ≡ BinError.NoMemory) ⊎ IsTooLong self.now.closed e) }
+        ensures exact { IfOk result (λ bytes. AreBytesOf self.now.resolve bytes.items) }
+        ensures err { IfErr result (λ e. (e ≡ BinError.NoMemory) ⊎ IsTooLong self.now.resolve e) }
     {
-        let (_, bytes) = match to_written(alloc, self.closed()) {
+        let Ok(last) = self.last(alloc) else {
+            return Err(BinError::NoMemory);
+        };
+        let (_, bytes) = match to_written(alloc, &last) {
             Ok(written) => written,
             Err(ResolveError::NoMemory) => return Err(BinError::NoMemory),
             // The closed table is in the form of packages.

@@ -1,10 +1,13 @@
 //! Packages, and how they are opened.
 
-ghost use Rattle.std.specs.Prelude.{◌≡◌, ◌∷◌, [], ℕ, List, IfOk, IfErr, MatchResult};
+ghost use Rattle.std.specs.Prelude.{◌≡◌, ◌<◌, ◌∷◌, [], ℕ, List, length, All, IfOk, IfErr, MatchResult};
 ghost use Rattle.layout.specs.Layout.{layouts_of, AreWithin, RefusesFirst};
 ghost use Rattle.tables.specs.Same.{IsSamePackage};
 ghost use Rattle.package_form.specs.Closed.{IsAlone};
-ghost use Rattle.package_sets.specs.SetForm.{IsInSetForm};
+ghost use Rattle.package_form.specs.Form.{IsInPackageForm};
+ghost use Rattle.package_form.specs.Naming.{package_scopes};
+ghost use Rattle.package_form.specs.Scope.{AreDistinct};
+ghost use Rattle.package_sets.specs.Tower.{IsInTower};
 ghost use Rattle.opening.specs.Opening.{IsOpened, IsLast, IsWrittenAs, IsPrintedAs, IsWantOfMemory, OpenRefuses};
 
 use crate::set::open_set;
@@ -12,8 +15,11 @@ use ctype_bin::BinError;
 use layout::{LayoutError, Layouts};
 use lift_lower::Types;
 use package_adding::{AddError, AttachError};
+use package_form::own_package;
+use package_sets::restricted;
 use resolve::{Resolve, ResolveError};
 use std::alloc::{AllocError, Global};
+use tables::PackageId;
 use thiserror::Error;
 use wit_text::TextError;
 
@@ -125,38 +131,42 @@ impl From<LayoutError> for OpenError {
     }
 }
 
-/// A package with those before it, which it may use: the table of this set, with the layouts of all its types, and the closed table of the last
-/// package, which is written.
+/// A package with those before it, which it may use: the table of this set, with the layouts of all its types.
 #[derive(Debug, Drop)]
 pub struct Package {
     resolve: Resolve,
     layouts: Layouts,
-    closed: Resolve,
-    pub ghost form: { ∥ IsInSetForm resolve ∥₁ },
-    pub ghost last: { ∥ IsLast resolve closed ∥₁ },
+    pub ghost tower: { ∥ IsInTower resolve ∥₁ },
+    ghost some: { 0 < length resolve.packages },
     ghost laid_out: { layouts ≡ layouts_of resolve },
     ghost within: { ∥ AreWithin resolve ∥₁ },
 }
 
 impl Package {
     /// The last package of a set, with the layouts of all the set's types.
-    pub(crate) fn of_set(
-        alloc: Global,
-        resolve: Resolve,
-        closed: Resolve,
-    ) -> Result<Package, LayoutError>
-        requires form { ∥ IsInSetForm resolve ∥₁ }
-        requires last { ∥ IsLast resolve closed ∥₁ }
+    pub(crate) fn of_set(alloc: Global, resolve: Resolve) -> Result<Package, LayoutError>
+        requires tower { ∥ IsInTower resolve ∥₁ }
+        requires some { 0 < length resolve.packages }
         ensures ok { IfOk result (λ p. p.resolve ≡ resolve) }
         ensures within { IfOk result (λ _. AreWithin resolve) }
         ensures err { IfErr result (λ e. RefusesFirst e resolve) }
     {
         let layouts = Layouts::of(alloc, &resolve)?;
-        Ok(Package {
-            resolve,
-            layouts,
-            closed,
-        })
+        Ok(Package { resolve, layouts })
+    }
+
+    /// The closed table of the last package: what it reaches of the set.
+    pub(crate) fn last(&self, alloc: Global) -> Result<Resolve, AllocError>
+        ensures last { IfOk result (IsLast self.now.resolve) }
+        ensures form { IfOk result (λ r. ∥ IsInPackageForm r × All AreDistinct (package_scopes r) ∥₁) }
+    {
+        let Ok(own) = u32::try_from(own_package(self.resolve.packages.as_slice())) else {
+            return Err(AllocError);
+        };
+        match restricted(alloc, &self.resolve, PackageId(own)) {
+            Ok(table) => Ok(table),
+            Err(_) => Err(AllocError),
+        }
     }
 
     /// The table of the set: all packages, the last of which is the one that was opened behind the others.
@@ -164,13 +174,6 @@ impl Package {
         ensures { result.now ≡ self.now.resolve }
     {
         &self.resolve
-    }
-
-    /// The closed table of the last package.
-    pub(crate) fn closed(&self) -> &Resolve
-        ensures { result.now ≡ self.now.closed }
-    {
-        &self.closed
     }
 
     /// The layouts of all types of the set.
@@ -192,17 +195,11 @@ impl Package {
 
     /// The same package, with the same packages before it.
     pub fn copy(&self, alloc: Global) -> Result<Package, AllocError>
-        ensures set { IfOk result (λ p. IsSamePackage p.resolve self.now.resolve) }
-        ensures last { IfOk result (λ p. IsSamePackage p.closed self.now.closed) }
+        ensures { IfOk result (λ p. IsSamePackage p.resolve self.now.resolve) }
     {
         let resolve = self.resolve.copy(alloc)?;
-        let closed = self.closed.copy(alloc)?;
         match Layouts::of(alloc, &resolve) {
-            Ok(layouts) => Ok(Package {
-                resolve,
-                layouts,
-                closed,
-            }),
+            Ok(layouts) => Ok(Package { resolve, layouts }),
             Err(LayoutError::NoMemory) => Err(AllocError),
             // The layouts of the same tables are within the limits.
             Err(LayoutError::TooDeep | LayoutError::TooLarge) => unreachable!(),

@@ -1,6 +1,6 @@
 //! Packages that use each other: the last of them, opened behind those before it.
 
-ghost use Rattle.std.specs.Prelude.{◌≡◌, ◌<◌, ◌∷◌, ◌++◌, [], ℕ, true, false, List, length, IfOk, IfErr, MatchResult};
+ghost use Rattle.std.specs.Prelude.{◌≡◌, ◌<◌, ◌∷◌, ◌++◌, [], ℕ, true, false, List, length, IfOk, OnOk, IfErr, MatchResult};
 ghost use Rattle.opening.specs.Opening.{IsOpened, IsWrittenAs, IsPrintedAs, IsWantOfMemory, OpenRefuses};
 ghost use Rattle.opening.specs.Sets.{all_bytes, earlier_of, last_of, is_binary, AddsMember, MemberRefuses, IsSetOf, FirstRefused};
 ghost use Rattle.package_sets.specs.Attached.{HasRoom};
@@ -17,41 +17,38 @@ use resolve::Resolve;
 use std::alloc::Global;
 use wit_text::{parse, texts_have_full_names};
 
-/// Adds the package of a text behind a set, and answers its closed table.
-fn add_text(alloc: Global, set: &mut PackageSet, bytes: &[u8]) -> Result<Resolve, OpenError>
+/// Adds the package of a text to a set.
+fn add_text(alloc: Global, set: &mut PackageSet, bytes: &[u8]) -> Result<(), OpenError>
     requires room { HasRoom set.old.resolve }
     requires text { is_binary bytes.now ≡ false }
-    ensures ok { IfOk result (λ closed. AddsMember set.old.resolve bytes.now closed set.new.resolve) }
-    ensures only { (closed r : Resolve) → AddsMember set.old.resolve bytes.now closed r
-        → MatchResult result (λ c. IsSamePackage c closed × IsSamePackage set.new.resolve r) IsWantOfMemory }
+    ensures ok { OnOk result ((closed : Resolve) × AddsMember set.old.resolve bytes.now closed set.new.resolve) }
+    ensures only { (closed r : Resolve) → AddsMember set.old.resolve bytes.now closed r → MatchResult result (λ _. IsSamePackage set.new.resolve r) IsWantOfMemory }
     ensures err { IfErr result (MemberRefuses set.old.resolve bytes.now) }
 {
     texts_have_full_names();
     let text = text_of(bytes)?;
     let ast = parse(alloc, text)?;
-    let (_, closed) = set.add_tree(alloc, &ast)?;
-    Ok(closed)
+    let (_, _closed) = set.add_tree(alloc, &ast)?;
+    Ok(())
 }
 
 /// .. of a binary.
-fn add_binary(alloc: Global, set: &mut PackageSet, bytes: &[u8]) -> Result<Resolve, OpenError>
+fn add_binary(alloc: Global, set: &mut PackageSet, bytes: &[u8]) -> Result<(), OpenError>
     requires room { HasRoom set.old.resolve }
     requires binary { is_binary bytes.now ≡ true }
-    ensures ok { IfOk result (λ closed. AddsMember set.old.resolve bytes.now closed set.new.resolve) }
-    ensures only { (closed r : Resolve) → AddsMember set.old.resolve bytes.now closed r
-        → MatchResult result (λ c. IsSamePackage c closed × IsSamePackage set.new.resolve r) IsWantOfMemory }
+    ensures ok { OnOk result ((closed : Resolve) × AddsMember set.old.resolve bytes.now closed set.new.resolve) }
+    ensures only { (closed r : Resolve) → AddsMember set.old.resolve bytes.now closed r → MatchResult result (λ _. IsSamePackage set.new.resolve r) IsWantOfMemory }
     ensures err { IfErr result (MemberRefuses set.old.resolve bytes.now) }
 {
     let raw = decode(alloc, bytes)?;
-    let (_, closed) = set.add_spelled(alloc, &raw, bytes)?;
-    Ok(closed)
+    let (_, _closed) = set.add_spelled(alloc, &raw, bytes)?;
+    Ok(())
 }
 
-/// Adds the package of a text or of a binary behind a set, and answers its closed table.
-fn add_member(alloc: Global, set: &mut PackageSet, bytes: &[u8]) -> Result<Resolve, OpenError>
-    ensures ok { IfOk result (λ closed. AddsMember set.old.resolve bytes.now closed set.new.resolve) }
-    ensures only { (closed r : Resolve) → AddsMember set.old.resolve bytes.now closed r
-        → MatchResult result (λ c. IsSamePackage c closed × IsSamePackage set.new.resolve r) IsWantOfMemory }
+/// Adds the package of a text or of a binary to a set.
+fn add_member(alloc: Global, set: &mut PackageSet, bytes: &[u8]) -> Result<(), OpenError>
+    ensures ok { OnOk result ((closed : Resolve) × AddsMember set.old.resolve bytes.now closed set.new.resolve) }
+    ensures only { (closed r : Resolve) → AddsMember set.old.resolve bytes.now closed r → MatchResult result (λ _. IsSamePackage set.new.resolve r) IsWantOfMemory }
     ensures err { IfErr result (MemberRefuses set.old.resolve bytes.now) }
 {
     set.has_room()?;
@@ -70,21 +67,20 @@ fn set_of(alloc: Global, inputs: &[&[u8]]) -> Result<PackageSet, OpenError>
 {
     let mut set = PackageSet::new(alloc);
     for bytes in inputs {
-        let _closed = add_member(alloc, &mut set, bytes)?;
+        add_member(alloc, &mut set, bytes)?;
     }
     Ok(set)
 }
 
-/// Opens a package behind these, whose interfaces it may use.
-fn open_behind(alloc: Global, earlier: &[&[u8]], last: &[u8]) -> Result<Package, OpenError>
-    ensures ok { IfOk result (λ p. IsOpened (all_bytes earlier.now ++ last.now ∷ []) p.resolve) }
-    ensures only { (r : Resolve) → IsOpened (all_bytes earlier.now ++ last.now ∷ []) r
-        → MatchResult result (λ p. IsSamePackage p.resolve r) IsWantOfMemory }
-    ensures err { IfErr result (OpenRefuses (all_bytes earlier.now ++ last.now ∷ [])) }
+/// The last of these packages.
+fn opened(alloc: Global, inputs: &[&[u8]]) -> Result<Package, OpenError>
+    requires some { 0 < length inputs.now }
+    ensures ok { IfOk result (λ p. IsOpened (all_bytes inputs.now) p.resolve) }
+    ensures only { (r : Resolve) → IsOpened (all_bytes inputs.now) r → MatchResult result (λ p. IsSamePackage p.resolve r) IsWantOfMemory }
+    ensures err { IfErr result (OpenRefuses (all_bytes inputs.now)) }
 {
-    let mut set = set_of(alloc, earlier)?;
-    let closed = add_member(alloc, &mut set, last)?;
-    Ok(Package::of_set(alloc, set.into_resolve(), closed)?)
+    let set = set_of(alloc, inputs)?;
+    Ok(Package::of_set(alloc, set.into_resolve())?)
 }
 
 /// Opens the last of these packages, each of which may use interfaces of those before it. Its table is the set's, so the functions of all packages are
@@ -106,6 +102,5 @@ pub fn open_set(alloc: Global, inputs: &[&[u8]]) -> Result<Package, OpenError>
 {
     text_is_of_closed_package();
     types_nest_as_in_a_text();
-    let last = inputs.len() - 1;
-    open_behind(alloc, &inputs[..last], inputs[last])
+    opened(alloc, inputs)
 }

@@ -4,7 +4,7 @@ use Rattle.atoms.specs.Streams.{ReadsUpTo}
 use Rattle.tables.specs.declared.tables.Resolve.{Resolve}
 use Rattle.words.specs.declared.asked.Job.{Job}
 use Rattle.witcall.specs.Running.{IsMadeOf, Reads, Makes, MakesNothing, MakingRefuses, RunRefuses}
-use Rattle.opening.specs.Opening.{IsOpened, IsLast, OpenRefuses}
+use Rattle.opening.specs.Opening.{IsOpened, OpenRefuses}
 use Rattle.opening.specs.declared.package.OpenError.{OpenError}
 use Rattle.witcall.specs.declared.refused.Refused.{Refused}
 use Rattle.witcall.specs.declared.refused.Refused.TheVariants as refused
@@ -14,17 +14,17 @@ module _ (earlier : List (List ℕ)) (known : Option (List ℕ)) (job : Job) (by
   pub refuses-opening : (e : OpenError) → OpenRefuses (earlier ++ given ∷ []) e → RunRefuses earlier known job (refused.Open e)
   refuses-opening e refused = inr (bytes, read, subst (λ xs. OpenRefuses (earlier ++ xs ∷ []) e) same refused)
 
-  module _ (r closed : Resolve) (opened : IsOpened (earlier ++ given ∷ []) r) (last : ∥ IsLast r closed ∥₁) where
-    reads : Reads earlier known r closed
-    reads = record { bytes = bytes; read = read; opened = subst (λ xs. IsOpened (earlier ++ xs ∷ []) r) same opened; last = last }
+  module _ (r : Resolve) (opened : IsOpened (earlier ++ given ∷ []) r) where
+    reads : Reads earlier known r
+    reads = record { bytes = bytes; read = read; opened = subst (λ xs. IsOpened (earlier ++ xs ∷ []) r) same opened }
 
-    pub makes : (output written : List ℕ) → IsMadeOf job r closed output → written ≡ output → Makes earlier known job written
-    makes output written made same_output = (r, closed, reads, subst (λ xs. IsMadeOf job r closed xs) (sym same_output) made)
+    pub makes : (output written : List ℕ) → IsMadeOf job r output → written ≡ output → Makes earlier known job written
+    makes output written made same_output = (r, reads, subst (λ xs. IsMadeOf job r xs) (sym same_output) made)
 
-    makes-nothing : (e : Refused) → MakingRefuses job closed e → MakesNothing earlier known job e
-    makes-nothing e cause = (r, closed, reads, cause)
+    makes-nothing : (e : Refused) → MakingRefuses job r e → MakesNothing earlier known job e
+    makes-nothing e cause = (r, reads, cause)
 
-    pub refuses-making : (e : Refused) → MakingRefuses job closed e → RunRefuses earlier known job e
+    pub refuses-making : (e : Refused) → MakingRefuses job r e → RunRefuses earlier known job e
     refuses-making (refused.Words e) cause = absurd cause
     refuses-making refused.File cause = absurd cause
     refuses-making (refused.Open e) cause = absurd cause

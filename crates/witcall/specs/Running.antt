@@ -2,15 +2,12 @@
 use Rattle.std.specs.Prelude.{◌≡◌, ◌⊎◌, ◌++◌, ◌∷◌, [], ℕ, List, map, Option}
 use Rattle.std.specs.Global.{Vec}
 use Rattle.atoms.specs.Streams.{ReadsUpTo}
-use Rattle.ctype_format.specs.Writing.{file_bytes}
 use Rattle.ctype_format.specs.declared.error.BinError.TheVariants as binary
 use Rattle.tables.specs.declared.tables.Resolve.{Resolve}
 use Rattle.overview.specs.Contents.{shown}
 use Rattle.overview.specs.LayoutLines.{laid_out}
-use Rattle.package_text.specs.Text.{text_of}
-use Rattle.wit_component.specs.Component.{component_of}
 use Rattle.wit_tokens.specs.declared.error.TextError.TheVariants as text
-use Rattle.opening.specs.Opening.{IsOpened, IsLast, IsWrittenAs, IsTooLong, IsLongText, OpenRefuses}
+use Rattle.opening.specs.Opening.{IsOpened, AreBytesOf, IsCanonicalText, IsWrittenAs, IsTooLong, IsLongText, OpenRefuses}
 use Rattle.opening.specs.declared.package.OpenError.{OpenError}
 use Rattle.opening.specs.declared.package.OpenError.TheVariants as opening
 use Rattle.witcall.specs.declared.refused.Refused.{Refused}
@@ -18,39 +15,37 @@ use Rattle.witcall.specs.declared.refused.Refused.TheVariants as refused
 use Rattle.words.specs.declared.asked.Job.{Job}
 use Rattle.words.specs.declared.asked.Job.TheVariants.{Show, Bin, Text, Layout}
 
--- What a job makes of a set, and of the closed table of its last package: the last package's overview, its binary, the shortest, its canonical text, or
--- its layouts.
-abbrev pub IsMadeOf : Job → Resolve → Resolve → List ℕ → Type 0
-IsMadeOf Show r closed output = output ≡ shown r
-IsMadeOf Bin r closed output = ∥ IsWrittenAs output r ∥₁ × (output ≡ file_bytes (component_of closed))
-IsMadeOf Text r closed output = output ≡ text_of closed
-IsMadeOf Layout r closed output = output ≡ laid_out r
+-- What a job makes of a set: the last package's overview, its binary, the shortest, its canonical text, or its layouts.
+abbrev pub IsMadeOf : Job → Resolve → List ℕ → Type 0
+IsMadeOf Show r output = output ≡ shown r
+IsMadeOf Bin r output = ∥ IsWrittenAs output r ∥₁ × AreBytesOf r output
+IsMadeOf Text r output = IsCanonicalText r output
+IsMadeOf Layout r output = output ≡ laid_out r
 
 -- the first bytes of a reader, up to the limit and one more, are opened behind these packages
-pub record Reads (earlier : List (List ℕ)) (known : Option (List ℕ)) (r closed : Resolve) : Type 0 where
+pub record Reads (earlier : List (List ℕ)) (known : Option (List ℕ)) (r : Resolve) : Type 0 where
   pub bytes : List ℕ
   pub read : ReadsUpTo 1048576 known bytes
   pub opened : IsOpened (earlier ++ bytes ∷ []) r
-  pub last : ∥ IsLast r closed ∥₁
 
 -- .. and the job makes this
 abbrev pub Makes : List (List ℕ) → Option (List ℕ) → Job → List ℕ → Type 0
-Makes earlier known job output = (r closed : Resolve) × Reads earlier known r closed × IsMadeOf job r closed output
+Makes earlier known job output = (r : Resolve) × Reads earlier known r × IsMadeOf job r output
 
 -- the reader failed, or memory was wanting for what it gave
 abbrev pub IsReadFault : OpenError → Type 0
 IsReadFault e = ((n : ℕ) × (e ≡ opening.Read n)) ⊎ (e ≡ opening.NoMemory)
 
--- why a job makes nothing of a package, whose closed table this is
+-- why a job makes nothing of a set
 abbrev pub MakingRefuses : Job → Resolve → Refused → Type 0
-MakingRefuses job closed (refused.Binary e) = (job ≡ Bin) × ((e ≡ binary.NoMemory) ⊎ IsTooLong closed e)
-MakingRefuses job closed (refused.Text e) = (job ≡ Text) × ((e ≡ text.NoMemory) ⊎ IsLongText closed e)
-MakingRefuses job closed refused.NoMemory = (job ≡ Show) ⊎ (job ≡ Layout)
-MakingRefuses job closed _ = ⊥
+MakingRefuses job r (refused.Binary e) = (job ≡ Bin) × ((e ≡ binary.NoMemory) ⊎ IsTooLong r e)
+MakingRefuses job r (refused.Text e) = (job ≡ Text) × ((e ≡ text.NoMemory) ⊎ IsLongText r e)
+MakingRefuses job r refused.NoMemory = (job ≡ Show) ⊎ (job ≡ Layout)
+MakingRefuses job r _ = ⊥
 
 -- .. that is opened behind these
 abbrev pub MakesNothing : List (List ℕ) → Option (List ℕ) → Job → Refused → Type 0
-MakesNothing earlier known job e = (r closed : Resolve) × Reads earlier known r closed × MakingRefuses job closed e
+MakesNothing earlier known job e = (r : Resolve) × Reads earlier known r × MakingRefuses job r e
 
 -- why a job is not done with the bytes of a reader, behind these packages
 abbrev pub RunRefuses : List (List ℕ) → Option (List ℕ) → Job → Refused → Type 0

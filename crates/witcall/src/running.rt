@@ -18,8 +18,8 @@ use words::asked::Job;
 
 /// What a job makes of a package, whole.
 fn made(alloc: Global, job: Job, package: &Package) -> Result<Vec<u8>, Refused>
-    ensures ok { IfOk result (λ v. IsMadeOf job «package».now.resolve «package».now.closed v.items) }
-    ensures err { IfErr result (MakingRefuses job «package».now.closed) }
+    ensures ok { IfOk result (λ v. IsMadeOf job «package».now.resolve v.items) }
+    ensures err { IfErr result (MakingRefuses job «package».now.resolve) }
 {
     match job {
         Job::Show => Ok(shown(alloc, package.resolve())?.into_bytes()),

@@ -30,28 +30,30 @@ returns-in_err-ast-clause-only c = λ closed r h.
     let t = of-member c.args.set.now.resolve c.args.bytes.now c.requires.text closed r h in
     rw (p.1, p.2) (only-memory _ t.file (c.in_err-ast.ensures.only t.file (subst (λ x. IsRead x t.file) (sym c.in_ok-text.ensures.ok) t.read)))
 
-pub returns-in_err-closed-clause-err : goal.returns-in_err-closed-clause-err
-returns-in_err-closed-clause-err c =
-    let p = err_from_is_err_and c.from_residual-in_err-closed.result c.from_residual-in_err-closed.ensures.1 in
+pub returns-in_err-_closed-clause-err : goal.returns-in_err-_closed-clause-err
+returns-in_err-_closed-clause-err c =
+    let p = err_from_is_err_and c.from_residual-in_err-_closed.result c.from_residual-in_err-_closed.ensures.1 in
     let f = file_view c.in_ok-ast.ast in
     let read = subst (λ t. IsRead t f) c.in_ok-text.ensures.ok c.in_ok-ast.ensures.found in
-    rw (p.1, p.2) (text-refuses c.args.set.now.resolve c.args.bytes.now c.requires.text c.requires.room f c.in_ok-text.ensures.utf8 read c.in_err-closed.field-0.0 c.in_err-closed.ensures.err)
+    rw (p.1, p.2) (text-refuses c.args.set.now.resolve c.args.bytes.now c.requires.text c.requires.room f c.in_ok-text.ensures.utf8 read c.in_err-_closed.field-0.0 c.in_err-_closed.ensures.err)
 
-pub returns-in_err-closed-clause-only : goal.returns-in_err-closed-clause-only
-returns-in_err-closed-clause-only c = λ closed r h.
-    let p = err_from_is_err_and c.from_residual-in_err-closed.result c.from_residual-in_err-closed.ensures.1 in
+pub returns-in_err-_closed-clause-only : goal.returns-in_err-_closed-clause-only
+returns-in_err-_closed-clause-only c = λ closed r h.
+    let p = err_from_is_err_and c.from_residual-in_err-_closed.result c.from_residual-in_err-_closed.ensures.1 in
     let t = of-member c.args.set.now.resolve c.args.bytes.now c.requires.text closed r h in
     let f = file_view c.in_ok-ast.ast in
     let same = read-tree t.file f (c.in_ok-ast.ensures.only t.file (subst (λ x. IsRead x t.file) (sym c.in_ok-text.ensures.ok) t.read)) in
     let a = tree-added c.args.set.now.resolve c.args.bytes.now c.requires.text closed r h f (sym same) in
-    rw (p.1, p.2) (wants c.in_err-closed.field-0.0 (c.in_err-closed.ensures.only closed r h.puts.id a.0 h.puts.writable a.1))
+    rw (p.1, p.2) (wants c.in_err-_closed.field-0.0 (c.in_err-_closed.ensures.only closed r h.puts.id a.0 h.puts.writable a.1))
 
 pub returns-clause-ok : goal.returns-clause-ok
 returns-clause-ok c =
     let f = file_view c.in_ok-ast.ast in
-    let read = subst (λ t. IsRead t f) c.in_ok-text.ensures.ok c.in_ok-ast.ensures.found in
-    adds-text c.args.set.now.resolve c.args.bytes.now c.requires.text f c.in_ok-closed.closed _ _ c.in_ok-text.ensures.utf8 read c.in_ok-closed.ensures.fits c.in_ok-closed.ensures.ok c.in_ok-closed.ensures.writable
-    c.in_ok-closed.ensures.behind
+    let read = subst (λ t. IsRead t f) c.in_ok-text.ensures.ok c.in_ok-ast.ensures.found in (
+      _,
+      adds-text c.args.set.now.resolve c.args.bytes.now c.requires.text f c.in_ok-_closed._closed _ _ c.in_ok-text.ensures.utf8 read c.in_ok-_closed.ensures.fits c.in_ok-_closed.ensures.ok c.in_ok-_closed.ensures.writable
+          c.in_ok-_closed.ensures.behind,
+    )
 
 pub returns-clause-only : goal.returns-clause-only
 returns-clause-only c = λ closed r h.
@@ -59,4 +61,4 @@ returns-clause-only c = λ closed r h.
     let f = file_view c.in_ok-ast.ast in
     let same = read-tree t.file f (c.in_ok-ast.ensures.only t.file (subst (λ x. IsRead x t.file) (sym c.in_ok-text.ensures.ok) t.read)) in
     let a = tree-added c.args.set.now.resolve c.args.bytes.now c.requires.text closed r h f (sym same) in
-    c.in_ok-closed.ensures.only closed r h.puts.id a.0 h.puts.writable a.1
+    (c.in_ok-_closed.ensures.only closed r h.puts.id a.0 h.puts.writable a.1).1

@@ -18,10 +18,10 @@ loop-bytes-preserved c =
     let l : k < length xs = omega arith in
     let next = input-next xs k (get_or xs k _) (slice_get-get_or xs k _ l) in
     subst (λ (ys : List (List ℕ)). IsOneSet ys c.add_member.new.set.resolve) (sym next)
-    (one-more (all_bytes (take k xs)) c.loop-bytes.set.resolve _ c.loop-bytes.invariant c.in_ok-_closed._closed c.add_member.new.set.resolve c.in_ok-_closed.ensures.ok (λ d n g. (c.in_ok-_closed.ensures.only d n g).1))
+    (one-more (all_bytes (take k xs)) c.loop-bytes.set.resolve _ c.loop-bytes.invariant c.in_ok-add_member.ensures.ok.0 c.add_member.new.set.resolve c.in_ok-add_member.ensures.ok.1 c.in_ok-add_member.ensures.only)
 
-pub returns-in_err-_closed-clause-err : goal.returns-in_err-_closed-clause-err
-returns-in_err-_closed-clause-err c =
+pub returns-in_err-add_member-clause-err : goal.returns-in_err-add_member-clause-err
+returns-in_err-add_member-clause-err c =
     let p = err_from_is_err_and c.from_residual.result c.from_residual.ensures.1 in
     let xs = c.args.inputs.now in
     let k = c.loop-bytes.bytes-index in
@@ -34,18 +34,18 @@ returns-in_err-_closed-clause-err c =
       inputs_are = parts.1;
       set = c.loop-bytes.set.resolve;
       made = c.loop-bytes.invariant.made;
-      refuses = c.in_err-_closed.ensures.err;
+      refuses = c.in_err-add_member.ensures.err;
     })
 
-pub returns-in_err-_closed-clause-only : goal.returns-in_err-_closed-clause-only
-returns-in_err-_closed-clause-only c = λ r h.
+pub returns-in_err-add_member-clause-only : goal.returns-in_err-add_member-clause-only
+returns-in_err-add_member-clause-only c = λ r h.
     let p = err_from_is_err_and c.from_residual.result c.from_residual.ensures.1 in
     let xs = c.args.inputs.now in
     let k = c.loop-bytes.bytes-index in
     let l : k < length xs = omega arith in
     let parts = inputs-parted xs k (get_or xs k _) (slice_get-get_or xs k _ l) in
     let next = next-added (all_bytes (take k xs)) c.loop-bytes.set.resolve _ c.loop-bytes.invariant parts.0 r (subst (λ (ys : List (List ℕ)). IsSetOf ys r) parts.1 h) in
-    rw (p.1, p.2) (c.in_err-_closed.ensures.only next.0 next.1 next.2)
+    rw (p.1, p.2) (c.in_err-add_member.ensures.only next.0 next.1 next.2)
 
 pub returns-clause-ok : goal.returns-clause-ok
 returns-clause-ok c =

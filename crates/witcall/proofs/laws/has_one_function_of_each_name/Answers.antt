@@ -12,4 +12,4 @@ pub returns : goal.returns
 returns c =
     let p = c.args.«package».now in
     let labels = subst (λ (r : Resolve). All IsLabel (package_labels r)) c.resolve.ensures c.names_are_labels.ensures in
-    ∥∥₁_map p.form (λ form. one-function p.resolve form (interfaces-labelled p.resolve labels))
+    ∥∥₁_map p.tower (λ t. one-function p.resolve t.form (interfaces-labelled p.resolve labels))

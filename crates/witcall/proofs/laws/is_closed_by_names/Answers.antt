@@ -14,4 +14,4 @@ returns c =
     let p = c.args.«package».now in
     let labels = subst (λ (r : Resolve). All IsLabel (package_labels r)) c.resolve.ensures c.names_are_labels.ensures in
     let law = subst ClosesAlike c.resolve-2.ensures c.closes_alike.ensures in
-    ∥∥₁_map p.form (λ form. law (types-apart p.resolve form (interfaces-labelled p.resolve labels)))
+    ∥∥₁_map p.tower (λ t. law (types-apart p.resolve t.form (interfaces-labelled p.resolve labels)))

@@ -27,14 +27,14 @@ returns-in_err-whole-clause-err g c =
     let p = err_from_is_err_and c.from_residual-in_err-whole.result c.from_residual-in_err-whole.ensures.1 in
     let opened = c.in_ok-package.«package» in
     rw (p.1, p.2)
-    (refuses-making (all_items c.args.earlier.now) _ c.args.job c.in_ok-last.last.items _ c.in_ok-last.ensures.bytes c.as_slice.ensures.value opened.resolve opened.closed c.in_ok-package.ensures.ok opened.last _
+    (refuses-making (all_items c.args.earlier.now) _ c.args.job c.in_ok-last.last.items _ c.in_ok-last.ensures.bytes c.as_slice.ensures.value opened.resolve c.in_ok-package.ensures.ok _
     c.in_err-whole.ensures.err)
 
 pub returns-in_err-write_bytes-clause-begun : goal.returns-in_err-write_bytes-clause-begun
 returns-in_err-write_bytes-clause-begun g c = λ write.
     let part = begun _ _ _ c.in_ok-whole.whole.items c.as_slice-2.ensures.value c.in_err-write_bytes.ensures.begun in
     let opened = c.in_ok-package.«package» in
-    let made = makes (all_items c.args.earlier.now) _ c.args.job c.in_ok-last.last.items _ c.in_ok-last.ensures.bytes c.as_slice.ensures.value opened.resolve opened.closed c.in_ok-package.ensures.ok opened.last _ _
+    let made = makes (all_items c.args.earlier.now) _ c.args.job c.in_ok-last.last.items _ c.in_ok-last.ensures.bytes c.as_slice.ensures.value opened.resolve c.in_ok-package.ensures.ok _ _
     c.in_ok-whole.ensures.ok refl in
     (_, part.0, made, part.1, part.2)
 
@@ -44,7 +44,7 @@ returns-in_err-write_bytes-clause-err g c =
     let opened = c.in_ok-package.«package» in
     rw (p.1, p.2, c.in_err-write_bytes.ensures.err) (
       _,
-      makes (all_items c.args.earlier.now) _ c.args.job c.in_ok-last.last.items _ c.in_ok-last.ensures.bytes c.as_slice.ensures.value opened.resolve opened.closed c.in_ok-package.ensures.ok opened.last _
+      makes (all_items c.args.earlier.now) _ c.args.job c.in_ok-last.last.items _ c.in_ok-last.ensures.bytes c.as_slice.ensures.value opened.resolve c.in_ok-package.ensures.ok _
           c.in_ok-whole.whole.items c.in_ok-whole.ensures.ok refl,
     )
 
@@ -52,7 +52,7 @@ pub returns-clause-ok : goal.returns-clause-ok
 returns-clause-ok g c =
     let opened = c.in_ok-package.«package» in (
       _,
-      makes (all_items c.args.earlier.now) _ c.args.job c.in_ok-last.last.items _ c.in_ok-last.ensures.bytes c.as_slice.ensures.value opened.resolve opened.closed c.in_ok-package.ensures.ok opened.last _
+      makes (all_items c.args.earlier.now) _ c.args.job c.in_ok-last.last.items _ c.in_ok-last.ensures.bytes c.as_slice.ensures.value opened.resolve c.in_ok-package.ensures.ok _
           c.in_ok-whole.whole.items c.in_ok-whole.ensures.ok refl,
       appended _ _ _ c.in_ok-whole.whole.items c.as_slice-2.ensures.value c.in_ok-write_bytes.ensures.ok,
     )

@@ -1,23 +1,21 @@
-use Rattle.std.proofs.Common.{rules, arith, sym, subst}
+use Rattle.std.proofs.Common.{rules, arith, length, ◌<◌, sym, subst}
 use Rattle.std.proofs.Math.Logic.{∥∥₁_elim}
 use Rattle.std.proofs.lemmas.Grind.{common_steps}
-use Rattle.package_sets.specs.SetForm.{IsInSetForm}
+use Rattle.package_sets.specs.Tower.{IsInTower}
 use Rattle.package_sets.proofs.SameTables.{same-tables}
 use Rattle.tables.specs.declared.tables.Resolve.{Resolve}
-use Rattle.opening.specs.Opening.{IsLast}
 use Rattle.opening.proofs.Behind.{same-laid-out}
 use Rattle.opening.proofs.package.Package.copy.Goals as goal
 
-pub invariant_of-result-clause-form : goal.invariant_of-result-clause-form
-invariant_of-result-clause-form c =
+pub invariant_of-result-clause-tower : goal.invariant_of-result-clause-tower
+invariant_of-result-clause-tower c =
     let set = same-tables c.in_ok-resolve.resolve c.args.self.now.resolve c.in_ok-resolve.ensures in
-    subst (λ (r : Resolve). ∥ IsInSetForm r ∥₁) (sym set) c.args.self.now.form
+    subst (λ (r : Resolve). ∥ IsInTower r ∥₁) (sym set) c.args.self.now.tower
 
-pub invariant_of-result-clause-last : goal.invariant_of-result-clause-last
-invariant_of-result-clause-last c =
+pub invariant_of-result-clause-some : goal.invariant_of-result-clause-some
+invariant_of-result-clause-some c =
     let set = same-tables c.in_ok-resolve.resolve c.args.self.now.resolve c.in_ok-resolve.ensures in
-    let closed = same-tables c.in_ok-closed.closed c.args.self.now.closed c.in_ok-closed.ensures in
-    subst (λ (r : Resolve). ∥ IsLast r c.in_ok-closed.closed ∥₁) (sym set) (subst (λ (x : Resolve). ∥ IsLast c.args.self.now.resolve x ∥₁) (sym closed) c.args.self.now.last)
+    subst (λ (r : Resolve). 0 < length r.packages) (sym set) c.args.self.now.some
 
 pub unreachable-requires : goal.unreachable-requires
 unreachable-requires c = ∥∥₁_elim c.args.self.now.within (λ x y. absurd x) (λ w.

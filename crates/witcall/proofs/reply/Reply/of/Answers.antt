@@ -28,8 +28,8 @@ invariant_of-result c =
     let some = subst (λ n. IsSome c.pop.result ↔ (0 < n)) c.in_ok-values.values.ok.0 c.pop.ensures.variant in
     let all = popped c.pop.result items _ few c.pop.ensures.items some in
     let results = subst (λ x. fields_of_types x (option_to_list o) ≡ result_fields (function_type x f).result) c.resolve.ensures c.result_type-ty.ensures.fields in
-    let own = results ∙ ap (λ t. result_fields t.result) (same_function q r f c.in_ok-package.ensures.set) in
-    let there = same_is_function q r f c.in_ok-package.ensures.set c.in_ok-func.ensures.function in
+    let own = results ∙ ap (λ t. result_fields t.result) (same_function q r f c.in_ok-package.ensures) in
+    let there = same_is_function q r f c.in_ok-package.ensures c.in_ok-func.ensures.function in
     let named = subst (λ x. (g : Function) → function_at x f ≡ Some g → c.in_ok-params.params.items ≡ map (λ p. p.ty) g.params) c.types.ensures.types c.in_ok-params.ensures.named in
     record {
       function = there;
@@ -52,7 +52,7 @@ returns-clause-ok c =
     let results = lists ∙ ap option_to_list (c.result_type-ty.ensures.ty ∙ ap (λ x. (signature_of (function_at x f)).result) c.resolve.ensures) in
     let read = subst (λ ts. IsArrayTextOf r ts c.args.reply.now vs) results c.in_ok-values.ensures.ok in
     record {
-      own = c.in_ok-package.ensures.set;
+      own = c.in_ok-package.ensures;
       named = c.in_ok-func.ensures.named;
       are_read = subst (λ xs. IsArrayTextOf r (option_to_list (signature_of (function_at r f)).result) c.args.reply.now (map value_of xs)) (sym all) read;
     }
