@@ -126,6 +126,18 @@ fn fill_choices(source: &mut [u8], count: usize) {
     fill_elements(source, count, 8, 3);
 }
 
+/// `tuple<option<u8>, option<u32>>`
+fn fill_maybes(source: &mut [u8], count: usize) {
+    fill_elements(source, count, 12, 2);
+    for (index, place) in source.chunks_exact_mut(12).take(count).enumerate() {
+        place[4] = ((number(index) >> 20) % 2) as u8;
+    }
+}
+
+fn fill_figures(source: &mut [u8], count: usize) {
+    fill_elements(source, count, 12, 3);
+}
+
 /// Texts or lists behind the block of their addresses and lengths.
 fn fill_parts(source: &mut [u8], count: usize, len: impl Fn(usize) -> usize) {
     let mut at = count * 8;
@@ -146,6 +158,40 @@ fn fill_texts(source: &mut [u8], count: usize) {
 
 fn fill_lists(source: &mut [u8], count: usize) {
     fill_parts(source, count, |_| 16);
+}
+
+/// `tuple<u32, string>`, the texts behind their block.
+fn fill_named(source: &mut [u8], count: usize) {
+    let mut at = count * 12;
+    for index in 0..count {
+        let len = 4 + (number(index) >> 16) as usize % 8;
+        let place = &mut source[index * 12..index * 12 + 12];
+        place[..4].copy_from_slice(&number(index).to_le_bytes());
+        place[4..8].copy_from_slice(&(at as u32).to_le_bytes());
+        place[8..].copy_from_slice(&(len as u32).to_le_bytes());
+        fill_ascii(&mut source[at..], len);
+        at += len;
+    }
+}
+
+/// `tuple<list<u8>, list<u16>>`: sixteen bytes and eight numbers.
+fn fill_both(source: &mut [u8], count: usize) {
+    let mut at = count * 16;
+    for index in 0..count {
+        for (place, len) in [(index * 16, 16), (index * 16 + 8, 8)] {
+            source[place..place + 4].copy_from_slice(&(at as u32).to_le_bytes());
+            source[place + 4..place + 8].copy_from_slice(&(len as u32).to_le_bytes());
+            fill_bytes(&mut source[at..], 16);
+            at += 16;
+        }
+    }
+}
+
+/// The header of a text behind it, at address 0.
+fn fill_answer(source: &mut [u8], count: usize) {
+    source[..4].copy_from_slice(&8u32.to_le_bytes());
+    source[4..8].copy_from_slice(&(count as u32).to_le_bytes());
+    fill_ascii(&mut source[8..], count);
 }
 
 // The loops that are written for one type. Each tells whether the value passed its tests.
@@ -301,6 +347,98 @@ fn copy_pairs(source: &[u8], count: usize, target: &mut [u8]) -> bool {
     copy(source, target, 8 * count)
 }
 
+fn copy_maybes(source: &[u8], count: usize, target: &mut [u8]) -> bool {
+    let source = &source.as_chunks::<12>().0[..count];
+    let target = &mut target.as_chunks_mut::<12>().0[..count];
+    for (place, copied) in source.iter().zip(target) {
+        if place[0] > 1 || place[4] > 1 {
+            return false;
+        }
+        copied[0] = place[0];
+        copied[4] = place[4];
+        if place[0] == 1 {
+            copied[1] = place[1];
+        }
+        if place[4] == 1 {
+            copied[8..12].copy_from_slice(&place[8..12]);
+        }
+    }
+    true
+}
+
+/// Without a branch on the cases.
+fn copy_maybes_by_choice(source: &[u8], count: usize, target: &mut [u8]) -> bool {
+    let source = &source.as_chunks::<12>().0[..count];
+    let target = &mut target.as_chunks_mut::<12>().0[..count];
+    for (places, copies) in source.chunks(CHUNK).zip(target.chunks_mut(CHUNK)) {
+        let mut bad = 0;
+        for (place, copied) in places.iter().zip(&mut *copies) {
+            bad += u32::from(place[0] > 1) + u32::from(place[4] > 1);
+            copied[0] = place[0];
+            copied[1] = if place[0] == 0 { copied[1] } else { place[1] };
+            copied[4] = place[4];
+            for index in 8..12 {
+                copied[index] = if place[4] == 0 { copied[index] } else { place[index] };
+            }
+        }
+        if bad > 0 {
+            return false;
+        }
+    }
+    true
+}
+
+fn copy_figures(source: &[u8], count: usize, target: &mut [u8]) -> bool {
+    let source = &source.as_chunks::<12>().0[..count];
+    let target = &mut target.as_chunks_mut::<12>().0[..count];
+    for (place, copied) in source.iter().zip(target) {
+        match place[0] {
+            0 => copied[4..12].copy_from_slice(&place[4..12]),
+            1 => copied[4..8].copy_from_slice(&place[4..8]),
+            2 => {}
+            _ => return false,
+        }
+        copied[0] = place[0];
+    }
+    true
+}
+
+/// Without a branch on the case.
+fn copy_figures_by_choice(source: &[u8], count: usize, target: &mut [u8]) -> bool {
+    let source = &source.as_chunks::<12>().0[..count];
+    let target = &mut target.as_chunks_mut::<12>().0[..count];
+    let number = |place: &[u8; 12], at: usize| {
+        u32::from_le_bytes([place[at], place[at + 1], place[at + 2], place[at + 3]])
+    };
+    for (places, copies) in source.chunks(CHUNK).zip(target.chunks_mut(CHUNK)) {
+        let mut bad = 0;
+        for (place, copied) in places.iter().zip(&mut *copies) {
+            bad += u32::from(place[0] > 2);
+            copied[0] = place[0];
+            let (old, new) = (number(copied, 4), number(place, 4));
+            let word = if place[0] < 2 { new } else { old };
+            copied[4..8].copy_from_slice(&word.to_le_bytes());
+            let (old, new) = (number(copied, 8), number(place, 8));
+            let word = if place[0] == 0 { new } else { old };
+            copied[8..12].copy_from_slice(&word.to_le_bytes());
+        }
+        if bad > 0 {
+            return false;
+        }
+    }
+    true
+}
+
+/// Flags of twelve labels.
+fn copy_flags(source: &[u8], count: usize, target: &mut [u8]) -> bool {
+    let source = &source.as_chunks::<2>().0[..count];
+    let target = &mut target.as_chunks_mut::<2>().0[..count];
+    for (place, copied) in source.iter().zip(target) {
+        *copied = (u16::from_le_bytes(*place) & 0x0fff).to_le_bytes();
+    }
+    true
+}
+
 /// Each part gets a block of its own behind the block of their headers.
 fn copy_parts(
     source: &[u8],
@@ -310,27 +448,39 @@ fn copy_parts(
 ) -> bool {
     let mut top = 8 * count;
     for index in 0..count {
-        let at = index * 8;
-        let Some([a, b, c, d, e, f, g, h]) = source.get(at..at + 8) else {
+        let Some(end) = copy_part(source, index * 8, 1, target, top, &is_good) else {
             return false;
         };
-        let start = u32::from_le_bytes([*a, *b, *c, *d]) as usize;
-        let len = u32::from_le_bytes([*e, *f, *g, *h]) as usize;
-        let Some(part) = source.get(start..start + len) else {
-            return false;
-        };
-        if !is_good(part) {
-            return false;
-        }
-        let Some(place) = target.get_mut(top..top + len) else {
-            return false;
-        };
-        place.copy_from_slice(part);
-        target[at..at + 4].copy_from_slice(&(top as u32).to_le_bytes());
-        target[at + 4..at + 8].copy_from_slice(&(len as u32).to_le_bytes());
-        top += len;
+        top = end;
     }
     true
+}
+
+/// The part whose header is at an address, of elements of so many bytes, into a block from `top` on: where that ends.
+#[inline(always)]
+fn copy_part(
+    source: &[u8],
+    at: usize,
+    size: usize,
+    target: &mut [u8],
+    top: usize,
+    is_good: impl Fn(&[u8]) -> bool,
+) -> Option<usize> {
+    let [a, b, c, d, e, f, g, h] = source.get(at..at + 8)? else {
+        return None;
+    };
+    let start = u32::from_le_bytes([*a, *b, *c, *d]) as usize;
+    let count = u32::from_le_bytes([*e, *f, *g, *h]) as usize;
+    let len = size * count;
+    let part = source.get(start..start + len)?;
+    if !start.is_multiple_of(size) || !is_good(part) {
+        return None;
+    }
+    let top = top.next_multiple_of(size);
+    target.get_mut(top..top + len)?.copy_from_slice(part);
+    target[at..at + 4].copy_from_slice(&(top as u32).to_le_bytes());
+    target[at + 4..at + 8].copy_from_slice(&(count as u32).to_le_bytes());
+    Some(top + len)
 }
 
 fn copy_texts(source: &[u8], count: usize, target: &mut [u8]) -> bool {
@@ -345,6 +495,33 @@ fn copy_ascii_first(source: &[u8], count: usize, target: &mut [u8]) -> bool {
 
 fn copy_lists(source: &[u8], count: usize, target: &mut [u8]) -> bool {
     copy_parts(source, count, target, |_| true)
+}
+
+fn copy_named(source: &[u8], count: usize, target: &mut [u8]) -> bool {
+    let is_text = |part: &[u8]| part.is_ascii() || str::from_utf8(part).is_ok();
+    let mut top = 12 * count;
+    for at in (0..12 * count).step_by(12) {
+        target[at..at + 4].copy_from_slice(&source[at..at + 4]);
+        let Some(end) = copy_part(source, at + 4, 1, target, top, is_text) else {
+            return false;
+        };
+        top = end;
+    }
+    true
+}
+
+fn copy_both(source: &[u8], count: usize, target: &mut [u8]) -> bool {
+    let mut top = 16 * count;
+    for at in (0..16 * count).step_by(16) {
+        let Some(end) = copy_part(source, at, 1, target, top, |_| true) else {
+            return false;
+        };
+        let Some(end) = copy_part(source, at + 8, 2, target, end, |_| true) else {
+            return false;
+        };
+        top = end;
+    }
+    true
 }
 
 // What is measured.
@@ -362,7 +539,7 @@ struct Shape {
     loops: &'static [Loop],
 }
 
-const SHAPES: [Shape; 13] = [
+const SHAPES: [Shape; 19] = [
     Shape {
         name: "`list<u8>`",
         kind: 1,
@@ -454,6 +631,57 @@ const SHAPES: [Shape; 13] = [
         fill: fill_lists,
         loops: &[copy_lists],
     },
+    Shape {
+        name: "`list<maybes>`",
+        kind: 12,
+        size: 12,
+        fill: fill_maybes,
+        loops: &[copy_maybes, copy_maybes_by_choice],
+    },
+    Shape {
+        name: "`list<named>`",
+        kind: 13,
+        size: 23,
+        fill: fill_named,
+        loops: &[copy_named],
+    },
+    Shape {
+        name: "`list<figure>`",
+        kind: 14,
+        size: 12,
+        fill: fill_figures,
+        loops: &[copy_figures, copy_figures_by_choice],
+    },
+    Shape {
+        name: "`list<marks>`",
+        kind: 15,
+        size: 2,
+        fill: |source, count| fill_bytes(source, 2 * count),
+        loops: &[copy_flags],
+    },
+    Shape {
+        name: "`list<both>`",
+        kind: 16,
+        size: 48,
+        fill: fill_both,
+        loops: &[copy_both],
+    },
+    Shape {
+        name: "`list<deep>`",
+        kind: 17,
+        size: 4,
+        fill: fill_numbers,
+        loops: &[copy_numbers],
+    },
+];
+
+/// What a short call is of, its function's number, and what it reads.
+const SHORT: [(&str, u32, fn(&mut [u8], usize)); 5] = [
+    ("a `u32`", 18, fill_bytes),
+    ("a string of five bytes", 0, fill_ascii),
+    ("twenty `u32`, which spill", 19, fill_bytes),
+    ("no parameter that answers a `u32`", 20, fill_bytes),
+    ("no parameter that answers such a string", 21, fill_answer),
 ];
 
 /// The lists that are called with over memories that grew: of bytes, of numbers of 32 bits, of rows and of pairs.
@@ -537,20 +765,20 @@ fn row(shape: &Shape, bytes: usize) -> String {
     )
 }
 
-/// The nanoseconds of a call of a number, and of one of a string of five bytes.
-fn times_of_short_calls() -> (f64, f64) {
-    let shape = |kind| Shape {
-        name: "a short call",
+/// The nanoseconds of a short call, of a number, of numbers or of a string of five bytes.
+fn time_of_short_call(name: &'static str, kind: u32, fill: fn(&mut [u8], usize)) -> f64 {
+    let shape = Shape {
+        name,
         kind,
         size: 1,
-        fill: fill_ascii,
+        fill,
         loops: &[],
     };
-    let mut source = vec![0; 64];
-    fill_ascii(&mut source, 64);
-    let mut target = vec![FILLING; 64];
-    let mut time = |kind| times(&shape(kind), 5, 100_000, &mut source, &mut target).0;
-    (time(12), time(0))
+    let count = 5;
+    let mut source = vec![0; 128];
+    (shape.fill)(&mut source, count);
+    let mut target = vec![FILLING; 128];
+    times(&shape, count, 100_000, &mut source, &mut target).0
 }
 
 /// Calls the other export, with a list of zeros.
@@ -591,15 +819,19 @@ fn row_over_memories(shape: &Shape) -> String {
     )
 }
 
-fn print_tables() {
+/// The rows of the types whose names have this word.
+fn print_rows(word: &str) {
     println!("| type | elements | witcall | loop | witcall / loop |");
     println!("|---|---|---|---|---|");
-    for shape in &SHAPES {
+    for shape in SHAPES.iter().filter(|shape| shape.name.contains(word)) {
         for bytes in [SMALL, LEN] {
             println!("{}", row(shape, bytes));
         }
     }
     println!();
+}
+
+fn print_rows_over_memories() {
     println!("| type | elements | made | grown | grown / made |");
     println!("|---|---|---|---|---|");
     for shape in SHAPES.iter().filter(|shape| GROWN.contains(&shape.kind)) {
@@ -608,13 +840,23 @@ fn print_tables() {
     println!();
 }
 
-/// Prints all tables, or, by the word `short`, only the times of short calls.
-fn main() {
-    if std::env::args().nth(1).as_deref() != Some("short") {
-        print_tables();
+fn print_short_calls() {
+    println!("| a call of | nanoseconds |");
+    println!("|---|---|");
+    for (name, kind, fill) in SHORT {
+        println!("| {name} | {:.0} |", time_of_short_call(name, kind, fill));
     }
-    let (number, text) = times_of_short_calls();
-    println!(
-        "A call with one `u32`: {number:.0} nanoseconds; with a string of five bytes: {text:.0}."
-    );
+}
+
+/// Prints all tables, or, by the word `short`, only the times of short calls, or the rows of the types whose names have the word.
+fn main() {
+    match std::env::args().nth(1).as_deref() {
+        Some("short") => print_short_calls(),
+        Some(word) => print_rows(word),
+        None => {
+            print_rows("");
+            print_rows_over_memories();
+            print_short_calls();
+        }
+    }
 }
