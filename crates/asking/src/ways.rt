@@ -44,7 +44,7 @@ pub fn ask_params(
     };
     let mut count = 0;
     let members = Members::Of(params);
-    let Some(_) = table.kinds_within(&[params], 16) else {
+    let Some(_) = table.count_within(&[params], 16) else {
         let from = low_word(flats, 0) as usize;
         let align = table.align_of(params);
         let size = table.size_of(params);
@@ -77,7 +77,7 @@ pub fn ask_result(
     let mut count = 0;
     let members = Members::Listed(types);
     let fields = types.len();
-    let Some(_) = table.kinds_within(types, 1) else {
+    let Some(_) = table.count_within(types, 1) else {
         let (size, align) = table.record_extent(types);
         let from = low_word(flats, 0) as usize;
         test_block(source.len(), from, align, size)?;

@@ -44,7 +44,7 @@ pub fn cross_params<G: Guest>(
     let Shape::Record(count) = table.shape_of(params) else {
         unreachable!()
     };
-    let Some(_) = table.kinds_within(&[params], 16) else {
+    let Some(_) = table.count_within(&[params], 16) else {
         return cross_record(table, params, count, source, flats, guest, out, nodes);
     };
     let members = Members::Of(params);
@@ -114,7 +114,7 @@ pub fn cross_result<G: Guest>(
         (AddressFaulty max_flat_results ts source.now flats.now) (AreaIsBad max_flat_results ts source.now flats.now area (G.memory guest.old).bytes)
         (G.memory guest.old) nodes.old result (G.memory guest.new) nodes.new out.new.items }
 {
-    let Some(_) = table.kinds_within(types, 1) else {
+    let Some(_) = table.count_within(types, 1) else {
         return cross_to_area(table, types, source, flats, guest, area, out, nodes);
     };
     let members = Members::Listed(types);

@@ -1,5 +1,5 @@
 -- CanonicalABI.md, "Flattening": lists of flat kinds that are cut where they are longer than sixteen.
-use Rattle.std.specs.Prelude.{List, [], ◌∷◌, ◌++◌, length, if◌then◌else◌, nat_le}
+use Rattle.std.specs.Prelude.{ℕ, List, [], ◌∷◌, ◌++◌, length, if◌then◌else◌, nat_le, Option, None, Some}
 use Rattle.canonical_abi.specs.Layout.{join, max_flat_params}
 use Rattle.canonical_abi.specs.declared.flat.CoreKind.{CoreKind}
 use Rattle.canonical_abi.specs.declared.flat.CoreKind.TheVariants.{I32}
@@ -14,6 +14,11 @@ kinds_of ks = if nat_le (length ks) max_flat_params then Flat (record { items = 
 abbrev pub passed : Kinds → List CoreKind
 passed (Flat ks) = ks.items
 passed Spilled = I32 ∷ []
+
+-- how many they are, where they are at most sixteen
+abbrev pub count_of : Kinds → Option ℕ
+count_of (Flat ks) = Some (length ks.items)
+count_of Spilled = None
 
 abbrev pub append_kinds : Kinds → Kinds → Kinds
 append_kinds (Flat js) (Flat ks) = kinds_of (js.items ++ ks.items)

@@ -1,7 +1,7 @@
 //! The flat kinds of types side by side.
 ghost use Rattle.std.specs.Prelude.{◌≡◌, ◌+◌, ◌≤◌, ◌∷◌, [], ◌++◌, length};
 ghost use Rattle.canonical_abi.specs.Layout.{join_kind, join};
-ghost use Rattle.layout.specs.Kinds.{kinds_of, passed, append_kinds, join_kinds};
+ghost use Rattle.layout.specs.Kinds.{kinds_of, count_of, passed, append_kinds, join_kinds};
 ghost use Rattle.arrayvec.specs.ArrayVec.{array_vec_len};
 
 use arrayvec::ArrayVec;
@@ -89,6 +89,16 @@ impl Kinds {
         match self {
             Kinds::Flat(kinds) => Kinds::Flat(copied(kinds)),
             Kinds::Spilled => Kinds::Spilled,
+        }
+    }
+
+    /// How many they are, where they are at most sixteen.
+    pub fn count(&self) -> Option<usize>
+        ensures { result ≡ count_of self.now }
+    {
+        match self {
+            Kinds::Flat(kinds) => Some(kinds.len()),
+            Kinds::Spilled => None,
         }
     }
 

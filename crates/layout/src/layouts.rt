@@ -6,7 +6,7 @@ ghost use Rattle.tables.specs.Tables.{is_below};
 ghost use Rattle.canonical_abi.specs.Types.{fields_of, record_fields};
 ghost use Rattle.canonical_abi.specs.Layout.{extent_of, size, align, field_kinds, field_places, lifted_signature, lowered_signature};
 ghost use Rattle.canonical_abi.specs.Reading.{kind_of};
-ghost use Rattle.layout.specs.Kinds.{kinds_of};
+ghost use Rattle.layout.specs.Kinds.{kinds_of, count_of};
 ghost use Rattle.layout.specs.Layout.{row_of, result_of, layouts_of, results_of, signature_of, RefusesFirst, AreWithin, IsSound};
 ghost use Rattle.layout.specs.Parts.{parts_from, AreEnded, end_of, is_end};
 ghost use Rattle.layout.specs.Queries.{shape_of, field_of, case_of, HasShape, TellsField, TellsCase};
@@ -17,7 +17,7 @@ use crate::error::LayoutError;
 use crate::kinds::Kinds;
 use crate::parts::Parts;
 use crate::queries::{CaseInfo, FieldInfo, Shape};
-use crate::rows::{Row, end_of, lay_definition, look, row_in};
+use crate::rows::{Row, count_in, end_of, extent_in, lay_definition, look, row_in};
 use crate::signature::{
     CoreSignature, are_lowered, lifted_of, lowered_of, passed_count, result_of,
 };
@@ -153,7 +153,7 @@ impl Layouts {
         requires { IsTrue (is_below (length self.now.rows) ty) }
         ensures { (r : Resolve) → self.now ≡ layouts_of r → result ≡ size (closed_type r ty) }
     {
-        row_in(self.rows.as_slice(), ty).size
+        extent_in(self.rows.as_slice(), ty).0
     }
 
     /// The alignment of a type of the package, in bytes.
@@ -161,7 +161,7 @@ impl Layouts {
         requires { IsTrue (is_below (length self.now.rows) ty) }
         ensures { (r : Resolve) → self.now ≡ layouts_of r → result ≡ align (closed_type r ty) }
     {
-        row_in(self.rows.as_slice(), ty).align
+        extent_in(self.rows.as_slice(), ty).1
     }
 
     /// The flat kinds of these types side by side, where they are at most sixteen.
@@ -176,6 +176,19 @@ impl Layouts {
             kinds = kinds.append(&row_in(rows, *ty).kinds);
         }
         kinds
+    }
+
+    /// How many flat values carry these types side by side, where they are at most sixteen: those of `flat`, which this doesn't make.
+    pub fn flat_count(&self, types: &[ValType]) -> Option<usize>
+        requires { All (λ v. IsTrue (is_below (length self.now.rows) v)) types.now }
+        ensures { (r : Resolve) → self.now ≡ layouts_of r
+            → result ≡ count_of (kinds_of (field_kinds (fields_of (map (closed_type r) types.now)))) }
+    {
+        match types {
+            [] => Some(0),
+            [ty] => count_in(self.rows.as_slice(), *ty),
+            _ => self.flat(types).count(),
+        }
     }
 
     /// The core signature of the callee's function.

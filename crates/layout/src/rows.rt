@@ -2,9 +2,10 @@
 ghost use Rattle.std.specs.Prelude.{◌≡◌, ◌+◌, ◌≤◌, ◌<◌, ◌⊎◌, ℕ, map, length, All, IsTrue, IfOk, IfErr};
 ghost use Rattle.std.specs.Int.{next_multiple_of};
 ghost use Rattle.canonical_abi.specs.Types.{prim_type, string_type, flags_type};
-ghost use Rattle.canonical_abi.specs.Layout.{discriminant_size, places_from, payload_at};
+ghost use Rattle.canonical_abi.specs.Layout.{size, align, discriminant_size, places_from, payload_at};
 ghost use Rattle.tables.specs.Closed.{prim_of};
 ghost use Rattle.tables.specs.Tables.{is_below, option_below, kind_below, definition_below};
+ghost use Rattle.layout.specs.Kinds.{count_of};
 ghost use Rattle.layout.specs.Layout.{row_of, capped, IsSound, max_size};
 ghost use Rattle.layout.specs.Parts.{payloads, end_of, record_parts, variant_parts, kind_parts, definition_parts};
 ghost use Rattle.layout.specs.Rows.{row_in, rows_at, extent_at, extents, deepest, record_row, choices_at, variant_row, list_row, kind_row, definition_row, number_row, IsKept, IsLimited, IsLimitedDefinition, RefusesDeeper, RefusesRow, RefusesDefinition};
@@ -68,15 +69,27 @@ fn number_row(bytes: u32, kind: CoreKind) -> Row
     }
 }
 
+/// The bytes of a number, which is aligned to its size.
+fn primitive_bytes(primitive: Primitive) -> u32
+    ensures size { result ≡ size (prim_type (prim_of primitive)) }
+    ensures align { result ≡ align (prim_type (prim_of primitive)) }
+{
+    match primitive {
+        Primitive::Bool | Primitive::S8 | Primitive::U8 => 1,
+        Primitive::S16 | Primitive::U16 => 2,
+        Primitive::S32 | Primitive::U32 | Primitive::Char => 4,
+        Primitive::S64 | Primitive::U64 => 8,
+    }
+}
+
 fn primitive_row(primitive: Primitive) -> Row
     ensures { result ≡ row_of (prim_type (prim_of primitive)) }
 {
-    match primitive {
-        Primitive::Bool | Primitive::S8 | Primitive::U8 => number_row(1, CoreKind::I32),
-        Primitive::S16 | Primitive::U16 => number_row(2, CoreKind::I32),
-        Primitive::S32 | Primitive::U32 | Primitive::Char => number_row(4, CoreKind::I32),
-        Primitive::S64 | Primitive::U64 => number_row(8, CoreKind::I64),
-    }
+    let kind = match primitive {
+        Primitive::S64 | Primitive::U64 => CoreKind::I64,
+        _ => CoreKind::I32,
+    };
+    number_row(primitive_bytes(primitive), kind)
 }
 
 /// An address and a length.
@@ -123,6 +136,37 @@ pub(crate) fn row_in(rows: &[Row], ty: ValType) -> Row
                 kinds: row.kinds.copy(),
             }
         }
+    }
+}
+
+/// The size and the alignment of a type, without its row.
+pub(crate) fn extent_in(rows: &[Row], ty: ValType) -> (u32, u32)
+    requires { IsTrue (is_below (length rows.now) ty) }
+    ensures size { result.0 ≡ (row_in rows.now ty).size }
+    ensures align { result.1 ≡ (row_in rows.now ty).align }
+{
+    match ty {
+        ValType::Primitive(primitive) => {
+            let bytes = primitive_bytes(primitive);
+            (bytes, bytes)
+        }
+        ValType::String => (8, 4),
+        ValType::Id(id) => {
+            let row = &rows[id.0 as usize];
+            (row.size, row.align)
+        }
+    }
+}
+
+/// How many flat values carry a type, without its row.
+pub(crate) fn count_in(rows: &[Row], ty: ValType) -> Option<usize>
+    requires { IsTrue (is_below (length rows.now) ty) }
+    ensures { result ≡ count_of (row_in rows.now ty).kinds }
+{
+    match ty {
+        ValType::Primitive(_) => Some(1),
+        ValType::String => Some(2),
+        ValType::Id(id) => rows[id.0 as usize].kinds.count(),
     }
 }
 

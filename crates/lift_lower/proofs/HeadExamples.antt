@@ -1,12 +1,11 @@
 -- Worked examples: the heads of nodes, and their faults.
-use Rattle.std.proofs.Common.{◌≡◌, inl, inr, ℕ, true, List, [], ◌∷◌, ◌++◌, replicate, length, refl, arith, lit≤}
-use Rattle.canonical_abi.specs.Types.{boolean, unsigned, scalar_value, int8, int32, prim_type, string_type, list_type, record_type, variant_type, flags_type, no_field, no_case, plain_case}
+use Rattle.std.proofs.Common.{◌≡◌, inl, inr, true, [], ◌∷◌, replicate, refl, arith}
+use Rattle.canonical_abi.specs.Types.{boolean, unsigned, scalar_value, int32, prim_type, string_type, list_type, record_type, variant_type, flags_type, no_field, no_case, plain_case}
 use Rattle.canonical_abi.specs.Reading.{number_at, low_bits}
-use Rattle.canonical_abi.specs.Trace.{Event, write}
+use Rattle.canonical_abi.specs.Trace.{write}
 use Rattle.canonical_abi.specs.declared.trap.TrapKind.TheVariants as trap
-use Rattle.lift_lower.specs.Heads.{HeadHolds, HeadFaulty, HeadLifts, IsHeadOf, head_writes}
+use Rattle.lift_lower.specs.Heads.{HeadHolds, HeadFaulty, HeadLifts, head_writes}
 use Rattle.lift_lower.specs.declared.scalar.Scalar.TheVariants as scalar
-use Rattle.lift_lower.specs.declared.heads.Head.{Head}
 use Rattle.lift_lower.specs.declared.heads.Head.TheVariants as head
 
 surrogate : HeadFaulty (prim_type scalar_value) (0 ∷ 0xD8 ∷ 0 ∷ 0 ∷ []) 0 trap.Char

@@ -1,11 +1,27 @@
 //! Blocks of a memory, and numbers in it, little-endian.
-ghost use Rattle.std.specs.Prelude.{◌≡◌, ◌+◌, ◌%◌, ◌^◌, ◌<◌, ◌≤◌, ◌⊎◌, ℕ, List, length, get_or, IfErr, OnOk};
+ghost use Rattle.std.specs.Prelude.{◌≡◌, ◌+◌, ◌%◌, ◌^◌, ◌<◌, ◌≤◌, ◌⊎◌, ℕ, List, ◌↔◌, length, get_or, IsTrue, IfErr, OnOk};
 ghost use Rattle.std.specs.Int.{w8, w16, w32, w64};
 ghost use Rattle.canonical_abi.specs.Layout.{discriminant_size, flags_size};
 ghost use Rattle.canonical_abi.specs.Memory.{BlockFaulty};
 ghost use Rattle.canonical_abi.specs.Reading.{number_at, byte_width};
 
 use canonical_abi::TrapKind;
+
+/// Whether an address is a multiple of an alignment. Of those that there are each has a constant divisor here, so that nothing is
+/// divided.
+#[inline(always)]
+fn is_aligned(at: usize, align: usize) -> bool
+    requires { 0 < align }
+    ensures { IsTrue result ↔ (at % align ≡ 0) }
+{
+    match align {
+        1 => true,
+        2 => at % 2 == 0,
+        4 => at % 4 == 0,
+        8 => at % 8 == 0,
+        _ => at % align == 0,
+    }
+}
 
 /// Tests the alignment of a block of a memory of `len` bytes, then its end.
 pub fn test_block(len: usize, at: usize, align: usize, size: usize) -> Result<(), TrapKind>
@@ -14,7 +30,7 @@ pub fn test_block(len: usize, at: usize, align: usize, size: usize) -> Result<()
     ensures ok { OnOk result ((at % align ≡ 0) × (at + size ≤ len)) }
     ensures fault { IfErr result (λ k. (m : List ℕ) → length m ≡ len → BlockFaulty m at align size k) }
 {
-    if at % align != 0 {
+    if !is_aligned(at, align) {
         return Err(TrapKind::Align);
     }
     if at + size > len {

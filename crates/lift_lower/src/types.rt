@@ -125,9 +125,9 @@ impl<'a> Types<'a> {
         requires flat { length (flat_kinds (closed_type self.now ty)) ≤ 16 }
         ensures { result ≡ length (flat_kinds (closed_type self.now ty)) }
     {
-        match self.layouts().flat(&[ty]) {
-            Kinds::Flat(kinds) => kinds.len(),
-            Kinds::Spilled => unreachable!(),
+        match self.layouts().flat_count(&[ty]) {
+            Some(count) => count,
+            None => unreachable!(),
         }
     }
 
@@ -153,6 +153,20 @@ impl<'a> Types<'a> {
     {
         match self.layouts().flat(types) {
             Kinds::Flat(kinds) if kinds.len() <= limit => Some(kinds),
+            _ => None,
+        }
+    }
+
+    /// How many flat values carry types side by side, where they are at most `limit`.
+    pub fn count_within(&self, types: &[ValType], limit: usize) -> Option<usize>
+        requires inside { AreAllInside self.now types.now }
+        requires limit { limit ≤ 16 }
+        ensures count { IfSome result (λ n. n ≡ length (field_kinds (fields_of_types self.now types.now))) }
+        ensures flat { OnSome result (fits_flat limit (fields_of_types self.now types.now) ≡ true) }
+        ensures spilled { IfNone result (fits_flat limit (fields_of_types self.now types.now) ≡ false) }
+    {
+        match self.layouts().flat_count(types) {
+            Some(count) if count <= limit => Some(count),
             _ => None,
         }
     }

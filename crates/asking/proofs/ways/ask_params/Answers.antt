@@ -20,8 +20,8 @@ returns-in_err-ask_fields-clause-fault c =
     let p = err_from_is_err_and c.from_residual-in_err-ask_fields.result c.from_residual-in_err-ask_fields.ensures.1 in
     rw (p.1, p.2) (spilled-fault max_flat_params ts m c.args.flats.now c.requires.kinds fits c.low_word-from.result c.low_word-from.ensures (stands.0, omega (arith, stands.1)) c.in_err-ask_fields.field-0.0 c.in_err-ask_fields.ensures)
 
-pub returns-in_default-kinds_within-clause-told : goal.returns-in_default-kinds_within-clause-told
-returns-in_default-kinds_within-clause-told c =
+pub returns-in_default-count_within-clause-told : goal.returns-in_default-count_within-clause-told
+returns-in_default-count_within-clause-told c =
     let ts = record_fields (closed_type c.args.table.now c.args.params) in
     let m = c.args.source.now in
     let flats = c.args.flats.now in

@@ -1,8 +1,6 @@
 use Rattle.std.proofs.Common.{◌∙◌, ap, length, List}
-use Rattle.canonical_abi.specs.Layout.{CoreSignature}
 use Rattle.canonical_abi.specs.declared.flat.CoreKind.{CoreKind}
 use Rattle.layout.specs.Layout.{Table}
-use Rattle.layout.specs.Kinds.{passed}
 use Rattle.layout.proofs.Signatures.{params-are}
 use Rattle.layout.proofs.layouts.Layouts.lifted_count.Goals as goal
 

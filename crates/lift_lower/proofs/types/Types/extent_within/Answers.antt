@@ -1,7 +1,7 @@
-use Rattle.std.proofs.Common.{◌≡◌, ◌≤◌, ◌<◌, ◌⊎◌, inl, inr, ◌+◌, ℕ, max, fold, List, [], Ok, length, get_or, refl, sym, ap, subst, ◌∙◌, arith}
+use Rattle.std.proofs.Common.{◌≡◌, ◌≤◌, ◌<◌, inl, inr, ◌+◌, ℕ, max, fold, List, [], Ok, length, get_or, refl, sym, ap, subst, ◌∙◌, arith}
 use Rattle.std.specs.Int.{next_multiple_of}
 use Rattle.canonical_abi.specs.Guest.{IsAlignment}
-use Rattle.canonical_abi.specs.Types.{ClosedType, record_type, field_count}
+use Rattle.canonical_abi.specs.Types.{record_type, field_count}
 use Rattle.canonical_abi.specs.Layout.{size, align, field_extents}
 use Rattle.canonical_abi.proofs.Sizes.{is-alignment}
 use Rattle.tables.specs.Closed.{closed_type}
