@@ -1,5 +1,5 @@
 -- Elements of a variant: the caps and the nodes of each are those of its case.
-use Rattle.std.proofs.Common.{◌≡◌, inl, inr, ℕ, zero, suc, ◌+◌, ◌-◌, ◌*◌, ◌/◌, ◌%◌, ◌<◌, ◌≤◌, List, get_or, refl, sym, ap, ◌∙◌, arith}
+use Rattle.std.proofs.Common.{◌≡◌, inl, inr, ℕ, zero, suc, ◌+◌, ◌-◌, ◌*◌, ◌/◌, ◌%◌, ◌<◌, ◌≤◌, Bool, true, false, nat_eq, if◌then◌else◌, List, get_or, refl, sym, subst, ap, ◌∙◌, arith}
 use Rattle.std.proofs.lemmas.Bool.{cases_lt, lt-ltb, le-ltb}
 use Rattle.std.proofs.lemmas.Nat.{div-add-mod'}
 use Rattle.std.proofs.Math.Nat.{mod-lt, mod-eq_of_lt, mul-le-mul_right}
@@ -72,3 +72,19 @@ pub pair-nodes : (case : ℕ) → case < 2 → (nodes : List ℕ) (i z s r n : �
 pair-nodes zero low nodes i z s r n sum told is = (suc z, omega (arith, sum), omega (arith, told, is))
 pair-nodes (suc zero) low nodes i z s r n sum told is = (z, omega (arith, sum), omega (arith, told, is))
 pair-nodes (suc (suc k)) low nodes i z s r n sum told is = absurd (omega (arith, low))
+
+-- ---- one of four numbers, by choices
+
+module _ (P : ℕ → ℕ → Type 0) (a b c d : ℕ) (first : P a 0) (second : P b 1) (third : P c 2) (fourth : P d 3) where
+  pub by-four : (k r : ℕ) → k < 4 → r ≡ (if nat_eq k 3 then d else (if nat_eq k 2 then c else (if nat_eq k 0 then a else b))) → P r k
+  by-four zero r low e = subst (λ n. P n 0) (sym e) first
+  by-four (suc zero) r low e = subst (λ n. P n 1) (sym e) second
+  by-four (suc (suc zero)) r low e = subst (λ n. P n 2) (sym e) third
+  by-four (suc (suc (suc zero))) r low e = subst (λ n. P n 3) (sym e) fourth
+  by-four (suc (suc (suc (suc k)))) r low e = absurd (omega (arith, low))
+
+pub four-few : (a b c d : ℕ) → a ≤ 255 → b ≤ 255 → c ≤ 255 → d ≤ 255 → (is_last is_third is_first : Bool) → (if is_last then d else (if is_third then c else (if is_first then a else b))) ≤ 255
+four-few a b c d fa fb fc fd true q s = fd
+four-few a b c d fa fb fc fd false true s = fc
+four-few a b c d fa fb fc fd false false true = fa
+four-few a b c d fa fb fc fd false false false = fb

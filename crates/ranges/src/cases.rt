@@ -1,5 +1,5 @@
 //! Elements of a variant: the caps of each are those of its case.
-ghost use Rattle.std.specs.Prelude.{◌≡◌, ◌⊎◌, ℕ, ◌+◌, ◌-◌, ◌*◌, ◌%◌, ◌^◌, ◌<◌, ◌≤◌, min, length, get_or, IfSome};
+ghost use Rattle.std.specs.Prelude.{◌≡◌, ◌⊎◌, ℕ, ◌+◌, ◌-◌, ◌*◌, ◌%◌, ◌^◌, ◌<◌, ◌≤◌, min, nat_eq, if◌then◌else◌, length, get_or, IfSome};
 ghost use Rattle.std.specs.Int.{w64, to_le_bytes};
 ghost use Rattle.canonical_abi.specs.Types.{ClosedType};
 ghost use Rattle.ranges.specs.Bytewise.{Crosses, IsBytewise, HasRows, each_nodes};
@@ -8,6 +8,27 @@ ghost use Rattle.ranges.specs.Plan.{row_nodes};
 use crate::blend::blend_chunk;
 use crate::rows::Rows;
 use canonical_abi::Guest;
+
+/// A number for each of four cases.
+#[derive(Drop)]
+struct Four {
+    first: u64,
+    second: u64,
+    third: u64,
+    fourth: u64,
+}
+
+impl Four {
+    /// The number of a case, by choices without a branch.
+    #[inline(always)]
+    fn of(&self, case: u64) -> u64
+        ensures { result ≡ (if nat_eq case 3 then self.now.fourth else (if nat_eq case 2 then self.now.third else (if nat_eq case 0 then self.now.first else self.now.second))) }
+    {
+        let number = if case == 0 { self.first } else { self.second };
+        let number = if case == 2 { self.third } else { number };
+        if case == 3 { self.fourth } else { number }
+    }
+}
 
 /// The bytes of the elements of a chunk: a row is put as sixteen bytes, of which the last may be past its element.
 const CHUNK: usize = 2032;
@@ -110,6 +131,42 @@ fn fill_pairs(caps: &mut [u8; 2048], rows: &Rows, part: &[u8], count: usize) -> 
     Some(firsts * u64::from(rows.nodes[0]) + seconds * u64::from(rows.nodes[1]))
 }
 
+/// The same where elements have eight bytes and one of at most four cases: choices of a word and of a case's nodes.
+#[inline(never)]
+fn fill_words(caps: &mut [u8; 2048], rows: &Rows, part: &[u8], count: usize) -> Option<u64>
+    requires eight { rows.now.size ≡ 8 }
+    requires four { rows.now.cases ≤ 4 }
+    requires few { count * 8 ≤ 2032 }
+    requires inside { count * 8 ≤ length part.now }
+    ensures good { IfSome result (λ _. (e : ℕ) → e < count → get_or part.now (e * rows.now.size) 0 < rows.now.cases) }
+    ensures caps { IfSome result (λ _. (e j : ℕ) → e < count → j < rows.now.size → get_or caps.new (e * rows.now.size + j) 0
+        ≡ get_or rows.now.caps (get_or part.now (e * rows.now.size) 0 % 16 * 16 + j) 0) }
+    ensures nodes { IfSome result (λ k. k ≡ row_nodes rows.now.size rows.now.nodes part.now count) }
+{
+    let words = Four {
+        first: word_of(&rows.caps, 0),
+        second: word_of(&rows.caps, 16),
+        third: word_of(&rows.caps, 32),
+        fourth: word_of(&rows.caps, 48),
+    };
+    let nodes = Four {
+        first: u64::from(rows.nodes[0]),
+        second: u64::from(rows.nodes[1]),
+        third: u64::from(rows.nodes[2]),
+        fourth: u64::from(rows.nodes[3]),
+    };
+    let cases = rows.cases as u64;
+    let mut bad: u64 = 0;
+    let mut seen: u64 = 0;
+    for i in 0..count {
+        let case = case_at(part, i * 8);
+        bad += u64::from(case >= cases);
+        seen += nodes.of(case);
+        put_word(caps, i * 8, words.of(case));
+    }
+    if bad == 0 { Some(seen) } else { None }
+}
+
 /// The caps of so many elements, each by its case, as fast as their type allows.
 #[inline(always)]
 fn fill_part(caps: &mut [u8; 2048], rows: &Rows, part: &[u8], count: usize) -> Option<u64>
@@ -124,6 +181,8 @@ fn fill_part(caps: &mut [u8; 2048], rows: &Rows, part: &[u8], count: usize) -> O
 {
     if rows.size == 8 && rows.cases == 2 {
         fill_pairs(caps, rows, part, count)
+    } else if rows.size == 8 && rows.cases <= 4 {
+        fill_words(caps, rows, part, count)
     } else {
         fill_any(caps, rows, part, count)
     }
