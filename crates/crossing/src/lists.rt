@@ -32,6 +32,7 @@ pub(crate) fn listed_number(table: &Types, ty: ValType) -> Option<Primitive>
 
 /// Crosses a list of numbers: its block is tested, one of the same size is asked for, and then its header and its numbers are
 /// written, these as one range.
+#[inline(always)]
 fn cross_listed<G: Guest>(
     primitive: Primitive,
     source: &[u8],
@@ -69,7 +70,8 @@ fn cross_listed<G: Guest>(
 }
 
 /// Crosses so many lists of numbers one after another: a loop by itself, with no look at their type for each.
-pub(crate) fn cross_lists<G: Guest>(
+#[inline(always)]
+fn cross_each<G: Guest>(
     primitive: Primitive,
     source: &[u8],
     from: usize,
@@ -93,4 +95,32 @@ pub(crate) fn cross_lists<G: Guest>(
         cross_listed(primitive, source, from + ahead, guest, to + ahead, nodes)?;
     }
     Ok(())
+}
+
+/// Crosses so many lists of numbers, those of bytes by code for them alone. The nodes are counted in a place of their own, which can be
+/// a register.
+pub(crate) fn cross_lists<G: Guest>(
+    primitive: Primitive,
+    source: &[u8],
+    from: usize,
+    count: usize,
+    guest: &mut G,
+    to: usize,
+    nodes: &mut u64,
+) -> Result<(), Stopped>
+    requires number { IsNumber (prim_of primitive) }
+    requires short { length source.now < 2 ^ 32 }
+    requires fits { from + count * 8 ≤ length source.now }
+    requires room { to + count * 8 ≤ length (G.memory guest.old).bytes }
+    requires small { to + count * 8 < 2 ^ 32 }
+    ensures { Ends G.allocates (EachWalks (list_type (prim_type (prim_of primitive))) source.now from to count)
+        (G.memory guest.old) nodes.old result (G.memory guest.new) nodes.new }
+{
+    let mut seen = *nodes;
+    let done = match primitive {
+        Primitive::U8 => cross_each(Primitive::U8, source, from, count, guest, to, &mut seen),
+        _ => cross_each(primitive, source, from, count, guest, to, &mut seen),
+    };
+    *nodes = seen;
+    done
 }

@@ -8,7 +8,8 @@ use crate::stopped::Stopped;
 use canonical_abi::Guest;
 
 /// Crosses so many texts one after another: a loop by itself, with no look at their type for each.
-pub(crate) fn cross_texts<G: Guest>(
+#[inline(always)]
+fn cross_each<G: Guest>(
     source: &[u8],
     from: usize,
     count: usize,
@@ -30,4 +31,26 @@ pub(crate) fn cross_texts<G: Guest>(
         cross_text(source, from + ahead, guest, to + ahead)?;
     }
     Ok(())
+}
+
+/// Crosses so many texts. The nodes are counted in a place of their own, which can be a register.
+pub(crate) fn cross_texts<G: Guest>(
+    source: &[u8],
+    from: usize,
+    count: usize,
+    guest: &mut G,
+    to: usize,
+    nodes: &mut u64,
+) -> Result<(), Stopped>
+    requires short { length source.now < 2 ^ 32 }
+    requires fits { from + count * 8 ≤ length source.now }
+    requires room { to + count * 8 ≤ length (G.memory guest.old).bytes }
+    requires small { to + count * 8 < 2 ^ 32 }
+    ensures { Ends G.allocates (EachWalks string_type source.now from to count)
+        (G.memory guest.old) nodes.old result (G.memory guest.new) nodes.new }
+{
+    let mut seen = *nodes;
+    let done = cross_each(source, from, count, guest, to, &mut seen);
+    *nodes = seen;
+    done
 }

@@ -1,5 +1,7 @@
 //! The walk down a type: records, variants and lists.
 ghost use Rattle.std.specs.Prelude.{◌≡◌, ◌+◌, ◌*◌, ◌^◌, ◌<◌, ◌≤◌, length};
+ghost use Rattle.std.specs.Int.{next_multiple_of};
+ghost use Rattle.canonical_abi.specs.Guest.{IsAlignment};
 ghost use Rattle.canonical_abi.specs.Types.{list_type, variant_type, variant_cases, case_count, field_count};
 ghost use Rattle.canonical_abi.specs.Layout.{size, end_from, field_extents};
 ghost use Rattle.lift_lower.specs.Members.{AreInside, members_fields};
@@ -25,6 +27,7 @@ use tables::ValType;
 /// tested in the source, its block is asked for, and it is written before the next is read; bytes that belong to no
 /// node, as padding, are not written. `nodes` grows by the nodes that were visited, as far as it has room. CanonicalABI.md,
 /// "Loading" and "Storing".
+#[inline(always)]
 #[cycle(cross)]
 pub fn cross_at<G: Guest>(
     table: &Types,
@@ -145,6 +148,21 @@ pub(crate) fn cross_elements<G: Guest>(
     Ok(())
 }
 
+/// The next multiple of an alignment. Each has a constant divisor here, so that nothing is divided.
+#[inline(always)]
+fn aligned(place: usize, align: usize) -> usize
+    requires alignment { IsAlignment align }
+    requires fits { next_multiple_of place align < 2 ^ 64 }
+    ensures { result ≡ next_multiple_of place align }
+{
+    match align {
+        1 => place,
+        2 => place.next_multiple_of(2),
+        4 => place.next_multiple_of(4),
+        _ => place.next_multiple_of(8),
+    }
+}
+
 /// Crosses the members of a record whose first begins at `from`, each at the next multiple of its alignment.
 #[cycle(cross)]
 pub fn cross_fields<G: Guest>(
@@ -172,7 +190,7 @@ pub fn cross_fields<G: Guest>(
         let Some(member) = table.member_type(members, index) else {
             unreachable!()
         };
-        let place = end.next_multiple_of(table.align_of(member));
+        let place = aligned(end, table.align_of(member));
         cross_at(
             table,
             member,

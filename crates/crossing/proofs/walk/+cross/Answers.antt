@@ -112,24 +112,27 @@ pub cross_fields-unreachable-requires : goal.cross_fields-unreachable-requires
 cross_fields-unreachable-requires g t c =
     nth_field-some (members_fields c.args.table.now c.args.members.now) c.loop-index.index (omega (arith, c.requires.counted, c.loop-index-test.true)) (sym c.in_default.ensures.found)
 
-pub cross_fields-next_multiple_of-place-requires-clause-fits : goal.cross_fields-next_multiple_of-place-requires-clause-fits
-cross_fields-next_multiple_of-place-requires-clause-fits g t c =
+pub cross_fields-aligned-place-requires-clause-fits : goal.cross_fields-aligned-place-requires-clause-fits
+cross_fields-aligned-place-requires-clause-fits g t c =
     let fs = members_fields c.args.table.now c.args.members.now in
     let h = fields-inside fs c.loop-index.index (closed_type c.args.table.now c.in-Some.member) c.loop-index.end _ (sym c.in-Some.ensures.found) c.loop-index.invariant.1 in
     rw c.align_of.ensures.value (omega (arith, h, c.requires.small))
+
+pub cross_fields-aligned-place-requires-clause-alignment : goal.cross_fields-aligned-place-requires-clause-alignment
+cross_fields-aligned-place-requires-clause-alignment g t c = rw c.align_of.ensures.value (is-alignment (closed_type c.args.table.now c.in-Some.member))
 
 pub cross_fields-overflow_add-from : goal.cross_fields-overflow_add-from
 cross_fields-overflow_add-from g t c =
     let fs = members_fields c.args.table.now c.args.members.now in
     let h = fields-inside fs c.loop-index.index (closed_type c.args.table.now c.in-Some.member) c.loop-index.end _ (sym c.in-Some.ensures.found) c.loop-index.invariant.1 in
-    let k = rw (← c.align_of.ensures.value, ← c.next_multiple_of-place.ensures.value) at h in
+    let k = rw (← c.align_of.ensures.value, ← c.aligned-place.ensures) at h in
     omega (arith, k, c.requires.fits, c.requires.short)
 
 pub cross_fields-overflow_add-to : goal.cross_fields-overflow_add-to
 cross_fields-overflow_add-to g t c =
     let fs = members_fields c.args.table.now c.args.members.now in
     let h = fields-inside fs c.loop-index.index (closed_type c.args.table.now c.in-Some.member) c.loop-index.end _ (sym c.in-Some.ensures.found) c.loop-index.invariant.1 in
-    let k = rw (← c.align_of.ensures.value, ← c.next_multiple_of-place.ensures.value) at h in
+    let k = rw (← c.align_of.ensures.value, ← c.aligned-place.ensures) at h in
     omega (arith, k, c.requires.small)
 
 pub cross_fields-cross_at-requires : goal.cross_fields-cross_at-requires
@@ -138,7 +141,7 @@ cross_fields-cross_at-requires g t c κs within =
     let u = closed_type c.args.table.now c.in-Some.member in
     let found = sym c.in-Some.ensures.found in
     let h = fields-inside fs c.loop-index.index u c.loop-index.end _ found c.loop-index.invariant.1 in
-    let k = rw (← c.align_of.ensures.value, ← c.next_multiple_of-place.ensures.value) at h in
+    let k = rw (← c.align_of.ensures.value, ← c.aligned-place.ensures) at h in
     (omega (arith, member-depth fs c.loop-index.index u found, c.decreases), (within, (c.in-Some.ensures.inside, (c.requires.short, (omega (arith, k, c.requires.fits), (omega (arith, k, c.requires.room, c.loop-index.invariant.0.no_shorter), omega (arith, k, c.requires.small)))))))
 
 pub cross_fields-returns-in_err-cross_at : goal.cross_fields-returns-in_err-cross_at
@@ -146,7 +149,7 @@ cross_fields-returns-in_err-cross_at g t c =
     let fs = members_fields c.args.table.now c.args.members.now in
     let u = closed_type c.args.table.now c.in-Some.member in
     let bytes : AreBytes c.args.source.now = λ i. (c.type_inv.source i).fits in
-    let place : c.next_multiple_of-place.result ≡ next_multiple_of c.loop-index.end (align u) = c.next_multiple_of-place.ensures.value ∙ ap (next_multiple_of c.loop-index.end) c.align_of.ensures.value in
+    let place : c.aligned-place.result ≡ next_multiple_of c.loop-index.end (align u) = c.aligned-place.ensures ∙ ap (next_multiple_of c.loop-index.end) c.align_of.ensures.value in
     let here = rw place at c.in_err-cross_at.ensures in
     let p = err_from_is_err_and c.from_residual.result c.from_residual.ensures.1 in
     rw (p.1, p.2) (field-stopped g.G.Guest.allocates fs c.args.source.now c.args.from c.args.to c.loop-index.index c.loop-index.end u (sym c.in-Some.ensures.found) bytes c.requires.short c.reads_exactly.ensures
@@ -156,7 +159,7 @@ pub cross_fields-overflow_add-end : goal.cross_fields-overflow_add-end
 cross_fields-overflow_add-end g t c =
     let fs = members_fields c.args.table.now c.args.members.now in
     let h = fields-inside fs c.loop-index.index (closed_type c.args.table.now c.in-Some.member) c.loop-index.end _ (sym c.in-Some.ensures.found) c.loop-index.invariant.1 in
-    let k = rw (← c.align_of.ensures.value, ← c.next_multiple_of-place.ensures.value) at h in
+    let k = rw (← c.align_of.ensures.value, ← c.aligned-place.ensures) at h in
     omega (arith, k, c.size_of.ensures.value, c.requires.small)
 
 pub cross_fields-loop-index-preserved : goal.cross_fields-loop-index-preserved
@@ -165,7 +168,7 @@ cross_fields-loop-index-preserved g t c =
     let u = closed_type c.args.table.now c.in-Some.member in
     let found = sym c.in-Some.ensures.found in
     let i = c.loop-index.index in
-    let place : c.next_multiple_of-place.result ≡ next_multiple_of c.loop-index.end (align u) = c.next_multiple_of-place.ensures.value ∙ ap (next_multiple_of c.loop-index.end) c.align_of.ensures.value in
+    let place : c.aligned-place.result ≡ next_multiple_of c.loop-index.end (align u) = c.aligned-place.ensures ∙ ap (next_multiple_of c.loop-index.end) c.align_of.ensures.value in
     let here = rw place at c.in_ok-cross_at.ensures in
     rw (place, c.size_of.ensures.value) (
       field-next g.G.Guest.allocates fs c.args.source.now c.args.from c.args.to i c.loop-index.end u found

@@ -3,7 +3,7 @@ use Rattle.canonical_abi.specs.Types.{prim_type, list_type}
 use Rattle.tables.specs.Closed.{prim_of}
 use Rattle.crossing.specs.Outcome.{EachWalks}
 use Rattle.crossing.proofs.Parts.{IsBegun}
-use Rattle.crossing.proofs.lists.cross_lists.Given as goal
+use Rattle.crossing.proofs.lists.cross_each.Given as goal
 
 abbrev pub invariant-loop-index : goal.invariant-loop-index
 invariant-loop-index g l =

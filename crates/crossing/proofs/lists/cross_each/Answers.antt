@@ -6,7 +6,7 @@ use Rattle.lift_lower.specs.Loading.{AreBytes}
 use Rattle.crossing.specs.Outcome.{Walks}
 use Rattle.crossing.proofs.Ahead.{none-done, each-ahead}
 use Rattle.crossing.proofs.Nodes.{at-node, each-next, each-stopped, each-done}
-use Rattle.crossing.proofs.lists.cross_lists.Goals as goal
+use Rattle.crossing.proofs.lists.cross_each.Goals as goal
 
 pub loop-index-init : goal.loop-index-init
 loop-index-init g c =
