@@ -126,6 +126,13 @@ fn fill_choices(source: &mut [u8], count: usize) {
     fill_elements(source, count, 8, 3);
 }
 
+/// Flags of twelve labels, with no other bit.
+fn fill_flags(source: &mut [u8], count: usize) {
+    for (index, place) in source.as_chunks_mut().0.iter_mut().take(count).enumerate() {
+        *place = ((number(index) >> 16) as u16 % 4096).to_le_bytes();
+    }
+}
+
 /// `tuple<option<u8>, option<u32>>`
 fn fill_maybes(source: &mut [u8], count: usize) {
     fill_elements(source, count, 12, 2);
@@ -656,7 +663,7 @@ const SHAPES: [Shape; 19] = [
         name: "`list<marks>`",
         kind: 15,
         size: 2,
-        fill: |source, count| fill_bytes(source, 2 * count),
+        fill: fill_flags,
         loops: &[copy_flags],
     },
     Shape {

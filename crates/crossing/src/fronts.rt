@@ -3,8 +3,8 @@
 //! A front never looks for a fault. It crosses elements as long as they pass their tests, and may stop before any of them: who
 //! goes on behind it finds the first fault, and the nodes up to it.
 ghost use Rattle.std.specs.Prelude.{◌≡◌, ℕ, ◌+◌, ◌*◌, ◌^◌, ◌<◌, ◌≤◌, length};
-ghost use Rattle.canonical_abi.specs.Layout.{size};
-ghost use Rattle.canonical_abi.specs.Types.{prim_type, boolean, scalar_value, variant_type, variant_cases, case_count};
+ghost use Rattle.canonical_abi.specs.Layout.{size, flags_size};
+ghost use Rattle.canonical_abi.specs.Types.{prim_type, boolean, scalar_value, flags_type, variant_type, variant_cases, case_count};
 ghost use Rattle.crossing.specs.Outcome.{EachWalks, IsDone};
 ghost use Rattle.lift_lower.specs.Types.{IsInside};
 ghost use Rattle.tables.specs.Closed.{closed_type, prim_of};
@@ -13,8 +13,8 @@ use canonical_abi::Guest;
 use layout::Shape;
 use lift_lower::Types;
 use ranges::{
-    caps_of, cross_bools, cross_capped, cross_cases, cross_chars, cross_numbers, number_width,
-    rows_of,
+    caps_of, cross_bools, cross_capped, cross_cases, cross_chars, cross_flags, cross_numbers,
+    number_width, rows_of,
 };
 use tables::{Primitive, ValType};
 
@@ -53,9 +53,10 @@ pub(crate) fn cross_front<G: Guest>(
         Shape::Primitive(primitive) => {
             front_of_numbers(primitive, source, from, count, guest, to, nodes)
         }
-        Shape::Record(_) | Shape::Flags(_) => {
+        Shape::Record(_) | Shape::Flags(8 | 16 | 32) => {
             front_of_bytes(table, element, source, from, count, guest, to, nodes)
         }
+        Shape::Flags(labels) => front_of_flags(labels, source, from, count, guest, to, nodes),
         Shape::Variant(cases) => {
             front_of_cases(table, element, cases, source, from, count, guest, to, nodes)
         }
@@ -103,6 +104,28 @@ fn front_of_bools<G: Guest>(
     cross_bools(source, from, count, guest, to);
     *nodes = nodes.saturating_add(count as u64);
     count
+}
+
+/// Crosses flags up to one with a bit behind its labels at most, and answers how many.
+fn front_of_flags<G: Guest>(
+    labels: usize,
+    source: &[u8],
+    from: usize,
+    count: usize,
+    guest: &mut G,
+    to: usize,
+    nodes: &mut u64,
+) -> usize
+    requires fits { from + count * flags_size labels ≤ length source.now }
+    requires room { to + count * flags_size labels ≤ length (G.memory guest.old).bytes }
+    requires small { to + count * flags_size labels < 2 ^ 32 }
+    ensures few { result ≤ count }
+    ensures crossed { IsDone G.allocates (EachWalks (flags_type labels) source.now from to result)
+        (G.memory guest.old) nodes.old (G.memory guest.new) nodes.new }
+{
+    let crossed = cross_flags(labels, source, from, count, guest, to);
+    *nodes = nodes.saturating_add(crossed as u64);
+    crossed
 }
 
 /// Crosses numbers, and answers how many: all, or none where the primitive is no number.

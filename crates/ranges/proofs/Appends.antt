@@ -1,6 +1,6 @@
 -- Elements that crossed, and those behind them.
 use Rattle.std.proofs.Common.{◌≡◌, inr, ℕ, zero, suc, ◌+◌, ◌*◌, List, [], ◌∷◌, ◌++◌, length, refl, sym, ap, ◌∙◌, subst, arith, append_assoc}
-use Rattle.canonical_abi.specs.Types.{Prim, ClosedType, prim_type}
+use Rattle.canonical_abi.specs.Types.{Prim, ClosedType, prim_type, flags_type}
 use Rattle.canonical_abi.specs.Values.{Value}
 use Rattle.canonical_abi.specs.Layout.{size}
 use Rattle.canonical_abi.specs.Memory.{Holds, EachHolds}
@@ -94,3 +94,7 @@ same-visited t m k each (suc n) a = let h = same-visited t m k each n (a + size 
 -- a primitive is one node
 pub prims-visited : (p : Prim) (m : List ℕ) (a n : ℕ) → each_nodes (prim_type p) m a n ≡ n
 prims-visited p m a n = same-visited (prim_type p) m 1 (λ a. refl) n a ∙ (let e : n * 1 ≡ n = omega arith in e)
+
+-- so are flags
+pub flags-visited : (labels : ℕ) (m : List ℕ) (a n : ℕ) → each_nodes (flags_type labels) m a n ≡ n
+flags-visited labels m a n = same-visited (flags_type labels) m 1 (λ a. refl) n a ∙ (let e : n * 1 ≡ n = omega arith in e)

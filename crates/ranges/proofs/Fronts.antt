@@ -1,5 +1,5 @@
 -- A front of a block that has crossed.
-use Rattle.std.proofs.Common.{◌≡◌, inl, inr, ℕ, zero, suc, ◌+◌, ◌-◌, ◌*◌, ◌%◌, ◌<◌, ◌≤◌, cond, List, ◌++◌, length, get_or, take, drop, length-drop, refl, sym, ap, ◌∙◌, subst, arith}
+use Rattle.std.proofs.Common.{◌≡◌, ◌⊎◌, inl, inr, ℕ, zero, suc, ◌+◌, ◌-◌, ◌*◌, ◌%◌, ◌<◌, ◌≤◌, cond, List, ◌++◌, length, get_or, take, drop, length-drop, refl, sym, ap, ◌∙◌, subst, arith}
 use Rattle.std.specs.Prelude.{nat_lt, slice_range}
 use Rattle.std.proofs.lemmas.Bool.{cases_lt, lt-ltb, le-ltb}
 use Rattle.std.proofs.lemmas.List.{ext_get_or, get_or-take, get_or-append-add, length-take-le}
@@ -7,8 +7,8 @@ use Rattle.std.proofs.Math.Nat.{mod-lt, mod-eq_of_lt, add-mod_left, mul-le-mul_r
 use Rattle.canonical_abi.specs.Types.{ClosedType}
 use Rattle.canonical_abi.specs.Layout.{size}
 use Rattle.canonical_abi.specs.Guest.{Memory, Allocation, overwrite, with_bytes}
-use Rattle.std.specs.Int.{w32, from_le_bytes}
-use Rattle.canonical_abi.specs.Reading.{number_at}
+use Rattle.std.specs.Int.{Width, w8, w16, w32, byte_len, from_le_bytes}
+use Rattle.canonical_abi.specs.Reading.{number_at, byte_width}
 use Rattle.canonical_abi.specs.Trace.{TraceLeads}
 use Rattle.canonical_abi.proofs.Bytes.{length-overwrite, overwrite-in, overwrite-before, overwrite-after}
 use Rattle.lift_lower.specs.Loading.{AreBytes}
@@ -143,17 +143,24 @@ mid-get a n xs ys zs j h inside e =
     sym (get_or-take (a + n) zs (a + j) 0 (omega (arith, h))) ∙ ap (λ l. get_or l (a + j) 0) e ∙ rw front at there
 
 -- a number in a part of a memory
-pub part-number : (m : List ℕ) (s n j : ℕ) → j + 4 ≤ n → s + n ≤ length m → number_at (slice_range m s (s + n)) j w32 ≡ number_at m (s + j) w32
+pub part-number : (w : Width) (m : List ℕ) (s n j : ℕ) → j + byte_len w ≤ n → s + n ≤ length m → number_at (slice_range m s (s + n)) j w ≡ number_at m (s + j) w
 unfolding number_at
-part-number m s n j h inside =
+part-number w m s n j h inside =
+    let k = byte_len w in
     let long = part-length m s n inside in
-    let here = part-length (slice_range m s (s + n)) j 4 (omega (arith, long, h)) in
-    let there = part-length m (s + j) 4 (omega (arith, h, inside)) in
-    ap (from_le_bytes w32) (ext_get_or 0 (slice_range (slice_range m s (s + n)) j (j + 4)) (slice_range m (s + j) (s + j + 4)) (here ∙ sym there)
+    let here = part-length (slice_range m s (s + n)) j k (omega (arith, long, h)) in
+    let there = part-length m (s + j) k (omega (arith, h, inside)) in
+    ap (from_le_bytes w) (ext_get_or 0 (slice_range (slice_range m s (s + n)) j (j + k)) (slice_range m (s + j) (s + j + k)) (here ∙ sym there)
     (λ i g.
-    let low : i < 4 = omega (arith, here, g) in
+    let low : i < k = omega (arith, here, g) in
     let e : s + (j + i) ≡ s + j + i = omega arith in
-    part-get (slice_range m s (s + n)) j 4 i low ∙ part-get m s n (j + i) (omega (arith, h, low)) ∙ ap (λ k. get_or m k 0) e ∙ sym (part-get m (s + j) 4 i low)))
+    part-get (slice_range m s (s + n)) j k i low ∙ part-get m s n (j + i) (omega (arith, h, low)) ∙ ap (λ x. get_or m x 0) e ∙ sym (part-get m (s + j) k i low)))
+
+-- the same of a number of so many bytes
+pub part-sized : (k : ℕ) → (k ≡ 1) ⊎ ((k ≡ 2) ⊎ (k ≡ 4)) → (m : List ℕ) (s n j : ℕ) → j + k ≤ n → s + n ≤ length m → number_at (slice_range m s (s + n)) j (byte_width k) ≡ number_at m (s + j) (byte_width k)
+part-sized k (inl e) m s n j h inside = rw e (part-number w8 m s n j (omega (arith, h, e)) inside)
+part-sized k (inr (inl e)) m s n j h inside = rw e (part-number w16 m s n j (omega (arith, h, e)) inside)
+part-sized k (inr (inr e)) m s n j h inside = rw e (part-number w32 m s n j (omega (arith, h, e)) inside)
 
 -- a chunk whose bytes were blended in a buffer
 pub chunk-crosses : (allocates : Allocation) (t : ClosedType) (n : ℕ) (m : List ℕ) (a : ℕ) (old : Memory) (at part : ℕ) (new : Memory) (seen caps buffer : List ℕ) → AreBytes m → IsBytewise t

@@ -1,5 +1,5 @@
 -- Values of types that cross byte by byte: what stands in one memory is stored in another, and its bytes come over those that were there.
-use Rattle.std.proofs.Common.{◌≡◌, ℕ, zero, suc, ◌+◌, ◌*◌, ◌%◌, ◌^◌, ◌<◌, ◌≤◌, Bool, true, false, nat_le, max, fold, List, [], ◌∷◌, ◌++◌, length, refl, ap, ◌∙◌, arith}
+use Rattle.std.proofs.Common.{◌≡◌, inl, inr, ℕ, zero, suc, ◌+◌, ◌*◌, ◌%◌, ◌^◌, ◌<◌, ◌≤◌, Bool, true, false, nat_le, max, fold, List, [], ◌∷◌, ◌++◌, length, refl, ap, ◌∙◌, arith}
 use Rattle.std.specs.Int.{byte_len, next_multiple_of, to_le_bytes}
 use Rattle.std.proofs.Math.Nat.{mod-eq_of_lt, mod-lt}
 use Rattle.std.proofs.Math.Pow.{pow_pos}
@@ -126,7 +126,7 @@ module _ (m : List ℕ) (bytes : AreBytes m) where
     crosses (flags_type n) b a old at tested inside fits =
         let k = number_at m a (byte_width (flags_size n)) in
         let s = flags-sized n in
-        let small : k < 2 ^ n = sized-small (flags_size n) s n b a in
+        let small : k < 2 ^ n = elim tested [ inl e ↦ sized-small (flags_size n) s n e a | inr l ↦ l ] in
         let low : k % 2 ^ n ≡ k = mod-eq_of_lt small in
         let put = sized-blends (flags_size n) s (k % 2 ^ n) a old at low inside fits in
         record {

@@ -1,10 +1,10 @@
 -- Types whose values cross byte by byte: which bytes of a value's place are its own, and what each becomes.
-use Rattle.std.specs.Prelude.{◌≡◌, ℕ, zero, suc, ◌+◌, ◌-◌, ◌*◌, ◌<◌, cond, true, nat_lt, min, List, length, get_or}
+use Rattle.std.specs.Prelude.{◌≡◌, ◌⊎◌, ℕ, zero, suc, ◌+◌, ◌-◌, ◌*◌, ◌^◌, ◌<◌, cond, true, nat_lt, min, List, length, get_or}
 use Rattle.std.specs.Int.{byte_len, next_multiple_of}
 use Rattle.canonical_abi.specs.Types.{Prim, boolean, unsigned, signed, scalar_value, ClosedType, prim_type, string_type, list_type, record_type, variant_type, flags_type, Fields, no_field, field, Cases, no_case, plain_case, case_with, case_count}
 use Rattle.canonical_abi.specs.Values.{Value, is_scalar}
 use Rattle.canonical_abi.specs.Layout.{align, size, prim_width, discriminant_size, flags_size, payload_place}
-use Rattle.canonical_abi.specs.Reading.{number_at, case_number}
+use Rattle.canonical_abi.specs.Reading.{number_at, byte_width, case_number}
 use Rattle.canonical_abi.specs.Memory.{Holds, EachHolds}
 use Rattle.canonical_abi.specs.Storing.{Stores, EachStores}
 use Rattle.canonical_abi.specs.Guest.{Memory, Allocation}
@@ -60,14 +60,14 @@ abbrev mutual
   case_cap (case_with t cs) m b (suc n) i = case_cap cs m b n i
 
 abbrev mutual
-  -- values of this type cross byte by byte, once they are tested: they have no texts or lists, and no flags with bits to clear
+  -- values of this type cross byte by byte, once they are tested: they have no texts or lists
   pub IsBytewise : ClosedType → Type 0
   IsBytewise (prim_type p) = Unit {0}
   IsBytewise string_type = ⊥
   IsBytewise (list_type t) = ⊥
   IsBytewise (record_type fs) = AreBytewise fs
   IsBytewise (variant_type cs) = AreBytewiseCases cs
-  IsBytewise (flags_type n) = n ≡ 8 * flags_size n
+  IsBytewise (flags_type n) = Unit {0}
 
   pub AreBytewise : Fields → Type 0
   AreBytewise no_field = Unit {0}
@@ -83,11 +83,12 @@ PrimTested scalar_value n = is_scalar n ≡ true
 PrimTested _ n = Unit {0}
 
 abbrev mutual
-  -- what stands at a passes the tests of the type: characters and case numbers
+  -- what stands at a passes the tests of the type: characters, case numbers, and flags, which have no bit behind their labels
   pub IsTested : ClosedType → List ℕ → ℕ → Type 0
   IsTested (prim_type p) m a = PrimTested p (number_at m a (prim_width p))
   IsTested (record_type fs) m a = AreTested fs m a 0
   IsTested (variant_type cs) m a = IsTestedCase cs m (a + payload_place cs) (case_number cs m a)
+  IsTested (flags_type n) m a = (n ≡ 8 * flags_size n) ⊎ (number_at m a (byte_width (flags_size n)) < 2 ^ n)
   IsTested _ m a = Unit {0}
 
   pub AreTested : Fields → List ℕ → ℕ → ℕ → Type 0

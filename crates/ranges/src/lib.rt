@@ -10,6 +10,7 @@ mod bools;
 mod caps;
 mod cases;
 mod chars;
+mod flags;
 mod numbers;
 mod rows;
 
@@ -18,5 +19,6 @@ pub use bools::cross_bools;
 pub use caps::caps_of;
 pub use cases::cross_cases;
 pub use chars::cross_chars;
+pub use flags::cross_flags;
 pub use numbers::{cross_numbers, number_width};
 pub use rows::{Rows, rows_of};

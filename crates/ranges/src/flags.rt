@@ -1,0 +1,76 @@
+//! Flags, which cross as they are where no bit stands behind their labels.
+ghost use Rattle.std.specs.Prelude.{◌≡◌, ◌⊎◌, ℕ, ◌+◌, ◌*◌, ◌^◌, ◌<◌, ◌≤◌, length, IsTrue};
+ghost use Rattle.canonical_abi.specs.Layout.{flags_size};
+ghost use Rattle.canonical_abi.specs.Reading.{number_at, byte_width};
+ghost use Rattle.canonical_abi.specs.Types.{flags_type};
+ghost use Rattle.ranges.specs.Bytewise.{Crosses};
+
+use crate::blend::{Caps, cross_range};
+use canonical_abi::Guest;
+use lift_lower::nodes::{flags_bytes, low_flags, number_of_size};
+
+/// The most flags that are tested before they are written.
+const FLAGS: usize = 1024;
+
+/// Whether numbers of so many bytes are at most this one. By itself, over a slice of its own, this loop is made into vector code.
+#[inline(never)]
+fn are_at_most(part: &[u8], width: usize, count: usize, most: u32) -> bool
+    requires known { (width ≡ 1) ⊎ ((width ≡ 2) ⊎ (width ≡ 4)) }
+    requires few { count < 2 ^ 32 }
+    requires inside { count * width ≤ length part.now }
+    ensures { IsTrue result → (i : ℕ) → i < count → number_at part.now (i * width) (byte_width width) ≤ most }
+{
+    let mut bad: u32 = 0;
+    for i in 0..count {
+        bad += u32::from(number_of_size(part, i * width, width) > most);
+    }
+    bad == 0
+}
+
+/// Whether so many flags stand one after another, with no bit behind their labels.
+#[inline(always)]
+fn are_flags(labels: usize, memory: &[u8], from: usize, count: usize) -> bool
+    requires few { count < 2 ^ 32 }
+    requires inside { from + count * flags_size labels ≤ length memory.now }
+    ensures { IsTrue result → (i : ℕ) → i < count → number_at memory.now (from + i * flags_size labels) (byte_width (flags_size labels)) < 2 ^ labels }
+{
+    let width = flags_bytes(labels);
+    let most = low_flags(u32::MAX, labels);
+    let part = &memory[from..from + count * width];
+    are_at_most(part, width, count, most)
+}
+
+/// Crosses flags up to the chunk with the first that has a bit behind its labels. Answers how many crossed.
+pub fn cross_flags<G: Guest>(
+    labels: usize,
+    source: &[u8],
+    from: usize,
+    count: usize,
+    guest: &mut G,
+    to: usize,
+) -> usize
+    requires inside { from + count * flags_size labels ≤ length source.now }
+    requires room { to + count * flags_size labels ≤ length (G.memory guest.old).bytes }
+    requires small { to + count * flags_size labels < 2 ^ 32 }
+    ensures within { result ≤ count }
+    ensures crosses { Crosses (flags_type labels) source.now from result G.allocates (G.memory guest.old) to (G.memory guest.new) }
+    ensures same_length { length (G.memory guest.new).bytes ≡ length (G.memory guest.old).bytes }
+{
+    let step = flags_bytes(labels);
+    let flags = Caps {
+        size: step,
+        nodes: 1,
+        bytes: [255; 256],
+    };
+    let mut done = 0;
+    while done < count {
+        let part = FLAGS.min(count - done);
+        let start = from + done * step;
+        if !are_flags(labels, source, start, part) {
+            return done;
+        }
+        cross_range(&flags, source, start, part, guest, to + done * step);
+        done += part;
+    }
+    done
+}
