@@ -385,7 +385,11 @@ fn copy_maybes_by_choice(source: &[u8], count: usize, target: &mut [u8]) -> bool
             copied[1] = if place[0] == 0 { copied[1] } else { place[1] };
             copied[4] = place[4];
             for index in 8..12 {
-                copied[index] = if place[4] == 0 { copied[index] } else { place[index] };
+                copied[index] = if place[4] == 0 {
+                    copied[index]
+                } else {
+                    place[index]
+                };
             }
         }
         if bad > 0 {

@@ -42,7 +42,7 @@ def calls_program(folder):
 def times_of(host, calls):
     """The nanoseconds that both programs tell, by name."""
     found = dict(line.split() for line in run.answer_of(host).splitlines())
-    found["link"] = re.search(r"`u32`: (\d+) nanoseconds", run.answer_of(calls, "short")).group(1)
+    found["link"] = re.search(r"\| a `u32` \| (\d+) \|", run.answer_of(calls, "short")).group(1)
     return {name: float(time) for name, time in found.items()}
 
 
