@@ -92,6 +92,8 @@ check install install_to "$work/prefix"
 check program calls "$work/prefix/bin/witcall"
 check wit-explain explains "$work/prefix/bin/wit-explain"
 check wit-explain-man cmp packaging/wit-explain.1 "$work/prefix/share/man/man1/wit-explain.1"
+check wit-explain-zsh cmp packaging/completions/_wit-explain "$work/prefix/share/zsh/site-functions/_wit-explain"
+check wit-explain-fish cmp packaging/completions/wit-explain.fish "$work/prefix/share/fish/vendor_completions.d/wit-explain.fish"
 check library builds "$work/prefix"
 check manifest is_listed "$work/prefix"
 check again is_same_again

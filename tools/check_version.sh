@@ -20,7 +20,7 @@ compare() {
 
 echo "$version" | grep -qE '^[0-9]+\.[0-9]+\.[0-9]+$' || { echo "VERSION is no version of three numbers"; exit 1; }
 compare include/witcall.h "$(sed -n 's/^#define WITCALL_VERSION "\(.*\)".*/\1/p' include/witcall.h)"
-compare crates/explanation/src/help.rt "$(sed -n 's/^pub static VERSION.*"wit-explain \([^\\"]*\).*/\1/p' crates/explanation/src/help.rt | grep . || echo none)"
+compare crates/explain_words/src/help.rt "$(sed -n 's/^pub static VERSION.*"wit-explain \([^\\"]*\).*/\1/p' crates/explain_words/src/help.rt | grep . || echo none)"
 # in the library's sources, each text that is a version and nothing else
 compare crates/witcall_c/src "$(grep -rhoE '"[0-9]+\.[0-9]+\.[0-9]+(\\0)?"' crates/witcall_c/src | grep -oE '[0-9.]+[0-9]')"
 for program in witcall wit-explain; do

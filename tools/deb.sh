@@ -33,7 +33,7 @@ doc="$stage/usr/share/doc/witcall"
 
 rm "$doc/manifest"
 mkdir -p "$stage/usr/share/zsh/vendor-completions" "$stage/usr/share/lintian/overrides"
-mv "$stage/usr/share/zsh/site-functions/_witcall" "$stage/usr/share/zsh/vendor-completions"
+mv "$stage/usr/share/zsh/site-functions/"_wit* "$stage/usr/share/zsh/vendor-completions"
 rmdir "$stage/usr/share/zsh/site-functions"
 mv "$doc/CHANGELOG.md" "$doc/changelog"
 cat >"$doc/changelog.Debian" <<END

@@ -166,6 +166,8 @@ if [ -f "$work/wit-explain" ]; then
     put 755 "$work/wit-explain" bin/wit-explain
     put 644 packaging/wit-explain.1 share/man/man1/wit-explain.1
     put 644 packaging/completions/wit-explain.bash share/bash-completion/completions/wit-explain
+    put 644 packaging/completions/_wit-explain share/zsh/site-functions/_wit-explain
+    put 644 packaging/completions/wit-explain.fish share/fish/vendor_completions.d/wit-explain.fish
 fi
 put 644 "$work/libwitcall.a" "$libdir/libwitcall.a"
 put 644 include/witcall.h include/witcall.h

@@ -1,11 +1,24 @@
-# Completion of wit-explain for bash: the commands, --help and --version, and files.
+# Completion of wit-explain for bash: the commands, the options, and files.
 _wit_explain() {
-    local current=${COMP_WORDS[COMP_CWORD]}
+    local current=${COMP_WORDS[COMP_CWORD]} before=${COMP_WORDS[COMP_CWORD - 1]} options
+    # bash parts --color=always at the `=`
+    if [[ $before == = && $COMP_CWORD -gt 1 ]]; then
+        before=${COMP_WORDS[COMP_CWORD - 2]}
+    elif [[ $current == = ]]; then
+        before=${COMP_WORDS[COMP_CWORD - 1]} current=''
+    fi
     COMPREPLY=()
-    if [ "$COMP_CWORD" -eq 1 ]; then
+    if [[ $before == --color ]]; then
+        mapfile -t COMPREPLY < <(compgen -W 'auto always never' -- "$current")
+    elif [ "$COMP_CWORD" -eq 1 ]; then
         mapfile -t COMPREPLY < <(compgen -W 'check layout --help --version' -- "$current")
     elif [[ $current == -* ]]; then
-        mapfile -t COMPREPLY < <(compgen -W --help -- "$current")
+        case ${COMP_WORDS[1]} in
+            check) options='--json --color --help' ;;
+            layout) options='--svg --color --help' ;;
+            *) options=--help ;;
+        esac
+        mapfile -t COMPREPLY < <(compgen -W "$options" -- "$current")
     else
         compopt -o default
     fi

@@ -81,7 +81,7 @@ impl<'a> Checker<'a> {
         ensures { OnOk result (report.new.status ≡ 0 → (report.old.status ≡ 0) × (length self.new.checked.items ≡ length self.old.checked.items + 1)) }
     {
         if let Some(package) = self.first_bad(used) {
-            return report.leave_out(member.lexed.path, package);
+            return report.leave_out(self.alloc, &member.lexed, package);
         }
         match added(self.alloc, &mut self.set, member) {
             Ok(checked) => {

@@ -6,7 +6,6 @@
 
 mod checking;
 mod graph;
-mod help;
 mod members;
 mod running;
 mod sources;

@@ -1,20 +1,45 @@
 //! The commands.
 
 use crate::checking::{Checked, check_members};
-use crate::help::{CHECK, LAYOUT, PROGRAM, VERSION};
 use crate::members::members_of;
 use crate::sources::sources_of;
-use layout_picture::pictures;
-use std::alloc::{AllocError, Global};
+use explain_words::{ColorChoice, Options, VERSION, help_of, options_of, usage};
+use layout_picture::{Form, Sheet};
+use std::alloc::AllocError;
 use std::fmt::Write;
-use wit_faults::Report;
+use std::io::IsTerminal;
+use std::{env, fs};
+use wit_faults::{Paint, Report, Style};
 
-/// A report of a text.
-fn said(alloc: Global, text: &str, status: u8) -> Result<Report, AllocError> {
-    Ok(Report {
-        text: String::from_str(alloc, text)?,
-        status,
-    })
+/// Whether a variable of the environment has a text.
+fn is_set(rt: &HostRuntime, name: &str) -> bool {
+    match env::var(rt, name) {
+        Ok(value) => !value.is_empty(),
+        Err(_) => false,
+    }
+}
+
+/// Whether what is printed is colored: by default if it goes to a terminal and `NO_COLOR` has no text.
+fn paint_of(rt: &HostRuntime, choice: ColorChoice) -> Paint {
+    let is_colored = match choice {
+        ColorChoice::Always => true,
+        ColorChoice::Never => false,
+        ColorChoice::Auto => rt.stdout().is_terminal() && !is_set(rt, "NO_COLOR"),
+    };
+    if is_colored {
+        Paint::Colored
+    } else {
+        Paint::Plain
+    }
+}
+
+fn new_report(rt: &HostRuntime, options: &Options<'_>) -> Report {
+    let style = if options.is_json {
+        Style::Json
+    } else {
+        Style::Text(paint_of(rt, options.color))
+    };
+    Report::new(rt.alloc(), style)
 }
 
 /// Checks the files that these paths are or have. Names are checked once all texts can be read.
@@ -31,54 +56,100 @@ fn checked_paths(
     check_members(rt.alloc(), report, members.as_slice())
 }
 
-fn check(rt: &HostRuntime, paths: &[&str]) -> Result<Report, AllocError> {
-    let mut report = Report::new(rt.alloc());
+fn check(rt: &HostRuntime, options: &Options<'_>, paths: &[&str]) -> Result<Report, AllocError> {
+    let mut report = new_report(rt, options);
     let _packages = checked_paths(rt, &mut report, paths)?;
+    report.finish()?;
     Ok(report)
 }
 
 /// Draws the packages that are no dependencies.
-fn draw(
-    alloc: Global,
-    report: &mut Report,
-    packages: &[Checked],
-    wanted: Option<&str>,
-) -> Result<(), AllocError> {
+fn draw(sheet: &mut Sheet, packages: &[Checked], wanted: Option<&str>) -> Result<(), AllocError> {
     for package in packages {
         if !package.is_dependency {
-            let drawn = pictures(alloc, &package.tables, &package.layouts, wanted)?;
-            report.text.push_str(drawn.as_str())?;
+            sheet.draw(&package.tables, &package.layouts, wanted)?;
         }
     }
     Ok(())
 }
 
-fn layout(rt: &HostRuntime, path: &str, wanted: Option<&str>) -> Result<Report, AllocError> {
-    let mut report = Report::new(rt.alloc());
+/// Prints a picture, or writes it to a file that is not `-`.
+fn show(
+    rt: &HostRuntime,
+    report: &mut Report,
+    file: Option<&str>,
+    picture: &str,
+) -> Result<(), AllocError> {
+    match file {
+        Some(file) if file != "-" => {
+            if fs::write(rt, file, picture).is_err() {
+                report.status = 1;
+                writeln!(report.text, "{file}: error 65 write")?;
+            }
+        }
+        _ => report.text.push_str(picture)?,
+    }
+    Ok(())
+}
+
+fn layout(
+    rt: &HostRuntime,
+    options: &Options<'_>,
+    path: &str,
+    wanted: Option<&str>,
+) -> Result<Report, AllocError> {
+    let mut report = new_report(rt, options);
     let packages = checked_paths(rt, &mut report, &[path])?;
     if report.status != 0 {
         return Ok(report);
     }
-    draw(rt.alloc(), &mut report, packages.as_slice(), wanted)?;
+    let form = if options.svg.is_some() {
+        Form::Svg
+    } else {
+        Form::Boxes
+    };
+    let mut sheet = Sheet::new(rt.alloc(), form);
+    draw(&mut sheet, packages.as_slice(), wanted)?;
     if let Some(name) = wanted
-        && report.text.is_empty()
+        && sheet.is_empty()
     {
         report.status = 1;
         writeln!(report.text, "{path}: no type `{name}`")?;
+        return Ok(report);
     }
+    let picture = sheet.finish()?;
+    show(rt, &mut report, options.svg, picture.as_str())?;
     Ok(report)
+}
+
+/// Says what the program or a command does.
+fn help(rt: &HostRuntime, words: &[&str]) -> Result<Report, AllocError> {
+    match help_of(words.first().copied()) {
+        Some(text) => Report::said(rt.alloc(), text, 0),
+        None => Report::said(rt.alloc(), usage(), 2),
+    }
+}
+
+/// Does what the options and words ask for.
+fn run_options(rt: &HostRuntime, options: &Options<'_>) -> Result<Report, AllocError> {
+    let words = options.words.as_slice();
+    if options.is_help {
+        return help(rt, words);
+    }
+    let has_svg = options.svg.is_some();
+    match words {
+        ["--version"] => Report::said(rt.alloc(), VERSION, 0),
+        ["check", paths @ ..] if !paths.is_empty() && !has_svg => check(rt, options, paths),
+        ["layout", path] if !options.is_json => layout(rt, options, path, None),
+        ["layout", path, wanted] if !options.is_json => { layout(rt, options, path, Some(wanted)) }
+        _ => Report::said(rt.alloc(), usage(), 2),
+    }
 }
 
 /// Does what the words ask for, which come after the program's own name.
 pub fn run(rt: &HostRuntime, words: &[&str]) -> Result<Report, AllocError> {
-    match words {
-        ["--help"] => said(rt.alloc(), PROGRAM, 0),
-        ["--version"] => said(rt.alloc(), VERSION, 0),
-        ["check", "--help"] => said(rt.alloc(), CHECK, 0),
-        ["layout", "--help"] => said(rt.alloc(), LAYOUT, 0),
-        ["check", paths @ ..] if !paths.is_empty() => check(rt, paths),
-        ["layout", path] => layout(rt, path, None),
-        ["layout", path, wanted] => layout(rt, path, Some(wanted)),
-        _ => said(rt.alloc(), PROGRAM, 2),
+    match options_of(rt.alloc(), words)? {
+        Some(options) => run_options(rt, &options),
+        None => Report::said(rt.alloc(), usage(), 2),
     }
 }

@@ -13,6 +13,18 @@ pub struct Band {
     pub note: String,
 }
 
+impl Band {
+    /// Whether nothing is in these bytes.
+    pub fn is_padding(&self) -> bool {
+        match self.cells.as_slice() {
+            [cell] => cell.as_str() == PADDING,
+            _ => false,
+        }
+    }
+}
+
+static PADDING: &str = "padding";
+
 /// Where bytes lie.
 #[derive(Clone, Copy)]
 struct Extent {
@@ -61,7 +73,7 @@ impl Bands {
         let alloc = self.alloc;
         let size = offset.saturating_sub(self.end);
         if size > 0 {
-            let cell = String::from_str(alloc, "padding")?;
+            let cell = String::from_str(alloc, PADDING)?;
             let note = format!(in alloc; "size {size}")?;
             self.push_cell(self.end, cell, note)?;
             self.end = offset;

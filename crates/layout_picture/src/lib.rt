@@ -1,6 +1,6 @@
-//! Pictures of the bytes of types, for a terminal.
+//! Pictures of the bytes of types, for a terminal or as SVG.
 //!
-//! `pictures` draws each type of a package: its fields with their offsets, sizes and alignments, padding, and cases side by
+//! `Sheet::draw` draws each type of a package: its fields with their offsets, sizes and alignments, padding, and cases side by
 //! side. It adds the flat core values of each type and the two core signatures of each function. The numbers are those of
 //! `TypeLayout`, whose contracts speak of `canonical_abi`. It stands on `layout` and `tables`.
 #![tactic(auto)]
@@ -9,7 +9,9 @@ mod bands;
 mod boxes;
 mod names;
 mod picture;
+mod sheet;
 mod signatures;
+mod svg;
 mod type_layout;
 
-pub use picture::pictures;
+pub use sheet::{Form, Sheet};

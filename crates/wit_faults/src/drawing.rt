@@ -1,10 +1,11 @@
 //! A line of a text, with carets under a part of it.
 
-use crate::lexed::Lexed;
+use crate::paint::{Paint, Part};
 use source_lines::{Place, place_at};
 use std::alloc::{AllocError, Global};
 use std::fmt::Write;
 use unicode_width::UnicodeWidthChar;
+use wit_places::Lexed;
 use wit_text::Span;
 
 /// The columns that a character takes in a terminal. A tab is told apart by the caller.
@@ -56,23 +57,45 @@ fn covered(behind: &str, span: Span) -> &str {
     behind.get(..length).unwrap_or(behind)
 }
 
+/// Appends what stands before a line or its carets: a number or as many blanks, and a bar.
+fn push_gutter(out: &mut String, paint: Paint, number: &str) -> Result<(), AllocError> {
+    paint.begin(out, Part::Gutter)?;
+    write!(out, " {number} |")?;
+    paint.end(out)?;
+    out.push(' ')
+}
+
+/// A fault as it is shown: of which file, where, what it is, and what to do about it.
+#[derive(Drop)]
+pub struct Fault<'a> {
+    pub lexed: &'a Lexed<'a>,
+    pub span: Option<Span>,
+    pub words: &'a str,
+    /// No text if there is nothing to say.
+    pub hint: &'a str,
+}
+
 /// Appends the line of a place, and carets under what the span covers.
 fn push_line(
     alloc: Global,
     out: &mut String,
+    paint: Paint,
     place: &Place<'_>,
     span: Span,
 ) -> Result<(), AllocError> {
     let number = place.line.to_string(alloc)?;
     let behind = place.behind.strip_suffix("\r").unwrap_or(place.behind);
-    write!(out, " {} | ", number.as_str())?;
+    push_gutter(out, paint, number.as_str())?;
     push_shown(out, place.before)?;
     push_shown(out, behind)?;
-    out.push_str("\n ")?;
-    push_times(out, ' ', number.len())?;
-    out.push_str(" | ")?;
+    out.push('\n')?;
+    let mut blanks = String::new(alloc);
+    push_times(&mut blanks, ' ', number.len())?;
+    push_gutter(out, paint, blanks.as_str())?;
     push_blanks(out, place.before)?;
+    paint.begin(out, Part::Carets)?;
     push_times(out, '^', carets(covered(behind, span)))?;
+    paint.end(out)?;
     out.push('\n')
 }
 
@@ -82,20 +105,43 @@ fn found(text: &str, span: Option<Span>) -> Option<(Span, Place<'_>)> {
     Some((span, place_at(text, span.start)?))
 }
 
-/// Appends `file:line:column: words`, and the line with carets under the span. Without a place in the text, the file alone.
-pub fn push_at(
+/// Appends the line that says what a fault is.
+fn push_head(
+    out: &mut String,
+    paint: Paint,
+    fault: &Fault<'_>,
+    place: Option<&Place<'_>>,
+) -> Result<(), AllocError> {
+    let path = fault.lexed.path;
+    paint.begin(out, Part::Place)?;
+    match place {
+        Some(place) => write!(out, "{path}:{}:{}:", place.line, place.column)?,
+        None => write!(out, "{path}:")?,
+    }
+    paint.end(out)?;
+    out.push(' ')?;
+    paint.push(out, Part::Words, fault.words)?;
+    out.push('\n')
+}
+
+/// Appends `file:line:column: words`, the line with carets under the span, and the hint. Without a place in the text, no line.
+pub fn push_fault(
     alloc: Global,
     out: &mut String,
-    lexed: &Lexed<'_>,
-    span: Option<Span>,
-    words: &str,
+    paint: Paint,
+    fault: &Fault<'_>,
 ) -> Result<(), AllocError> {
-    let path = lexed.path;
-    let Some((span, place)) = found(lexed.text, span) else {
-        writeln!(out, "{path}: {words}")?;
-        return Ok(());
-    };
-    let (line, column) = (place.line, place.column);
-    writeln!(out, "{path}:{line}:{column}: {words}")?;
-    push_line(alloc, out, &place, span)
+    match found(fault.lexed.text, fault.span) {
+        Some((span, place)) => {
+            push_head(out, paint, fault, Some(&place))?;
+            push_line(alloc, out, paint, &place, span)?;
+        }
+        None => push_head(out, paint, fault, None)?,
+    }
+    if !fault.hint.is_empty() {
+        out.push_str("   = ")?;
+        paint.push(out, Part::Hint, fault.hint)?;
+        out.push('\n')?;
+    }
+    Ok(())
 }

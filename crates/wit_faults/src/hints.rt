@@ -1,13 +1,14 @@
 //! What to do about a fault, as docs/ERRORS.md has it.
 
 use crate::cause::Cause;
-use crate::lexed::{Lexed, PackageRef};
 use layout::LayoutError;
 use package_adding::AttachError;
+use source_lines::place_at;
 use std::alloc::{AllocError, Global};
 use strsim::levenshtein;
 use tables::{PackageName, ResolveError};
-use wit_text::{Expected, Feature, Span, TextError, TokenKind};
+use wit_places::{Declarations, Lexed, PackageRef};
+use wit_text::{Expected, Feature, Keyword, Punctuation, Span, TextError, TokenKind};
 
 static MORE_MEMORY: &str = "give the process more memory";
 
@@ -48,15 +49,61 @@ fn of_word(alloc: Global, word: &str) -> Result<String, AllocError> {
     )
 }
 
-/// If a keyword stands where a name has to come, that it can be escaped.
+/// Whether a type has to come after this token.
+fn precedes_type(kind: TokenKind) -> bool {
+    matches!(
+        kind,
+        TokenKind::Punctuation(
+            Punctuation::Colon | Punctuation::Less | Punctuation::Arrow | Punctuation::Equals
+        )
+    )
+}
+
+/// If a keyword stands where a name has to come, that it can be escaped; where a type has to come, that it is none.
 fn of_keyword(alloc: Global, lexed: &Lexed<'_>, span: Span) -> Result<String, AllocError> {
-    for token in lexed.tokens.as_slice() {
-        if token.span == span && matches!(token.kind, TokenKind::Keyword(_)) {
-            let word = lexed.at(span);
-            return format!(in alloc; "`{word}` is a keyword: write `%{word}`");
+    let word = lexed.at(span);
+    let before = lexed.kind_before(span).unwrap_or(TokenKind::Integer);
+    match lexed.kind_of(span) {
+        Some(TokenKind::Keyword(Keyword::Func)) if precedes_type(before) => {
+            String::from_str(
+                alloc,
+                "a type has to come here; is a `}` missing before the function?",
+            )
         }
+        Some(TokenKind::Keyword(_)) if precedes_type(before) => {
+            format!(in alloc; "a type has to come here, and `{word}` begins none")
+        }
+        Some(TokenKind::Keyword(_)) => {
+            format!(in alloc; "`{word}` is a keyword: write `%{word}`")
+        }
+        _ => Ok(String::new(alloc)),
     }
-    Ok(String::new(alloc))
+}
+
+/// The words of other languages that begin a function.
+static FUNCTIONS: [&str; 5] = ["fn", "fun", "function", "def", "func"];
+
+/// What to write for a mark that is missing: after the token before it, if this is in an earlier line.
+fn of_mark(
+    alloc: Global,
+    lexed: &Lexed<'_>,
+    mark: Punctuation,
+    span: Span,
+) -> Result<String, AllocError> {
+    let Some(before) = lexed.span_before(span) else {
+        return format!(in alloc; "write `{mark}` before it");
+    };
+    let (word, next) = (lexed.at(before), lexed.at(span));
+    if mark == Punctuation::Colon && FUNCTIONS.contains(&word) {
+        return format!(in alloc; "a function is written `{next}: func(..)`");
+    }
+    let line = place_at(lexed.text, before.start);
+    match (line, place_at(lexed.text, span.start)) {
+        (Some(earlier), Some(place)) if earlier.line < place.line => {
+            format!(in alloc; "write `{mark}` after `{word}`, in line {}", earlier.line)
+        }
+        _ => format!(in alloc; "write `{mark}` before it"),
+    }
 }
 
 fn of_feature(feature: Feature) -> &'static str {
@@ -68,14 +115,39 @@ fn of_feature(feature: Feature) -> &'static str {
     }
 }
 
+/// What to do if another token has to come.
+fn of_expected(
+    alloc: Global,
+    lexed: &Lexed<'_>,
+    expected: Expected,
+    span: Span,
+) -> Result<String, AllocError> {
+    if lexed.is_underscore(span) {
+        return String::from_str(alloc, "names are joined by `-`, not by `_`");
+    }
+    match expected {
+        Expected::Keyword(Keyword::Package) => String::from_str(
+            alloc,
+            "begin the file with `package NAMESPACE:NAME;`: each file is a package of its own",
+        ),
+        Expected::Punctuation(Punctuation::Semicolon) => {
+            of_mark(alloc, lexed, Punctuation::Semicolon, span)
+        }
+        _ if span.start >= lexed.text.len() => {
+            String::from_str(alloc, "the file ends here; is a `}` missing?")
+        }
+        Expected::Punctuation(mark) => of_mark(alloc, lexed, mark, span),
+        Expected::Identifier => of_keyword(alloc, lexed, span),
+        _ => Ok(String::new(alloc)),
+    }
+}
+
 fn of_text(alloc: Global, lexed: &Lexed<'_>, error: &TextError) -> Result<String, AllocError> {
     let hint = match error {
         TextError::BadChar(span) => return of_word(alloc, lexed.at(*span)),
-        TextError::Expected(Expected::Identifier, span) => return of_keyword(alloc, lexed, *span),
-        TextError::Expected(Expected::Punctuation(mark), _) => {
-            return format!(in alloc; "write `{mark}` before it");
+        TextError::Expected(expected, span) => {
+            return of_expected(alloc, lexed, *expected, *span);
         }
-        TextError::Expected(_, _) => "",
         TextError::OpenComment(_) => "close it with `*/`; comments nest",
         TextError::Unsupported(feature, _) => of_feature(*feature),
         TextError::Depth(_) => "give a part of the type a name",
@@ -121,7 +193,45 @@ fn nearest<'a>(
     Ok(best)
 }
 
+/// Types of other languages, with the types of WIT for them.
+static OTHER_TYPES: [(&str, &str); 18] = [
+    ("int", "s32"),
+    ("i32", "s32"),
+    ("integer", "s32"),
+    ("uint", "u32"),
+    ("unsigned", "u32"),
+    ("number", "u32"),
+    ("i8", "s8"),
+    ("i16", "s16"),
+    ("short", "s16"),
+    ("i64", "s64"),
+    ("long", "s64"),
+    ("byte", "u8"),
+    ("usize", "u32"),
+    ("boolean", "bool"),
+    ("str", "string"),
+    ("text", "string"),
+    ("array", "list"),
+    ("vec", "list"),
+];
+
+/// The type of WIT for one of another language.
+fn wit_type(word: &str) -> Option<&'static str> {
+    for (other, name) in &OTHER_TYPES {
+        if *other == word {
+            return Some(*name);
+        }
+    }
+    None
+}
+
 fn of_unknown(alloc: Global, lexed: &Lexed<'_>, word: &str) -> Result<String, AllocError> {
+    if let Some(interface) = Declarations::of(alloc, lexed)?.interface_with(word) {
+        return format!(in alloc; "write `use {interface}.{{{word}}};` in this interface");
+    }
+    if let Some(name) = wit_type(word) {
+        return format!(in alloc; "no `{word}` here; WIT has `{name}`");
+    }
     match nearest(alloc, lexed, word)? {
         Some((_, name)) => format!(in alloc; "no `{word}` here; did you mean `{name}`?"),
         None => {
@@ -141,7 +251,7 @@ fn of_package(
             return format!(in alloc; "package `{name}` is not here; there is `{other}`");
         }
     }
-    format!(in alloc; "give the file of package `{name}` too")
+    format!(in alloc; "give the file of package `{name}` too, or put it into the folder `deps`")
 }
 
 fn of_names(
@@ -170,7 +280,8 @@ fn of_set(
 ) -> Result<String, AllocError> {
     let hint = match error {
         AttachError::NoPackage(name) => return of_package(alloc, known, name),
-        AttachError::SamePackage(_) => "give each package once, in one file",
+        AttachError::SamePackage(_) =>
+            "a package is one file here: put what the files of this package have into one",
         AttachError::SetLimit => "leave out packages that are not used",
         AttachError::NotThisShape => "",
         AttachError::NoMemory => MORE_MEMORY,

@@ -8,11 +8,13 @@
 mod cause;
 mod drawing;
 mod hints;
-mod lexed;
+mod json;
+mod paint;
 mod places;
 mod report;
 
 pub use cause::{Cause, ReadError};
-pub use lexed::{Lexed, PackagePath, PackageRef};
+pub use paint::{Paint, Part};
 pub use places::first_path;
-pub use report::Report;
+pub use report::{Report, Style};
+pub use wit_places::{Lexed, PackagePath, PackageRef};

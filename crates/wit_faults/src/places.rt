@@ -1,9 +1,10 @@
 //! Where a fault stands in its text.
 
 use crate::cause::Cause;
-use crate::lexed::{Lexed, PackageRef};
 use package_adding::AttachError;
+use std::alloc::{AllocError, Global};
 use tables::ResolveError;
+use wit_places::{Declarations, Lexed, PackageRef};
 use wit_text::{Span, TextError};
 
 /// The first place where a name is used.
@@ -52,28 +53,48 @@ fn of_text(error: &TextError) -> Option<Span> {
     }
 }
 
-fn of_names(lexed: &Lexed<'_>, error: &ResolveError) -> Option<Span> {
+/// Where a name is used that stands for nothing: first where its interface declares no such type.
+fn of_unknown(alloc: Global, lexed: &Lexed<'_>, name: &str) -> Result<Option<Span>, AllocError> {
+    let place = Declarations::of(alloc, lexed)?.undeclared(lexed, name);
+    Ok(place.or(first_use(lexed, name)))
+}
+
+fn of_names(
+    alloc: Global,
+    lexed: &Lexed<'_>,
+    error: &ResolveError,
+) -> Result<Option<Span>, AllocError> {
     match error {
-        ResolveError::Duplicate(name) => second_place(lexed, name.as_str()),
-        ResolveError::Unknown(label) => first_use(lexed, label.as_str()),
-        ResolveError::NoPackage(name) => first_path(lexed, PackageRef::of_tables(name)),
-        _ => None,
+        ResolveError::Duplicate(name) => Ok(second_place(lexed, name.as_str())),
+        ResolveError::Unknown(label) => of_unknown(alloc, lexed, label.as_str()),
+        ResolveError::NoPackage(name) => Ok(first_path(lexed, PackageRef::of_tables(name))),
+        ResolveError::Cycle => Declarations::of(alloc, lexed)?.ring(alloc, lexed),
+        ResolveError::Limit => Ok(Declarations::of(alloc, lexed)?.long_flags(lexed)),
+        _ => Ok(None),
     }
 }
 
-/// Where a fault stands: the place that it tells, the name that it tells, or the name of the package.
-pub fn place_of(lexed: &Lexed<'_>, cause: &Cause) -> Option<Span> {
-    match cause {
-        Cause::Read(_) => None,
-        Cause::NotUtf8(place) => Some(Span {
-            start: *place,
-            end: *place,
-        }),
-        Cause::Text(error) => of_text(error),
-        Cause::Resolve(error) => of_names(lexed, error).or(lexed.header()),
-        Cause::Attach(AttachError::NoPackage(name)) => {
-            first_path(lexed, PackageRef::of_tables(name)).or(lexed.header())
+/// Where a fault stands: the place that it tells, that of the name that it tells, of the type that has it, or the name of the
+/// package.
+pub fn place_of(
+    alloc: Global,
+    lexed: &Lexed<'_>,
+    cause: &Cause,
+) -> Result<Option<Span>, AllocError> {
+    let place = match cause {
+        Cause::Read(_) => return Ok(None),
+        Cause::NotUtf8(place) => {
+            return Ok(Some(Span {
+                start: *place,
+                end: *place,
+            }));
         }
-        Cause::Attach(_) | Cause::Layout(_) => lexed.header(),
-    }
+        Cause::Text(error) => return Ok(of_text(error)),
+        Cause::Resolve(error) => of_names(alloc, lexed, error)?,
+        Cause::Attach(AttachError::NoPackage(name)) => {
+            first_path(lexed, PackageRef::of_tables(name))
+        }
+        Cause::Attach(_) | Cause::Layout(_) => None,
+    };
+    Ok(place.or(lexed.header()))
 }

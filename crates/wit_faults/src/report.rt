@@ -1,32 +1,84 @@
 //! What is printed, and the exit status.
-ghost use Rattle.std.specs.Prelude.{◌≡◌, [], OnOk, string_bytes};
+ghost use Rattle.std.specs.Prelude.{◌≡◌, [], IfOk, OnOk, string_bytes};
 
 use crate::cause::Cause;
-use crate::drawing::push_at;
+use crate::drawing::{Fault, push_fault};
 use crate::hints::hint_of;
-use crate::lexed::{Lexed, PackageRef};
+use crate::json::push_object;
+use crate::paint::Paint;
 use crate::places::place_of;
 use std::alloc::{AllocError, Global};
-use std::fmt::Write;
+use wit_places::{Lexed, PackageRef};
 use wit_text::Span;
+
+/// How faults are written.
+#[derive(Clone, Copy, Debug, PartialEq, Eq)]
+pub enum Style {
+    /// As text.
+    Text(Paint),
+    /// As an array of objects.
+    Json,
+}
 
 /// What is printed, and the exit status: 0, 1 for faults, 2 for words that are no command.
 #[derive(Debug, Drop)]
 pub struct Report {
     pub text: String,
     pub status: u8,
+    style: Style,
 }
 
 impl Report {
     /// Nothing yet, and no fault.
-    pub fn new(alloc: Global) -> Report
+    pub fn new(alloc: Global, style: Style) -> Report
         ensures text { string_bytes result.text ≡ [] }
         ensures status { result.status ≡ 0 }
     {
         Report {
             text: String::new(alloc),
             status: 0,
+            style,
         }
+    }
+
+    /// A text that is no fault.
+    pub fn said(alloc: Global, text: &str, status: u8) -> Result<Report, AllocError>
+        ensures { IfOk result (λ report. report.status ≡ status) }
+    {
+        Ok(Report {
+            text: String::from_str(alloc, text)?,
+            status,
+            style: Style::Text(Paint::Plain),
+        })
+    }
+
+    /// Appends a fault in the report's style.
+    fn push(&mut self, alloc: Global, fault: &Fault<'_>) -> Result<(), AllocError>
+        ensures { self.new.status ≡ self.old.status }
+    {
+        match self.style {
+            Style::Text(paint) => push_fault(alloc, &mut self.text, paint, fault),
+            Style::Json => {
+                let before = if self.text.is_empty() { "[\n" } else { ",\n" };
+                self.text.push_str(before)?;
+                push_object(&mut self.text, fault)
+            }
+        }
+    }
+
+    /// Ends the report: of JSON, with the end of the array.
+    pub fn finish(&mut self) -> Result<(), AllocError>
+        ensures { self.new.status ≡ self.old.status }
+    {
+        if self.style == Style::Json {
+            let end = if self.text.is_empty() {
+                "[]\n"
+            } else {
+                "\n]\n"
+            };
+            self.text.push_str(end)?;
+        }
+        Ok(())
     }
 
     /// Adds a fault at a place of a text: words, the line with carets, and a hint if there is one.
@@ -41,11 +93,13 @@ impl Report {
         ensures { OnOk result (self.new.status ≡ 1) }
     {
         self.status = 1;
-        push_at(alloc, &mut self.text, lexed, span, words)?;
-        if !hint.is_empty() {
-            writeln!(self.text, "   = {hint}")?;
-        }
-        Ok(())
+        let fault = Fault {
+            lexed,
+            span,
+            words,
+            hint,
+        };
+        self.push(alloc, &fault)
     }
 
     /// Adds a fault of a text, with its place and its hint. Packages that are known are those that the hint may name.
@@ -60,19 +114,20 @@ impl Report {
     {
         let words = format!(in alloc; "{cause}")?;
         let hint = hint_of(alloc, lexed, known, cause)?;
-        let place = place_of(lexed, cause);
+        let place = place_of(alloc, lexed, cause)?;
         self.add_at(alloc, lexed, place, words.as_str(), hint.as_str())
     }
 
     /// Adds that a file was not checked, since it depends on a package with a fault.
-    pub fn leave_out(&mut self, path: &str, package: PackageRef<'_>) -> Result<(), AllocError>
+    pub fn leave_out(
+        &mut self,
+        alloc: Global,
+        lexed: &Lexed<'_>,
+        package: PackageRef<'_>,
+    ) -> Result<(), AllocError>
         ensures { OnOk result (self.new.status ≡ 1) }
     {
-        self.status = 1;
-        writeln!(
-            self.text,
-            "{path}: not checked: it depends on {package}, which has a fault"
-        )?;
-        Ok(())
+        let words = format!(in alloc; "not checked: it depends on {package}, which has a fault")?;
+        self.add_at(alloc, lexed, None, words.as_str(), "")
     }
 }

@@ -102,6 +102,32 @@ impl<'a> Lexed<'a> {
         }
     }
 
+    /// The token at a span, by its number.
+    fn index_of(&self, span: Span) -> Option<usize> {
+        self.tokens.iter().position(|token| token.span == span)
+    }
+
+    /// What the token at a span is.
+    pub fn kind_of(&self, span: Span) -> Option<TokenKind> {
+        Some(self.tokens.get(self.index_of(span)?)?.kind)
+    }
+
+    /// The span of the token before the one at a span. Of the end of the text, that of the last token.
+    pub fn span_before(&self, span: Span) -> Option<Span> {
+        let index = self.index_of(span).unwrap_or(self.tokens.len());
+        self.span_at(index.checked_sub(1)?)
+    }
+
+    /// What the token before the one at a span is.
+    pub fn kind_before(&self, span: Span) -> Option<TokenKind> {
+        self.kind_of(self.span_before(span)?)
+    }
+
+    /// Whether the token at a span is `_`.
+    pub fn is_underscore(&self, span: Span) -> bool {
+        self.kind_of(span) == Some(TokenKind::Punctuation(Punctuation::Underscore))
+    }
+
     fn is_mark(&self, index: usize, mark: Punctuation) -> bool {
         match self.tokens.get(index) {
             Some(token) => token.kind == TokenKind::Punctuation(mark),

@@ -1,0 +1,50 @@
+//! Help and version.
+
+/// The program and its version.
+pub static VERSION: &str = "wit-explain 0.1.0\n";
+
+static PROGRAM: &str = "\
+wit-explain: faults of WIT files with their lines, and pictures of their types
+
+usage: wit-explain check [--json] PATH..
+       wit-explain layout [--svg FILE] PATH [TYPE]
+       wit-explain COMMAND --help
+       wit-explain --help | --version
+
+A PATH is a file, a folder with `.wit` files and its dependencies in `deps`, or `-` for standard input.
+--color auto|always|never says when faults are colored. `auto` is if standard output is a terminal and the environment
+variable NO_COLOR is not set.
+Exit status: 0 if all is well, 1 after a fault, 2 if the words are no command.
+";
+
+static CHECK: &str = "\
+usage: wit-explain check [--json] [--color WHEN] PATH..
+
+Checks the packages of these files, each after those that it depends on. Prints each fault: the file, line and column,
+the error's number and words, the line with the place marked, and a hint. Prints nothing if all is well.
+With --json, prints the faults as an array of objects.
+";
+
+static LAYOUT: &str = "\
+usage: wit-explain layout [--svg FILE] [--color WHEN] PATH [TYPE]
+
+Draws the bytes of the types of these files, or of those named TYPE: each field with its offset, size and alignment,
+padding, the cases of a variant side by side, and the flat core values. Without TYPE, the two core signatures of each
+function too. Dependencies are read and not drawn. With --svg, writes the pictures to FILE as SVG, or to standard output
+if FILE is `-`.
+";
+
+/// The help of the program, or that of a command. None if there is no such command.
+pub fn help_of(command: Option<&str>) -> Option<&'static str> {
+    match command {
+        None => Some(PROGRAM),
+        Some("check") => Some(CHECK),
+        Some("layout") => Some(LAYOUT),
+        Some(_) => None,
+    }
+}
+
+/// The help for words that are no command.
+pub fn usage() -> &'static str {
+    PROGRAM
+}

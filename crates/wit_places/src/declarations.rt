@@ -1,0 +1,222 @@
+//! What a text declares, and where.
+
+use crate::lexed::Lexed;
+use crate::rings::place_on_ring;
+use std::alloc::{AllocError, Global};
+use tables::Sequence;
+use wit_text::{Keyword, Punctuation, Span, TokenKind};
+
+/// A declaration of a type, an interface or a world.
+#[derive(Clone, Copy, Debug, PartialEq, Eq)]
+pub struct Declaration<'a> {
+    pub name: &'a str,
+    /// The keyword that it begins with.
+    pub keyword: Keyword,
+    /// The number of the interface or world that it is, or that it is in.
+    pub scope: usize,
+    /// The token of its name.
+    pub at: usize,
+}
+
+/// The declarations of a text, in its order.
+#[derive(Debug, Drop)]
+pub struct Declarations<'a> {
+    list: Vec<Declaration<'a>>,
+}
+
+/// The most declarations among which a type that contains itself is looked for.
+const MAX_LOOKED_AT: usize = 4096;
+
+/// The most labels of flags.
+const MAX_FLAGS: usize = 32;
+
+/// Whether a keyword begins the declaration of a type.
+fn declares_type(keyword: Keyword) -> bool {
+    matches!(
+        keyword,
+        Keyword::Record | Keyword::Variant | Keyword::Enum | Keyword::Flags | Keyword::Type
+    )
+}
+
+/// Whether a keyword begins an interface or a world.
+fn opens_scope(keyword: Keyword) -> bool {
+    matches!(keyword, Keyword::Interface | Keyword::World)
+}
+
+/// Whether a token ends the declaration of a type.
+fn ends_type(kind: TokenKind) -> bool {
+    matches!(
+        kind,
+        TokenKind::Punctuation(Punctuation::Semicolon | Punctuation::CloseBrace)
+    )
+}
+
+/// How many brackets are open after a token, if so many were before it.
+fn open_after(kind: TokenKind, open: usize) -> usize {
+    match kind {
+        TokenKind::Punctuation(Punctuation::Less | Punctuation::OpenParenthesis) => {
+            open.saturating_add(1)
+        }
+        TokenKind::Punctuation(Punctuation::Greater | Punctuation::CloseParenthesis) => {
+            open.saturating_sub(1)
+        }
+        _ => open,
+    }
+}
+
+/// Whether a type comes after a token in a declaration in which so many brackets are open.
+fn precedes_type(kind: TokenKind, open: usize) -> bool {
+    match kind {
+        TokenKind::Punctuation(
+            Punctuation::Less
+            | Punctuation::OpenParenthesis
+            | Punctuation::Colon
+            | Punctuation::Equals,
+        ) => true,
+        TokenKind::Punctuation(Punctuation::Comma) => open > 0,
+        _ => false,
+    }
+}
+
+/// The names of types in the declaration whose name is at a token.
+fn types_in<'a>(alloc: Global, lexed: &Lexed<'a>, at: usize) -> Result<Vec<&'a str>, AllocError> {
+    let mut names = Vec::new(alloc);
+    let mut open: usize = 0;
+    for index in at..lexed.tokens.len() {
+        let Some(token) = lexed.tokens.get(index) else {
+            break;
+        };
+        if ends_type(token.kind) {
+            break;
+        }
+        open = open_after(token.kind, open);
+        if precedes_type(token.kind, open)
+            && let Some(name) = lexed.name_at(index.saturating_add(1))
+        {
+            names.push(name)?;
+        }
+    }
+    Ok(names)
+}
+
+/// How many labels the enum or the flags have whose name is at a token.
+fn labels_in(lexed: &Lexed<'_>, at: usize) -> usize {
+    let mut count: usize = 0;
+    for index in at.saturating_add(1)..lexed.tokens.len() {
+        match lexed.tokens.get(index) {
+            Some(token) if !ends_type(token.kind) => {
+                count = count.saturating_add(usize::from(token.kind == TokenKind::Identifier));
+            }
+            _ => break,
+        }
+    }
+    count
+}
+
+impl<'a> Declarations<'a> {
+    /// The declarations of a text.
+    pub fn of(alloc: Global, lexed: &Lexed<'a>) -> Result<Declarations<'a>, AllocError> {
+        let mut list = Vec::new(alloc);
+        let mut scope: usize = 0;
+        for (index, token) in lexed.tokens.iter().enumerate() {
+            let TokenKind::Keyword(keyword) = token.kind else {
+                continue;
+            };
+            let at = index.saturating_add(1);
+            scope = scope.saturating_add(usize::from(opens_scope(keyword)));
+            if let Some(name) = lexed.name_at(at)
+                && (declares_type(keyword) || opens_scope(keyword))
+            {
+                list.push(Declaration {
+                    name,
+                    keyword,
+                    scope,
+                    at,
+                })?;
+            }
+        }
+        Ok(Declarations { list })
+    }
+
+    /// The place in the list of the declaration of a name in a scope.
+    fn place_of(&self, scope: usize, name: &str) -> Option<usize> {
+        self.list.iter().position(|declaration| declaration.scope == scope
+            && declaration.name == name)
+    }
+
+    /// The name of the first flags that have too many labels.
+    pub fn long_flags(&self, lexed: &Lexed<'_>) -> Option<Span> {
+        for declaration in &self.list {
+            if declaration.keyword == Keyword::Flags
+                && labels_in(lexed, declaration.at) > MAX_FLAGS
+            {
+                return lexed.span_at(declaration.at);
+            }
+        }
+        None
+    }
+
+    /// The places of the declarations in the same scope that a type names.
+    fn uses_of(
+        &self,
+        alloc: Global,
+        lexed: &Lexed<'_>,
+        declaration: &Declaration<'_>,
+    ) -> Result<Sequence<usize>, AllocError> {
+        let mut used = Vec::new(alloc);
+        if declares_type(declaration.keyword) {
+            let names = types_in(alloc, lexed, declaration.at)?;
+            for name in names.as_slice() {
+                if let Some(place) = self.place_of(declaration.scope, name) {
+                    used.push(place)?;
+                }
+            }
+        }
+        Ok(Sequence::new(used))
+    }
+
+    /// The name of a type that contains itself, directly or by others of its interface.
+    pub fn ring(&self, alloc: Global, lexed: &Lexed<'_>) -> Result<Option<Span>, AllocError> {
+        if self.list.len() > MAX_LOOKED_AT {
+            return Ok(None);
+        }
+        let mut graph = Vec::new(alloc);
+        for declaration in &self.list {
+            graph.push(self.uses_of(alloc, lexed, declaration)?)?;
+        }
+        let Some(place) = place_on_ring(alloc, graph.as_slice())? else {
+            return Ok(None);
+        };
+        match self.list.get(place) {
+            Some(declaration) => Ok(lexed.span_at(declaration.at)),
+            None => Ok(None),
+        }
+    }
+
+    /// The first interface that declares a type of this name.
+    pub fn interface_with(&self, name: &str) -> Option<&'a str> {
+        let mut interface = None;
+        for declaration in &self.list {
+            if declaration.keyword == Keyword::Interface {
+                interface = Some(declaration.name);
+            } else if declaration.name == name && declares_type(declaration.keyword) {
+                return interface;
+            }
+        }
+        None
+    }
+
+    /// The first place of a name in an interface or a world that declares no type of this name.
+    pub fn undeclared(&self, lexed: &Lexed<'_>, name: &str) -> Option<Span> {
+        let mut scope: usize = 0;
+        for (index, token) in lexed.tokens.iter().enumerate() {
+            if let TokenKind::Keyword(keyword) = token.kind {
+                scope = scope.saturating_add(usize::from(opens_scope(keyword)));
+            }
+            if lexed.use_at(index) == Some(name) && self.place_of(scope, name).is_none() {
+                return Some(token.span);
+            }
+        }
+        None
+    }
+}
