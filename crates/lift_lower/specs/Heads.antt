@@ -68,6 +68,15 @@ HeadLiftFaulty (record_type ts) m fs k = ⊥
 HeadLiftFaulty (variant_type cs) m fs k = CaseHeadFaulty cs (low_bits fs 0 32) k
 HeadLiftFaulty (flags_type n) m fs k = ⊥
 
+-- how many flat values the head takes
+abbrev pub head_flats : ClosedType → ℕ
+head_flats (prim_type p) = 1
+head_flats string_type = 2
+head_flats (list_type t) = 2
+head_flats (record_type ts) = 0
+head_flats (variant_type cs) = 1
+head_flats (flags_type n) = 1
+
 -- ---- written
 
 -- nodes of this type have heads such as this

@@ -2,12 +2,12 @@
 //! memory of the host.
 ghost use Rattle.std.specs.Prelude.{◌≡◌, ◌+◌, ◌*◌, ◌^◌, ◌<◌, ◌≤◌, length, map, IfOk, IfErr};
 ghost use Rattle.std.specs.Int.{byte_len};
-ghost use Rattle.canonical_abi.specs.Layout.{size, prim_width, flat_kinds};
+ghost use Rattle.canonical_abi.specs.Layout.{size, prim_width};
 ghost use Rattle.canonical_abi.specs.Memory.{PrimIs, PrimFaulty, BlockHolds, BlockFaulty};
 ghost use Rattle.canonical_abi.specs.Reading.{number_at, number_of, low_bits, flat_bits};
 ghost use Rattle.canonical_abi.specs.Trace.{TraceLeads};
 ghost use Rattle.tables.specs.Closed.{prim_of, closed_type};
-ghost use Rattle.lift_lower.specs.Heads.{HeadHolds, HeadFaulty, HeadLifts, HeadLiftFaulty, IsHeadOf, head_writes};
+ghost use Rattle.lift_lower.specs.Heads.{HeadHolds, HeadFaulty, HeadLifts, HeadLiftFaulty, IsHeadOf, head_flats, head_writes};
 ghost use Rattle.lift_lower.specs.Scalar.{prim_in, value_in};
 ghost use Rattle.lift_lower.specs.Types.{IsInside};
 
@@ -131,11 +131,11 @@ pub fn head_at(table: &Types, ty: ValType, memory: &[u8], at: usize) -> Result<H
     }
 }
 
-/// The head of the node in the first of these flat values, with the same tests: the blocks that it names are those of the
-/// memory.
+/// The head of the node in the first of these flat values, with the same tests. The blocks that it names are those of the
+/// memory. Two flat values are enough for every type.
 pub fn head_of(table: &Types, ty: ValType, memory: &[u8], flats: &[Flat]) -> Result<Head, TrapKind>
     requires inside { IsInside table.now ty }
-    requires carried { length (flat_kinds (closed_type table.now ty)) ≤ length flats.now }
+    requires carried { head_flats (closed_type table.now ty) ≤ length flats.now }
     ensures head { IfOk result (HeadLifts (closed_type table.now ty) memory.now (map number_of flats.now)) }
     ensures fault { IfErr result (HeadLiftFaulty (closed_type table.now ty) memory.now (map number_of flats.now)) }
 {
