@@ -5,11 +5,13 @@ usage: tools/check_explain.py [--program WIT-EXPLAIN]..
 
 tests/explain/runs has one run after another: a line `$ wit-explain WORDS`, what the program prints, and a line `status NUMBER`. Words are
 parted by single spaces. A run reads the files of tests/explain/files, and has no input. If the status is 2, the text is what goes to
-standard error. Each program named is run, by default those that the gate built by both compilers. The exit status is 1 if a run differs.
+standard error. Each program named is run, by default those that the gate built by both compilers. Each block of docs/EXPLAIN.md that begins
+with such a line has to be a stored run. The exit status is 1 if a run or a block differs.
 """
 import argparse
 import difflib
 import pathlib
+import re
 import shutil
 import subprocess
 import sys
@@ -19,6 +21,8 @@ ROOT = pathlib.Path(__file__).resolve().parent.parent
 FOLDER = ROOT / "tests" / "explain"
 BUILT = [ROOT / "crates" / "explain" / "out" / name for name in ("explain", "explain.by-rattle")]
 PROMPT = "$ wit-explain"
+PAGE = ROOT / "docs" / "EXPLAIN.md"
+BLOCK = re.compile(r"^```console\n\$ wit-explain ([^\n]*)\n(.*?)^```$", re.M | re.S)
 
 
 def stored_runs():
@@ -56,15 +60,24 @@ def differing(program):
     return found
 
 
+def untrue_blocks():
+    """How many blocks of the page are no stored runs. Each is told."""
+    stored = {" ".join(words): text.rpartition("status ")[0] for words, text in stored_runs()}
+    found = [words for words, text in BLOCK.findall(PAGE.read_text()) if stored.get(words) != text]
+    for words in found:
+        print(f"{PAGE.relative_to(ROOT)}: {PROMPT} {words}: this isn't what tests/explain/runs has")
+    return len(found)
+
+
 def main():
     options = argparse.ArgumentParser(usage=__doc__.split("\n\n")[1].removeprefix("usage: "))
     options.add_argument("--program", action="append", type=pathlib.Path)
     programs = options.parse_args().program or [it for it in BUILT if it.is_file()]
     if not programs:
         sys.exit("tools/check_explain.py: the gate has not built wit-explain here")
-    found = sum(differing(program.resolve()) for program in programs)
+    found = sum(differing(program.resolve()) for program in programs) + untrue_blocks()
     if found:
-        sys.exit(f"{found} runs differ")
+        sys.exit(f"{found} runs or blocks differ")
     print(f"{len(stored_runs())} runs of wit-explain are as they are stored, of {len(programs)} builds")
 
 
