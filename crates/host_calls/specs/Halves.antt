@@ -11,8 +11,8 @@ use Rattle.canonical_abi.specs.declared.trap.TrapKind.TheVariants.{Full}
 use Rattle.adapter.specs.Leaving.{LeaveFails}
 use Rattle.memory.specs.Lent.{lent, LentAllocates}
 use Rattle.memory.specs.declared.block.Block.{Block}
-use Rattle.lending.specs.declared.error.HalfError.{HalfError}
-use Rattle.lending.specs.declared.error.HalfError.TheVariants as error
+use Rattle.host_calls.specs.declared.half_error.HalfError.{HalfError}
+use Rattle.host_calls.specs.declared.half_error.HalfError.TheVariants as error
 
 -- K6, an allocator that refuses
 abbrev pub full_in : Step → Fault

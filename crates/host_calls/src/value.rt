@@ -1,7 +1,7 @@
 //! Core values as C has them.
 ghost use Rattle.std.specs.Prelude.{◌≡◌, ◌↔◌, ◌≤◌, [], drop, length, map, IsTrue};
 ghost use Rattle.arrayvec.specs.ArrayVec.{array_vec_len};
-ghost use Rattle.lending.specs.Values.{flat_of, value_of, HoldsFlats};
+ghost use Rattle.host_calls.specs.Values.{flat_of, value_of, HoldsFlats};
 
 use arrayvec::ArrayVec;
 use canonical_abi::Flat;

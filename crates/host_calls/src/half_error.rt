@@ -1,6 +1,6 @@
 //! Why a half of a call was broken off.
 ghost use Rattle.std.specs.Prelude.{◌≡◌, ◌≤◌};
-ghost use Rattle.lending.specs.Halves.{IsHalfError};
+ghost use Rattle.host_calls.specs.Halves.{IsHalfError};
 
 use canonical_abi::{Fault, TrapKind};
 

@@ -2,7 +2,7 @@
 use Rattle.std.specs.Prelude.{◌≡◌, ◌==◌, ◌%◌, List, map, take, length, if◌then◌else◌}
 use Rattle.canonical_abi.specs.declared.flat.Flat.{Flat}
 use Rattle.canonical_abi.specs.declared.flat.Flat.TheVariants.{I32, I64}
-use Rattle.lending.specs.declared.value.Value.{Value}
+use Rattle.host_calls.specs.declared.value.Value.{Value}
 
 -- as it is read: an i32 if the kind is 0, of the low 32 bits, and otherwise an i64
 abbrev pub flat_of : Value → Flat

@@ -2,7 +2,7 @@
 use Rattle.std.proofs.Common.{ap, ◌∙◌, arith}
 use Rattle.std.proofs.lemmas.Bool.Decides.{nat_tests}
 use Rattle.canonical_abi.specs.declared.trap.Fault.TheVariants.{Trap}
-use Rattle.lending.proofs.error.half_error.Goals as goal
+use Rattle.host_calls.proofs.half_error.half_error.Goals as goal
 
 pub returns-in-Full : goal.returns-in-Full
 returns-in-Full c = (

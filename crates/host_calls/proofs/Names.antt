@@ -13,9 +13,9 @@ use Rattle.memory.specs.Lent.{lent, LentAllocates}
 use Rattle.memory.specs.declared.block.Block.{Block}
 use Rattle.memory.proofs.LentNames.{IsNamed, trace_keeps, begun_keeps, break_keeps}
 use Rattle.memory.proofs.LentOneWay.{same_state}
-use Rattle.lending.specs.Halves.{full_in, IsHalfError, IsBrokenOff, EntersLent, EntryOfLentFails, ReturnsLent, ReturnOfLentFails}
-use Rattle.lending.specs.declared.error.HalfError.{HalfError}
-use Rattle.lending.specs.declared.error.HalfError.TheVariants as error
+use Rattle.host_calls.specs.Halves.{full_in, IsHalfError, IsBrokenOff, EntersLent, EntryOfLentFails, ReturnsLent, ReturnOfLentFails}
+use Rattle.host_calls.specs.declared.half_error.HalfError.{HalfError}
+use Rattle.host_calls.specs.declared.half_error.HalfError.TheVariants as error
 
 module _ (f : FunctionType) (flats : List Flat) (m : List ℕ) (old new : Memory) (name count : ℕ) (blocks : List Block) where
   pub entry_keeps : (handed : List Flat) → HasEntered LentAllocates f flats m old handed new count → IsNamed name blocks old → IsNamed name blocks new
