@@ -12,9 +12,9 @@ use Rattle.canonical_abi.specs.declared.trap.Fault.{Fault}
 use Rattle.adapter.proofs.Crossings.{return-fails}
 use Rattle.host_calls.specs.Calling.{area_block, KeepsArea}
 use Rattle.host_calls.proofs.Areas.{keeps-area}
-use Rattle.lending.specs.Halves.{full_in}
-use Rattle.lending.specs.declared.error.HalfError.{HalfError}
-use Rattle.lending.specs.declared.error.HalfError.TheVariants as half
+use Rattle.host_calls.specs.Halves.{full_in}
+use Rattle.host_calls.specs.declared.half_error.HalfError.{HalfError}
+use Rattle.host_calls.specs.declared.half_error.HalfError.TheVariants as half
 use Rattle.memory.specs.Blocks.{is_apart, are_good}
 use Rattle.memory.specs.Lent.{lent, LentAllocates, LentReleases}
 use Rattle.memory.specs.LentLaws.{LentIsHonest, LentKeepsLimit}

@@ -10,9 +10,9 @@ use Rattle.canonical_abi.specs.declared.flat.Flat.{Flat}
 use Rattle.canonical_abi.specs.declared.trap.Fault.{Fault}
 use Rattle.canonical_abi.specs.declared.trap.Step.{Step}
 use Rattle.host_calls.specs.Calling.{KeepsArea}
-use Rattle.lending.specs.Halves.{full_in, EntersLent, EntryOfLentFails, ReturnsLent, ReturnOfLentFails}
-use Rattle.lending.specs.declared.error.HalfError.{HalfError}
-use Rattle.lending.specs.declared.error.HalfError.TheVariants as half
+use Rattle.host_calls.specs.Halves.{full_in, EntersLent, EntryOfLentFails, ReturnsLent, ReturnOfLentFails}
+use Rattle.host_calls.specs.declared.half_error.HalfError.{HalfError}
+use Rattle.host_calls.specs.declared.half_error.HalfError.TheVariants as half
 use Rattle.memory.specs.Lent.{lent, LentAllocates}
 use Rattle.memory.specs.declared.block.Block.{Block}
 

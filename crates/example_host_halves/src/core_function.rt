@@ -5,7 +5,7 @@ ghost use Rattle.example_host_halves.specs.Promise.{RunsOnBytes, PostsOnBytes};
 
 use adapter::Stopped;
 use canonical_abi::{Callee, Flat};
-use lending::Flats;
+use lift_lower::Flats;
 
 /// The callee's core function and its post-return, which an engine runs over the bytes of the callee's memory. They may make the runs that
 /// `Callee` tells, whatever is live in the memory, and keep nothing but what they write there.

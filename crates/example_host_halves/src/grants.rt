@@ -5,7 +5,7 @@ ghost use Rattle.memory.specs.Blocks.{is_apart, are_good, can_lend, rise};
 ghost use Rattle.example_host_halves.specs.Promise.{request_of, HasGranted};
 
 use adapter::Request;
-use lending::{Block, can_lend};
+use memory::{Block, can_lend};
 use std::alloc::Global;
 
 /// Grants one block. The allocator runs in the memory, whose first four bytes are its next free address.

@@ -8,9 +8,8 @@ use crate::grants::{grant, lendable};
 use crate::requests::{request_answer, request_arguments};
 use adapter::Request;
 use canonical_abi::Flat;
-use host_calls::return_area;
-use lending::{Flats, HalfError, NOWHERE, enter_lent, leave_lent};
-use lift_lower::Types;
+use host_calls::{Half, HalfError, NOWHERE, return_area};
+use lift_lower::{Flats, Types};
 use std::alloc::Global;
 use tables::FunctionId;
 
@@ -41,18 +40,14 @@ pub fn enter(
     let count = request_arguments(types, func, flats, caller, &mut slots).unwrap_or(0);
     let granted = grant(alloc, callee, &slots[..count.min(MOST)]);
     let blocks = lendable(alloc, callee.len(), &NOWHERE, granted.as_slice());
-    let (resolve, layouts) = (types.resolve(), types.layouts());
-    let mut handed = Flats::new();
-    enter_lent(
-        resolve,
-        layouts,
+    let half = Half {
+        alloc,
+        types,
         func,
-        flats,
-        caller,
-        callee,
         blocks,
-        &mut handed,
-    )?;
+    };
+    let mut handed = Flats::new();
+    half.enter_flats(flats, caller, callee, &mut handed)?;
     Ok(handed)
 }
 
@@ -79,10 +74,13 @@ pub fn leave(
     let granted = grant(alloc, caller, &slots[..count.min(MOST)]);
     let area = return_area(types, func, flats);
     let blocks = lendable(alloc, caller.len(), &area, granted.as_slice());
-    let (resolve, layouts) = (types.resolve(), types.layouts());
+    let half = Half {
+        alloc,
+        types,
+        func,
+        blocks,
+    };
     let mut given = Flats::new();
-    leave_lent(
-        resolve, layouts, func, flats, answer, callee, caller, blocks, &mut given,
-    )?;
+    half.leave_flats(flats, answer, callee, caller, &mut given)?;
     Ok(given)
 }

@@ -1,4 +1,4 @@
-//! A host that runs core functions itself, over two memories of its own: it calls in the halves of `lending`, and prints what the caller is
+//! A host that runs core functions itself, over two memories of its own: it calls in the halves of `host_calls`, and prints what the caller is
 //! given.
 //!
 //! The steps of a call are those of docs/LIBRARY.md: request the blocks, grant them, enter, run, and the same way back. `call` has them in

@@ -2,11 +2,11 @@
 use Rattle.std.proofs.Common.{ℕ, List, map, inr}
 use Rattle.canonical_abi.specs.Types.{FunctionType}
 use Rattle.memory.specs.declared.block.Block.{Block}
-use Rattle.lending.specs.Halves.{EntryOfLentFails, ReturnOfLentFails}
-use Rattle.lending.specs.Values.{flat_of}
-use Rattle.lending.specs.declared.error.HalfError.{HalfError}
-use Rattle.lending.specs.declared.error.HalfError.TheVariants as half
-use Rattle.lending.specs.declared.value.Value.{Value}
+use Rattle.host_calls.specs.Halves.{EntryOfLentFails, ReturnOfLentFails}
+use Rattle.host_calls.specs.Values.{flat_of}
+use Rattle.host_calls.specs.declared.half_error.HalfError.{HalfError}
+use Rattle.host_calls.specs.declared.half_error.HalfError.TheVariants as half
+use Rattle.host_calls.specs.declared.value.Value.{Value}
 use Rattle.host_calls.specs.Calling.{of_half, KeepsArea, EnterRefuses, LeaveRefuses}
 
 module _ (f : FunctionType) (flats : List Value) (m old : List ℕ) (blocks : List Block) (out : List Value) (new : List ℕ) where

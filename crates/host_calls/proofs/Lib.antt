@@ -1,3 +1,4 @@
 pub mod Areas
 mod Fields
 mod Halves
+mod Names

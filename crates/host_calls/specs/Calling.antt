@@ -15,11 +15,11 @@ use Rattle.canonical_abi.specs.declared.trap.Step.{Step}
 use Rattle.canonical_abi.specs.declared.trap.Step.TheVariants.{LiftArgs, LiftResult, LowerResult}
 use Rattle.canonical_abi.specs.declared.trap.TrapKind.TheVariants.{CoreSignature}
 use Rattle.adapter.specs.Asked.{IsTrapIn}
-use Rattle.lending.specs.Halves.{EntersLent, EntryOfLentFails, ReturnsLent, ReturnOfLentFails}
-use Rattle.lending.specs.Values.{flat_of, HoldsFlats}
-use Rattle.lending.specs.declared.error.HalfError.{HalfError}
-use Rattle.lending.specs.declared.error.HalfError.TheVariants as half
-use Rattle.lending.specs.declared.value.Value.{Value}
+use Rattle.host_calls.specs.Halves.{EntersLent, EntryOfLentFails, ReturnsLent, ReturnOfLentFails}
+use Rattle.host_calls.specs.Values.{flat_of, HoldsFlats}
+use Rattle.host_calls.specs.declared.half_error.HalfError.{HalfError}
+use Rattle.host_calls.specs.declared.half_error.HalfError.TheVariants as half
+use Rattle.host_calls.specs.declared.value.Value.{Value}
 use Rattle.memory.specs.Blocks.{can_lend, rise}
 use Rattle.memory.specs.Lent.{lent}
 use Rattle.memory.specs.declared.block.Block.{Block}

@@ -7,11 +7,11 @@ ghost use Rattle.tables.specs.Closed.{IsFunction, function_type};
 ghost use Rattle.memory.specs.Blocks.{can_lend, rise};
 ghost use Rattle.host_calls.specs.Calling.{area_block};
 
+use crate::half::{Half, NOWHERE};
 use canonical_abi::Flat;
-use lending::NOWHERE;
 use lift_lower::{Types, low_word};
 use memory::{Block, can_lend};
-use std::alloc::{AllocError, Global};
+use std::alloc::AllocError;
 use tables::FunctionId;
 
 /// The flat value behind those of the arguments as an address, 0 where there is none.
@@ -54,23 +54,19 @@ pub fn return_area(types: &Types, func: FunctionId, flats: &[Flat]) -> Block
     }
 }
 
-/// Whether these blocks can be handed out of a caller of `len` bytes, beside the return area.
-pub fn can_return(
-    alloc: Global,
-    types: &Types,
-    func: FunctionId,
-    flats: &[Flat],
-    len: usize,
-    blocks: &[Block],
-) -> Result<bool, AllocError>
-    requires within { ∥ AreWithin types.now ∥₁ }
-    requires function { IsFunction types.now func }
-    ensures can { IfOk result (λ can. can ≡ can_lend len (area_block (function_type types.now func) flats.now) blocks.now) }
-    ensures memory { IfErr result (λ _. rise 0 blocks.now ≡ false) }
-{
-    if blocks.is_empty() {
-        // There is none that could meet it.
-        return can_lend(alloc, len, &NOWHERE, blocks);
+impl Half<'_> {
+    /// Whether the blocks can be handed out of a caller of `len` bytes, beside the return area.
+    pub(crate) fn can_return(&self, flats: &[Flat], len: usize) -> Result<bool, AllocError>
+        requires within { ∥ AreWithin self.now.types.now ∥₁ }
+        requires function { IsFunction self.now.types.now self.now.func }
+        ensures can { IfOk result (λ can. can ≡ can_lend len (area_block (function_type self.now.types.now self.now.func) flats.now) self.now.blocks.now) }
+        ensures memory { IfErr result (λ _. rise 0 self.now.blocks.now ≡ false) }
+    {
+        if self.blocks.is_empty() {
+            // There is none that could meet it.
+            return can_lend(self.alloc, len, &NOWHERE, self.blocks);
+        }
+        let area = return_area(self.types, self.func, flats);
+        can_lend(self.alloc, len, &area, self.blocks)
     }
-    can_lend(alloc, len, &return_area(types, func, flats), blocks)
 }

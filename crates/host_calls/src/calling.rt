@@ -3,21 +3,21 @@ ghost use Rattle.std.specs.Prelude.{◌≡◌, ◌⊎◌, ◌≤◌, ◌<◌, Li
 ghost use Rattle.layout.specs.Layout.{AreWithin};
 ghost use Rattle.tables.specs.Closed.{IsFunction, function_type};
 ghost use Rattle.tables.specs.declared.tables.FunctionId.{FunctionId};
-ghost use Rattle.lending.specs.Values.{flat_of};
-ghost use Rattle.lending.specs.declared.value.Value.{Value};
+ghost use Rattle.host_calls.specs.Values.{flat_of};
+ghost use Rattle.host_calls.specs.declared.value.Value.{Value};
 ghost use Rattle.canonical_abi.specs.Call.{KindsFit};
 ghost use Rattle.canonical_abi.specs.declared.trap.Step.TheVariants.{LiftArgs};
 ghost use Rattle.host_calls.specs.Calling.{AreTooMany, AreOtherKinds, of_half, EnterDone, LeaveDone, EnterAsks, LeaveAsks};
 
-use crate::area::can_return;
 use crate::error::CallError;
+use crate::half::{Half, NOWHERE};
+use crate::half_error::HalfError;
+use crate::value::{MAX_VALUES, Value, put_flats, tell};
 use adapter::{Link, Request};
 use arrayvec::ArrayVec;
 use canonical_abi::{Fault, Flat, Step, Trap, TrapKind};
-use lending::{HalfError, MAX_VALUES, NOWHERE, Value, enter_lent, leave_lent, put_flats, tell};
 use lift_lower::{Flats, Types};
-use memory::{Block, Lent, can_lend};
-use std::alloc::Global;
+use memory::{Lent, can_lend};
 use tables::FunctionId;
 
 /// A list for few flat values, as most calls have them: a longer one takes longer to make.
@@ -101,186 +101,153 @@ fn room_in(values: &[Value]) -> Result<(), CallError>
     Ok(())
 }
 
-/// The first half of a call, of flat values: what `enter` does of core values that are these.
-fn enter_flats(
-    alloc: Global,
-    types: &Types,
-    func: FunctionId,
-    flats: &[Flat],
-    caller: &mut [u8],
-    callee: &mut [u8],
-    blocks: &[Block],
-    handed: &mut [Value],
-) -> Result<usize, CallError>
-    requires within { ∥ AreWithin types.now ∥₁ }
-    requires function { IsFunction types.now func }
-    requires room { 17 ≤ length handed.old }
-    ensures done { (values : List Value) → flats.now ≡ map flat_of values
-        → EnterDone (function_type types.now func) values caller.old callee.old blocks.now handed.old result callee.new handed.new }
-    ensures same_caller { caller.new ≡ caller.old }
-{
-    fit(types, func, flats, Step::LiftArgs)?;
-    if u32::try_from(caller.len()).is_err() {
-        return Err(CallError::BadBlock);
-    }
-    if !can_lend(alloc, callee.len(), &NOWHERE, blocks)? {
-        return Err(CallError::BadBlock);
-    }
-    let mut given = Flats::new();
-    let (resolve, layouts) = (types.resolve(), types.layouts());
-    match enter_lent(
-        resolve, layouts, func, flats, caller, callee, blocks, &mut given,
-    ) {
-        Ok(()) => {
-            let count = given.len();
-            tell(&given, handed);
-            Ok(count)
+impl Half<'_> {
+    /// The first half of a call, of flat values: what `enter` does of core values that are these.
+    fn enter_values(
+        &self,
+        flats: &[Flat],
+        caller: &mut [u8],
+        callee: &mut [u8],
+        handed: &mut [Value],
+    ) -> Result<usize, CallError>
+        requires within { ∥ AreWithin self.now.types.now ∥₁ }
+        requires function { IsFunction self.now.types.now self.now.func }
+        requires room { 17 ≤ length handed.old }
+        ensures done { (values : List Value) → flats.now ≡ map flat_of values
+            → EnterDone (function_type self.now.types.now self.now.func) values caller.old callee.old self.now.blocks.now handed.old result callee.new handed.new }
+        ensures same_caller { caller.new ≡ caller.old }
+    {
+        fit(self.types, self.func, flats, Step::LiftArgs)?;
+        if u32::try_from(caller.len()).is_err() {
+            return Err(CallError::BadBlock);
         }
-        Err(error) => Err(of_half(error)),
-    }
-}
-
-/// The first half of a call: puts the arguments into the callee's blocks, and tells the core values for its core function at the front of
-/// `handed`, which has room for 17 whatever the function. Answers how many they are. `flats` are those of a whole call, the return area's address
-/// behind the arguments. The caller is only read. 71 if there is no room; K8 if the values are of another number or kind; 72 if the blocks
-/// can't be handed out or the caller has 2^32 bytes or more; 66 if the blocks don't rise and no memory is left to test them; 73 if a block
-/// has another size or alignment than was asked for, and the blocks before it were written to; otherwise a trap.
-pub fn enter(
-    alloc: Global,
-    types: &Types,
-    func: FunctionId,
-    flats: &[Value],
-    caller: &mut [u8],
-    callee: &mut [u8],
-    blocks: &[Block],
-    handed: &mut [Value],
-) -> Result<usize, CallError>
-    requires within { ∥ AreWithin types.now ∥₁ }
-    requires function { IsFunction types.now func }
-    ensures done { EnterDone (function_type types.now func) flats.now caller.old callee.old blocks.now handed.old result callee.new handed.new }
-    ensures same_caller { caller.new ≡ caller.old }
-{
-    room_in(handed)?;
-    let mut few = Few::new();
-    if put_flats(flats, &mut few) {
-        let flats = few.as_slice();
-        return enter_flats(alloc, types, func, flats, caller, callee, blocks, handed);
-    }
-    let mut values = Flats::new();
-    put_values(flats, &mut values, Step::LiftArgs)?;
-    let flats = values.as_slice();
-    enter_flats(alloc, types, func, flats, caller, callee, blocks, handed)
-}
-
-/// The second half, of flat values: what `leave` does of core values that are these.
-fn leave_flats(
-    alloc: Global,
-    types: &Types,
-    func: FunctionId,
-    flats: &[Flat],
-    answer: &[Flat],
-    callee: &mut [u8],
-    caller: &mut [u8],
-    blocks: &[Block],
-    back: &mut [Value],
-) -> Result<usize, CallError>
-    requires within { ∥ AreWithin types.now ∥₁ }
-    requires function { IsFunction types.now func }
-    requires room { 17 ≤ length back.old }
-    requires kinds { KindsFit (function_type types.now func) flats.now }
-    ensures done { (values answers : List Value) → flats.now ≡ map flat_of values → answer.now ≡ map flat_of answers
-        → LeaveDone (function_type types.now func) values callee.old answers caller.old blocks.now back.old result caller.new back.new }
-    ensures same_callee { callee.new ≡ callee.old }
-{
-    if u32::try_from(callee.len()).is_err() {
-        return Err(CallError::BadBlock);
-    }
-    if !can_return(alloc, types, func, flats, caller.len(), blocks)? {
-        return Err(CallError::BadBlock);
-    }
-    let mut given = Flats::new();
-    let (resolve, layouts) = (types.resolve(), types.layouts());
-    match leave_lent(
-        resolve, layouts, func, flats, answer, callee, caller, blocks, &mut given,
-    ) {
-        Ok(()) => {
-            let count = given.len();
-            tell(&given, back);
-            Ok(count)
+        if !can_lend(self.alloc, callee.len(), &NOWHERE, self.blocks)? {
+            return Err(CallError::BadBlock);
         }
-        Err(error) => Err(of_half(error)),
+        let mut given = Flats::new();
+        match self.enter_flats(flats, caller, callee, &mut given) {
+            Ok(()) => {
+                let count = given.len();
+                tell(&given, handed);
+                Ok(count)
+            }
+            Err(error) => Err(of_half(error)),
+        }
     }
-}
 
-/// The second half, of flat values and of the core values of the answer.
-fn leave_answer(
-    alloc: Global,
-    types: &Types,
-    func: FunctionId,
-    flats: &[Flat],
-    answer: &[Value],
-    callee: &mut [u8],
-    caller: &mut [u8],
-    blocks: &[Block],
-    back: &mut [Value],
-) -> Result<usize, CallError>
-    requires within { ∥ AreWithin types.now ∥₁ }
-    requires function { IsFunction types.now func }
-    requires room { 17 ≤ length back.old }
-    ensures done { (values : List Value) → flats.now ≡ map flat_of values
-        → LeaveDone (function_type types.now func) values callee.old answer.now caller.old blocks.now back.old result caller.new back.new }
-    ensures same_callee { callee.new ≡ callee.old }
-{
-    fit(types, func, flats, Step::LowerResult)?;
-    let mut few = Few::new();
-    if put_flats(answer, &mut few) {
-        let answer = few.as_slice();
-        return leave_flats(
-            alloc, types, func, flats, answer, callee, caller, blocks, back,
-        );
+    /// The first half of a call: puts the arguments into the callee's blocks, and tells the core values for its core function at the front of
+    /// `handed`, which has room for 17 whatever the function. Answers how many they are. `flats` are those of a whole call, the return area's address
+    /// behind the arguments. The caller is only read. 71 if there is no room; K8 if the values are of another number or kind; 72 if the blocks
+    /// can't be handed out or the caller has 2^32 bytes or more; 66 if the blocks don't rise and no memory is left to test them; 73 if a block
+    /// has another size or alignment than was asked for, and the blocks before it were written to; otherwise a trap.
+    pub fn enter(
+        &self,
+        flats: &[Value],
+        caller: &mut [u8],
+        callee: &mut [u8],
+        handed: &mut [Value],
+    ) -> Result<usize, CallError>
+        requires within { ∥ AreWithin self.now.types.now ∥₁ }
+        requires function { IsFunction self.now.types.now self.now.func }
+        ensures done { EnterDone (function_type self.now.types.now self.now.func) flats.now caller.old callee.old self.now.blocks.now handed.old result callee.new handed.new }
+        ensures same_caller { caller.new ≡ caller.old }
+    {
+        room_in(handed)?;
+        let mut few = Few::new();
+        if put_flats(flats, &mut few) {
+            return self.enter_values(few.as_slice(), caller, callee, handed);
+        }
+        let mut values = Flats::new();
+        put_values(flats, &mut values, Step::LiftArgs)?;
+        self.enter_values(values.as_slice(), caller, callee, handed)
     }
-    let mut answers = Flats::new();
-    put_values(answer, &mut answers, Step::LiftResult)?;
-    let answer = answers.as_slice();
-    leave_flats(
-        alloc, types, func, flats, answer, callee, caller, blocks, back,
-    )
-}
 
-/// The second half: puts what the core function answered into the caller's blocks and its return area, and tells the core values for the caller at
-/// the front of `back`, which has room for 17. Answers how many they are. `flats` are those that the first half was given; if they are
-/// not of the function's kinds, this is K8 in `lower-result`, before the blocks are tested. The callee is only read. Refused as the first
-/// half is, and by 72, too, if a block meets the return area.
-pub fn leave(
-    alloc: Global,
-    types: &Types,
-    func: FunctionId,
-    flats: &[Value],
-    answer: &[Value],
-    callee: &mut [u8],
-    caller: &mut [u8],
-    blocks: &[Block],
-    back: &mut [Value],
-) -> Result<usize, CallError>
-    requires within { ∥ AreWithin types.now ∥₁ }
-    requires function { IsFunction types.now func }
-    ensures done { LeaveDone (function_type types.now func) flats.now callee.old answer.now caller.old blocks.now back.old result caller.new back.new }
-    ensures same_callee { callee.new ≡ callee.old }
-{
-    room_in(back)?;
-    let mut few = Few::new();
-    if put_flats(flats, &mut few) {
-        let flats = few.as_slice();
-        return leave_answer(
-            alloc, types, func, flats, answer, callee, caller, blocks, back,
-        );
+    /// The second half, of flat values: what `leave` does of core values that are these.
+    fn leave_values(
+        &self,
+        flats: &[Flat],
+        answer: &[Flat],
+        callee: &mut [u8],
+        caller: &mut [u8],
+        back: &mut [Value],
+    ) -> Result<usize, CallError>
+        requires within { ∥ AreWithin self.now.types.now ∥₁ }
+        requires function { IsFunction self.now.types.now self.now.func }
+        requires room { 17 ≤ length back.old }
+        requires kinds { KindsFit (function_type self.now.types.now self.now.func) flats.now }
+        ensures done { (values answers : List Value) → flats.now ≡ map flat_of values → answer.now ≡ map flat_of answers
+            → LeaveDone (function_type self.now.types.now self.now.func) values callee.old answers caller.old self.now.blocks.now back.old result caller.new back.new }
+        ensures same_callee { callee.new ≡ callee.old }
+    {
+        if u32::try_from(callee.len()).is_err() {
+            return Err(CallError::BadBlock);
+        }
+        if !self.can_return(flats, caller.len())? {
+            return Err(CallError::BadBlock);
+        }
+        let mut given = Flats::new();
+        match self.leave_flats(flats, answer, callee, caller, &mut given) {
+            Ok(()) => {
+                let count = given.len();
+                tell(&given, back);
+                Ok(count)
+            }
+            Err(error) => Err(of_half(error)),
+        }
     }
-    let mut values = Flats::new();
-    put_values(flats, &mut values, Step::LowerResult)?;
-    let flats = values.as_slice();
-    leave_answer(
-        alloc, types, func, flats, answer, callee, caller, blocks, back,
-    )
+
+    /// The second half, of flat values and of the core values of the answer.
+    fn leave_answer(
+        &self,
+        flats: &[Flat],
+        answer: &[Value],
+        callee: &mut [u8],
+        caller: &mut [u8],
+        back: &mut [Value],
+    ) -> Result<usize, CallError>
+        requires within { ∥ AreWithin self.now.types.now ∥₁ }
+        requires function { IsFunction self.now.types.now self.now.func }
+        requires room { 17 ≤ length back.old }
+        ensures done { (values : List Value) → flats.now ≡ map flat_of values
+            → LeaveDone (function_type self.now.types.now self.now.func) values callee.old answer.now caller.old self.now.blocks.now back.old result caller.new back.new }
+        ensures same_callee { callee.new ≡ callee.old }
+    {
+        fit(self.types, self.func, flats, Step::LowerResult)?;
+        let mut few = Few::new();
+        if put_flats(answer, &mut few) {
+            return self.leave_values(flats, few.as_slice(), callee, caller, back);
+        }
+        let mut answers = Flats::new();
+        put_values(answer, &mut answers, Step::LiftResult)?;
+        self.leave_values(flats, answers.as_slice(), callee, caller, back)
+    }
+
+    /// The second half: puts what the core function answered into the caller's blocks and its return area, and tells the core values for the caller at
+    /// the front of `back`, which has room for 17. Answers how many they are. `flats` are those that the first half was given; if they are
+    /// not of the function's kinds, this is K8 in `lower-result`, before the blocks are tested. The callee is only read. Refused as the first
+    /// half is, and by 72, too, if a block meets the return area.
+    pub fn leave(
+        &self,
+        flats: &[Value],
+        answer: &[Value],
+        callee: &mut [u8],
+        caller: &mut [u8],
+        back: &mut [Value],
+    ) -> Result<usize, CallError>
+        requires within { ∥ AreWithin self.now.types.now ∥₁ }
+        requires function { IsFunction self.now.types.now self.now.func }
+        ensures done { LeaveDone (function_type self.now.types.now self.now.func) flats.now callee.old answer.now caller.old self.now.blocks.now back.old result caller.new back.new }
+        ensures same_callee { callee.new ≡ callee.old }
+    {
+        room_in(back)?;
+        let mut few = Few::new();
+        if put_flats(flats, &mut few) {
+            return self.leave_answer(few.as_slice(), answer, callee, caller, back);
+        }
+        let mut values = Flats::new();
+        put_values(flats, &mut values, Step::LowerResult)?;
+        self.leave_answer(values.as_slice(), answer, callee, caller, back)
+    }
 }
 
 /// Tells what the first half will ask the callee for, in its order: as many requests as there is room for, and how many there are in all.

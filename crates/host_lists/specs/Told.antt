@@ -28,6 +28,11 @@ abbrev pub TellsName : Option Resolve → (Resolve → Option (List ℕ)) → Li
 TellsName None at old done new = (done ≡ Err error.NotOpen) × (new ≡ old)
 TellsName (Some r) at old done new = IsToldAsBytes (at r) old done new
 
--- the same of a name that is put together, for which there may be no memory
+-- the same of a name that is put together, for which there may be no memory if it is there
+abbrev pub IsToldAsNewBytes : Option (List ℕ) → List ℕ → Result ℕ CallError → List ℕ → Type 0
+IsToldAsNewBytes None old done new = (done ≡ Err error.NotThere) × (new ≡ old)
+IsToldAsNewBytes (Some bytes) old done new = BytesDone bytes old done new ⊎ ((done ≡ Err error.NoMemory) × (new ≡ old))
+
 abbrev pub TellsNewName : Option Resolve → (Resolve → Option (List ℕ)) → List ℕ → Result ℕ CallError → List ℕ → Type 0
-TellsNewName table at old done new = TellsName table at old done new ⊎ ((done ≡ Err error.NoMemory) × (new ≡ old))
+TellsNewName None at old done new = (done ≡ Err error.NotOpen) × (new ≡ old)
+TellsNewName (Some r) at old done new = IsToldAsNewBytes (at r) old done new

@@ -1,5 +1,5 @@
 //! Where a row has its name: an interface or a world, and the full names of these.
-ghost use Rattle.std.specs.Prelude.{◌≡◌, IfOk, slice_get};
+ghost use Rattle.std.specs.Prelude.{◌≡◌, IfOk, option_map, slice_get};
 ghost use Rattle.tables.specs.Names.{full_name_in};
 ghost use Rattle.host_lists.specs.Owners.{owner_of, owner_kind, owner_number, numbered_owner, owner_name, owner_name_at};
 ghost use Rattle.host_lists.specs.Told.{TellsNewName};
@@ -62,23 +62,18 @@ fn full_name(
     }
 }
 
-/// The full name of an interface or of a world, if it is there.
-fn name_of_owner(alloc: Global, resolve: &Resolve, owner: Owner) -> Result<Option<Name>, AllocError>
-    ensures { IfOk result (λ n. n ≡ owner_name resolve.now owner) }
+/// The package of an interface or of a world, and its own name, if it is there.
+fn parts_of_owner(resolve: &Resolve, owner: Owner) -> Option<(PackageId, &Label)>
+    ensures { option_map (λ x. full_name_in (slice_get resolve.now.packages x.0.0) x.1.now) result ≡ owner_name resolve.now owner }
 {
     match owner {
         Owner::Interface(id) => match resolve.interfaces.as_slice().get(id.0 as usize) {
-            Some(interface) => Ok(Some(full_name(
-                alloc,
-                resolve,
-                interface.package,
-                &interface.name,
-            )?)),
-            None => Ok(None),
+            Some(interface) => Some((interface.package, &interface.name)),
+            None => None,
         },
         Owner::World(id) => match resolve.worlds.as_slice().get(id.0 as usize) {
-            Some(world) => Ok(Some(full_name(alloc, resolve, world.package, &world.name)?)),
-            None => Ok(None),
+            Some(world) => Some((world.package, &world.name)),
+            None => None,
         },
     }
 }
@@ -99,8 +94,9 @@ pub fn owner_name(
     let Some(owner) = numbered_owner(kind, number) else {
         return Err(CallError::NotThere);
     };
-    match name_of_owner(alloc, types.resolve(), owner)? {
-        Some(name) => tell_bytes(name.as_str().as_bytes(), out),
-        None => Err(CallError::NotThere),
-    }
+    let Some((package, name)) = parts_of_owner(types.resolve(), owner) else {
+        return Err(CallError::NotThere);
+    };
+    let name = full_name(alloc, types.resolve(), package, name)?;
+    tell_bytes(name.as_str().as_bytes(), out)
 }

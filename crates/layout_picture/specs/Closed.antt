@@ -1,8 +1,15 @@
 -- A type of a table, by its closed type.
+use Rattle.std.specs.Prelude.{ℕ}
 use Rattle.canonical_abi.specs.Types.{ClosedType}
+use Rattle.layout.specs.Queries.{HasShape}
+use Rattle.layout.specs.declared.queries.Shape.{Shape}
 use Rattle.tables.specs.Closed.{closed_type}
 use Rattle.tables.specs.declared.tables.Resolve.{Resolve}
 use Rattle.tables.specs.declared.tables.ValType.{ValType}
 
 abbrev pub closed : Resolve × ValType → ClosedType
 closed t = closed_type t.0 t.1
+
+-- what it is for the ABI
+abbrev pub IsShape : Resolve × ValType → Shape → Type 0
+IsShape t s = (rows : ℕ) × HasShape (closed_type t.0) rows (closed t) s

@@ -4,7 +4,7 @@ ghost use Rattle.canonical_abi.specs.Types.{ClosedType, nth_case, nth_field, rec
 ghost use Rattle.canonical_abi.specs.Layout.{align, discriminant_size, field_places, flat_kinds, payload_place, size};
 ghost use Rattle.layout.specs.Kinds.{kinds_of};
 ghost use Rattle.layout.specs.Layout.{layouts_of};
-ghost use Rattle.layout_picture.specs.Closed.{closed};
+ghost use Rattle.layout_picture.specs.Closed.{closed, IsShape};
 ghost use Rattle.tables.specs.Tables.{is_below};
 
 use layout::{Kinds, Layouts, Shape};
@@ -77,7 +77,9 @@ impl<'a> TypeLayout<'a> {
     }
 
     /// What it is for the ABI.
-    pub fn shape(&self) -> Shape {
+    pub fn shape(&self) -> Shape
+        ensures { IsShape self.now result }
+    {
         self.layouts.shape(self.ty)
     }
 
@@ -118,7 +120,8 @@ impl<'a> TypeLayout<'a> {
 
     /// The offset of payloads in bytes, whether there are any. None if the type has no cases.
     pub fn payload_offset(&self) -> Option<u32>
-        ensures { IfSome result (λ p. p ≡ payload_place (variant_cases (closed self.now))) }
+        ensures none { IfNone result (nth_case (variant_cases (closed self.now)) 0 ≡ None) }
+        ensures offset { IfSome result (λ p. p ≡ payload_place (variant_cases (closed self.now))) }
     {
         Some(self.layouts.case_info(self.ty, 0)?.place)
     }

@@ -2,8 +2,9 @@
 
 use crate::packages::number;
 use adapter::Request;
-use host_calls::{CallError, Status, enter, enter_requests, function_of, leave, leave_requests};
-use lending::Value;
+use host_calls::{
+    CallError, Half, Status, Value, enter_requests, function_of, leave_requests,
+};
 use memory::Block;
 use std::alloc::Global;
 use std::process::Abort;
@@ -61,8 +62,14 @@ fn entered(
 ) -> Result<usize, CallError> {
     let types = package.types();
     let f = function_of(&types, number(package))?;
+    let half = Half {
+        alloc,
+        types: &types,
+        func: f,
+        blocks,
+    };
     let mut caller = *CALLER;
-    enter(alloc, &types, f, flats, &mut caller, callee, blocks, handed)
+    half.enter(flats, &mut caller, callee, handed)
 }
 
 /// The second half, from ANSWERED.
@@ -75,18 +82,14 @@ fn left(
 ) -> Result<usize, CallError> {
     let types = package.types();
     let f = function_of(&types, number(package))?;
-    let mut callee = *ANSWERED;
-    leave(
+    let half = Half {
         alloc,
-        &types,
-        f,
-        &flats(),
-        &[word(8)],
-        &mut callee,
-        caller,
+        types: &types,
+        func: f,
         blocks,
-        back,
-    )
+    };
+    let mut callee = *ANSWERED;
+    half.leave(&flats(), &[word(8)], &mut callee, caller, back)
 }
 
 /// What both halves will ask for.

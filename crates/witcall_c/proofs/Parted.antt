@@ -19,10 +19,6 @@ sum-is ns = ap sum (sym (map-id ns)) ∙ sum-map (λ n. n) ns
 sum-more : (ns : List ℕ) (k : ℕ) → k < length ns → sum (take k ns) + get_or ns k 0 ≤ sum ns
 sum-more ns k h = let front = sum-is (take k ns) in let all = sum-is ns in let more = sum_by_more_le (λ n. n) ns k 0 h in omega (arith, front, all, more)
 
--- no lengths are those of an input
-pub no-input : (bytes lengths : List ℕ) → length lengths ≡ 0 → (other : List (List ℕ)) → ArePieces bytes lengths other → ⊥
-no-input bytes lengths none other p = let o = length-map other length in let q = ap length p.lengths_are in let some = p.some in omega (arith, o, q, some, none)
-
 module _ (bytes lengths : List ℕ) (k : ℕ) (inputs : List (List ℕ)) (rest : List ℕ) (e : map length inputs ≡ take k lengths) (b : concat inputs ++ rest ≡ bytes) where
   taken : sum (take k lengths) + length rest ≡ length bytes
   taken = ap (λ n. n + length rest) (ap sum (sym e) ∙ sym (length-concat inputs)) ∙ sym (length-append (concat inputs) rest) ∙ ap length b

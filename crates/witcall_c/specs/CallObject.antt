@@ -5,8 +5,8 @@ use Rattle.canonical_abi.specs.Types.{FunctionType}
 use Rattle.canonical_abi.specs.declared.trap.Step.TheVariants.{LiftArgs}
 use Rattle.host_calls.specs.Calling.{AreTooMany, AreOtherKinds}
 use Rattle.host_calls.specs.declared.error.CallError.{CallError}
-use Rattle.lending.specs.Values.{flat_of}
-use Rattle.lending.specs.declared.value.Value.{Value}
+use Rattle.host_calls.specs.Values.{flat_of}
+use Rattle.host_calls.specs.declared.value.Value.{Value}
 use Rattle.witcall_c.specs.declared.call.Call.{Call}
 
 -- the core values that it keeps

@@ -2,7 +2,7 @@
 ghost use Rattle.std.specs.Prelude.{◌≡◌, ◌≤◌, length};
 ghost use Rattle.witcall_c.specs.CallObject.{Keeps, flats_of};
 
-use lending::{MAX_VALUES, Value};
+use host_calls::{MAX_VALUES, Value};
 
 /// The number of the function that is called, and the core values of the call: the first `count` of `flats`.
 #[repr(C)]

@@ -12,8 +12,7 @@ ghost use Rattle.witcall_c.specs.Calls.{CallsFunction, package_of};
 use crate::call::Call;
 use crate::held::{Target, function};
 use adapter::Request;
-use host_calls::{CallError, Part};
-use lending::Value;
+use host_calls::{CallError, Half, Part, Value};
 use memory::Block;
 use std::alloc::Global;
 
@@ -33,47 +32,63 @@ pub fn begin(
     Ok(0)
 }
 
-/// The first half of a call of the function of this number.
-pub fn enter(
-    held: &Target,
-    alloc: Global,
-    number: u32,
-    flats: &[Value],
-    caller: &mut [u8],
-    callee: &mut [u8],
-    blocks: &[Block],
-    handed: &mut [Value],
-) -> Result<usize, CallError>
-    ensures done { CallsFunction (package_of (option_map (λ held. held.value) held.now)) number
-        (λ f done. EnterDone f flats.now caller.old callee.old blocks.now handed.old done callee.new handed.new)
-        ((callee.new ≡ callee.old) × (handed.new ≡ handed.old)) result }
-    ensures same_caller { caller.new ≡ caller.old }
-{
-    let (types, func) = function(held, number)?;
-    host_calls::enter(alloc, &types, func, flats, caller, callee, blocks, handed)
+/// A half of a call of the function of this number, with the core values of the whole call.
+#[derive(Drop)]
+pub struct NumberedHalf<'a> {
+    pub alloc: Global,
+    pub number: u32,
+    pub flats: &'a [Value],
+    /// The blocks that were granted for this half before.
+    pub blocks: &'a [Block],
 }
 
-/// The second half.
-pub fn leave(
-    held: &Target,
-    alloc: Global,
-    number: u32,
-    flats: &[Value],
-    answer: &[Value],
-    callee: &mut [u8],
-    caller: &mut [u8],
-    blocks: &[Block],
-    back: &mut [Value],
-) -> Result<usize, CallError>
-    ensures done { CallsFunction (package_of (option_map (λ held. held.value) held.now)) number
-        (λ f done. LeaveDone f flats.now callee.old answer.now caller.old blocks.now back.old done caller.new back.new)
-        ((caller.new ≡ caller.old) × (back.new ≡ back.old)) result }
-    ensures same_callee { callee.new ≡ callee.old }
-{
-    let (types, func) = function(held, number)?;
-    host_calls::leave(
-        alloc, &types, func, flats, answer, callee, caller, blocks, back,
-    )
+impl NumberedHalf<'_> {
+    /// The first half.
+    pub fn enter(
+        &self,
+        held: &Target,
+        caller: &mut [u8],
+        callee: &mut [u8],
+        handed: &mut [Value],
+    ) -> Result<usize, CallError>
+        ensures done { CallsFunction (package_of (option_map (λ held. held.value) held.now)) self.now.number
+            (λ f done. EnterDone f self.now.flats.now caller.old callee.old self.now.blocks.now handed.old done callee.new handed.new)
+            ((callee.new ≡ callee.old) × (handed.new ≡ handed.old)) result }
+        ensures same_caller { caller.new ≡ caller.old }
+    {
+        let (types, func) = function(held, self.number)?;
+        let half = Half {
+            alloc: self.alloc,
+            types: &types,
+            func,
+            blocks: self.blocks,
+        };
+        half.enter(self.flats, caller, callee, handed)
+    }
+
+    /// The second half.
+    pub fn leave(
+        &self,
+        held: &Target,
+        answer: &[Value],
+        callee: &mut [u8],
+        caller: &mut [u8],
+        back: &mut [Value],
+    ) -> Result<usize, CallError>
+        ensures done { CallsFunction (package_of (option_map (λ held. held.value) held.now)) self.now.number
+            (λ f done. LeaveDone f self.now.flats.now callee.old answer.now caller.old self.now.blocks.now back.old done caller.new back.new)
+            ((caller.new ≡ caller.old) × (back.new ≡ back.old)) result }
+        ensures same_callee { callee.new ≡ callee.old }
+    {
+        let (types, func) = function(held, self.number)?;
+        let half = Half {
+            alloc: self.alloc,
+            types: &types,
+            func,
+            blocks: self.blocks,
+        };
+        half.leave(self.flats, answer, callee, caller, back)
+    }
 }
 
 /// What the first half will ask for.

@@ -19,15 +19,15 @@ ghost use Rattle.witcall_c.specs.Version.{abi, version};
 ghost use Rattle.witcall_c.specs.Written.{WritesBinary, WritesText};
 
 use crate::call::Call;
+use crate::calls::NumberedHalf;
 use crate::handle::Handle;
 use crate::held::{Held, find, line_of, types};
 use crate::line::tell_line;
 use crate::set::pieces;
 use crate::{calls, writing};
 use adapter::Request;
-use host_calls::{CallError, Part, Status};
+use host_calls::{CallError, Part, Status, Value};
 use host_lists::{MemberInfo, RowInfo, tell_bytes};
-use lending::Value;
 use memory::Block;
 use std::alloc::Global;
 
@@ -159,7 +159,13 @@ pub extern "C" fn witcall_enter(
     ensures same { caller.new ≡ caller.old }
 {
     let held = handle.take(alloc);
-    let done = calls::enter(&held, alloc, func, flats, caller, callee, blocks, handed);
+    let half = NumberedHalf {
+        alloc,
+        number: func,
+        flats,
+        blocks,
+    };
+    let done = half.enter(&held, caller, callee, handed);
     handle.give(held);
     Status::of(done)
 }
@@ -182,9 +188,13 @@ pub extern "C" fn witcall_leave(
     ensures same { callee.new ≡ callee.old }
 {
     let held = handle.take(alloc);
-    let done = calls::leave(
-        &held, alloc, func, flats, answer, callee, caller, blocks, back,
-    );
+    let half = NumberedHalf {
+        alloc,
+        number: func,
+        flats,
+        blocks,
+    };
+    let done = half.leave(&held, answer, callee, caller, back);
     handle.give(held);
     Status::of(done)
 }
