@@ -1,16 +1,17 @@
-//! Files checked in the order in which their packages depend on each other.
+//! Packages checked in the order in which their packages depend on each other.
 ghost use Rattle.std.specs.Prelude.{◌≡◌, ◌+◌, ◌<◌, ◌≤◌, All, IfOk, OnOk, length};
 ghost use Rattle.layout.specs.Layout.{layouts_of};
 
 use crate::graph::graph_of;
-use crate::members::Member;
+use crate::members::{Member, members_of};
+use crate::sources::Source;
 use layout::Layouts;
 use package_adding::PackageSet;
 use package_order::{Arrangement, arranged};
 use std::alloc::{AllocError, Global};
 use std::fmt::Write;
 use tables::{Resolve, Sequence};
-use wit_faults::{Cause, PackageRef, Report, first_path};
+use wit_faults::{Around, Cause, PackageRef, Report, first_above_limits, first_path};
 
 /// A package without a fault: its own tables, which begin with what it uses of others.
 #[derive(Drop)]
@@ -38,16 +39,18 @@ struct Checker<'a> {
 fn added(alloc: Global, set: &mut PackageSet, member: &Member<'_>) -> Result<Checked, Cause> {
     set.has_room()?;
     let (_, tables) = set.add_tree(alloc, &member.tree)?;
-    let layouts = Layouts::of(alloc, &tables)?;
-    Ok(Checked {
-        is_dependency: member.is_dependency,
-        tables,
-        layouts,
-    })
+    match Layouts::of(alloc, &tables) {
+        Ok(layouts) => Ok(Checked {
+            is_dependency: member.is_dependency,
+            tables,
+            layouts,
+        }),
+        Err(error) => Err(Cause::Layout(error, first_above_limits(alloc, &tables)?)),
+    }
 }
 
 impl<'a> Checker<'a> {
-    fn new(alloc: Global, members: &'a [Member<'a>]) -> Result<Checker<'a>, AllocError>
+    fn new(alloc: Global, members: &'a [Member<'_>]) -> Result<Checker<'a>, AllocError>
         ensures { IfOk result (λ c. length c.checked.items ≡ 0) }
     {
         let known = members.iter().map(|member| member.package());
@@ -81,7 +84,7 @@ impl<'a> Checker<'a> {
         ensures { OnOk result (report.new.status ≡ 0 → (report.old.status ≡ 0) × (length self.new.checked.items ≡ length self.old.checked.items + 1)) }
     {
         if let Some(package) = self.first_bad(used) {
-            return report.leave_out(self.alloc, &member.lexed, package);
+            return report.leave_out(self.alloc, member.files.as_slice(), package);
         }
         match added(self.alloc, &mut self.set, member) {
             Ok(checked) => {
@@ -91,7 +94,13 @@ impl<'a> Checker<'a> {
                 }
                 Ok(())
             }
-            Err(cause) => report.add(self.alloc, &member.lexed, self.known.as_slice(), &cause),
+            Err(cause) => {
+                let around = Around {
+                    files: member.files.as_slice(),
+                    known: self.known.as_slice(),
+                };
+                report.add_package(self.alloc, around, &cause)
+            }
         }
     }
 }
@@ -100,7 +109,7 @@ impl<'a> Checker<'a> {
 fn check_each<'a>(
     alloc: Global,
     report: &mut Report,
-    members: &'a [Member<'a>],
+    members: &'a [Member<'_>],
     graph: &[Sequence<usize>],
     order: &[usize],
 ) -> Result<Vec<Checked>, AllocError>
@@ -144,16 +153,10 @@ fn report_ring(
     ensures { OnOk result (report.new.status ≡ 1) }
 {
     let words = ring_words(alloc, members, ring)?;
-    let lexed = &members[ring[0]].lexed;
+    let files = members[ring[0]].files.as_slice();
     let second = members[ring[1 % ring.len()]].package();
     let hint = "move what both use into a package of its own";
-    report.add_at(
-        alloc,
-        lexed,
-        first_path(lexed, second),
-        words.as_str(),
-        hint,
-    )
+    report.add_found(alloc, first_path(files, second), words.as_str(), hint)
 }
 
 /// Checks these members, each after those that it depends on, and reports each fault. Packages that depend on each other are
@@ -161,7 +164,7 @@ fn report_ring(
 pub fn check_members<'a>(
     alloc: Global,
     report: &mut Report,
-    members: &'a [Member<'a>],
+    members: &'a [Member<'_>],
 ) -> Result<Vec<Checked>, AllocError>
     ensures { IfOk result (λ found. report.new.status ≡ 0 → length members.now ≤ length found.items) }
 {
@@ -175,4 +178,17 @@ pub fn check_members<'a>(
             Ok(Vec::new(alloc))
         }
     }
+}
+
+/// Checks the packages of these files. Names are checked once all texts can be read.
+pub fn check_sources(
+    alloc: Global,
+    report: &mut Report,
+    sources: &[Source],
+) -> Result<Vec<Checked>, AllocError> {
+    let members = members_of(alloc, report, sources)?;
+    if report.status != 0 {
+        return Ok(Vec::new(alloc));
+    }
+    check_members(alloc, report, members.as_slice())
 }

@@ -9,6 +9,7 @@ mod graph;
 mod members;
 mod running;
 mod sources;
+mod texts;
 
 pub use running::run;
 pub use wit_faults::Report;

@@ -1,17 +1,23 @@
-//! Files whose texts were read.
-ghost use Rattle.std.specs.Prelude.{◌≡◌, length, IsTrue, IfOk};
+//! Packages whose files were read.
+ghost use Rattle.std.specs.Prelude.{◌≡◌, ◌+◌, ◌≤◌, length, IsTrue, IfOk, OnOk};
+ghost use Rattle.std.specs.List.{sum_by};
 ghost use Rattle.wit_syntax.specs.FullNames.{has_full_names};
 ghost use Rattle.wit_syntax.specs.View.{file_view};
 
-use crate::sources::{MAX_TEXT, Source};
+use crate::sources::Source;
+use crate::texts::{Header, Text, headers_of, texts_of, tree_of};
+use package_adding::has_full_names;
 use std::alloc::{AllocError, Global};
-use wit_faults::{Cause, Lexed, PackageRef, Report};
-use wit_text::{Ast, TextError, parse, texts_have_full_names};
+use tables::ResolveError;
+use wit_faults::{Around, Cause, Lexed, PackageRef, Report};
+use wit_syntax::Item;
+use wit_text::Ast;
 
-/// A file whose text was read.
+/// A package whose files were read, as one tree.
 #[derive(Drop)]
 pub struct Member<'a> {
-    pub lexed: Lexed<'a>,
+    /// In the order of their names, or as the command names them.
+    pub files: Vec<Lexed<'a>>,
     pub is_dependency: bool,
     pub tree: Ast,
     ghost full: { IsTrue (has_full_names (file_view tree)) },
@@ -23,70 +29,173 @@ impl Member<'_> {
     }
 }
 
-/// The longest front of these bytes that is a text.
-fn front(bytes: &[u8]) -> &str {
-    let end = match std::str::from_utf8(bytes) {
-        Ok(text) => return text,
-        Err(error) => error.valid_up_to(),
-    };
-    match bytes.get(..end) {
-        Some(front) => std::str::from_utf8(front).unwrap_or(""),
-        None => "",
+/// A file whose text was read.
+#[derive(Drop)]
+struct Part<'a> {
+    text: Text<'a>,
+    tree: Ast,
+}
+
+/// Files of one package, which were found in one folder, and what these have together.
+#[derive(Drop)]
+struct Joined<'a> {
+    folder: &'a str,
+    is_dependency: bool,
+    files: Vec<Lexed<'a>>,
+    tree: Ast,
+}
+
+/// Adds items after others.
+fn append(items: &mut Vec<Item>, more: Vec<Item>) -> Result<(), AllocError> {
+    for item in more {
+        items.push(item)?;
+    }
+    Ok(())
+}
+
+impl<'a> Joined<'a> {
+    /// The package of a file.
+    fn of(alloc: Global, part: Part<'a>) -> Result<Joined<'a>, AllocError>
+        ensures { IfOk result (λ joined. length joined.files.items ≡ 1) }
+    {
+        let Part { text, tree } = part;
+        let Text { source, lexed } = text;
+        let mut files = Vec::new(alloc);
+        files.push(lexed)?;
+        Ok(Joined {
+            folder: source.folder.as_str(),
+            is_dependency: source.is_dependency,
+            files,
+            tree,
+        })
+    }
+
+    /// Whether a file is of this package.
+    fn has(&self, part: &Part<'_>) -> bool {
+        let own = PackageRef::of_tree(&self.tree.package);
+        self.folder == part.text.source.folder.as_str()
+            && own.is(PackageRef::of_tree(&part.tree.package))
+    }
+
+    /// Adds what a file has.
+    fn add(&mut self, part: Part<'a>) -> Result<(), AllocError>
+        ensures { OnOk result (length self.new.files.items ≡ length self.old.files.items + 1) }
+    {
+        let Part { text, tree } = part;
+        let Text { source: _, lexed } = text;
+        let Ast { package: _, items } = tree;
+        append(&mut self.tree.items, items)?;
+        self.files.push(lexed)?;
+        Ok(())
     }
 }
 
-/// The bytes as a text.
-fn text_of(bytes: &[u8]) -> Result<&str, Cause> {
-    if bytes.len() > MAX_TEXT {
-        return Err(Cause::Text(TextError::Limit));
-    }
-    match std::str::from_utf8(bytes) {
-        Ok(text) => Ok(text),
-        Err(error) => Err(Cause::NotUtf8(error.valid_up_to())),
-    }
-}
-
-/// The tree of a file.
-fn tree_of(alloc: Global, source: &Source) -> Result<Ast, Cause>
-    ensures { IfOk result (λ tree. IsTrue (has_full_names (file_view tree))) }
+/// The files that can be read. The faults of the others are reported: if the status is 0, there are none.
+fn parts_of<'a>(
+    alloc: Global,
+    report: &mut Report,
+    texts: Vec<Text<'a>>,
+    headers: &[Header<'a>],
+) -> Result<Vec<Part<'a>>, AllocError>
+    ensures { IfOk result (λ parts. report.new.status ≡ 0 → length parts.items ≡ length texts.entry.items) }
 {
-    texts_have_full_names();
-    let bytes = match &source.bytes {
-        Ok(bytes) => bytes.as_slice(),
-        Err(error) => return Err(Cause::Read(*error)),
-    };
-    let tree = parse(alloc, text_of(bytes)?)?;
-    Ok(tree)
+    let mut parts = Vec::new(alloc);
+    for text in texts {
+        match tree_of(alloc, &text, headers) {
+            Ok(tree) => parts.push(Part { text, tree })?,
+            Err(cause) => report.add(alloc, &text.lexed, &[], &cause)?,
+        }
+    }
+    Ok(parts)
 }
 
-/// What can be shown of a file.
-fn lexed_of(alloc: Global, source: &Source) -> Lexed<'_> {
-    let text = match &source.bytes {
-        Ok(bytes) => front(bytes.as_slice()),
-        Err(_) => "",
-    };
-    Lexed::new(alloc, source.path.as_str(), text)
+/// The files of a package, and those of other ones.
+#[derive(Drop)]
+struct Split<'a> {
+    joined: Joined<'a>,
+    others: Vec<Part<'a>>,
 }
 
-/// The files whose texts can be read. The faults of the others are reported: if the status is 0, there are none.
+/// Joins a file with those of its package among others.
+fn join<'a>(alloc: Global, first: Part<'a>, more: Vec<Part<'a>>) -> Result<Split<'a>, AllocError>
+    ensures some { IfOk result (λ s. 1 ≤ length s.joined.files.items) }
+    ensures all { IfOk result (λ s. length s.joined.files.items + length s.others.items ≡ length more.entry.items + 1) }
+{
+    let mut joined = Joined::of(alloc, first)?;
+    let mut others = Vec::new(alloc);
+    for part in more {
+        if joined.has(&part) {
+            joined.add(part)?;
+        } else {
+            others.push(part)?;
+        }
+    }
+    Ok(Split { joined, others })
+}
+
+/// Adds a package, if its names make full names, as those of each text do.
+fn push_member<'a>(
+    alloc: Global,
+    report: &mut Report,
+    members: &mut Vec<Member<'a>>,
+    joined: Joined<'a>,
+) -> Result<(), AllocError>
+    ensures status { OnOk result (report.new.status ≡ 0 → report.old.status ≡ 0) }
+    ensures files { OnOk result (report.new.status ≡ 0 → sum_by (λ m. length m.files.items) members.new.items ≡ sum_by (λ m. length m.files.items) members.old.items + length joined.entry.files.items) }
+{
+    let Joined {
+        folder: _,
+        is_dependency,
+        files,
+        tree,
+    } = joined;
+    if !has_full_names(alloc, &tree)? {
+        let around = Around {
+            files: files.as_slice(),
+            known: &[],
+        };
+        let cause = Cause::Resolve(ResolveError::NotThisShape);
+        return report.add_package(alloc, around, &cause);
+    }
+    members.push(Member {
+        files,
+        is_dependency,
+        tree,
+    })?;
+    Ok(())
+}
+
+/// The packages of these files. No file is dropped: if the status is 0, each is one of a package.
+fn packages_of<'a>(
+    alloc: Global,
+    report: &mut Report,
+    parts: Vec<Part<'a>>,
+) -> Result<Vec<Member<'a>>, AllocError>
+    ensures status { IfOk result (λ _. report.new.status ≡ 0 → report.old.status ≡ 0) }
+    ensures files { IfOk result (λ members. report.new.status ≡ 0 → sum_by (λ m. length m.files.items) members.items ≡ length parts.entry.items) }
+{
+    let mut members = Vec::new(alloc);
+    let mut left = parts;
+    'packages: while !left.is_empty() {
+        let first = left.remove(0);
+        let split = join(alloc, first, left)?;
+        left = split.others;
+        push_member(alloc, report, &mut members, split.joined)?;
+    }
+    Ok(members)
+}
+
+/// The packages of the files whose texts can be read. The faults of the others are reported: if the status is 0, there are
+/// none, and each file is one of a package.
 pub fn members_of<'a>(
     alloc: Global,
     report: &mut Report,
     sources: &'a [Source],
 ) -> Result<Vec<Member<'a>>, AllocError>
-    ensures { IfOk result (λ members. report.new.status ≡ 0 → length members.items ≡ length sources.now) }
+    ensures { IfOk result (λ members. report.new.status ≡ 0 → sum_by (λ m. length m.files.items) members.items ≡ length sources.now) }
 {
-    let mut members = Vec::new(alloc);
-    for source in sources {
-        let lexed = lexed_of(alloc, source);
-        match tree_of(alloc, source) {
-            Ok(tree) => members.push(Member {
-                lexed,
-                is_dependency: source.is_dependency,
-                tree,
-            })?,
-            Err(cause) => report.add(alloc, &lexed, &[], &cause)?,
-        }
-    }
-    Ok(members)
+    let texts = texts_of(alloc, sources)?;
+    let headers = headers_of(alloc, texts.as_slice())?;
+    let parts = parts_of(alloc, report, texts, headers.as_slice())?;
+    packages_of(alloc, report, parts)
 }

@@ -1,7 +1,6 @@
 //! The commands.
 
-use crate::checking::{Checked, check_members};
-use crate::members::members_of;
+use crate::checking::{Checked, check_sources};
 use crate::sources::sources_of;
 use explain_words::{ColorChoice, Options, VERSION, help_of, options_of, usage};
 use layout_picture::{Form, Sheet};
@@ -42,18 +41,14 @@ fn new_report(rt: &HostRuntime, options: &Options<'_>) -> Report {
     Report::new(rt.alloc(), style)
 }
 
-/// Checks the files that these paths are or have. Names are checked once all texts can be read.
+/// Checks the files that these paths are or have.
 fn checked_paths(
     rt: &HostRuntime,
     report: &mut Report,
     paths: &[&str],
 ) -> Result<Vec<Checked>, AllocError> {
     let sources = sources_of(rt, paths)?;
-    let members = members_of(rt.alloc(), report, sources.as_slice())?;
-    if report.status != 0 {
-        return Ok(Vec::new(rt.alloc()));
-    }
-    check_members(rt.alloc(), report, members.as_slice())
+    check_sources(rt.alloc(), report, sources.as_slice())
 }
 
 fn check(rt: &HostRuntime, options: &Options<'_>, paths: &[&str]) -> Result<Report, AllocError> {

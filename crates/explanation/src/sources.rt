@@ -13,10 +13,19 @@ pub const MAX_TEXT: usize = 1_048_576;
 #[derive(Debug, Drop)]
 pub struct Source {
     pub path: String,
+    /// The folder in which it was found. No text if the command names the file.
+    pub folder: String,
     /// It is in the folder of dependencies.
     pub is_dependency: bool,
     /// What it has, or more than the limit of it.
     pub bytes: Result<Vec<u8>, ReadError>,
+}
+
+/// Where files are found: in a folder, or by the command, which is no text.
+#[derive(Clone, Copy, Debug)]
+struct Origin<'a> {
+    folder: &'a str,
+    is_dependency: bool,
 }
 
 /// The files of a folder whose names end in `.wit`, and its folders, each in the order of their names.
@@ -88,12 +97,13 @@ fn push_file(
     rt: &HostRuntime,
     sources: &mut Vec<Source>,
     path: String,
-    is_dependency: bool,
+    origin: Origin<'_>,
 ) -> Result<(), AllocError> {
     let bytes = bytes_of(rt, path.as_str());
     sources.push(Source {
         path,
-        is_dependency,
+        folder: String::from_str(rt.alloc(), origin.folder)?,
+        is_dependency: origin.is_dependency,
         bytes,
     })?;
     Ok(())
@@ -103,10 +113,10 @@ fn push_files(
     rt: &HostRuntime,
     sources: &mut Vec<Source>,
     paths: Vec<String>,
-    is_dependency: bool,
+    origin: Origin<'_>,
 ) -> Result<(), AllocError> {
     for path in paths {
-        push_file(rt, sources, path, is_dependency)?;
+        push_file(rt, sources, path, origin)?;
     }
     Ok(())
 }
@@ -117,11 +127,29 @@ fn push_dependencies(
     sources: &mut Vec<Source>,
     folder: &str,
 ) -> Result<(), AllocError> {
+    let is_dependency = true;
     let Entries { files, folders } = entries_of(rt, folder)?;
-    push_files(rt, sources, files, true)?;
-    for folder in folders {
-        let Entries { files, folders: _ } = entries_of(rt, folder.as_str())?;
-        push_files(rt, sources, files, true)?;
+    push_files(
+        rt,
+        sources,
+        files,
+        Origin {
+            folder,
+            is_dependency,
+        },
+    )?;
+    for path in folders {
+        let folder = path.as_str();
+        let Entries { files, folders: _ } = entries_of(rt, folder)?;
+        push_files(
+            rt,
+            sources,
+            files,
+            Origin {
+                folder,
+                is_dependency,
+            },
+        )?;
     }
     Ok(())
 }
@@ -133,15 +161,25 @@ fn push_folder(
     folder: &str,
 ) -> Result<(), AllocError> {
     let alloc = rt.alloc();
+    let is_dependency = false;
     let Entries { files, folders: _ } = entries_of(rt, folder)?;
     if files.is_empty() {
         sources.push(Source {
             path: String::from_str(alloc, folder)?,
-            is_dependency: false,
+            folder: String::from_str(alloc, folder)?,
+            is_dependency,
             bytes: Err(ReadError::Folder),
         })?;
     }
-    push_files(rt, sources, files, false)?;
+    push_files(
+        rt,
+        sources,
+        files,
+        Origin {
+            folder,
+            is_dependency,
+        },
+    )?;
     let folder = folder.strip_suffix("/").unwrap_or(folder);
     let dependencies = format!(in alloc; "{folder}/deps")?;
     push_dependencies(rt, sources, dependencies.as_str())
@@ -150,12 +188,16 @@ fn push_folder(
 /// Reads the files that these paths are or have.
 pub fn sources_of(rt: &HostRuntime, paths: &[&str]) -> Result<Vec<Source>, AllocError> {
     let mut sources = Vec::new(rt.alloc());
+    let named = Origin {
+        folder: "",
+        is_dependency: false,
+    };
     for path in paths {
         if is_folder(rt, path) {
             push_folder(rt, &mut sources, path)?;
         } else {
             let path = String::from_str(rt.alloc(), path)?;
-            push_file(rt, &mut sources, path, false)?;
+            push_file(rt, &mut sources, path, named)?;
         }
     }
     Ok(sources)

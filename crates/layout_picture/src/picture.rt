@@ -10,7 +10,14 @@ use crate::signatures::{push_flat, push_signature};
 use crate::type_layout::TypeLayout;
 use layout::Layouts;
 use std::alloc::AllocError;
-use tables::{FunctionId, Interface, Resolve, TypeId, ValType};
+use tables::{Direction, FunctionId, Interface, Resolve, TypeId, ValType, World, WorldItemKind};
+
+fn direction_word(direction: Direction) -> &'static str {
+    match direction {
+        Direction::Import => "import",
+        Direction::Export => "export",
+    }
+}
 
 /// The tables whose types are drawn.
 #[derive(Drop)]
@@ -59,11 +66,12 @@ impl<'a> Drawing<'a> {
         Ok(())
     }
 
-    /// Adds the core signatures of a function.
+    /// Adds the core signatures of a function under a heading with its owner: the full name of an interface, or that of a world
+    /// and the function's direction.
     fn push_function(
         &self,
         sheet: &mut Sheet,
-        interface: &str,
+        owner: &str,
         id: FunctionId,
     ) -> Result<(), AllocError>
         requires table { id.0 < length self.now.layouts.now.rows }
@@ -71,7 +79,7 @@ impl<'a> Drawing<'a> {
     {
         let alloc = sheet.alloc;
         let name = self.resolve.signature(id).name.as_str();
-        sheet.push_line(format!(in alloc; "func {interface} {name}")?.as_str())?;
+        sheet.push_line(format!(in alloc; "func {owner} {name}")?.as_str())?;
         let mut line = String::from_str(alloc, "    the callee exports: ")?;
         push_signature(&mut line, &self.layouts.lifted(id))?;
         sheet.push_line(line.as_str())?;
@@ -80,16 +88,16 @@ impl<'a> Drawing<'a> {
         sheet.push_line(line.as_str())
     }
 
-    /// Adds the core signatures of functions of the interface of this full name.
+    /// Adds the core signatures of an owner's functions.
     fn push_functions(
         &self,
         sheet: &mut Sheet,
-        interface: &str,
+        owner: &str,
         ids: &[FunctionId],
     ) -> Result<(), AllocError> {
         for id in ids {
             if self.layouts.has_function(*id) && self.resolve.is_function(*id) {
-                self.push_function(sheet, interface, *id)?;
+                self.push_function(sheet, owner, *id)?;
             }
         }
         Ok(())
@@ -109,11 +117,49 @@ impl<'a> Drawing<'a> {
         }
         Ok(())
     }
+
+    /// Adds the core signatures of the functions that the world of this full name imports and exports.
+    fn push_world(&self, sheet: &mut Sheet, name: &str, world: &World) -> Result<(), AllocError> {
+        for item in world.items.as_slice() {
+            if let WorldItemKind::Function(id) = item.kind {
+                let direction = direction_word(item.direction);
+                let owner = format!(in sheet.alloc; "{name} {direction}")?;
+                self.push_functions(sheet, owner.as_str(), &[id])?;
+            }
+        }
+        Ok(())
+    }
+
+    /// Draws the interfaces of the last package.
+    fn push_interfaces(&self, sheet: &mut Sheet, wanted: Option<&str>) -> Result<(), AllocError> {
+        let packages = self.resolve.packages.as_slice();
+        for interface in self.resolve.interfaces.as_slice() {
+            let place = interface.package.0 as usize;
+            if place + 1 == packages.len() {
+                let name = packages[place].full_name(sheet.alloc, &interface.name)?;
+                self.push_interface(sheet, name.as_str(), interface, wanted)?;
+            }
+        }
+        Ok(())
+    }
+
+    /// Adds the core signatures of the functions of the last package's worlds.
+    fn push_worlds(&self, sheet: &mut Sheet) -> Result<(), AllocError> {
+        let packages = self.resolve.packages.as_slice();
+        for world in self.resolve.worlds.as_slice() {
+            let place = world.package.0 as usize;
+            if place + 1 == packages.len() {
+                let name = packages[place].full_name(sheet.alloc, &world.name)?;
+                self.push_world(sheet, name.as_str(), world)?;
+            }
+        }
+        Ok(())
+    }
 }
 
 impl Sheet {
-    /// Draws the types of each interface of the last package, used names first, and adds the core signatures of its functions.
-    /// If a type is wanted, those of this label alone. Functions of worlds are left out.
+    /// Draws the types of each interface of the last package, used names first, and adds the core signatures of its functions,
+    /// then those of the functions of its worlds. If a type is wanted, those of this label alone.
     pub fn draw(
         &mut self,
         resolve: &Resolve,
@@ -123,13 +169,9 @@ impl Sheet {
         requires { layouts.now ≡ layouts_of resolve.now }
     {
         let drawing = Drawing { resolve, layouts };
-        let packages = resolve.packages.as_slice();
-        for interface in resolve.interfaces.as_slice() {
-            let place = interface.package.0 as usize;
-            if place + 1 == packages.len() {
-                let name = packages[place].full_name(self.alloc, &interface.name)?;
-                drawing.push_interface(self, name.as_str(), interface, wanted)?;
-            }
+        drawing.push_interfaces(self, wanted)?;
+        if wanted.is_none() {
+            drawing.push_worlds(self)?;
         }
         Ok(())
     }

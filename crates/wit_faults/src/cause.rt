@@ -1,7 +1,9 @@
 //! Why a file is no package, or can't be read.
 
+use crate::limits::Refused;
 use layout::LayoutError;
 use package_adding::{AddError, AttachError};
+use std::alloc::AllocError;
 use tables::ResolveError;
 use thiserror::Error;
 use wit_text::TextError;
@@ -35,8 +37,15 @@ pub enum Cause {
     Resolve(ResolveError),
     #[error(transparent)]
     Attach(AttachError),
-    #[error(transparent)]
-    Layout(LayoutError),
+    /// The layouts of a package, with what is above their limits.
+    #[error("{0}")]
+    Layout(LayoutError, Option<Refused>),
+}
+
+impl From<AllocError> for Cause {
+    fn from(_error: AllocError) -> Cause {
+        Cause::Read(ReadError::NoMemory)
+    }
 }
 
 impl From<TextError> for Cause {
@@ -57,11 +66,5 @@ impl From<AddError> for Cause {
 impl From<AttachError> for Cause {
     fn from(error: AttachError) -> Cause {
         Cause::Attach(error)
-    }
-}
-
-impl From<LayoutError> for Cause {
-    fn from(error: LayoutError) -> Cause {
-        Cause::Layout(error)
     }
 }

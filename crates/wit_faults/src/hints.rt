@@ -1,6 +1,7 @@
 //! What to do about a fault, as docs/ERRORS.md has it.
 
 use crate::cause::Cause;
+use crate::places::declared_twice;
 use layout::LayoutError;
 use package_adding::AttachError;
 use source_lines::place_at;
@@ -9,6 +10,13 @@ use strsim::levenshtein;
 use tables::{PackageName, ResolveError};
 use wit_places::{Declarations, Lexed, PackageRef};
 use wit_text::{Expected, Feature, Keyword, Punctuation, Span, TextError, TokenKind};
+
+/// What is around a fault: the files of its package, and the packages that a hint may name.
+#[derive(Clone, Copy)]
+pub struct Around<'a> {
+    pub files: &'a [Lexed<'a>],
+    pub known: &'a [PackageRef<'a>],
+}
 
 static MORE_MEMORY: &str = "give the process more memory";
 
@@ -128,7 +136,7 @@ fn of_expected(
     match expected {
         Expected::Keyword(Keyword::Package) => String::from_str(
             alloc,
-            "begin the file with `package NAMESPACE:NAME;`: each file is a package of its own",
+            "begin the file with `package NAMESPACE:NAME;`, or give it with files of one package",
         ),
         Expected::Punctuation(Punctuation::Semicolon) => {
             of_mark(alloc, lexed, Punctuation::Semicolon, span)
@@ -175,20 +183,40 @@ fn nearer<'a>(
     Ok(best)
 }
 
-/// The nearest to a word among the words that are types and the names that the text uses.
-fn nearest<'a>(
+/// The nearer to a word of the best so far and of the names that a text uses.
+fn nearest_in<'a>(
     alloc: Global,
     lexed: &Lexed<'a>,
     word: &str,
+    best: Option<(usize, &'a str)>,
 ) -> Result<Option<(usize, &'a str)>, AllocError> {
-    let mut best = None;
-    for name in &TYPES {
-        best = nearer(alloc, word, best, name)?;
-    }
+    let mut best = best;
     for index in 0..lexed.tokens.len() {
         if let Some(name) = lexed.use_at(index) {
             best = nearer(alloc, word, best, name)?;
         }
+    }
+    Ok(best)
+}
+
+/// The nearest to a word among the words that are types.
+fn nearest_type<'a>(alloc: Global, word: &str) -> Result<Option<(usize, &'a str)>, AllocError> {
+    let mut best = None;
+    for name in &TYPES {
+        best = nearer(alloc, word, best, name)?;
+    }
+    Ok(best)
+}
+
+/// The nearest to a word among the words that are types and the names that the package uses.
+fn nearest<'a>(
+    alloc: Global,
+    files: &[Lexed<'a>],
+    word: &str,
+) -> Result<Option<(usize, &'a str)>, AllocError> {
+    let mut best = nearest_type(alloc, word)?;
+    for lexed in files {
+        best = nearest_in(alloc, lexed, word, best)?;
     }
     Ok(best)
 }
@@ -225,17 +253,49 @@ fn wit_type(word: &str) -> Option<&'static str> {
     None
 }
 
-fn of_unknown(alloc: Global, lexed: &Lexed<'_>, word: &str) -> Result<String, AllocError> {
-    if let Some(interface) = Declarations::of(alloc, lexed)?.interface_with(word) {
+/// The first interface of a package that declares a type of this name.
+fn interface_with<'a>(
+    alloc: Global,
+    files: &[Lexed<'a>],
+    word: &str,
+) -> Result<Option<&'a str>, AllocError> {
+    for lexed in files {
+        let interface = Declarations::of(alloc, lexed)?.interface_with(word);
+        if interface.is_some() {
+            return Ok(interface);
+        }
+    }
+    Ok(None)
+}
+
+fn of_unknown(alloc: Global, files: &[Lexed<'_>], word: &str) -> Result<String, AllocError> {
+    if let Some(interface) = interface_with(alloc, files, word)? {
         return format!(in alloc; "write `use {interface}.{{{word}}};` in this interface");
     }
     if let Some(name) = wit_type(word) {
         return format!(in alloc; "no `{word}` here; WIT has `{name}`");
     }
-    match nearest(alloc, lexed, word)? {
+    match nearest(alloc, files, word)? {
         Some((_, name)) => format!(in alloc; "no `{word}` here; did you mean `{name}`?"),
         None => {
             format!(in alloc; "declare `{word}`, or `use` it from the interface that has it")
+        }
+    }
+}
+
+/// What to do about two declarations of a name, which may be in two files.
+fn of_duplicate<'a>(
+    alloc: Global,
+    files: &'a [Lexed<'a>],
+    name: &str,
+) -> Result<String, AllocError> {
+    match declared_twice(alloc, files, name)? {
+        Some(twice) => format!(in alloc; "rename one: `{}` has this name too", twice.first.path),
+        None => {
+            String::from_str(
+                alloc,
+                "rename one: names differ by more than the case of letters",
+            )
         }
     }
 }
@@ -254,16 +314,11 @@ fn of_package(
     format!(in alloc; "give the file of package `{name}` too, or put it into the folder `deps`")
 }
 
-fn of_names(
-    alloc: Global,
-    lexed: &Lexed<'_>,
-    known: &[PackageRef<'_>],
-    error: &ResolveError,
-) -> Result<String, AllocError> {
+fn of_names(alloc: Global, around: Around<'_>, error: &ResolveError) -> Result<String, AllocError> {
     let hint = match error {
-        ResolveError::Unknown(label) => return of_unknown(alloc, lexed, label.as_str()),
-        ResolveError::NoPackage(name) => return of_package(alloc, known, name),
-        ResolveError::Duplicate(_) => "rename one: names differ by more than the case of letters",
+        ResolveError::Unknown(label) => return of_unknown(alloc, around.files, label.as_str()),
+        ResolveError::NoPackage(name) => return of_package(alloc, around.known, name),
+        ResolveError::Duplicate(name) => return of_duplicate(alloc, around.files, name.as_str()),
         ResolveError::Cycle => "a value has no pointers: use an index into a list",
         ResolveError::EmptyPackage => "add an interface or a world",
         ResolveError::NotThisShape => "",
@@ -280,8 +335,7 @@ fn of_set(
 ) -> Result<String, AllocError> {
     let hint = match error {
         AttachError::NoPackage(name) => return of_package(alloc, known, name),
-        AttachError::SamePackage(_) =>
-            "a package is one file here: put what the files of this package have into one",
+        AttachError::SamePackage(_) => "put the files of this package into one folder",
         AttachError::SetLimit => "leave out packages that are not used",
         AttachError::NotThisShape => "",
         AttachError::NoMemory => MORE_MEMORY,
@@ -289,20 +343,20 @@ fn of_set(
     String::from_str(alloc, hint)
 }
 
-/// What to do about a fault. No text if there is nothing to say. Packages that are known are those that a hint may name.
+/// What to do about a fault that a file shows. No text if there is nothing to say.
 pub fn hint_of(
     alloc: Global,
     lexed: &Lexed<'_>,
-    known: &[PackageRef<'_>],
+    around: Around<'_>,
     cause: &Cause,
 ) -> Result<String, AllocError> {
     let hint = match cause {
         Cause::Text(error) => return of_text(alloc, lexed, error),
-        Cause::Resolve(error) => return of_names(alloc, lexed, known, error),
-        Cause::Attach(error) => return of_set(alloc, known, error),
-        Cause::Layout(LayoutError::TooLarge) => "use a list",
-        Cause::Layout(LayoutError::TooDeep) => "nest less",
-        Cause::Layout(LayoutError::NoMemory) => MORE_MEMORY,
+        Cause::Resolve(error) => return of_names(alloc, around, error),
+        Cause::Attach(error) => return of_set(alloc, around.known, error),
+        Cause::Layout(LayoutError::TooLarge, _) => "use a list",
+        Cause::Layout(LayoutError::TooDeep, _) => "nest less",
+        Cause::Layout(LayoutError::NoMemory, _) => MORE_MEMORY,
         Cause::NotUtf8(_) => "save the file as UTF-8",
         Cause::Read(_) => "",
     };

@@ -1,10 +1,11 @@
 //! Where a fault stands in its text.
 
 use crate::cause::Cause;
+use crate::limits::Refused;
 use package_adding::AttachError;
 use std::alloc::{AllocError, Global};
 use tables::ResolveError;
-use wit_places::{Declarations, Lexed, PackageRef};
+use wit_places::{Declarations, Lexed, PackageRef, importers};
 use wit_text::{Span, TextError};
 
 /// The first place where a name is used.
@@ -30,8 +31,8 @@ fn second_place(lexed: &Lexed<'_>, name: &str) -> Option<Span> {
     None
 }
 
-/// The first path that names a package.
-pub fn first_path(lexed: &Lexed<'_>, package: PackageRef<'_>) -> Option<Span> {
+/// The first path of a text that names a package.
+fn path_to(lexed: &Lexed<'_>, package: PackageRef<'_>) -> Option<Span> {
     for index in 0..lexed.tokens.len() {
         if let Some(path) = lexed.path_at(index) {
             if package.is(path.package) {
@@ -40,6 +41,53 @@ pub fn first_path(lexed: &Lexed<'_>, package: PackageRef<'_>) -> Option<Span> {
         }
     }
     None
+}
+
+/// A file of a package, and a place of it.
+#[derive(Clone, Copy)]
+pub struct Found<'a> {
+    pub lexed: &'a Lexed<'a>,
+    pub span: Option<Span>,
+}
+
+/// The first path of a package's files that names another package. The first file without a place if none does.
+pub fn first_path<'a>(files: &'a [Lexed<'_>], package: PackageRef<'_>) -> Option<Found<'a>> {
+    for lexed in files {
+        let span = path_to(lexed, package);
+        if span.is_some() {
+            return Some(Found { lexed, span });
+        }
+    }
+    let lexed = files.first()?;
+    Some(Found { lexed, span: None })
+}
+
+/// An interface or a world that two files of a package declare.
+#[derive(Clone, Copy)]
+pub struct Twice<'a> {
+    pub first: &'a Lexed<'a>,
+    pub second: Found<'a>,
+}
+
+/// The interface or world of this name that a file declares after another file.
+pub fn declared_twice<'a>(
+    alloc: Global,
+    files: &'a [Lexed<'a>],
+    name: &str,
+) -> Result<Option<Twice<'a>>, AllocError> {
+    let mut earlier: Option<&'a Lexed<'a>> = None;
+    for lexed in files {
+        let span = Declarations::of(alloc, lexed)?.scope_like(lexed, name);
+        match earlier {
+            Some(first) if span.is_some() => {
+                let second = Found { lexed, span };
+                return Ok(Some(Twice { first, second }));
+            }
+            None if span.is_some() => earlier = Some(lexed),
+            _ => {}
+        }
+    }
+    Ok(None)
 }
 
 fn of_text(error: &TextError) -> Option<Span> {
@@ -53,10 +101,54 @@ fn of_text(error: &TextError) -> Option<Span> {
     }
 }
 
-/// Where a name is used that stands for nothing: first where its interface declares no such type.
-fn of_unknown(alloc: Global, lexed: &Lexed<'_>, name: &str) -> Result<Option<Span>, AllocError> {
-    let place = Declarations::of(alloc, lexed)?.undeclared(lexed, name);
-    Ok(place.or(first_use(lexed, name)))
+/// The first place of a name in an interface that neither declares nor uses a type of this name.
+fn first_missing<'a>(
+    alloc: Global,
+    files: &'a [Lexed<'a>],
+    name: &str,
+) -> Result<Option<Found<'a>>, AllocError> {
+    for lexed in files {
+        let others = importers(alloc, lexed, name)?;
+        let span = Declarations::of(alloc, lexed)?.undeclared(lexed, name, others.as_slice());
+        if span.is_some() {
+            return Ok(Some(Found { lexed, span }));
+        }
+    }
+    Ok(None)
+}
+
+/// The first place of a name in an interface that declares no type of this name.
+fn first_undeclared<'a>(
+    alloc: Global,
+    files: &'a [Lexed<'a>],
+    name: &str,
+) -> Result<Option<Found<'a>>, AllocError> {
+    for lexed in files {
+        let span = Declarations::of(alloc, lexed)?.undeclared(lexed, name, &[]);
+        if span.is_some() {
+            return Ok(Some(Found { lexed, span }));
+        }
+    }
+    Ok(None)
+}
+
+/// The place of a fault that all files of a package are needed to find: of a name in two files, and of a name that is unknown.
+fn place_among<'a>(
+    alloc: Global,
+    files: &'a [Lexed<'a>],
+    error: &ResolveError,
+) -> Result<Option<Found<'a>>, AllocError> {
+    match error {
+        ResolveError::Duplicate(name) => match declared_twice(alloc, files, name.as_str())? {
+            Some(twice) => Ok(Some(twice.second)),
+            None => Ok(None),
+        },
+        ResolveError::Unknown(label) => match first_missing(alloc, files, label.as_str())? {
+            Some(found) => Ok(Some(found)),
+            None => first_undeclared(alloc, files, label.as_str()),
+        },
+        _ => Ok(None),
+    }
 }
 
 fn of_names(
@@ -66,35 +158,78 @@ fn of_names(
 ) -> Result<Option<Span>, AllocError> {
     match error {
         ResolveError::Duplicate(name) => Ok(second_place(lexed, name.as_str())),
-        ResolveError::Unknown(label) => of_unknown(alloc, lexed, label.as_str()),
-        ResolveError::NoPackage(name) => Ok(first_path(lexed, PackageRef::of_tables(name))),
+        ResolveError::Unknown(label) => Ok(first_use(lexed, label.as_str())),
+        ResolveError::NoPackage(name) => Ok(path_to(lexed, PackageRef::of_tables(name))),
         ResolveError::Cycle => Declarations::of(alloc, lexed)?.ring(alloc, lexed),
         ResolveError::Limit => Ok(Declarations::of(alloc, lexed)?.long_flags(lexed)),
         _ => Ok(None),
     }
 }
 
-/// Where a fault stands: the place that it tells, that of the name that it tells, of the type that has it, or the name of the
-/// package.
-pub fn place_of(
+/// Where the type or the function is that is above the limits of layouts.
+fn of_refused(
+    alloc: Global,
+    lexed: &Lexed<'_>,
+    refused: &Refused,
+) -> Result<Option<Span>, AllocError> {
+    let declarations = Declarations::of(alloc, lexed)?;
+    let (scope, name) = (refused.scope.as_str(), refused.name.as_str());
+    if refused.is_function {
+        Ok(declarations.function_in(lexed, scope, name))
+    } else {
+        Ok(declarations.type_in(lexed, scope, name))
+    }
+}
+
+/// Where a file has a fault: the place that it tells, that of the name that it tells, or of the type that has it.
+pub fn place_in(
     alloc: Global,
     lexed: &Lexed<'_>,
     cause: &Cause,
 ) -> Result<Option<Span>, AllocError> {
-    let place = match cause {
-        Cause::Read(_) => return Ok(None),
-        Cause::NotUtf8(place) => {
-            return Ok(Some(Span {
-                start: *place,
-                end: *place,
-            }));
-        }
-        Cause::Text(error) => return Ok(of_text(error)),
-        Cause::Resolve(error) => of_names(alloc, lexed, error)?,
+    match cause {
+        Cause::NotUtf8(place) => Ok(Some(Span {
+            start: *place,
+            end: *place,
+        })),
+        Cause::Text(error) => Ok(of_text(error)),
+        Cause::Resolve(error) => of_names(alloc, lexed, error),
         Cause::Attach(AttachError::NoPackage(name)) => {
-            first_path(lexed, PackageRef::of_tables(name))
+            Ok(path_to(lexed, PackageRef::of_tables(name)))
         }
-        Cause::Attach(_) | Cause::Layout(_) => None,
-    };
-    Ok(place.or(lexed.header()))
+        Cause::Layout(_, Some(refused)) => of_refused(alloc, lexed, refused),
+        Cause::Read(_) | Cause::Attach(_) | Cause::Layout(_, None) => Ok(None),
+    }
+}
+
+/// The first file of a package that names it, and where.
+fn own_name<'a>(files: &'a [Lexed<'a>]) -> Option<Found<'a>> {
+    for lexed in files {
+        if lexed.has_package_line() {
+            let span = lexed.header();
+            return Some(Found { lexed, span });
+        }
+    }
+    let lexed = files.first()?;
+    Some(Found { lexed, span: None })
+}
+
+/// Where a package has a fault: in the first file that has a place of it, or at the package's name.
+pub fn place_of<'a>(
+    alloc: Global,
+    files: &'a [Lexed<'a>],
+    cause: &Cause,
+) -> Result<Option<Found<'a>>, AllocError> {
+    if let Cause::Resolve(error) = cause
+        && let Some(found) = place_among(alloc, files, error)?
+    {
+        return Ok(Some(found));
+    }
+    for lexed in files {
+        let span = place_in(alloc, lexed, cause)?;
+        if span.is_some() {
+            return Ok(Some(Found { lexed, span }));
+        }
+    }
+    Ok(own_name(files))
 }

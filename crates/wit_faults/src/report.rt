@@ -3,10 +3,10 @@ ghost use Rattle.std.specs.Prelude.{◌≡◌, [], IfOk, OnOk, string_bytes};
 
 use crate::cause::Cause;
 use crate::drawing::{Fault, push_fault};
-use crate::hints::hint_of;
+use crate::hints::{Around, hint_of};
 use crate::json::push_object;
 use crate::paint::Paint;
-use crate::places::place_of;
+use crate::places::{Found, first_path, place_in, place_of};
 use std::alloc::{AllocError, Global};
 use wit_places::{Lexed, PackageRef};
 use wit_text::Span;
@@ -102,7 +102,7 @@ impl Report {
         self.push(alloc, &fault)
     }
 
-    /// Adds a fault of a text, with its place and its hint. Packages that are known are those that the hint may name.
+    /// Adds a fault of a file by itself, with its place and its hint. Packages that are known are those that the hint may name.
     pub fn add(
         &mut self,
         alloc: Global,
@@ -113,21 +113,64 @@ impl Report {
         ensures { OnOk result (self.new.status ≡ 1) }
     {
         let words = format!(in alloc; "{cause}")?;
-        let hint = hint_of(alloc, lexed, known, cause)?;
-        let place = place_of(alloc, lexed, cause)?;
+        let around = Around { files: &[], known };
+        let hint = hint_of(alloc, lexed, around, cause)?;
+        let place = place_in(alloc, lexed, cause)?;
         self.add_at(alloc, lexed, place, words.as_str(), hint.as_str())
     }
 
-    /// Adds that a file was not checked, since it depends on a package with a fault.
+    /// Adds a fault at a place of a package. Without any file of it nothing is shown.
+    pub fn add_found(
+        &mut self,
+        alloc: Global,
+        found: Option<Found<'_>>,
+        words: &str,
+        hint: &str,
+    ) -> Result<(), AllocError>
+        ensures { OnOk result (self.new.status ≡ 1) }
+    {
+        self.status = 1;
+        match found {
+            Some(found) => self.add_at(alloc, found.lexed, found.span, words, hint),
+            None => Ok(()),
+        }
+    }
+
+    /// Adds a fault of a package, with its place in one of its files and its hint.
+    pub fn add_package(
+        &mut self,
+        alloc: Global,
+        around: Around<'_>,
+        cause: &Cause,
+    ) -> Result<(), AllocError>
+        ensures { OnOk result (self.new.status ≡ 1) }
+    {
+        let words = format!(in alloc; "{cause}")?;
+        let found = place_of(alloc, around.files, cause)?;
+        let hint = match found {
+            Some(found) => hint_of(alloc, found.lexed, around, cause)?,
+            None => String::new(alloc),
+        };
+        self.add_found(alloc, found, words.as_str(), hint.as_str())
+    }
+
+    /// Adds that a package of these files was not checked, since it depends on one with a fault.
     pub fn leave_out(
         &mut self,
         alloc: Global,
-        lexed: &Lexed<'_>,
+        files: &[Lexed<'_>],
         package: PackageRef<'_>,
     ) -> Result<(), AllocError>
         ensures { OnOk result (self.new.status ≡ 1) }
     {
         let words = format!(in alloc; "not checked: it depends on {package}, which has a fault")?;
-        self.add_at(alloc, lexed, None, words.as_str(), "")
+        let found = match first_path(files, package) {
+            Some(found) => Some(Found {
+                lexed: found.lexed,
+                span: None,
+            }),
+            None => None,
+        };
+        self.add_found(alloc, found, words.as_str(), "")
     }
 }

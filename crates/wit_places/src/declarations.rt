@@ -144,6 +144,56 @@ impl<'a> Declarations<'a> {
             && declaration.name == name)
     }
 
+    /// The name of the first interface or world that differs from this one at most in the case of letters.
+    pub fn scope_like(&self, lexed: &Lexed<'_>, name: &str) -> Option<Span> {
+        for declaration in &self.list {
+            if opens_scope(declaration.keyword) && declaration.name.eq_ignore_ascii_case(name) {
+                return lexed.span_at(declaration.at);
+            }
+        }
+        None
+    }
+
+    /// The interface or world of this name.
+    fn scope_named(&self, name: &str) -> Option<Declaration<'a>> {
+        for declaration in &self.list {
+            if opens_scope(declaration.keyword) && declaration.name == name {
+                return Some(*declaration);
+            }
+        }
+        None
+    }
+
+    /// The name of a type, where the interface of this name declares it.
+    pub fn type_in(&self, lexed: &Lexed<'_>, interface: &str, name: &str) -> Option<Span> {
+        let scope = self.scope_named(interface)?.scope;
+        for declaration in &self.list {
+            if declaration.scope == scope
+                && declares_type(declaration.keyword)
+                && declaration.name == name
+            {
+                return lexed.span_at(declaration.at);
+            }
+        }
+        None
+    }
+
+    /// The name of a function, where the interface or the world of this name declares it.
+    pub fn function_in(&self, lexed: &Lexed<'_>, scope: &str, name: &str) -> Option<Span> {
+        let first = self.scope_named(scope)?.at;
+        for index in first..lexed.tokens.len() {
+            if lexed.is_keyword(index, Keyword::Interface)
+                || lexed.is_keyword(index, Keyword::World)
+            {
+                return None;
+            }
+            if lexed.function_at(index) == Some(name) {
+                return lexed.span_at(index);
+            }
+        }
+        None
+    }
+
     /// The name of the first flags that have too many labels.
     pub fn long_flags(&self, lexed: &Lexed<'_>) -> Option<Span> {
         for declaration in &self.list {
@@ -206,17 +256,39 @@ impl<'a> Declarations<'a> {
         None
     }
 
-    /// The first place of a name in an interface or a world that declares no type of this name.
-    pub fn undeclared(&self, lexed: &Lexed<'_>, name: &str) -> Option<Span> {
+    /// The first place of a name in an interface or a world that declares no type of this name, and is none of these.
+    pub fn undeclared(&self, lexed: &Lexed<'_>, name: &str, others: &[usize]) -> Option<Span> {
         let mut scope: usize = 0;
         for (index, token) in lexed.tokens.iter().enumerate() {
             if let TokenKind::Keyword(keyword) = token.kind {
                 scope = scope.saturating_add(usize::from(opens_scope(keyword)));
             }
-            if lexed.use_at(index) == Some(name) && self.place_of(scope, name).is_none() {
+            if lexed.use_at(index) == Some(name)
+                && self.place_of(scope, name).is_none()
+                && !others.contains(&scope)
+            {
                 return Some(token.span);
             }
         }
         None
     }
+}
+
+/// The numbers of the interfaces that use a type of this name from another one.
+pub fn importers(alloc: Global, lexed: &Lexed<'_>, name: &str) -> Result<Vec<usize>, AllocError> {
+    let mut scopes = Vec::new(alloc);
+    let mut scope: usize = 0;
+    let mut is_listed = false;
+    for (index, token) in lexed.tokens.iter().enumerate() {
+        match token.kind {
+            TokenKind::Keyword(keyword) => {
+                scope = scope.saturating_add(usize::from(opens_scope(keyword)));
+            }
+            TokenKind::Punctuation(Punctuation::OpenBrace) => is_listed = lexed.is_used_list(index),
+            TokenKind::Punctuation(Punctuation::CloseBrace) => is_listed = false,
+            _ if is_listed && lexed.name_at(index) == Some(name) => scopes.push(scope)?,
+            _ => {}
+        }
+    }
+    Ok(scopes)
 }

@@ -4,7 +4,7 @@ ghost use Rattle.std.specs.Prelude.{◌≡◌};
 use std::alloc::Global;
 use std::fmt;
 use tables::PackageName;
-use wit_text::{PackageId, Punctuation, Span, Token, TokenKind, lex};
+use wit_text::{Keyword, PackageId, Punctuation, Span, TextError, Token, TokenKind, lex};
 
 /// The name of a package, as a text spells it.
 #[derive(Clone, Copy, Debug)]
@@ -14,7 +14,7 @@ pub struct PackageRef<'a> {
     pub version: Option<&'a str>,
 }
 
-/// A package that a path names, and where: from its namespace to its name.
+/// A package that a text names, and where: from its namespace to its name, or to its version in the text's first line.
 #[derive(Clone, Copy, Debug)]
 pub struct PackagePath<'a> {
     pub package: PackageRef<'a>,
@@ -73,8 +73,16 @@ impl fmt::Display for PackageRef<'_> {
 pub struct Lexed<'a> {
     pub path: &'a str,
     pub text: &'a str,
-    /// None if the text has a fault in them.
+    /// If the text has a fault in them, those before it.
     pub tokens: Vec<Token>,
+}
+
+/// The tokens of a text. None if it has a fault in them.
+fn tokens_of(alloc: Global, text: &str) -> Vec<Token> {
+    match lex(alloc, text) {
+        Ok(tokens) => tokens,
+        Err(_) => Vec::new(alloc),
+    }
 }
 
 impl<'a> Lexed<'a> {
@@ -85,6 +93,9 @@ impl<'a> Lexed<'a> {
     {
         let tokens = match lex(alloc, text) {
             Ok(tokens) => tokens,
+            Err(TextError::BadChar(span) | TextError::OpenComment(span)) => {
+                tokens_of(alloc, text.get(..span.start).unwrap_or(""))
+            }
             Err(_) => Vec::new(alloc),
         };
         Lexed { path, text, tokens }
@@ -135,6 +146,14 @@ impl<'a> Lexed<'a> {
         }
     }
 
+    /// Whether a token is this keyword.
+    pub fn is_keyword(&self, index: usize, keyword: Keyword) -> bool {
+        match self.tokens.get(index) {
+            Some(token) => token.kind == TokenKind::Keyword(keyword),
+            None => false,
+        }
+    }
+
     /// The name that a token is, without `%`.
     pub fn name_at(&self, index: usize) -> Option<&'a str> {
         match self.tokens.get(index) {
@@ -152,6 +171,22 @@ impl<'a> Lexed<'a> {
             return None;
         }
         self.name_at(index)
+    }
+
+    /// Whether a token begins the names of a `use`: it is a brace after a dot.
+    pub fn is_used_list(&self, index: usize) -> bool {
+        self.is_mark(index, Punctuation::OpenBrace)
+            && self.is_mark(index.saturating_sub(1), Punctuation::Dot)
+    }
+
+    /// The name that a token is, if it is one of a function: `: func` comes after it.
+    pub fn function_at(&self, index: usize) -> Option<&'a str> {
+        if self.is_mark(index.saturating_add(1), Punctuation::Colon)
+            && self.is_keyword(index.saturating_add(2), Keyword::Func)
+        {
+            return self.name_at(index);
+        }
+        None
     }
 
     /// The version that a token is, without `@`.
@@ -190,8 +225,33 @@ impl<'a> Lexed<'a> {
         })
     }
 
-    /// Where the text names its own package: `package namespace:name`. Its first token if it has no such header.
+    /// Whether the text begins with `package`.
+    pub fn has_package_line(&self) -> bool {
+        self.is_keyword(0, Keyword::Package)
+    }
+
+    /// The package that the text's first line names.
+    pub fn own_package(&self) -> Option<PackagePath<'a>> {
+        if !self.has_package_line() {
+            return None;
+        }
+        let version = self.version_at(4);
+        let last = if version.is_some() { 4 } else { 3 };
+        Some(PackagePath {
+            package: PackageRef {
+                namespace: self.name_at(1)?,
+                name: self.name_at(3)?,
+                version,
+            },
+            span: self.joined(1, last)?,
+        })
+    }
+
+    /// Where the text names its own package: `package namespace:name`. Its first token if it has no such line.
     pub fn header(&self) -> Option<Span> {
-        self.joined(1, 3).or(self.span_at(0))
+        if self.has_package_line() {
+            return self.joined(1, 3).or(self.span_at(0));
+        }
+        self.span_at(0)
     }
 }

@@ -9,5 +9,5 @@ mod declarations;
 mod lexed;
 mod rings;
 
-pub use declarations::{Declaration, Declarations};
+pub use declarations::{Declaration, Declarations, importers};
 pub use lexed::{Lexed, PackagePath, PackageRef};
