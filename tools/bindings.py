@@ -809,7 +809,7 @@ def header_of(program, files):
     header = Header()
     guard = header.names.new(f"WIT_{prefixes[-1].upper()}_H")
     (namespace, name, version), _ = Reader(answers[-1].text).package()
-    header.put(f"/* {namespace}:{name}{version} for C and C++ hosts of witcall, by tools/bindings.py. Do not edit. */")
+    header.put(f"/* {namespace}:{name}{version} for C and C++ hosts of witcall, by wit-explain bind c. Do not edit. */")
     header.put(f"#ifndef {guard}", f"#define {guard}", "", *COMMON.splitlines())
     for prefix, answer in zip(prefixes, answers):
         header.package(prefix, answer)

@@ -1,4 +1,4 @@
-/* demo:shop for C and C++ hosts of witcall, by tools/bindings.py. Do not edit. */
+/* demo:shop for C and C++ hosts of witcall, by wit-explain bind c. Do not edit. */
 #ifndef WIT_DEMO_SHOP_H
 #define WIT_DEMO_SHOP_H
 

@@ -4,10 +4,11 @@
 pub static VERSION: &str = "wit-explain 0.1.0\n";
 
 static PROGRAM: &str = "\
-wit-explain: faults of WIT files with their lines, and pictures of their types
+wit-explain: faults of WIT files with their lines, pictures of their types, and headers for C
 
 usage: wit-explain check [--json] PATH..
        wit-explain layout [--svg FILE] PATH [TYPE]
+       wit-explain bind c PATH
        wit-explain COMMAND --help
        wit-explain --help | --version
 
@@ -34,12 +35,21 @@ function too. Dependencies are read and not drawn. With --svg, writes the pictur
 if FILE is `-`.
 ";
 
+static BIND: &str = "\
+usage: wit-explain bind c PATH
+
+Prints a C header with the types and functions of these packages, dependencies too. Types are structs as they lie in a
+memory, with assertions of sizes, alignments and offsets. For each function there is one that makes the core values of a
+call, and one that reads its result.
+";
+
 /// The help of the program, or that of a command. None if there is no such command.
 pub fn help_of(command: Option<&str>) -> Option<&'static str> {
     match command {
         None => Some(PROGRAM),
         Some("check") => Some(CHECK),
         Some("layout") => Some(LAYOUT),
+        Some("bind") => Some(BIND),
         Some(_) => None,
     }
 }

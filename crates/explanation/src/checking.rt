@@ -22,6 +22,24 @@ pub struct Checked {
     pub ghost laid_out: { layouts ≡ layouts_of tables },
 }
 
+/// Packages without a fault, each after those that it depends on.
+#[derive(Drop)]
+pub struct CheckedSet {
+    /// All of them, as one table.
+    pub set: PackageSet,
+    pub list: Vec<Checked>,
+}
+
+impl CheckedSet {
+    /// No package.
+    pub fn none(alloc: Global) -> CheckedSet {
+        CheckedSet {
+            set: PackageSet::new(alloc),
+            list: Vec::new(alloc),
+        }
+    }
+}
+
 /// The packages so far.
 #[derive(Drop)]
 struct Checker<'a> {
@@ -112,17 +130,20 @@ fn check_each<'a>(
     members: &'a [Member<'_>],
     graph: &[Sequence<usize>],
     order: &[usize],
-) -> Result<Vec<Checked>, AllocError>
+) -> Result<CheckedSet, AllocError>
     requires graph { length graph.now ≡ length members.now }
     requires order { All (λ place. place < length members.now) order.now }
-    ensures { IfOk result (λ found. report.new.status ≡ 0 → length found.items ≡ length order.now) }
+    ensures { IfOk result (λ found. report.new.status ≡ 0 → length found.list.items ≡ length order.now) }
 {
     let mut checker = Checker::new(alloc, members)?;
     for place in order {
         let used = graph[*place].as_slice();
         checker.check(report, *place, &members[*place], used)?;
     }
-    Ok(checker.checked)
+    Ok(CheckedSet {
+        set: checker.set,
+        list: checker.checked,
+    })
 }
 
 /// The packages of a ring, from the first to the first again.
@@ -165,8 +186,8 @@ pub fn check_members<'a>(
     alloc: Global,
     report: &mut Report,
     members: &'a [Member<'_>],
-) -> Result<Vec<Checked>, AllocError>
-    ensures { IfOk result (λ found. report.new.status ≡ 0 → length members.now ≤ length found.items) }
+) -> Result<CheckedSet, AllocError>
+    ensures { IfOk result (λ found. report.new.status ≡ 0 → length members.now ≤ length found.list.items) }
 {
     let graph = graph_of(alloc, members)?;
     match arranged(alloc, graph.as_slice())? {
@@ -175,7 +196,7 @@ pub fn check_members<'a>(
         }
         Arrangement::Cycle(ring) => {
             report_ring(alloc, report, members, ring.as_slice())?;
-            Ok(Vec::new(alloc))
+            Ok(CheckedSet::none(alloc))
         }
     }
 }
@@ -185,10 +206,10 @@ pub fn check_sources(
     alloc: Global,
     report: &mut Report,
     sources: &[Source],
-) -> Result<Vec<Checked>, AllocError> {
+) -> Result<CheckedSet, AllocError> {
     let members = members_of(alloc, report, sources)?;
     if report.status != 0 {
-        return Ok(Vec::new(alloc));
+        return Ok(CheckedSet::none(alloc));
     }
     check_members(alloc, report, members.as_slice())
 }

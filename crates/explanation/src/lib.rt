@@ -1,9 +1,11 @@
-//! What `wit-explain` does: it checks the WIT files of folders, and draws the bytes of their types.
+//! What `wit-explain` does: it checks the WIT files of folders, draws the bytes of their types, and writes headers for C.
 //!
 //! `run` does what the words of a command line ask for. It reads the files, puts their packages in order by `package_order`,
-//! adds each to a set by `package_adding`, and shows faults by `wit_faults` and types by `layout_picture`.
+//! adds each to a set by `package_adding`, and shows faults by `wit_faults` and types by `layout_picture`. Headers are those of
+//! `c_header`.
 #![tactic(auto)]
 
+mod binding;
 mod checking;
 mod graph;
 mod members;

@@ -1,6 +1,7 @@
 //! The commands.
 
-use crate::checking::{Checked, check_sources};
+use crate::binding::header_for_c;
+use crate::checking::{Checked, CheckedSet, check_sources};
 use crate::sources::sources_of;
 use explain_words::{ColorChoice, Options, VERSION, help_of, options_of, usage};
 use layout_picture::{Form, Sheet};
@@ -46,7 +47,7 @@ fn checked_paths(
     rt: &HostRuntime,
     report: &mut Report,
     paths: &[&str],
-) -> Result<Vec<Checked>, AllocError> {
+) -> Result<CheckedSet, AllocError> {
     let sources = sources_of(rt, paths)?;
     check_sources(rt.alloc(), report, sources.as_slice())
 }
@@ -104,7 +105,7 @@ fn layout(
         Form::Boxes
     };
     let mut sheet = Sheet::new(rt.alloc(), form);
-    draw(&mut sheet, packages.as_slice(), wanted)?;
+    draw(&mut sheet, packages.list.as_slice(), wanted)?;
     if let Some(name) = wanted
         && sheet.is_empty()
     {
@@ -114,6 +115,23 @@ fn layout(
     }
     let picture = sheet.finish()?;
     show(rt, &mut report, options.svg, picture.as_str())?;
+    Ok(report)
+}
+
+/// Writes a header for C of the packages of a path.
+fn bind_c(rt: &HostRuntime, options: &Options<'_>, path: &str) -> Result<Report, AllocError> {
+    let mut report = new_report(rt, options);
+    let packages = checked_paths(rt, &mut report, &[path])?;
+    if report.status != 0 {
+        return Ok(report);
+    }
+    match header_for_c(rt.alloc(), &packages) {
+        Ok(header) => report.text.push_str(header.as_str())?,
+        Err(cause) => {
+            report.status = 1;
+            writeln!(report.text, "{path}: {cause}")?;
+        }
+    }
     Ok(report)
 }
 
@@ -137,6 +155,7 @@ fn run_options(rt: &HostRuntime, options: &Options<'_>) -> Result<Report, AllocE
         ["check", paths @ ..] if !paths.is_empty() && !has_svg => check(rt, options, paths),
         ["layout", path] if !options.is_json => layout(rt, options, path, None),
         ["layout", path, wanted] if !options.is_json => { layout(rt, options, path, Some(wanted)) }
+        ["bind", "c", path] if !options.is_json && !has_svg => bind_c(rt, options, path),
         _ => Report::said(rt.alloc(), usage(), 2),
     }
 }

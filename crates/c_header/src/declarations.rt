@@ -1,0 +1,307 @@
+//! The types of an interface.
+
+use crate::header::Header;
+use atoms::Label;
+use c_names::{c_label, c_word};
+use c_types::{Form, Part, Row, has_held, tag_bits};
+use std::alloc::{AllocError, Global};
+use std::fmt::Write;
+use tables::{Case, Field, TypeDefKind, TypeId, ValType};
+
+/// The interface that is written.
+#[derive(Drop)]
+pub struct Scope {
+    /// What its names in C begin with.
+    pub prefix: String,
+    pub full_name: String,
+}
+
+/// The type that is written.
+#[derive(Drop)]
+pub struct Entry<'a> {
+    pub scope: &'a Scope,
+    pub id: TypeId,
+    pub label: &'a str,
+}
+
+impl Scope {
+    /// A label of the interface as a name in C.
+    pub fn name(&self, alloc: Global, label: &str) -> Result<String, AllocError> {
+        let word = c_word(alloc, label)?;
+        format!(in alloc; "{}_{}", self.prefix.as_str(), word.as_str())
+    }
+}
+
+fn field_part(alloc: Global, label: &str, ty: ValType) -> Result<Part, AllocError> {
+    Ok(Part {
+        label: c_label(alloc, label)?,
+        ty: Some(ty),
+        constant: String::new(alloc),
+    })
+}
+
+fn field_parts(alloc: Global, fields: &[Field]) -> Result<Vec<Part>, AllocError> {
+    let mut parts = Vec::new(alloc);
+    for field in fields {
+        parts.push(field_part(alloc, field.name.as_str(), field.ty)?)?;
+    }
+    Ok(parts)
+}
+
+/// The bits of flags of so many labels.
+fn flag_bits(labels: usize) -> u32 {
+    if labels <= 8 {
+        8
+    } else if labels <= 16 {
+        16
+    } else {
+        32
+    }
+}
+
+impl<'a> Header<'a> {
+    /// Writes the assertion of the size and the alignment of a type.
+    pub fn put_extent(&mut self, c: &str, ty: ValType) -> Result<(), AllocError> {
+        let (size, align) = (self.types.laid.size(ty), self.types.laid.align(ty));
+        writeln!(
+            self.text,
+            "static_assert(sizeof({c}) == {size} && alignof({c}) == {align}, \"layout\");"
+        )?;
+        Ok(())
+    }
+
+    fn put_offset(&mut self, c: &str, label: &str, offset: Option<u32>) -> Result<(), AllocError> {
+        if let Some(offset) = offset {
+            writeln!(
+                self.text,
+                "static_assert(offsetof({c}, {label}) == {offset}, \"layout\");"
+            )?;
+        }
+        Ok(())
+    }
+
+    /// Writes the assertions of the offsets of a record or a variant.
+    fn put_offsets(&mut self, ty: ValType, row: &Row) -> Result<(), AllocError> {
+        let c = row.c.as_str();
+        if row.form == Form::Variant {
+            if has_held(row.parts.as_slice()) {
+                let offset = self.types.laid.payload_offset(ty);
+                self.put_offset(c, "as", offset)?;
+            }
+            return Ok(());
+        }
+        for (index, part) in row.parts.iter().enumerate() {
+            let offset = self.types.laid.offset(ty, index);
+            self.put_offset(c, part.label.as_str(), offset)?;
+        }
+        Ok(())
+    }
+
+    /// Writes the fields of the parts that hold something.
+    fn put_fields(&mut self, indent: &str, parts: &[Part]) -> Result<(), AllocError> {
+        for part in parts {
+            if let Some(ty) = part.ty {
+                let (c, label) = (self.types.c(ty), part.label.as_str());
+                writeln!(self.text, "{indent}{c} {label};")?;
+            }
+        }
+        Ok(())
+    }
+
+    /// Writes the tag of a variant, and the union of its payloads.
+    fn put_union(&mut self, row: &Row) -> Result<(), AllocError> {
+        let bits = tag_bits(row.parts.len());
+        writeln!(self.text, "    uint{bits}_t tag;")?;
+        if has_held(row.parts.as_slice()) {
+            self.text.push_str("    union {\n")?;
+            self.put_fields("        ", row.parts.as_slice())?;
+            self.text.push_str("    } as;\n")?;
+        }
+        Ok(())
+    }
+
+    /// Writes a record or a variant, with its assertions.
+    pub fn put_struct(&mut self, ty: ValType, row: &Row) -> Result<(), AllocError> {
+        let c = row.c.as_str();
+        self.text.push_str("typedef struct {\n")?;
+        if row.form == Form::Variant {
+            self.put_union(row)?;
+        } else {
+            self.put_fields("    ", row.parts.as_slice())?;
+        }
+        writeln!(self.text, "}} {c};")?;
+        self.put_extent(c, ty)?;
+        self.put_offsets(ty, row)
+    }
+
+    /// Writes another name of a type.
+    fn put_alias(
+        &mut self,
+        entry: &Entry<'_>,
+        target: ValType,
+        comment: &str,
+    ) -> Result<(), AllocError> {
+        let alloc = self.alloc;
+        let name = self.names.take(entry.scope.name(alloc, entry.label)?)?;
+        let (name, c) = (name.as_str(), self.types.c(target));
+        write!(self.text, "\n/* {comment} */\ntypedef {c} {name};\n")?;
+        self.put_extent(name, target)?;
+        let spelling = String::from_str(alloc, entry.label)?;
+        self.types.set_end(entry.id, target, spelling);
+        Ok(())
+    }
+
+    /// Writes another name of a type that is spelled so.
+    pub fn put_type_alias(
+        &mut self,
+        entry: &Entry<'_>,
+        target: ValType,
+        spelling: &str,
+    ) -> Result<(), AllocError> {
+        let alloc = self.alloc;
+        let (full_name, label) = (entry.scope.full_name.as_str(), entry.label);
+        let comment = format!(in alloc; "type {full_name} {label} = {spelling}")?;
+        self.put_alias(entry, target, comment.as_str())
+    }
+
+    /// Writes a used name.
+    fn put_use(&mut self, entry: &Entry<'_>, target: TypeId) -> Result<(), AllocError> {
+        let alloc = self.alloc;
+        let (full_name, label) = (entry.scope.full_name.as_str(), entry.label);
+        let mut comment = format!(in alloc; "{full_name} {label}, which is ")?;
+        self.push_path(&mut comment, target)?;
+        self.put_alias(entry, ValType::Id(target), comment.as_str())
+    }
+
+    /// Takes the name of a type, and writes its comment. The name.
+    fn put_heading(&mut self, word: &str, entry: &Entry<'_>) -> Result<String, AllocError> {
+        let alloc = self.alloc;
+        let (full_name, label) = (entry.scope.full_name.as_str(), entry.label);
+        let c = self.names.take(entry.scope.name(alloc, label)?)?;
+        write!(self.text, "\n/* {word} {full_name} {label} */\n")?;
+        Ok(c)
+    }
+
+    /// The row of a type with a name.
+    fn named_row(
+        &self,
+        entry: &Entry<'_>,
+        c: String,
+        form: Form,
+        parts: Vec<Part>,
+    ) -> Result<Row, AllocError> {
+        Ok(Row {
+            end: ValType::Id(entry.id),
+            spelling: String::from_str(self.alloc, entry.label)?,
+            key: c.clone()?,
+            c,
+            form,
+            parts,
+        })
+    }
+
+    fn put_record(&mut self, entry: &Entry<'_>, fields: &[Field]) -> Result<(), AllocError> {
+        let c = self.put_heading("record", entry)?;
+        let parts = field_parts(self.alloc, fields)?;
+        let row = self.named_row(entry, c, Form::Record, parts)?;
+        self.put_struct(ValType::Id(entry.id), &row)?;
+        self.put_access(row.c.as_str())?;
+        self.types.set(entry.id, row);
+        Ok(())
+    }
+
+    /// A case or a flag of a type of this name.
+    fn case_part(&mut self, c: &str, label: &str, ty: Option<ValType>) -> Result<Part, AllocError> {
+        let alloc = self.alloc;
+        let word = c_word(alloc, label)?;
+        let name = format!(in alloc; "{c}_{}", word.as_str())?;
+        Ok(Part {
+            label: c_label(alloc, label)?,
+            ty,
+            constant: self.names.take(name.as_str().to_ascii_uppercase(alloc)?)?,
+        })
+    }
+
+    fn case_parts(&mut self, c: &str, cases: &[Case]) -> Result<Vec<Part>, AllocError> {
+        let mut parts = Vec::new(self.alloc);
+        for case in cases {
+            parts.push(self.case_part(c, case.name.as_str(), case.ty)?)?;
+        }
+        Ok(parts)
+    }
+
+    fn label_parts(&mut self, c: &str, labels: &[Label]) -> Result<Vec<Part>, AllocError> {
+        let mut parts = Vec::new(self.alloc);
+        for label in labels {
+            parts.push(self.case_part(c, label.as_str(), None)?)?;
+        }
+        Ok(parts)
+    }
+
+    /// Writes the numbers of cases.
+    fn put_constants(&mut self, parts: &[Part]) -> Result<(), AllocError> {
+        self.text.push_str("enum {\n")?;
+        for (index, part) in parts.iter().enumerate() {
+            let constant = part.constant.as_str();
+            writeln!(self.text, "    {constant} = {index},")?;
+        }
+        self.text.push_str("};\n")
+    }
+
+    fn put_variant(&mut self, entry: &Entry<'_>, cases: &[Case]) -> Result<(), AllocError> {
+        let c = self.put_heading("variant", entry)?;
+        let parts = self.case_parts(c.as_str(), cases)?;
+        self.put_constants(parts.as_slice())?;
+        let row = self.named_row(entry, c, Form::Variant, parts)?;
+        self.put_struct(ValType::Id(entry.id), &row)?;
+        self.put_access(row.c.as_str())?;
+        self.types.set(entry.id, row);
+        Ok(())
+    }
+
+    /// Writes a type that is a number of so many bits.
+    fn put_number(&mut self, entry: &Entry<'_>, c: String, bits: u32) -> Result<(), AllocError> {
+        let name = c.as_str();
+        writeln!(self.text, "typedef uint{bits}_t {name};")?;
+        let row = self.named_row(entry, c, Form::Number, Vec::new(self.alloc))?;
+        self.types.set(entry.id, row);
+        Ok(())
+    }
+
+    fn put_enum(&mut self, entry: &Entry<'_>, labels: &[Label]) -> Result<(), AllocError> {
+        let c = self.put_heading("enum", entry)?;
+        let parts = self.label_parts(c.as_str(), labels)?;
+        self.put_constants(parts.as_slice())?;
+        self.put_number(entry, c, tag_bits(labels.len()))
+    }
+
+    fn put_flags(&mut self, entry: &Entry<'_>, labels: &[Label]) -> Result<(), AllocError> {
+        let c = self.put_heading("flags", entry)?;
+        let bits = flag_bits(labels.len());
+        let parts = self.label_parts(c.as_str(), labels)?;
+        for (index, part) in parts.iter().enumerate() {
+            let constant = part.constant.as_str();
+            writeln!(
+                self.text,
+                "#define {constant} ((uint{bits}_t)(UINT32_C(1) << {index}))"
+            )?;
+        }
+        self.put_number(entry, c, bits)
+    }
+
+    /// Writes a type with a name.
+    pub fn put_named(&mut self, entry: &Entry<'_>, kind: &TypeDefKind) -> Result<(), AllocError> {
+        match kind {
+            TypeDefKind::Use(target) => self.put_use(entry, *target),
+            TypeDefKind::Alias(target) => {
+                let spelling = String::from_str(self.alloc, self.types.spelling(Some(*target)))?;
+                self.put_type_alias(entry, *target, spelling.as_str())
+            }
+            TypeDefKind::Record(fields) => self.put_record(entry, fields.as_slice()),
+            TypeDefKind::Variant(cases) => self.put_variant(entry, cases.as_slice()),
+            TypeDefKind::Enum(labels) => self.put_enum(entry, labels.as_slice()),
+            TypeDefKind::Flags(labels) => self.put_flags(entry, labels.as_slice()),
+            _ => self.put_named_inner(entry, kind),
+        }
+    }
+}

@@ -1,0 +1,17 @@
+//! Headers for C: the types of packages as they lie in a linear memory, and for each function a pair of C functions, one that makes
+//! the core values of a call and one that reads its result.
+//!
+//! `header_of` writes the header of a table of packages. It asserts sizes, alignments and offsets, so that a compiler with other
+//! layouts refuses it. It stands on `c_types`, which has the numbers, and on `c_names` and `tables`.
+#![tactic(auto)]
+
+mod accessors;
+mod calls;
+mod common;
+mod declarations;
+mod header;
+mod packages;
+mod unnamed;
+
+pub use c_types::Laid;
+pub use packages::header_of;

@@ -1,0 +1,102 @@
+//! Types without a name, which are written where they are met first.
+
+use crate::declarations::Entry;
+use crate::header::Header;
+use c_types::{Form, Inner, Row, first_inner, inner_of, made_of};
+use std::alloc::AllocError;
+use std::fmt::Write;
+use tables::{TypeDefKind, TypeId, ValType};
+
+impl<'a> Header<'a> {
+    /// Writes a list.
+    fn put_list(&mut self, ty: ValType, c: &str, inner: &Inner) -> Result<(), AllocError> {
+        write!(
+            self.text,
+            "typedef struct {{\n    uint32_t address;\n    uint32_t length;\n}} {c};\n"
+        )?;
+        self.put_extent(c, ty)?;
+        self.put_access(c)?;
+        if let [Some(element)] = inner.parts.as_slice() {
+            let element = String::from_str(self.alloc, self.types.c(*element))?;
+            self.put_elements(c, element.as_str())?;
+        }
+        Ok(())
+    }
+
+    /// Writes a type without a name.
+    fn put_made(&mut self, ty: ValType, row: &Row, inner: &Inner) -> Result<(), AllocError> {
+        if row.form == Form::Pair {
+            return self.put_list(ty, row.c.as_str(), inner);
+        }
+        self.put_struct(ty, row)?;
+        self.put_access(row.c.as_str())
+    }
+
+    /// Writes the first type without a name that has this key.
+    fn put_first(&mut self, id: TypeId, inner: &Inner, key: String) -> Result<(), AllocError> {
+        let (alloc, end) = (self.alloc, ValType::Id(id));
+        self.types.add_unnamed(key.as_str(), end)?;
+        let c = self.names.take(format!(in alloc; "wit_{}", key.as_str())?)?;
+        let upper = c.as_str().to_ascii_uppercase(alloc)?;
+        let guard = format!(in alloc; "{}_DEFINED", upper.as_str())?;
+        let (form, parts) = made_of(alloc, inner)?;
+        let row = Row {
+            end,
+            spelling: String::new(alloc),
+            c,
+            key,
+            form,
+            parts,
+        };
+        let before = self.begin();
+        self.put_made(end, &row, inner)?;
+        let own = self.end(before);
+        self.types.set(id, row);
+        self.text.push('\n')?;
+        self.put_guarded(guard, own.as_str())
+    }
+
+    /// Writes a type without a name if there is none like it yet. What it is in the end.
+    fn put_unnamed(&mut self, id: TypeId, inner: &Inner) -> Result<ValType, AllocError> {
+        let key = self.types.key_of(inner)?;
+        if let Some(end) = self.types.unnamed_with(key.as_str()) {
+            return Ok(end);
+        }
+        self.put_first(id, inner, key)?;
+        Ok(ValType::Id(id))
+    }
+
+    /// Writes the type without a name of a row.
+    fn put_inner(&mut self, id: TypeId, kind: &TypeDefKind) -> Result<(), AllocError> {
+        if let Some(inner) = inner_of(self.alloc, kind)? {
+            let end = self.put_unnamed(id, &inner)?;
+            let spelling = self.types.spelled(&inner)?;
+            self.types.set_end(id, end, spelling);
+        }
+        Ok(())
+    }
+
+    /// Writes the types without a name right before a row, of which its definition is made.
+    pub fn put_inners(&mut self, place: u32) -> Result<(), AllocError> {
+        for inner in first_inner(self.types.laid.resolve, place)..place {
+            if let Some(definition) = self.types.laid.definition(TypeId(inner)) {
+                self.put_inner(TypeId(inner), &definition.kind)?;
+            }
+        }
+        Ok(())
+    }
+
+    /// Writes another name of a type without a name.
+    pub fn put_named_inner(
+        &mut self,
+        entry: &Entry<'_>,
+        kind: &TypeDefKind,
+    ) -> Result<(), AllocError> {
+        if let Some(inner) = inner_of(self.alloc, kind)? {
+            let end = self.put_unnamed(entry.id, &inner)?;
+            let spelling = self.types.spelled(&inner)?;
+            self.put_type_alias(entry, end, spelling.as_str())?;
+        }
+        Ok(())
+    }
+}

@@ -1,0 +1,15 @@
+//! Types in C: their forms, names and parts, how their core values are made, and how one core value is read.
+//!
+//! `Types` has what each row of a table is in C. Sizes, alignments, offsets and core values are those of `Laid`, whose contracts speak
+//! of `canonical_abi`. It writes no definitions. It stands on `layout` and `tables`, and on `c_names`.
+#![tactic(auto)]
+
+mod flats;
+mod inner;
+mod laid;
+mod reading;
+mod types;
+
+pub use inner::{Inner, first_inner, inner_of, made_of};
+pub use laid::{Laid, Passing, parameters_of, tag_bits};
+pub use types::{Form, Part, Row, Types, has_held};

@@ -1,0 +1,71 @@
+//! Headers for C.
+ghost use Rattle.std.specs.Prelude.{◌<◌, length};
+
+use crate::checking::{Checked, CheckedSet};
+use crate::sources::MAX_TEXT;
+use c_header::{Laid, header_of};
+use layout::Layouts;
+use package_adding::PackageSet;
+use package_text::print;
+use std::alloc::{AllocError, Global};
+use tables::PackageId;
+use wit_faults::Cause;
+use wit_text::TextError;
+
+/// The canonical text of a package of a set. 36 if it would have more than 1,048,576 bytes.
+fn text_of(alloc: Global, set: &PackageSet, id: PackageId) -> Result<String, TextError>
+    requires { id.0 < length set.now.resolve.packages }
+{
+    let Ok(table) = set.table(alloc, id) else {
+        return Err(TextError::NoMemory);
+    };
+    let mut text = String::new(alloc);
+    print(alloc, &table, &mut text)?;
+    if text.len() > MAX_TEXT {
+        return Err(TextError::Limit);
+    }
+    Ok(text)
+}
+
+/// The canonical text of each package of a set.
+fn texts_of(alloc: Global, set: &PackageSet) -> Result<Vec<String>, TextError> {
+    let mut texts = Vec::new(alloc);
+    let Ok(count) = u32::try_from(set.resolve().packages.len()) else {
+        return Err(TextError::NoMemory);
+    };
+    for place in 0..count {
+        let text = text_of(alloc, set, PackageId(place))?;
+        texts.push(text).map_err(AllocError::from)?;
+    }
+    Ok(texts)
+}
+
+/// The place of the last package that is no dependency.
+fn main_of(packages: &[Checked]) -> usize {
+    let mut main = 0;
+    for (place, package) in packages.iter().enumerate() {
+        if !package.is_dependency {
+            main = place;
+        }
+    }
+    main
+}
+
+fn header(
+    alloc: Global,
+    laid: Laid<'_>,
+    texts: &[String],
+    main: usize,
+) -> Result<String, TextError> {
+    Ok(header_of(alloc, laid, texts, main)?)
+}
+
+/// The header for C of packages. It is called by the last of them that is no dependency.
+pub fn header_for_c(alloc: Global, packages: &CheckedSet) -> Result<String, Cause> {
+    let texts = texts_of(alloc, &packages.set)?;
+    let resolve = packages.set.resolve();
+    let layouts = Layouts::of(alloc, resolve)?;
+    let laid = Laid::new(resolve, &layouts);
+    let main = main_of(packages.list.as_slice());
+    Ok(header(alloc, laid, texts.as_slice(), main)?)
+}
