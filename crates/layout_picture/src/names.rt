@@ -166,10 +166,25 @@ fn member_label(kind: &TypeDefKind, index: usize) -> Option<&str> {
     Some(label.as_str())
 }
 
-/// The label of a field or a case of a type. No text if it has none.
-pub fn member_name<'a>(layout: &TypeLayout<'a>, index: usize) -> &'a str {
-    match end_of(layout.resolve, layout.ty) {
-        Some(kind) => member_label(kind, index).unwrap_or(""),
-        None => "",
+/// The name of a parameter, if a type is the row of a function: the record of its parameters.
+fn parameter_name(resolve: &Resolve, ty: ValType, index: usize) -> Option<&str> {
+    let ValType::Id(id) = ty else {
+        return None;
+    };
+    match resolve.definitions.as_slice().get(id.0 as usize) {
+        Some(Definition::Function(function)) => {
+            Some(function.params.as_slice().get(index)?.name.as_str())
+        }
+        _ => None,
     }
+}
+
+/// The label of a field or a case of a type, or the name of a parameter of a function's row. No text if it has none.
+pub fn member_name<'a>(layout: &TypeLayout<'a>, index: usize) -> &'a str {
+    let (resolve, ty) = (layout.resolve, layout.ty);
+    let label = match end_of(resolve, ty) {
+        Some(kind) => member_label(kind, index),
+        None => parameter_name(resolve, ty, index),
+    };
+    label.unwrap_or("")
 }

@@ -175,4 +175,18 @@ impl Sheet {
         }
         Ok(())
     }
+
+    /// Adds the core signatures of a function of the interface of this full name.
+    pub fn draw_function(
+        &mut self,
+        resolve: &Resolve,
+        layouts: &Layouts,
+        interface: &str,
+        func: FunctionId,
+    ) -> Result<(), AllocError>
+        requires { layouts.now ≡ layouts_of resolve.now }
+    {
+        let drawing = Drawing { resolve, layouts };
+        drawing.push_functions(self, interface, &[func])
+    }
 }

@@ -16,7 +16,7 @@ use tables::{Resolve, ValType};
 pub struct TypeLayout<'a> {
     pub(crate) resolve: &'a Resolve,
     layouts: &'a Layouts,
-    pub(crate) ty: ValType,
+    pub ty: ValType,
     ghost laid_out: { layouts.now ≡ layouts_of resolve.now },
     ghost below: { IsTrue (is_below (length layouts.now.rows) ty) },
 }

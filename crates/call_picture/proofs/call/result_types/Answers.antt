@@ -1,0 +1,13 @@
+use Rattle.std.proofs.Common.{◌∙◌, ◌≤◌, ◌++◌, ◌∷◌, [], Some, ap, sym, subst}
+use Rattle.adapter.proofs.Signatures.{result-small}
+use Rattle.canonical_abi.specs.Layout.{size}
+use Rattle.canonical_abi.specs.Types.{record_type}
+use Rattle.lift_lower.specs.Crossing.{fields_of_types}
+use Rattle.call_picture.proofs.call.result_types.Goals as goal
+
+pub returns-clause-small : goal.returns-clause-small
+returns-clause-small c =
+    let r = c.args.resolve.now in
+    let ty = c.in-Some.ty in
+    let is = c.in_ok-push.ensures.items ∙ ap (λ xs. xs ++ ty ∷ []) c.new-types.ensures.items in
+    subst (λ ts. size (record_type (fields_of_types r ts)) ≤ 16777216) (sym is) (result-small r c.requires.within (Some ty) c.in-Some.ensures.known)

@@ -1,0 +1,121 @@
+//! The steps of a call, as `witcall` makes them.
+ghost use Rattle.std.specs.Prelude.{◌≡◌, map};
+ghost use Rattle.canonical_abi.specs.Values.{HaveTypes};
+ghost use Rattle.lift_lower.specs.Crossing.{fields_of_types};
+ghost use Rattle.lift_lower.specs.Val.{value_of};
+ghost use Rattle.tables.specs.Closed.{function_type};
+
+use crate::call::{Call, result_type};
+use crate::course::{Course, copied};
+use adapter::Link;
+use canonical_abi::{Fault, Flat, Step, Trap, TrapKind};
+use lift_lower::{Flats, Val, ask_area, is_area, lower_answer, lower_arguments, take_result};
+
+fn trap(kind: TrapKind, step: Step) -> Fault {
+    Fault::Trap(Trap { kind, step })
+}
+
+impl Call<'_> {
+    /// Puts the arguments into the caller, and requests the return area if the result needs one.
+    fn place(&self, course: &mut Course, arguments: &[Val]) -> Result<Flats, Fault>
+        requires { HaveTypes (map value_of arguments.now) (function_type self.now.resolve.now self.now.func).params }
+    {
+        let table = self.table();
+        let mut flats = lower_arguments(&table, self.func, arguments, &mut course.caller)?;
+        let ty = result_type(self.resolve, self.func);
+        course.area = ask_area(&table, ty, &mut course.caller)?;
+        if let Some(at) = course.area {
+            flats.push(Flat::I32(at));
+        }
+        course.passed = Some(copied(self.alloc, flats.as_slice())?);
+        Ok(flats)
+    }
+
+    /// Carries the arguments into the callee.
+    fn enter(&self, course: &mut Course, passed: &[Flat]) -> Result<(), Fault> {
+        let mut link = Link::new(self.resolve, self.layouts);
+        let mut handed = Flats::new();
+        let entered = link.enter(
+            self.func,
+            passed,
+            &course.caller,
+            &mut course.callee,
+            &mut handed,
+        );
+        course.nodes_there = link.nodes().0;
+        entered?;
+        course.handed = Some(copied(self.alloc, handed.as_slice())?);
+        Ok(())
+    }
+
+    /// Puts the answer into the callee, in place of a core function.
+    fn run_body(&self, course: &mut Course, answer: &[Val]) -> Result<Flats, Fault>
+        requires { HaveTypes (map value_of answer.now) (fields_of_types self.now.resolve.now self.now.results.items) }
+    {
+        let types = self.results.as_slice();
+        match lower_answer(&self.table(), types, answer, &mut course.callee) {
+            Ok(flats) => {
+                course.answered = Some(copied(self.alloc, flats.as_slice())?);
+                Ok(flats)
+            }
+            Err(_) => Err(trap(TrapKind::Body, Step::Body)),
+        }
+    }
+
+    /// Carries the answer into the caller.
+    fn leave(
+        &self,
+        course: &mut Course,
+        passed: &[Flat],
+        answered: &[Flat],
+    ) -> Result<Flats, Fault> {
+        let mut link = Link::new(self.resolve, self.layouts);
+        let mut back = Flats::new();
+        let left = link.leave(
+            self.func,
+            passed,
+            answered,
+            &mut course.caller,
+            &course.callee,
+            &mut back,
+        );
+        course.nodes_back = link.nodes().1;
+        left?;
+        course.returned = Some(copied(self.alloc, back.as_slice())?);
+        Ok(back)
+    }
+
+    /// Takes the result from the caller.
+    fn take(&self, course: &Course, returned: &[Flat]) -> Result<Option<Val>, Fault> {
+        let table = self.table();
+        let ty = result_type(self.resolve, self.func);
+        if !is_area(&table, ty, course.area, &course.caller) {
+            return Err(trap(TrapKind::Bounds, Step::Take));
+        }
+        take_result(
+            self.alloc,
+            &table,
+            ty,
+            returned,
+            course.area,
+            &course.caller,
+        )
+    }
+
+    /// Makes the call. What it did is in the course, up to a trap.
+    pub(crate) fn make(
+        &self,
+        course: &mut Course,
+        arguments: &[Val],
+        answer: &[Val],
+    ) -> Result<Option<Val>, Fault>
+        requires arguments { HaveTypes (map value_of arguments.now) (function_type self.now.resolve.now self.now.func).params }
+        requires answer { HaveTypes (map value_of answer.now) (fields_of_types self.now.resolve.now self.now.results.items) }
+    {
+        let passed = self.place(course, arguments)?;
+        self.enter(course, passed.as_slice())?;
+        let answered = self.run_body(course, answer)?;
+        let back = self.leave(course, passed.as_slice(), answered.as_slice())?;
+        self.take(course, back.as_slice())
+    }
+}

@@ -1,0 +1,320 @@
+//! The bytes of a block, field by field.
+ghost use Rattle.std.specs.Prelude.{◌≡◌};
+ghost use Rattle.layout.specs.Layout.{layouts_of};
+
+use crate::page::{LINE, Page};
+use crate::place::{Block, Content, Members, Part, Place, Spot};
+use crate::words::{member_path, own_size, own_words};
+use layout::{Layouts, Shape};
+use layout_picture::{TypeLayout, case_number_size, member_name};
+use lift_lower::Val;
+use std::alloc::AllocError;
+use tables::{Resolve, ValType};
+
+/// The most elements of a list that are shown.
+const SHOWN_ELEMENTS: usize = 16;
+
+/// The most bytes of a string that are shown.
+const SHOWN_BYTES: usize = 64;
+
+/// What is shown of one memory.
+#[derive(Drop)]
+pub struct Viewer<'a> {
+    pub page: Page,
+    pub resolve: &'a Resolve,
+    pub layouts: &'a Layouts,
+    pub memory: &'a [u8],
+    /// What is still to be shown of a block, the last first.
+    pub parts: Vec<Part<'a>>,
+    /// The blocks of the values that were shown.
+    pub found: Vec<Block<'a>>,
+    /// How many blocks were left out since the last one that was shown.
+    pub hidden: usize,
+    pub ghost laid_out: { layouts.now ≡ layouts_of resolve.now },
+}
+
+/// So many bytes of a memory, or those that it has of them.
+fn bytes_at(memory: &[u8], at: u32, size: usize) -> &[u8] {
+    let rest = memory.get(at as usize..).unwrap_or(&[]);
+    rest.get(..size).unwrap_or(rest)
+}
+
+/// The offset after the field before this one.
+fn end_before(layout: &TypeLayout<'_>, index: usize) -> u32 {
+    let Some(before) = index.checked_sub(1) else {
+        return 0;
+    };
+    match layout.field(before) {
+        Some(part) => part.offset.saturating_add(part.layout.size()),
+        None => 0,
+    }
+}
+
+/// Bytes as characters, with a dot for each that is none of ASCII's.
+fn push_characters(note: &mut String, bytes: &[u8]) -> Result<(), AllocError> {
+    note.push('|')?;
+    for byte in bytes {
+        let is_shown = byte.is_ascii_graphic() || *byte == b' ';
+        note.push(if is_shown { char::from(*byte) } else { '.' })?;
+    }
+    note.push('|')
+}
+
+impl<'a> Viewer<'a> {
+    pub fn layout(&self, ty: ValType) -> Option<TypeLayout<'a>> {
+        TypeLayout::new(self.resolve, self.layouts, ty)
+    }
+
+    /// Leaves padding to be shown: the bytes between two offsets, if there are some.
+    fn push_padding(&mut self, place: Place, from: u32, to: u32) -> Result<(), AllocError> {
+        let size = to.saturating_sub(from);
+        if let Place::At(at) = place.plus(from) {
+            if size > 0 {
+                self.parts.push(Part::Padding(at, size))?;
+            }
+        }
+        Ok(())
+    }
+
+    fn show_padding(&mut self, at: u32, size: u32) -> Result<(), AllocError> {
+        let size = size as usize;
+        let bytes = bytes_at(self.memory, at, size.min(LINE));
+        self.page.push_bytes(at, bytes, "padding")?;
+        self.page.push_more(size.saturating_sub(LINE))
+    }
+
+    /// Shows the bytes of a string.
+    fn show_text(&mut self, at: u32, size: u32) -> Result<(), AllocError> {
+        let size = size as usize;
+        let bytes = bytes_at(self.memory, at, size.min(SHOWN_BYTES));
+        let mut start = at;
+        for chunk in bytes.chunks(LINE) {
+            let mut note = String::new(self.page.alloc);
+            push_characters(&mut note, chunk)?;
+            self.page.push_bytes(start, chunk, note.as_str())?;
+            start = start.saturating_add(16);
+        }
+        self.page.push_more(size.saturating_sub(SHOWN_BYTES))
+    }
+
+    /// Shows the bytes that a value has of its own.
+    fn show_own(&mut self, layout: &TypeLayout<'a>, spot: &Spot<'a>) -> Result<(), AllocError> {
+        let Place::At(at) = spot.place else {
+            return Ok(());
+        };
+        let size = own_size(layout, spot.value);
+        if size == 0 {
+            return Ok(());
+        }
+        let path = spot.path.as_str();
+        let note = own_words(self.page.alloc, self.resolve, layout, path, spot.value)?;
+        let bytes = bytes_at(self.memory, at, size as usize);
+        self.page.push_bytes(at, bytes, note.as_str())
+    }
+
+    /// Leaves the block of a string or a list to be shown.
+    fn find(&mut self, content: Content<'a>, place: Place, path: String) -> Result<(), AllocError> {
+        let is_shown = !matches!(place, Place::Hidden);
+        self.found.push(Block {
+            content,
+            path,
+            is_shown,
+        })?;
+        Ok(())
+    }
+
+    /// Leaves the payload of a case to be shown, with the padding around it.
+    fn push_payload(
+        &mut self,
+        layout: &TypeLayout<'a>,
+        spot: Spot<'a>,
+        case: u32,
+        payload: Option<&'a Val>,
+    ) -> Result<(), AllocError> {
+        let case = case as usize;
+        let start = own_size(layout, spot.value);
+        let (Some(part), Some(value)) = (layout.payload(case), payload) else {
+            return self.push_padding(spot.place, start, layout.size());
+        };
+        let end = part.offset.saturating_add(part.layout.size());
+        self.push_padding(spot.place, end, layout.size())?;
+        let name = member_name(layout, case);
+        let path = member_path(self.page.alloc, spot.path.as_str(), name, case)?;
+        self.parts.push(Part::Value(Spot {
+            value,
+            ty: part.layout.ty,
+            place: spot.place.plus(part.offset),
+            path,
+        }))?;
+        self.push_padding(spot.place, start, part.offset)
+    }
+
+    /// Leaves what is below a value to be shown.
+    fn push_below(&mut self, layout: &TypeLayout<'a>, spot: Spot<'a>) -> Result<(), AllocError> {
+        match (spot.value, layout.shape()) {
+            (Val::String(_), _) => self.find(Content::Text, spot.place, spot.path),
+            (Val::List(values), Shape::List(element)) => {
+                let content = Content::Elements(values.as_slice(), element);
+                self.find(content, spot.place, spot.path)
+            }
+            (Val::Record(values), _) => {
+                self.parts.push(Part::Fields(Members {
+                    values: values.as_slice(),
+                    ty: spot.ty,
+                    place: spot.place,
+                    path: spot.path,
+                    index: 0,
+                }))?;
+                Ok(())
+            }
+            (Val::Variant(case, payload), _) => {
+                let payload = match payload {
+                    Some(payload) => Some(&**payload),
+                    None => None,
+                };
+                self.push_payload(layout, spot, *case, payload)
+            }
+            _ => Ok(()),
+        }
+    }
+
+    fn show_value(&mut self, spot: Spot<'a>) -> Result<(), AllocError> {
+        let Some(layout) = self.layout(spot.ty) else {
+            return Ok(());
+        };
+        self.show_own(&layout, &spot)?;
+        self.push_below(&layout, spot)
+    }
+
+    /// Leaves the next field of a record to be shown, or the padding after the last.
+    fn show_fields(&mut self, fields: Members<'a>) -> Result<(), AllocError> {
+        let Some(layout) = self.layout(fields.ty) else {
+            return Ok(());
+        };
+        let (index, place) = (fields.index, fields.place);
+        let end = end_before(&layout, index);
+        let (Some(value), Some(part)) = (fields.values.get(index), layout.field(index)) else {
+            return self.push_padding(place, end, layout.size());
+        };
+        let name = member_name(&layout, index);
+        let path = member_path(self.page.alloc, fields.path.as_str(), name, index)?;
+        self.push_part(Part::Fields(Members {
+            values: fields.values,
+            ty: fields.ty,
+            place,
+            path: fields.path,
+            index: index.saturating_add(1),
+        }))?;
+        self.push_part(Part::Value(Spot {
+            value,
+            ty: part.layout.ty,
+            place: place.plus(part.offset),
+            path,
+        }))?;
+        self.push_padding(place, end, part.offset)
+    }
+
+    fn push_part(&mut self, part: Part<'a>) -> Result<(), AllocError> {
+        self.parts.push(part)?;
+        Ok(())
+    }
+
+    /// The place of the next element. After the last one that is shown it says how many bytes are left out.
+    fn element_place(&mut self, list: &Members<'a>, size: u32) -> Result<Place, AllocError> {
+        if list.index < SHOWN_ELEMENTS {
+            return Ok(list.place);
+        }
+        if matches!(list.place, Place::At(_)) {
+            let left = list.values.len().saturating_sub(list.index);
+            self.page.push_more(left.saturating_mul(size as usize))?;
+        }
+        Ok(Place::Hidden)
+    }
+
+    /// Leaves the next element of a list to be shown.
+    fn show_elements(&mut self, list: Members<'a>) -> Result<(), AllocError> {
+        let Some(value) = list.values.get(list.index) else {
+            return Ok(());
+        };
+        let size = match self.layout(list.ty) {
+            Some(layout) => layout.size(),
+            None => 0,
+        };
+        let place = self.element_place(&list, size)?;
+        let (ty, index) = (list.ty, list.index);
+        let path = format!(in self.page.alloc; "{}[{index}]", list.path.as_str())?;
+        self.push_part(Part::Elements(Members {
+            values: list.values,
+            ty,
+            place: place.plus(size),
+            path: list.path,
+            index: index.saturating_add(1),
+        }))?;
+        self.push_part(Part::Value(Spot {
+            value,
+            ty,
+            place,
+            path,
+        }))
+    }
+
+    fn show_part(&mut self, part: Part<'a>) -> Result<(), AllocError> {
+        match part {
+            Part::Value(spot) => self.show_value(spot),
+            Part::Fields(fields) => self.show_fields(fields),
+            Part::Elements(elements) => self.show_elements(elements),
+            Part::Padding(at, size) => self.show_padding(at, size),
+        }
+    }
+
+    /// Shows what is left to be shown of a block.
+    fn show_parts(&mut self) -> Result<(), AllocError> {
+        for _ in 0..u64::MAX {
+            let Some(part) = self.parts.pop() else {
+                return Ok(());
+            };
+            self.show_part(part)?;
+        }
+        Ok(())
+    }
+
+    /// Shows what is in a block, or what is at no place.
+    pub fn show_content(
+        &mut self,
+        content: Content<'a>,
+        place: Place,
+        size: u32,
+        path: String,
+    ) -> Result<(), AllocError> {
+        let part = match content {
+            Content::Text => {
+                return match place {
+                    Place::At(at) => self.show_text(at, size),
+                    _ => Ok(()),
+                };
+            }
+            Content::Value(value, ty) => Part::Value(Spot {
+                value,
+                ty,
+                place,
+                path,
+            }),
+            Content::Fields(values, ty) => Part::Fields(Members {
+                values,
+                ty,
+                place,
+                path,
+                index: 0,
+            }),
+            Content::Elements(values, ty) => Part::Elements(Members {
+                values,
+                ty,
+                place,
+                path,
+                index: 0,
+            }),
+        };
+        self.push_part(part)?;
+        self.show_parts()
+    }
+}
