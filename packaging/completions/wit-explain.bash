@@ -11,11 +11,12 @@ _wit_explain() {
     if [[ $before == --color ]]; then
         mapfile -t COMPREPLY < <(compgen -W 'auto always never' -- "$current")
     elif [ "$COMP_CWORD" -eq 1 ]; then
-        mapfile -t COMPREPLY < <(compgen -W 'check layout --help --version' -- "$current")
+        mapfile -t COMPREPLY < <(compgen -W 'check layout call --help --version' -- "$current")
     elif [[ $current == -* ]]; then
         case ${COMP_WORDS[1]} in
             check) options='--json --color --help' ;;
             layout) options='--svg --color --help' ;;
+            call) options='--color --help' ;;
             *) options=--help ;;
         esac
         mapfile -t COMPREPLY < <(compgen -W "$options" -- "$current")

@@ -4,17 +4,18 @@
 pub static VERSION: &str = "wit-explain 0.1.0\n";
 
 static PROGRAM: &str = "\
-wit-explain: faults of WIT files with their lines, and pictures of their types
+wit-explain: faults of WIT files with their lines, pictures of their types, and calls step by step
 
 usage: wit-explain check [--json] PATH..
        wit-explain layout [--svg FILE] PATH [TYPE]
+       wit-explain call PATH INTERFACE FUNCTION ARGUMENTS [ANSWER]
        wit-explain COMMAND --help
        wit-explain --help | --version
 
 A PATH is a file, a folder with `.wit` files and its dependencies in `deps`, or `-` for standard input.
 --color auto|always|never says when faults are colored. `auto` is if standard output is a terminal and the environment
 variable NO_COLOR is not set.
-Exit status: 0 if all is well, 1 after a fault, 2 if the words are no command.
+Exit status: 0 if all is well, 1 after a fault or a trap, 2 if the words are no command.
 ";
 
 static CHECK: &str = "\
@@ -34,12 +35,21 @@ function too. Dependencies are read and not drawn. With --svg, writes the pictur
 if FILE is `-`.
 ";
 
+static CALL: &str = "\
+usage: wit-explain call [--color WHEN] PATH INTERFACE FUNCTION ARGUMENTS [ANSWER]
+
+Makes a call as `witcall call` does, and shows what it did: the core values on each side, the blocks that were requested,
+and the bytes in them, field by field. INTERFACE is a full name, as `demo:shop/desk`. ARGUMENTS is a JSON array of one
+value for each parameter. ANSWER is a JSON array of the value that the callee returns; leave it out if there is none.
+";
+
 /// The help of the program, or that of a command. None if there is no such command.
 pub fn help_of(command: Option<&str>) -> Option<&'static str> {
     match command {
         None => Some(PROGRAM),
         Some("check") => Some(CHECK),
         Some("layout") => Some(LAYOUT),
+        Some("call") => Some(CALL),
         Some(_) => None,
     }
 }

@@ -1,9 +1,11 @@
-//! What `wit-explain` does: it checks the WIT files of folders, and draws the bytes of their types.
+//! What `wit-explain` does: it checks the WIT files of folders, draws the bytes of their types, and shows calls.
 //!
 //! `run` does what the words of a command line ask for. It reads the files, puts their packages in order by `package_order`,
-//! adds each to a set by `package_adding`, and shows faults by `wit_faults` and types by `layout_picture`.
+//! adds each to a set by `package_adding`, and shows faults by `wit_faults`, types by `layout_picture` and calls by
+//! `call_picture`.
 #![tactic(auto)]
 
+mod calling;
 mod checking;
 mod graph;
 mod members;

@@ -1,5 +1,6 @@
 //! The commands.
 
+use crate::calling::{CallWords, report_call};
 use crate::checking::{Checked, check_members};
 use crate::members::members_of;
 use crate::sources::sources_of;
@@ -122,6 +123,42 @@ fn layout(
     Ok(report)
 }
 
+/// Makes a call of a function of a package.
+fn call(
+    rt: &HostRuntime,
+    options: &Options<'_>,
+    path: &str,
+    words: &CallWords<'_>,
+) -> Result<Report, AllocError> {
+    let mut report = new_report(rt, options);
+    let packages = checked_paths(rt, &mut report, &[path])?;
+    if report.status == 0 {
+        report_call(rt.alloc(), &mut report, packages.as_slice(), words)?;
+    }
+    Ok(report)
+}
+
+/// Makes the call that these words ask for: an interface, a function, its arguments, and the answer if there is one.
+fn run_call(
+    rt: &HostRuntime,
+    options: &Options<'_>,
+    path: &str,
+    words: &[&str],
+) -> Result<Report, AllocError> {
+    let (interface, function, arguments, answer) = match words {
+        [interface, function, arguments] => (*interface, *function, *arguments, "[]"),
+        [interface, function, arguments, answer] => (*interface, *function, *arguments, *answer),
+        _ => return Report::said(rt.alloc(), usage(), 2),
+    };
+    let words = CallWords {
+        interface,
+        function,
+        arguments,
+        answer,
+    };
+    call(rt, options, path, &words)
+}
+
 /// Says what the program or a command does.
 fn help(rt: &HostRuntime, words: &[&str]) -> Result<Report, AllocError> {
     match help_of(words.first().copied()) {
@@ -142,6 +179,9 @@ fn run_options(rt: &HostRuntime, options: &Options<'_>) -> Result<Report, AllocE
         ["check", paths @ ..] if !paths.is_empty() && !has_svg => check(rt, options, paths),
         ["layout", path] if !options.is_json => layout(rt, options, path, None),
         ["layout", path, wanted] if !options.is_json => { layout(rt, options, path, Some(wanted)) }
+        ["call", path, words @ ..] if !options.is_json && !has_svg => {
+            run_call(rt, options, path, words)
+        }
         _ => Report::said(rt.alloc(), usage(), 2),
     }
 }
