@@ -63,7 +63,7 @@ def differing(program):
 def untrue_blocks():
     """How many blocks of the page are no stored runs. Each is told."""
     stored = {" ".join(words): text.rpartition("status ")[0] for words, text in stored_runs()}
-    found = [words for words, text in BLOCK.findall(PAGE.read_text()) if stored.get(words) != text]
+    found = [words for words, text in BLOCK.findall(PAGE.read_text()) if stored.get(words.replace("'", "")) != text]
     for words in found:
         print(f"{PAGE.relative_to(ROOT)}: {PROMPT} {words}: this isn't what tests/explain/runs has")
     return len(found)

@@ -1,6 +1,7 @@
 # Completion of wit-explain for fish: the commands, the options, and files.
 complete -c wit-explain -n __fish_use_subcommand -f -a check -d 'show the faults of files'
 complete -c wit-explain -n __fish_use_subcommand -f -a layout -d 'draw the bytes of types'
+complete -c wit-explain -n __fish_use_subcommand -f -a call -d 'show what a call does to both memories'
 complete -c wit-explain -n __fish_use_subcommand -f -a bind -d 'write a header for C'
 complete -c wit-explain -n __fish_use_subcommand -f -l version -d 'print the version'
 complete -c wit-explain -f -l help -d 'print the help'

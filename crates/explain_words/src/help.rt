@@ -4,10 +4,11 @@
 pub static VERSION: &str = "wit-explain 0.1.0\n";
 
 static PROGRAM: &str = "\
-wit-explain: faults of WIT files with their lines, pictures of their types, and headers for C
+wit-explain: faults of WIT files with their lines, pictures of their types, calls step by step, and headers for C
 
 usage: wit-explain check [--json] PATH..
        wit-explain layout [--svg FILE] PATH [TYPE]
+       wit-explain call PATH INTERFACE FUNCTION ARGUMENTS [ANSWER]
        wit-explain bind c PATH
        wit-explain COMMAND --help
        wit-explain --help | --version
@@ -15,7 +16,7 @@ usage: wit-explain check [--json] PATH..
 A PATH is a file, a folder with `.wit` files and its dependencies in `deps`, or `-` for standard input.
 --color auto|always|never says when faults are colored. `auto` is if standard output is a terminal and the environment
 variable NO_COLOR is not set.
-Exit status: 0 if all is well, 1 after a fault, 2 if the words are no command.
+Exit status: 0 if all is well, 1 after a fault or a trap, 2 if the words are no command.
 ";
 
 static CHECK: &str = "\
@@ -35,6 +36,14 @@ function too. Dependencies are read and not drawn. With --svg, writes the pictur
 if FILE is `-`.
 ";
 
+static CALL: &str = "\
+usage: wit-explain call [--color WHEN] PATH INTERFACE FUNCTION ARGUMENTS [ANSWER]
+
+Makes a call as `witcall call` does, and shows what it did: the core values on each side, the blocks that were requested,
+and the bytes in them, field by field. INTERFACE is a full name, as `demo:shop/desk`. ARGUMENTS is a JSON array of one
+value for each parameter. ANSWER is a JSON array of the value that the callee returns; leave it out if there is none.
+";
+
 static BIND: &str = "\
 usage: wit-explain bind c PATH
 
@@ -49,6 +58,7 @@ pub fn help_of(command: Option<&str>) -> Option<&'static str> {
         None => Some(PROGRAM),
         Some("check") => Some(CHECK),
         Some("layout") => Some(LAYOUT),
+        Some("call") => Some(CALL),
         Some("bind") => Some(BIND),
         Some(_) => None,
     }

@@ -1,11 +1,13 @@
-//! What `wit-explain` does: it checks the WIT files of folders, draws the bytes of their types, and writes headers for C.
+//! What `wit-explain` does: it checks the WIT files of folders, draws the bytes of their types, shows calls, and writes headers
+//! for C.
 //!
 //! `run` does what the words of a command line ask for. It reads the files, puts their packages in order by `package_order`,
-//! adds each to a set by `package_adding`, and shows faults by `wit_faults` and types by `layout_picture`. Headers are those of
-//! `c_header`.
+//! adds each to a set by `package_adding`, and shows faults by `wit_faults`, types by `layout_picture` and calls by
+//! `call_picture`. Headers are those of `c_header`.
 #![tactic(auto)]
 
 mod binding;
+mod calling;
 mod checking;
 mod graph;
 mod members;

@@ -1,6 +1,7 @@
 //! The commands.
 
 use crate::binding::header_for_c;
+use crate::calling::{CallWords, report_call};
 use crate::checking::{Checked, CheckedSet, check_sources};
 use crate::sources::sources_of;
 use explain_words::{ColorChoice, Options, VERSION, help_of, options_of, usage};
@@ -135,6 +136,42 @@ fn bind_c(rt: &HostRuntime, options: &Options<'_>, path: &str) -> Result<Report,
     Ok(report)
 }
 
+/// Makes a call of a function of a package.
+fn call(
+    rt: &HostRuntime,
+    options: &Options<'_>,
+    path: &str,
+    words: &CallWords<'_>,
+) -> Result<Report, AllocError> {
+    let mut report = new_report(rt, options);
+    let packages = checked_paths(rt, &mut report, &[path])?;
+    if report.status == 0 {
+        report_call(rt.alloc(), &mut report, packages.list.as_slice(), words)?;
+    }
+    Ok(report)
+}
+
+/// Makes the call that these words ask for: an interface, a function, its arguments, and the answer if there is one.
+fn run_call(
+    rt: &HostRuntime,
+    options: &Options<'_>,
+    path: &str,
+    words: &[&str],
+) -> Result<Report, AllocError> {
+    let (interface, function, arguments, answer) = match words {
+        [interface, function, arguments] => (*interface, *function, *arguments, "[]"),
+        [interface, function, arguments, answer] => (*interface, *function, *arguments, *answer),
+        _ => return Report::said(rt.alloc(), usage(), 2),
+    };
+    let words = CallWords {
+        interface,
+        function,
+        arguments,
+        answer,
+    };
+    call(rt, options, path, &words)
+}
+
 /// Says what the program or a command does.
 fn help(rt: &HostRuntime, words: &[&str]) -> Result<Report, AllocError> {
     match help_of(words.first().copied()) {
@@ -155,6 +192,9 @@ fn run_options(rt: &HostRuntime, options: &Options<'_>) -> Result<Report, AllocE
         ["check", paths @ ..] if !paths.is_empty() && !has_svg => check(rt, options, paths),
         ["layout", path] if !options.is_json => layout(rt, options, path, None),
         ["layout", path, wanted] if !options.is_json => { layout(rt, options, path, Some(wanted)) }
+        ["call", path, words @ ..] if !options.is_json && !has_svg => {
+            run_call(rt, options, path, words)
+        }
         ["bind", "c", path] if !options.is_json && !has_svg => bind_c(rt, options, path),
         _ => Report::said(rt.alloc(), usage(), 2),
     }
