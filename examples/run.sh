@@ -15,7 +15,7 @@
 # | helgrind       | the same under helgrind                           | valgrind                                            |
 # | lists          | what packages have, beside examples/c/shop.h      | the compiler's sanitizers                           |
 # | vectors        | the stored calls of crates/vectors, in C          | python3                                             |
-# | bindings       | examples/c/shop.h, made anew                      | python3                                             |
+# | bindings       | examples/c/shop.h, made anew                      |                                                     |
 # | engine         | core modules in Node's engine, their traps        | clang, lld, Node with its headers                   |
 #
 # Debian's packages are gcc, pkg-config, cmake, make, cargo, valgrind, python3, clang, lld, nodejs and libnode-dev. A host whose tools are
@@ -172,9 +172,7 @@ if has vectors python3; then
     step build-vectors-checked checked_c_program "$here/c/vectors.c" "$build/vectors-checked"
     same vectors-checked "$here/c/vectors.expected" python3 "$here/c/vectors.py" "$build/vectors-checked"
 fi
-if has bindings python3; then
-    same bindings "$here/c/shop.h" python3 -B "$root/tools/bindings.py" --program "$prefix/bin/witcall" "$here/c/shop.wit"
-fi
+same bindings "$here/c/shop.h" "$prefix/bin/wit-explain" bind c "$here/c/shop.wit"
 if has engine clang wasm-ld node; then
     step build-callee wasm_module "$here/engine/callee.c" "$build/callee.wasm" 131072
     step build-caller wasm_module "$here/engine/caller.c" "$build/caller.wasm" 196608

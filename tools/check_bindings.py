@@ -1,18 +1,21 @@
 #!/usr/bin/env python3
-"""Checks the headers that tools/bindings.py writes: of every package in examples/, of some with names that are hard for C, and of random ones.
+"""Checks the headers that `wit-explain bind c` writes: of every package in examples/, of some with names that are hard for C, and of random
+ones.
 
-usage: tools/check_bindings.py [--program WITCALL] [N [SEED]]      N random packages or sets, 200 if it is not given
+usage: tools/check_bindings.py [--program WIT-EXPLAIN] [N [SEED]]      N random packages or sets, 200 if it is not given
 
 Each header is compiled by gcc and by clang, as C11 and as C++17, with all warnings as errors; its asserts are those of sizes, alignments
 and offsets. Each function is then called with random values in a program in C or C++: the core values and the memory that its `fill`
 leaves are those of the model of the Canonical ABI (tools/models), and what its `read` reads is the value that the model put there.
 
-It prints each package that fails, and a line with the numbers of all. The exit status is 1 if one fails.
+The program is the one that was built, crates/explain/out/explain, if no other is named. It prints each package that fails, and a line with
+the numbers of all. The exit status is 1 if one fails.
 """
 import argparse
 import os
 import pathlib
 import random
+import shutil
 import subprocess
 import sys
 import tempfile
@@ -21,7 +24,7 @@ from concurrent.futures import ThreadPoolExecutor
 ROOT = pathlib.Path(__file__).resolve().parent.parent
 sys.path.insert(0, str(ROOT))
 
-from tools import bindings  # noqa: E402
+from tools.c_headers import Header  # noqa: E402
 from tools.models import abi  # noqa: E402
 from tools.models.cases.calls import STRINGS, Source  # noqa: E402
 from tools.models.crossing import Flat, Given, Stored, Way, value_at  # noqa: E402
@@ -48,6 +51,10 @@ COLLIDING = [
 # labels that are hard for C, of which each is another one in lower case
 LABELS = """a int class NULL errno two-words A1 x-Y default stdin true %bool %record %list %u8 INT-MAX tag %as address length memory value at area
 flats parameters kind bits f0 ok none some this namespace""".split()
+
+
+class Fault(Exception):
+    """What is wrong of a package."""
 
 
 # ---- packages
@@ -158,6 +165,18 @@ def shown(t, value):
     return str(case) if t.payloads[case] is None else f"{case}({shown(t.payloads[case], payload)})"
 
 
+def part_of(t, made, case):
+    """The part of a case, or None if it holds nothing."""
+    if t.payloads[case] is None:
+        return None
+    return made.parts[sum(payload is not None for payload in t.payloads[:case])]
+
+
+def tag_of(made, case):
+    """The number of a case in C: options and results have numbers of their own."""
+    return made.constants[case] if made.constants else case
+
+
 # ---- a program that calls the functions of a header
 
 PRELUDE = """
@@ -211,8 +230,8 @@ class Program:
 
     def literal(self, t, made, value):
         """The C expression of a number."""
-        if made.form == "flags":
-            names = [part.constant for place, part in enumerate(made.parts) if value >> place & 1]
+        if isinstance(t, abi.Flags):
+            names = [constant for place, constant in enumerate(made.constants) if value >> place & 1]
             return f"({made.c})({' | '.join(names) or 0})"
         number = ord(value) if isinstance(value, str) else int(value)
         if isinstance(t, abi.Scalar) and t.word == "bool" and value:
@@ -232,11 +251,11 @@ class Program:
         if not isinstance(t, abi.Variant):
             return [f"{target} = {self.literal(t, made, value)};"]
         case, payload = value
-        part = made.parts[case]
-        if made.form == "enum":
-            return [f"{target} = {part.constant};"]
-        inner = self.make(t.payloads[case], part.type, payload, f"{target}.as.{part.label}") if part.type else []
-        return [f"{target}.tag = {part.constant};", *inner]
+        if made.form == "number":
+            return [f"{target} = {made.constants[case]};"]
+        part = part_of(t, made, case)
+        inner = self.make(t.payloads[case], part.type, payload, f"{target}.as.{part.label}") if part else []
+        return [f"{target}.tag = {tag_of(made, case)};", *inner]
 
     def make_list(self, t, made, value, target):
         """The lines for a list."""
@@ -290,10 +309,11 @@ class Program:
     def show_case(self, t, made):
         """The lines that show a variant."""
         lines = ['printf("%u", (unsigned)value.tag);']
-        for payload, part in zip(t.payloads, made.parts):
+        for case, payload in enumerate(t.payloads):
             if payload is not None:
+                part = part_of(t, made, case)
                 show = self.show(payload, part.type)
-                lines += [f"if (value.tag == {part.constant}) {{", 'printf("(");', f"{show}(value.as.{part.label});", 'printf(")");', "}"]
+                lines += [f"if (value.tag == {tag_of(made, case)}) {{", 'printf("(");', f"{show}(value.as.{part.label});", 'printf(")");', "}"]
         return lines
 
     # ---- calls
@@ -389,7 +409,7 @@ def run(words):
     """What a command prints; a fault where it fails."""
     done = subprocess.run(words, capture_output=True, text=True, check=False)
     if done.returncode:
-        raise bindings.Fault(f"{words[0]}: status {done.returncode}\n{(done.stdout + done.stderr)[:2000]}")
+        raise Fault(f"{words[0]}: status {done.returncode}\n{(done.stdout + done.stderr)[:2000]}")
     return done.stdout
 
 
@@ -402,13 +422,27 @@ def compile_alone(folder):
             run([compiler, *dialect, *STRICT, "-fsyntax-only", str(source)])
 
 
+def path_of(files, folder):
+    """The path of the last of these files with those before it: a folder with its dependencies, if there are some."""
+    *before, last = files
+    if not before:
+        return last
+    deps = folder / "wit" / "deps"
+    deps.mkdir(parents=True, exist_ok=True)
+    for place, file in enumerate(before):
+        shutil.copy(file, deps / f"{place}.wit")
+    shutil.copy(last, folder / "wit" / "last.wit")
+    return folder / "wit"
+
+
 def check(program, files, folder, number):
     """Checks the header of a set of files; how many calls were compared."""
-    header = bindings.header_of(program, files)
-    (folder / "header.h").write_text("\n".join(header.lines) + "\n")
+    text = run([program, "bind", "c", str(path_of(files, folder))])
+    header = Header(text)
+    (folder / "header.h").write_text(text)
     (folder / "prelude.h").write_text(PRELUDE)
     compile_alone(folder)
-    model = opened([bindings.answer_of(program, "text", files[: place + 1]) for place in range(len(files))])
+    model = opened(header.texts)
     calls = Program(number)
     for made in header.functions:
         for _ in range(CALLS):
@@ -418,7 +452,7 @@ def check(program, files, folder, number):
     compiler, dialect = [("gcc", "c"), ("clang", "c"), ("g++", "c++"), ("clang++", "c++")][number % 4]
     run([compiler, *DIALECTS[dialect], *STRICT, *SANITIZED, "-o", str(binary), str(source)])
     for fault in calls.faults(run([str(binary)])):
-        raise bindings.Fault(fault)
+        raise Fault(fault)
     return len(calls.calls)
 
 
@@ -448,14 +482,14 @@ def checked(program, folder, numbered):
     with tempfile.TemporaryDirectory(dir=folder) as own:
         try:
             return check(program, files, pathlib.Path(own), number), None
-        except bindings.Fault as fault:
+        except Fault as fault:
             return 0, f"FAILED {title}: {fault}\n" + "\n".join(file.read_text() for file in files)
 
 
 def main():
     """Checks all packages."""
-    parser = argparse.ArgumentParser(usage="tools/check_bindings.py [--program WITCALL] [N [SEED]]", allow_abbrev=False)
-    parser.add_argument("--program", default=bindings.default_program())
+    parser = argparse.ArgumentParser(usage="tools/check_bindings.py [--program WIT-EXPLAIN] [N [SEED]]", allow_abbrev=False)
+    parser.add_argument("--program", default=str(ROOT / "crates" / "explain" / "out" / "explain"))
     parser.add_argument("count", nargs="?", type=int, default=200)
     parser.add_argument("seed", nargs="?", default="1")
     words = parser.parse_args()

@@ -6,7 +6,7 @@
  *   3. The core function runs.
  *   4. witcall_leave_requests and witcall_leave carry what it answered into the caller in the same way.
  *
- * shop.h has the package's types as they lie in a memory. It is made of shop.wit by tools/bindings.py.
+ * shop.h has the package's types as they lie in a memory. It is made of shop.wit by wit-explain bind c.
  */
 #include "shop.h"
 #include "witcall.h"

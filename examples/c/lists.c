@@ -1,5 +1,5 @@
 /* Lists what packages have: their functions with the offsets of the parameters, and their types with the places of what stands in them. What
- * the library tells of shop.wit is compared with the structs of shop.h, which tools/bindings.py makes of that package. The lines of the other
+ * the library tells of shop.wit is compared with the structs of shop.h, which wit-explain bind c makes of that package. The lines of the other
  * package are compared with lists.expected, whose numbers are those of CanonicalABI.md, "Alignment" and "Element Size".
  */
 #include "shop.h"

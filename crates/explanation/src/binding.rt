@@ -64,7 +64,10 @@ fn header(
 pub fn header_for_c(alloc: Global, packages: &CheckedSet) -> Result<String, Cause> {
     let texts = texts_of(alloc, &packages.set)?;
     let resolve = packages.set.resolve();
-    let layouts = Layouts::of(alloc, resolve)?;
+    let layouts = match Layouts::of(alloc, resolve) {
+        Ok(layouts) => layouts,
+        Err(error) => return Err(Cause::Layout(error, None)),
+    };
     let laid = Laid::new(resolve, &layouts);
     let main = main_of(packages.list.as_slice());
     Ok(header(alloc, laid, texts.as_slice(), main)?)
