@@ -1,12 +1,16 @@
 //! Calls of functions of packages.
-ghost use Rattle.std.specs.Prelude.{◌≡◌};
+ghost use Rattle.std.specs.Prelude.{All};
+ghost use Rattle.package_form.specs.Form.{IsInPackageForm};
+ghost use Rattle.package_form.specs.Naming.{package_scopes};
+ghost use Rattle.package_form.specs.Scope.{AreDistinct};
+ghost use Rattle.package_text.specs.Writable.{IsWritable};
 ghost use Rattle.tables.specs.Closed.{IsFunction};
 
 use crate::checking::Checked;
 use call_picture::{Call, JsonError, Picture};
 use std::alloc::{AllocError, Global};
 use std::fmt::Write;
-use tables::FunctionId;
+use tables::{FunctionId, Resolve};
 use wit_faults::Report;
 
 /// The words of a call.
@@ -70,6 +74,13 @@ fn report_refused(report: &mut Report, refused: Refused) -> Result<(), AllocErro
     Ok(())
 }
 
+/// A package that can be written is in form, and its names differ in each scope.
+fn is_in_form(_tables: &Resolve)
+    requires { ∥ IsWritable _tables.now ∥₁ }
+    ensures form { ∥ IsInPackageForm _tables.now ∥₁ }
+    ensures distinct { ∥ All AreDistinct (package_scopes _tables.now) ∥₁ }
+{}
+
 /// Reports a call of a function of a package.
 fn report_picture(
     alloc: Global,
@@ -80,6 +91,7 @@ fn report_picture(
 ) -> Result<(), AllocError>
     requires { IsFunction package.now.tables func }
 {
+    is_in_form(&package.tables);
     let call = Call::new(alloc, &package.tables, &package.layouts, func)?;
     match picture_of(&call, words)? {
         Ok(picture) => {

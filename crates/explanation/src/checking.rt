@@ -1,9 +1,7 @@
 //! Packages checked in the order in which their packages depend on each other.
 ghost use Rattle.std.specs.Prelude.{◌≡◌, ◌+◌, ◌<◌, ◌≤◌, All, IfOk, OnOk, length};
 ghost use Rattle.layout.specs.Layout.{AreWithin, layouts_of};
-ghost use Rattle.package_form.specs.Form.{IsInPackageForm};
-ghost use Rattle.package_form.specs.Naming.{package_scopes};
-ghost use Rattle.package_form.specs.Scope.{AreDistinct};
+ghost use Rattle.package_text.specs.Writable.{IsWritable};
 
 use crate::graph::graph_of;
 use crate::members::{Member, members_of};
@@ -24,8 +22,7 @@ pub struct Checked {
     pub layouts: Layouts,
     pub ghost laid_out: { layouts ≡ layouts_of tables },
     pub ghost within: { ∥ AreWithin tables ∥₁ },
-    pub ghost form: { ∥ IsInPackageForm tables ∥₁ },
-    pub ghost distinct: { ∥ All AreDistinct (package_scopes tables) ∥₁ },
+    pub ghost writable: { ∥ IsWritable tables ∥₁ },
 }
 
 /// Packages without a fault, each after those that it depends on.
