@@ -2,7 +2,6 @@
 ghost use Rattle.std.specs.Prelude.{◌<◌, length};
 
 use crate::checking::{Checked, CheckedSet};
-use crate::sources::MAX_TEXT;
 use c_header::{Laid, header_of};
 use layout::Layouts;
 use package_adding::PackageSet;
@@ -10,6 +9,7 @@ use package_text::print;
 use std::alloc::{AllocError, Global};
 use tables::PackageId;
 use wit_faults::Cause;
+use wit_files::MAX_TEXT;
 use wit_text::TextError;
 
 /// The canonical text of a package of a set. 36 if it would have more than 1,048,576 bytes.

@@ -4,8 +4,6 @@ ghost use Rattle.layout.specs.Layout.{AreWithin, layouts_of};
 ghost use Rattle.package_text.specs.Writable.{IsWritable};
 
 use crate::graph::graph_of;
-use crate::members::{Member, members_of};
-use crate::sources::Source;
 use layout::Layouts;
 use package_adding::PackageSet;
 use package_order::{Arrangement, arranged};
@@ -13,6 +11,7 @@ use std::alloc::{AllocError, Global};
 use std::fmt::Write;
 use tables::{Resolve, Sequence};
 use wit_faults::{Around, Cause, PackageRef, Report, first_above_limits, first_path};
+use wit_files::{Member, Source, members_of};
 
 /// A package without a fault: its own tables, which begin with what it uses of others.
 #[derive(Drop)]

@@ -1,10 +1,10 @@
 //! Which packages depend on which.
 ghost use Rattle.std.specs.Prelude.{◌≡◌, ◌<◌, length, All, IfOk, OnOk, IfSome};
 
-use crate::members::Member;
 use std::alloc::{AllocError, Global};
 use tables::Sequence;
 use wit_faults::{Lexed, PackageRef};
+use wit_files::Member;
 
 /// The first member that is this package.
 fn member_named(members: &[Member<'_>], package: PackageRef<'_>) -> Option<usize>

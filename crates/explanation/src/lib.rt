@@ -1,7 +1,7 @@
 //! What `wit-explain` does: it checks the WIT files of folders, draws the bytes of their types, shows calls, and writes headers
 //! for C.
 //!
-//! `run` does what the words of a command line ask for. It reads the files, puts their packages in order by `package_order`,
+//! `run` does what the words of a command line ask for. It reads the files by `wit_files`, puts their packages in order by `package_order`,
 //! adds each to a set by `package_adding`, and shows faults by `wit_faults`, types by `layout_picture` and calls by
 //! `call_picture`. Headers are those of `c_header`.
 #![tactic(auto)]
@@ -10,10 +10,7 @@ mod binding;
 mod calling;
 mod checking;
 mod graph;
-mod members;
 mod running;
-mod sources;
-mod texts;
 
 pub use running::run;
 pub use wit_faults::Report;

@@ -3,7 +3,6 @@
 use crate::binding::header_for_c;
 use crate::calling::{CallWords, report_call};
 use crate::checking::{Checked, CheckedSet, check_sources};
-use crate::sources::sources_of;
 use explain_words::{ColorChoice, Options, VERSION, help_of, options_of, usage};
 use layout_picture::{Form, Sheet};
 use std::alloc::AllocError;
@@ -11,6 +10,7 @@ use std::fmt::Write;
 use std::io::IsTerminal;
 use std::{env, fs};
 use wit_faults::{Paint, Report, Style};
+use wit_files::sources_of;
 
 /// Whether a variable of the environment has a text.
 fn is_set(rt: &HostRuntime, name: &str) -> bool {

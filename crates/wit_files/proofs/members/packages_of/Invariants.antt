@@ -1,6 +1,6 @@
 use Rattle.std.proofs.Common.{◌≡◌, ◌+◌, length, vec_len}
 use Rattle.std.specs.List.{sum_by}
-use Rattle.explanation.proofs.members.packages_of.Given as goal
+use Rattle.wit_files.proofs.members.packages_of.Given as goal
 
 abbrev pub decreases-packages : goal.decreases-packages
 decreases-packages l = vec_len l.left

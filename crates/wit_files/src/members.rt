@@ -20,7 +20,7 @@ pub struct Member<'a> {
     pub files: Vec<Lexed<'a>>,
     pub is_dependency: bool,
     pub tree: Ast,
-    ghost full: { IsTrue (has_full_names (file_view tree)) },
+    pub ghost full: { IsTrue (has_full_names (file_view tree)) },
 }
 
 impl Member<'_> {
@@ -133,6 +133,15 @@ fn join<'a>(alloc: Global, first: Part<'a>, more: Vec<Part<'a>>) -> Result<Split
     Ok(Split { joined, others })
 }
 
+/// Reports a package whose names make no full names, as those of no text do.
+fn refuse(alloc: Global, report: &mut Report, files: &[Lexed<'_>]) -> Result<(), AllocError>
+    ensures { OnOk result (report.new.status ≡ 1) }
+{
+    let around = Around { files, known: &[] };
+    let cause = Cause::Resolve(ResolveError::NotThisShape);
+    report.add_package(alloc, around, &cause)
+}
+
 /// Adds a package, if its names make full names, as those of each text do.
 fn push_member<'a>(
     alloc: Global,
@@ -150,12 +159,7 @@ fn push_member<'a>(
         tree,
     } = joined;
     if !has_full_names(alloc, &tree)? {
-        let around = Around {
-            files: files.as_slice(),
-            known: &[],
-        };
-        let cause = Cause::Resolve(ResolveError::NotThisShape);
-        return report.add_package(alloc, around, &cause);
+        return refuse(alloc, report, files.as_slice());
     }
     members.push(Member {
         files,
