@@ -2,9 +2,7 @@
 
 use crate::packages::number;
 use adapter::Request;
-use host_calls::{
-    CallError, Half, Status, Value, enter_requests, function_of, leave_requests,
-};
+use host_calls::{CallError, Half, Status, Value, enter_requests, function_of, leave_requests};
 use memory::Block;
 use std::alloc::Global;
 use std::process::Abort;
