@@ -89,7 +89,7 @@ fn report_picture(
     func: FunctionId,
     words: &CallWords<'_>,
 ) -> Result<(), AllocError>
-    requires { IsFunction package.now.tables func }
+    requires { IsFunction «package».now.tables func }
 {
     is_in_form(&package.tables);
     let call = Call::new(alloc, &package.tables, &package.layouts, func)?;
