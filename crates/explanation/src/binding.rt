@@ -5,7 +5,6 @@ use crate::checking::{Checked, CheckedSet};
 use c_header::{Laid, header_of};
 use layout::Layouts;
 use package_adding::PackageSet;
-use package_text::print;
 use std::alloc::{AllocError, Global};
 use tables::PackageId;
 use wit_faults::Cause;
@@ -16,11 +15,8 @@ use wit_text::TextError;
 fn text_of(alloc: Global, set: &PackageSet, id: PackageId) -> Result<String, TextError>
     requires { id.0 < length set.now.resolve.packages }
 {
-    let Ok(table) = set.table(alloc, id) else {
-        return Err(TextError::NoMemory);
-    };
     let mut text = String::new(alloc);
-    print(alloc, &table, &mut text)?;
+    set.print(alloc, id, &mut text)?;
     if text.len() > MAX_TEXT {
         return Err(TextError::Limit);
     }

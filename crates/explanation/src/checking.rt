@@ -57,8 +57,8 @@ struct Checker<'a> {
 
 /// Adds a package to a set.
 fn added(alloc: Global, set: &mut PackageSet, member: &Member<'_>) -> Result<Checked, Cause> {
-    set.has_room()?;
-    let (_, tables) = set.add_tree(alloc, &member.tree)?;
+    let id = set.add_tree(alloc, &member.tree)?;
+    let tables = set.table(alloc, id)?;
     match Layouts::of(alloc, &tables) {
         Ok(layouts) => Ok(Checked {
             is_dependency: member.is_dependency,

@@ -6,8 +6,8 @@ ghost use Rattle.opening.specs.Sets.{is_binary};
 
 use crate::package::{MAX_INPUT, Package};
 use ctype_bin::{BinError, Fault};
-use resolve::ResolveError;
 use std::alloc::Global;
+use tables::ResolveError;
 use wit_component::to_written;
 
 /// The bytes that a binary begins with.

@@ -6,6 +6,7 @@
 #![tactic(auto)]
 
 mod binary;
+pub mod laws;
 mod package;
 mod printed;
 mod set;

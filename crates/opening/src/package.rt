@@ -17,9 +17,8 @@ use lift_lower::Types;
 use package_adding::{AddError, AttachError};
 use package_form::own_package;
 use package_sets::restricted;
-use resolve::{Resolve, ResolveError};
 use std::alloc::{AllocError, Global};
-use tables::PackageId;
+use tables::{PackageId, Resolve, ResolveError};
 use thiserror::Error;
 use wit_text::TextError;
 

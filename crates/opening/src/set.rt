@@ -13,8 +13,8 @@ use crate::text::text_of;
 use ctype_bin::decode;
 use package_adding::PackageSet;
 use package_text::laws::{text_is_of_closed_package, types_nest_as_in_a_text};
-use resolve::Resolve;
 use std::alloc::Global;
+use tables::Resolve;
 use wit_text::{parse, texts_have_full_names};
 
 /// Adds the package of a text to a set.
@@ -28,7 +28,7 @@ fn add_text(alloc: Global, set: &mut PackageSet, bytes: &[u8]) -> Result<(), Ope
     texts_have_full_names();
     let text = text_of(bytes)?;
     let ast = parse(alloc, text)?;
-    let (_, _closed) = set.add_tree(alloc, &ast)?;
+    set.add_tree(alloc, &ast)?;
     Ok(())
 }
 
@@ -41,7 +41,7 @@ fn add_binary(alloc: Global, set: &mut PackageSet, bytes: &[u8]) -> Result<(), O
     ensures err { IfErr result (MemberRefuses set.old.resolve bytes.now) }
 {
     let raw = decode(alloc, bytes)?;
-    let (_, _closed) = set.add_spelled(alloc, &raw, bytes)?;
+    set.add_component(alloc, &raw, bytes)?;
     Ok(())
 }
 

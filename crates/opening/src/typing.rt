@@ -8,7 +8,7 @@ ghost use Rattle.tables.specs.Standard.{IsTypeOf};
 
 use crate::package::Package;
 use lift_lower::{Val, has_arguments, has_type};
-use resolve::{FunctionId, ValType};
+use tables::{FunctionId, ValType};
 
 impl Package {
     /// Whether these are arguments of the function, as many as its parameters and each of its type: what

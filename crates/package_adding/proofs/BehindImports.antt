@@ -13,7 +13,7 @@ use Rattle.package_form.specs.Marks.{AreMarked}
 use Rattle.package_form.specs.Reached.{is_among}
 use Rattle.package_form.proofs.OwnPackage.{package-is, same-itself}
 use Rattle.package_sets.proofs.Behind.{import-other, own-behind}
-use Rattle.package_sets.proofs.MarkedPlaces.{interface-in}
+use Rattle.package_sets.proofs.Kept.{interface-in}
 use Rattle.package_sets.proofs.One.{imports-one}
 use Rattle.package_sets.proofs.SameTables.{same-tables}
 use Rattle.package_sets.specs.Imports.{IsImportsOf}

@@ -1,5 +1,6 @@
 pub mod Adding
 pub mod Again
+pub mod Alone
 pub mod BehindImports
 pub mod ImportTables
 pub mod Importing

@@ -3,7 +3,7 @@ use Rattle.std.proofs.Common.{◌≡◌, ◌↔◌, ◌<◌, ℕ, Bool, true, fa
 use Rattle.std.proofs.lemmas.List.{get_or_default, same_lists}
 use Rattle.package_form.proofs.OwnPackage.{package-there}
 use Rattle.package_sets.proofs.Lists.{one-there}
-use Rattle.package_sets.proofs.MarkedPlaces.{interface-in}
+use Rattle.package_sets.proofs.Kept.{interface-in}
 use Rattle.tables.specs.PackageNames.{PackageParts}
 use Rattle.tables.specs.declared.tables.Resolve.{Resolve}
 use Rattle.package_sets.specs.NamedIn.{AreMarksOf}

@@ -1,5 +1,5 @@
 -- A package that a set has room for, of which a set is made, is not refused but for memory, and makes one set.
-use Rattle.std.proofs.Common.{◌≡◌, ◌+◌, ◌∙◌, Bool, true, true≢false, ℕ, List, [], ◌∷◌, Some, length, slice_get, ap, sym, subst, arith, All, length-append}
+use Rattle.std.proofs.Common.{◌≡◌, ◌<◌, ◌+◌, ◌∙◌, Bool, true, true≢false, ℕ, List, [], ◌∷◌, Some, length, slice_get, ap, sym, subst, arith, All, length-append}
 use Rattle.std.proofs.Math.Logic.{∥∥₁_elim}
 use Rattle.ctype_bin.specs.declared.component.RawComponent.{RawComponent}
 use Rattle.package_form.specs.Closed.{own_package}
@@ -52,6 +52,9 @@ want e is = subst (λ (x : ResolveError). IsWantOfMemory (error.Resolve x)) (sym
 -- ---- a closed table that is attached
 
 module _ (s closed r : Resolve) (id : ℕ) (h : IsAttached s closed r id) where
+  pub is-known : id < length r.packages
+  is-known = omega (arith, h.id_is, ap length h.packages_are, length-append s.packages (h.fits.own ∷ []))
+
   not-refused : (e : AttachError) → IsRefused s closed e → IsWantOfMemory (error.Attach e)
   not-refused attach.NoMemory g = tt
   not-refused attach.SetLimit g = absurd (g h.room)

@@ -13,16 +13,29 @@ use Rattle.package_sets.specs.Restricted.{IsRestricted}
 use Rattle.tables.specs.Same.{IsSamePackage}
 use Rattle.tree_meaning.specs.Declarations.{package_named}
 use Rattle.tree_meaning.specs.Imports.{imports_of}
-use Rattle.tree_meaning.specs.Resolves.{HasEntries, HasNoFaultsOf, IsClosedPackageOf, ResolveRefusesOf}
+use Rattle.tree_meaning.specs.Resolves.{HasEntries, HasNoFaultsOf, IsClosedPackageOf, ResolveRefusesOf, file_fits}
 use Rattle.tables.specs.declared.error.ResolveError.{ResolveError}
 use Rattle.tables.specs.declared.error.ResolveError.TheVariants as cause
 use Rattle.wit_syntax.specs.Syntax.{File}
 use Rattle.wit_component.specs.FromComponent.{ClosedComponentRefuses}
 use Rattle.wit_component.specs.ToComponent.{ComponentStands}
 use Rattle.package_sets.specs.BehindImports.{IsBehindImports}
+use Rattle.package_text.specs.Writable.{IsWritable}
 use Rattle.package_adding.specs.Named.{AreNamed}
 use Rattle.package_adding.specs.declared.error.AddError.{AddError}
 use Rattle.package_adding.specs.declared.error.AddError.TheVariants as error
+
+-- ---- the tables of its packages
+
+-- the table of what the package at this place reaches is this one
+abbrev pub HasTable : Resolve → ℕ → Resolve → Type 0
+HasTable set id table = (r : Resolve) → IsRestricted set id r → IsSamePackage r table
+
+-- the table of each package that the set had is what it was
+abbrev pub KeepsTables : Resolve → Resolve → Type 0
+KeepsTables set new = (id : ℕ) → id < length set.packages → (table : Resolve) → IsRestricted set id table → HasTable new id table
+
+-- ---- of a component
 
 -- the component stands for this closed table, whose names differ in each scope
 pub record IsOfComponent (raw : RawComponent) (closed : Resolve) : Type 0 where
@@ -34,6 +47,14 @@ pub record AddsComponent (raw : RawComponent) (set closed r : Resolve) (id : ℕ
   pub component : IsOfComponent raw closed
   pub behind : IsBehindImports set closed
   pub attached : IsAttached set closed r id
+
+-- .. it was added as this place: the table of this place is that closed table, which can be written, and there is no other that can be added
+pub record ComponentIsAdded (raw : RawComponent) (set r : Resolve) (id : ℕ) : Type 0 where
+  pub closed : Resolve
+  pub adds : AddsComponent raw set closed r id
+  pub table : HasTable r id closed
+  pub writable : ∥ IsWritable closed ∥₁
+  pub only : (other new : Resolve) (j : ℕ) → AddsComponent raw set other new j → IsSamePackage closed other
 
 -- when a component's closed table is refused behind the set: as any other, and 44 also where its imports aren't just those of the set, in its order
 abbrev pub IsRefusedBehind : Resolve → Resolve → AttachError → Type 0
@@ -67,6 +88,17 @@ pub record AddsTree (f : File) (set closed r : Resolve) (id : ℕ) : Type 0 wher
   pub tree : IsOfTree f set closed
   pub attached : IsAttached set closed r id
 
+-- .. it was added as this place: the table of this place is that closed table, which can be written, begins with just those imports of the set that its
+-- own part names, and is the only one that can be added and written; no type of the file is nested deeper than in a text
+pub record TreeIsAdded (f : File) (set r : Resolve) (id : ℕ) : Type 0 where
+  pub closed : Resolve
+  pub adds : AddsTree f set closed r id
+  pub table : HasTable r id closed
+  pub writable : ∥ IsWritable closed ∥₁
+  pub behind : IsBehindImports set closed
+  pub fits : file_fits f ≡ true
+  pub only : (other new : Resolve) (j : ℕ) → AddsTree f set other new j → ∥ IsWritable other ∥₁ → IsSamePackage closed other
+
 abbrev pub IsNewName : File → Resolve → Type 0
 IsNewName f set = has_package set (package_named f) ≡ false
 
@@ -93,16 +125,6 @@ TreeNotAdded f set (error.Attach attach.NotThisShape) = ⊥
 TreeNotAdded f set (error.Resolve cause.EmptyPackage) = HasRoom set × (f.entries ≡ [])
 TreeNotAdded f set (error.Resolve cause.NoMemory) = HasRoom set
 TreeNotAdded f set (error.Resolve e) = HasRoom set × HasEntries f × IsNewName f set × IsRefusedTree f set e
-
--- ---- the tables of its packages
-
--- the table of what the package at this place reaches is this one
-abbrev pub HasTable : Resolve → ℕ → Resolve → Type 0
-HasTable set id table = (r : Resolve) → IsRestricted set id r → IsSamePackage r table
-
--- the table of each package that the set had is what it was
-abbrev pub KeepsTables : Resolve → Resolve → Type 0
-KeepsTables set new = (id : ℕ) → id < length set.packages → (table : Resolve) → IsRestricted set id table → HasTable new id table
 
 -- ---- want of memory
 

@@ -1,4 +1,5 @@
 pub mod Added
+pub mod Alone
 pub mod ImportNames
 pub mod Named
 pub mod Noted

@@ -13,11 +13,7 @@ use Rattle.wit_syntax.specs.Syntax.{PathTo, Local, Foreign, Entry, Uses, Defines
 abbrev pub NamesInterface : File → PackageParts → List ℕ → Type 0
 NamesInterface f q i = UsesImport f q i ⊎ HasImportItem f q i
 
--- .. one of its interfaces
-abbrev pub NamesPackage : File → PackageParts → Type 0
-NamesPackage f q = (i : List ℕ) × NamesInterface f q i
-
--- .. of what the file names
+-- the marks of what the file names
 abbrev pub AreNamed : File → Resolve → List Bool → List Bool → Type 0
 AreNamed f set packages interfaces = AreMarksOf (NamesInterface f) set packages interfaces
 

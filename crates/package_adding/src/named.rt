@@ -8,9 +8,9 @@ ghost use Rattle.package_adding.specs.Noted.{also, AreNoted};
 
 use crate::marking::{Named, mark_named};
 use package_form::IndexedTable;
-use resolve::package_key;
 use std::alloc::{AllocError, Global};
 use tables::Resolve;
+use tree_scopes::package_key;
 use wit_syntax::{Ast, InterfaceItem, Item, Path, Use, WorldItem, WorldItemKind};
 
 /// Marks the interface of another package that a path names.

@@ -1,7 +1,8 @@
 //! Sets of packages.
-ghost use Rattle.std.specs.Prelude.{◌≡◌, ◌⊎◌, ℕ, true, All, IsTrue, IfOk, IfErr, OnOk, OnErr, MatchResult};
+ghost use Rattle.std.specs.Prelude.{◌≡◌, ◌<◌, ◌⊎◌, ℕ, true, All, IsTrue, IfOk, IfErr, OnOk, OnErr, MatchResult, length};
 ghost use Rattle.ctype_bin.specs.FileView.{file_view as component_view};
 ghost use Rattle.ctype_format.specs.File.{file};
+ghost use Rattle.package_form.specs.Closed.{IsAlone};
 ghost use Rattle.package_form.specs.Form.{IsInPackageForm};
 ghost use Rattle.package_form.specs.Naming.{package_scopes};
 ghost use Rattle.package_form.specs.Scope.{AreDistinct};
@@ -9,7 +10,7 @@ ghost use Rattle.package_sets.specs.Attached.{HasRoom, IsAttached, IsRefused};
 ghost use Rattle.package_sets.specs.SetForm.{IsEmpty};
 ghost use Rattle.package_sets.specs.Tower.{IsInTower};
 ghost use Rattle.package_sets.specs.declared.error.AttachError.TheVariants.{SetLimit, NoMemory, SamePackage};
-ghost use Rattle.package_adding.specs.Added.{AddsComponent, ComponentNotAdded, IsRefusedBehind, AddsTree, IsNewName, HasName, TreeNotAdded, HasTable, KeepsTables, IsWantOfMemory};
+ghost use Rattle.package_adding.specs.Added.{AddsComponent, ComponentIsAdded, ComponentNotAdded, IsRefusedBehind, AddsTree, IsNewName, HasName, TreeIsAdded, TreeNotAdded, HasTable, KeepsTables, IsWantOfMemory};
 ghost use Rattle.package_sets.specs.BehindImports.{IsBehindImports};
 ghost use Rattle.package_text.specs.Writable.{IsWritable};
 ghost use Rattle.tree_meaning.specs.Resolves.{file_fits};
@@ -23,13 +24,13 @@ use crate::error::AddError;
 use crate::imported::is_behind_imports;
 use crate::tree::{closed_over, has_entries};
 use ctype_bin::RawComponent;
-use package_sets::laws::{attaches_one, is_set_of_none};
+use package_sets::laws::{attaches_alone, attaches_one, is_set_of_none};
 use package_sets::{AttachError, MOST_PACKAGES, attached};
 use package_text::names_are_labels;
-use resolve::{has_package, package_name};
 use std::alloc::Global;
 use tables::{PackageId, Resolve, Sequence};
-use wit_component::{closed_from_raw, closed_from_spelled};
+use tree_scopes::{has_package, package_name};
+use wit_component::closed_from_component;
 use wit_syntax::Ast;
 
 /// Packages that use each other, as one table: each behind those that it uses, at most 64. None is empty, and none has more
@@ -91,85 +92,96 @@ impl PackageSet {
         }
     }
 
-    /// Puts the own part of a closed table behind the set.
-    fn attach(&mut self, alloc: Global, closed: &Resolve) -> Result<PackageId, AttachError>
-        requires form { ∥ IsInPackageForm closed.now ∥₁ }
-        requires distinct { ∥ All AreDistinct (package_scopes closed.now) ∥₁ }
-        ensures ok { IfOk result (λ id. IsAttached self.old.resolve closed.now self.new.resolve id.0) }
-        ensures again { IfOk result (λ id. IsBehindImports self.old.resolve closed.now → HasTable self.new.resolve id.0 closed.now) }
+    /// Whether this is the table of a first package that reaches no other.
+    fn begins_with(&self, closed: &Resolve) -> bool
+        ensures first { IsTrue result → length self.now.resolve.packages ≡ 0 }
+        ensures alone { IsTrue result → IsAlone closed.now }
+    {
+        self.resolve.packages.len() == 0 && closed.packages.len() == 1
+    }
+
+    /// The set is the table of a first package that reaches no other, as it stands.
+    fn begin(&mut self, closed: Resolve) -> PackageId
+        requires first { length self.old.resolve.packages ≡ 0 }
+        requires alone { IsAlone closed }
+        requires form { ∥ IsInPackageForm closed ∥₁ }
+        requires distinct { ∥ All AreDistinct (package_scopes closed) ∥₁ }
+        ensures ok { IsAttached self.old.resolve closed self.new.resolve result.0 }
+        ensures behind { IsBehindImports self.old.resolve closed }
+        ensures again { HasTable self.new.resolve result.0 closed }
+        ensures earlier { KeepsTables self.old.resolve self.new.resolve }
+    {
+        attaches_alone();
+        self.resolve = closed;
+        PackageId(0)
+    }
+
+    /// Puts the own part of a closed table behind the set. The table of a first package that reaches no other is the set's as it stands.
+    fn attach(&mut self, alloc: Global, closed: Resolve) -> Result<PackageId, AttachError>
+        requires form { ∥ IsInPackageForm closed ∥₁ }
+        requires distinct { ∥ All AreDistinct (package_scopes closed) ∥₁ }
+        ensures ok { IfOk result (λ id. IsAttached self.old.resolve closed self.new.resolve id.0) }
+        ensures again { IfOk result (λ id. IsBehindImports self.old.resolve closed → HasTable self.new.resolve id.0 closed) }
         ensures earlier { OnOk result (KeepsTables self.old.resolve self.new.resolve) }
-        ensures err { IfErr result (IsRefused self.old.resolve closed.now) }
+        ensures err { IfErr result (IsRefused self.old.resolve closed) }
         ensures same { OnErr result (self.new ≡ self.old) }
     {
-        let (resolve, id) = attached(alloc, &self.resolve, closed)?;
+        if self.begins_with(&closed) {
+            return Ok(self.begin(closed));
+        }
+        let (resolve, id) = attached(alloc, &self.resolve, &closed)?;
         self.resolve = resolve;
         Ok(id)
     }
 
     /// Puts the own part of a component's closed table behind the set. 44 also where its imports aren't just those of the set, in its order.
-    fn attach_component(
-        &mut self,
-        alloc: Global,
-        closed: &Resolve,
-    ) -> Result<PackageId, AttachError>
-        requires form { ∥ IsInPackageForm closed.now ∥₁ }
-        requires distinct { ∥ All AreDistinct (package_scopes closed.now) ∥₁ }
-        ensures ok { IfOk result (λ id. IsAttached self.old.resolve closed.now self.new.resolve id.0) }
-        ensures behind { OnOk result (IsBehindImports self.old.resolve closed.now) }
-        ensures again { IfOk result (λ id. HasTable self.new.resolve id.0 closed.now) }
+    fn attach_component(&mut self, alloc: Global, closed: Resolve) -> Result<PackageId, AttachError>
+        requires form { ∥ IsInPackageForm closed ∥₁ }
+        requires distinct { ∥ All AreDistinct (package_scopes closed) ∥₁ }
+        ensures ok { IfOk result (λ id. IsAttached self.old.resolve closed self.new.resolve id.0) }
+        ensures behind { OnOk result (IsBehindImports self.old.resolve closed) }
+        ensures again { IfOk result (λ id. HasTable self.new.resolve id.0 closed) }
         ensures earlier { OnOk result (KeepsTables self.old.resolve self.new.resolve) }
-        ensures err { IfErr result (IsRefusedBehind self.old.resolve closed.now) }
+        ensures err { IfErr result (IsRefusedBehind self.old.resolve closed) }
         ensures same { OnErr result (self.new ≡ self.old) }
     {
-        let (resolve, id) = attached(alloc, &self.resolve, closed)?;
-        if !is_behind_imports(alloc, &self.resolve, closed)? {
+        if self.begins_with(&closed) {
+            return Ok(self.begin(closed));
+        }
+        let (resolve, id) = attached(alloc, &self.resolve, &closed)?;
+        if !is_behind_imports(alloc, &self.resolve, &closed)? {
             return Err(AttachError::NotThisShape);
         }
         self.resolve = resolve;
         Ok(id)
     }
 
-    /// Adds the package of a raw component behind the others, and answers its id. The interfaces that the component imports are
-    /// those of earlier packages. 49 where there are 64 packages; then 43, 44 and 40 as `closed_from_raw` tests them; then 48 where there
-    /// is a package of this name, 47 for the first package that it imports from and that isn't there, and 44 where an interface that it
-    /// imports isn't there or differs from the earlier package's, or where its imports stand in another order than the set's; 46 where memory
-    /// is wanting. The set is as it was then. (Binary.md)
-    pub fn add_raw(&mut self, alloc: Global, raw: &RawComponent) -> Result<PackageId, AddError>
-        ensures ok { IfOk result (λ id. (closed : Resolve) × AddsComponent raw.now self.old.resolve closed self.new.resolve id.0 × HasTable self.new.resolve id.0 closed) }
-        ensures earlier { OnOk result (KeepsTables self.old.resolve self.new.resolve) }
-        ensures err { IfErr result (ComponentNotAdded raw.now self.old.resolve) }
-        ensures same { OnErr result (self.new ≡ self.old) }
-    {
-        self.has_room()?;
-        let closed = closed_from_raw(alloc, raw)?;
-        let id = self.attach_component(alloc, &closed)?;
-        Ok(id)
-    }
-
-    /// Adds the package of a component that these bytes spell, as `add_raw` does, which has to write the component first; and answers its
-    /// closed table too.
-    pub fn add_spelled(
+    /// Adds the package of a component that these bytes spell behind the others, and answers its id. The interfaces that the component
+    /// imports are those of earlier packages. 49 where there are 64 packages; then 43, 44 and 40 as `closed_from_component` tests them; then
+    /// 48 where there is a package of this name, 47 for the first package that it imports from and that isn't there, and 44 where an
+    /// interface that it imports isn't there or differs from the earlier package's, or where its imports stand in another order than the
+    /// set's; 46 where memory is wanting. The set is as it was then. (Binary.md)
+    pub fn add_component(
         &mut self,
         alloc: Global,
         raw: &RawComponent,
         bytes: &[u8],
-    ) -> Result<(PackageId, Resolve), AddError>
+    ) -> Result<PackageId, AddError>
         requires spelled { ∥ file.spells bytes.now (component_view raw.now) ∥₁ }
-        requires room { HasRoom self.old.resolve }
-        ensures ok { IfOk result (λ x. AddsComponent raw.now self.old.resolve x.1 self.new.resolve x.0.0) }
-        ensures again { IfOk result (λ x. HasTable self.new.resolve x.0.0 x.1) }
+        ensures ok { IfOk result (λ id. ComponentIsAdded raw.now self.old.resolve self.new.resolve id.0) }
+        ensures known { IfOk result (λ id. id.0 < length self.new.resolve.packages) }
         ensures earlier { OnOk result (KeepsTables self.old.resolve self.new.resolve) }
-        ensures writable { IfOk result (λ x. ∥ IsWritable x.1 ∥₁) }
         ensures only { (closed r : Resolve) (id : ℕ) → AddsComponent raw.now self.old.resolve closed r id
-            → MatchResult result (λ x. IsSamePackage x.1 closed × IsSamePackage self.new.resolve r) IsWantOfMemory }
+            → MatchResult result (λ _. IsSamePackage self.new.resolve r) IsWantOfMemory }
         ensures err { IfErr result (ComponentNotAdded raw.now self.old.resolve) }
         ensures same { OnErr result (self.new ≡ self.old) }
     {
         attaches_one();
-        let closed = closed_from_spelled(alloc, raw, bytes)?;
+        self.has_room()?;
+        let closed = closed_from_component(alloc, raw, bytes)?;
         names_are_labels(&closed);
-        let id = self.attach_component(alloc, &closed)?;
-        Ok((id, closed))
+        let id = self.attach_component(alloc, closed)?;
+        Ok(id)
     }
 
     /// That the set has no package of the tree's name. 48 where it has one.
@@ -186,41 +198,25 @@ impl PackageSet {
 
     /// Adds the package of a syntax tree behind the others, and answers its id. What its paths name of other packages are interfaces of
     /// earlier packages of just that namespace, name and version. 49 where there are 64 packages, 43 where the tree has neither interface
-    /// nor world, 48 where there is a package of its name; then 40, 47, 41, 42 and 45 as `closed_from_ast` tests them over the interfaces
+    /// nor world, 48 where there is a package of its name; then 40, 47, 41, 42 and 45 as `closed_table` tests them over the interfaces
     /// that the paths name, with what these reach; 46 where memory is wanting. 47 also where a use of a package names no type, as in no text,
     /// and nothing else is used of it. The set is as it was then. (WIT.md)
-    pub fn add_ast(&mut self, alloc: Global, ast: &Ast) -> Result<PackageId, AddError>
+    pub fn add_tree(&mut self, alloc: Global, ast: &Ast) -> Result<PackageId, AddError>
         requires names { IsTrue (has_full_names (file_view ast.now)) }
-        ensures ok { IfOk result (λ id. (closed : Resolve) × AddsTree (file_view ast.now) self.old.resolve closed self.new.resolve id.0 × HasTable self.new.resolve id.0 closed) }
+        ensures ok { IfOk result (λ id. TreeIsAdded (file_view ast.now) self.old.resolve self.new.resolve id.0) }
+        ensures known { IfOk result (λ id. id.0 < length self.new.resolve.packages) }
         ensures earlier { OnOk result (KeepsTables self.old.resolve self.new.resolve) }
-        ensures err { IfErr result (TreeNotAdded (file_view ast.now) self.old.resolve) }
-        ensures same { OnErr result (self.new ≡ self.old) }
-    {
-        self.has_room()?;
-        let (id, _) = self.add_tree(alloc, ast)?;
-        Ok(id)
-    }
-
-    /// Adds the package of a syntax tree as `add_ast` does, and answers its closed table too.
-    pub fn add_tree(&mut self, alloc: Global, ast: &Ast) -> Result<(PackageId, Resolve), AddError>
-        requires names { IsTrue (has_full_names (file_view ast.now)) }
-        requires room { HasRoom self.old.resolve }
-        ensures ok { IfOk result (λ x. AddsTree (file_view ast.now) self.old.resolve x.1 self.new.resolve x.0.0) }
-        ensures again { IfOk result (λ x. HasTable self.new.resolve x.0.0 x.1) }
-        ensures earlier { OnOk result (KeepsTables self.old.resolve self.new.resolve) }
-        ensures writable { IfOk result (λ x. ∥ IsWritable x.1 ∥₁) }
-        ensures fits { OnOk result (file_fits (file_view ast.now) ≡ true) }
-        ensures behind { IfOk result (λ x. IsBehindImports self.old.resolve x.1) }
         ensures only { (closed r : Resolve) (id : ℕ) → AddsTree (file_view ast.now) self.old.resolve closed r id → ∥ IsWritable closed ∥₁ → file_fits (file_view ast.now) ≡ true
-            → MatchResult result (λ x. IsSamePackage x.1 closed × IsSamePackage self.new.resolve r) IsWantOfMemory }
+            → MatchResult result (λ _. IsSamePackage self.new.resolve r) IsWantOfMemory }
         ensures err { IfErr result (TreeNotAdded (file_view ast.now) self.old.resolve) }
         ensures same { OnErr result (self.new ≡ self.old) }
     {
         attaches_one();
+        self.has_room()?;
         has_entries(ast)?;
         self.lacks_package(alloc, ast)?;
         let closed = closed_over(alloc, &self.resolve, ast)?;
-        let id = self.attach(alloc, &closed)?;
-        Ok((id, closed))
+        let id = self.attach(alloc, closed)?;
+        Ok(id)
     }
 }

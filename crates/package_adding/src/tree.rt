@@ -22,9 +22,9 @@ use package_sets::imports;
 use package_sets::laws::imports_one;
 use package_text::laws::tree_has_one_closed_table;
 use package_text::names_are_labels;
-use resolve::closed_from_ast;
 use std::alloc::{AllocError, Global};
 use tables::{Interface, Resolve, ResolveError};
+use tree_rows::closed_table;
 use wit_syntax::Ast;
 
 /// That a tree has an interface or a world. 43 where it has neither.
@@ -79,7 +79,7 @@ pub fn closed_over(alloc: Global, set: &Resolve, ast: &Ast) -> Result<Resolve, R
     tree_has_one_closed_table();
     are_labelled(set.interfaces.as_slice());
     let imports = imports_from(alloc, set, ast)?;
-    let closed = closed_from_ast(alloc, ast, &imports)?;
+    let closed = closed_table(alloc, ast, &imports)?;
     names_are_labels(&closed);
     Ok(closed)
 }

@@ -1,4 +1,4 @@
--- The tables that packages have: what from_ast makes, and what a component type spells.
+-- The tables that packages have: what is made of a tree, and what a component type spells.
 use Rattle.std.specs.Prelude.{◌≤◌, ℕ, ◌+◌, Bool, true, false, ◌&&◌, not, ◌==◌, nat_lt, List, [], ◌∷◌, ◌++◌, map, flat_map, sum, length, IsTrue, Option, None, Some, is_some, slice_get}
 use Rattle.std.specs.List.{list_all}
 use Rattle.std.specs.Str.{bytes_eq}

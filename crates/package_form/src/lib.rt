@@ -1,4 +1,4 @@
-//! The form of a package's tables: what `from_ast` makes of a tree, and what a component type spells.
+//! The form of a package's tables: what is made of a tree, and what a component type spells.
 //!
 //! `IsInPackageForm` in `specs/Form.antt` says what the tables of every package keep, `package_scopes` in
 //! `specs/Naming.antt` which names must differ, and the laws what follows for all packages. It stands on `tables`

@@ -69,9 +69,9 @@ use Rattle.package_sets.proofs.Imported.{given-there, follows}
 use Rattle.package_sets.proofs.InTower as in-tower
 use Rattle.package_sets.proofs.InTower.{IsOf}
 use Rattle.package_sets.proofs.Keeping.{kept-at, place-order}
-use Rattle.package_sets.proofs.Kept.{list-at, placed-at}
+use Rattle.package_sets.proofs.Kept.{interface-in, list-at, placed-at}
 use Rattle.package_sets.proofs.Lists.{map-get, map-unget, front-get, behind-get, one-there, get-contains, contains-get, contains-unflat}
-use Rattle.package_sets.proofs.MarkedPlaces.{marked_places, marked-at, length-marked, was-kept, interface-in}
+use Rattle.package_sets.proofs.MarkedPlaces.{marked_places, marked-at, length-marked, was-kept}
 use Rattle.package_sets.proofs.Meaning.{all-worlds}
 use Rattle.package_sets.proofs.Named.{definition-all, named-before, names-put}
 use Rattle.package_sets.proofs.Ordering as ordering

@@ -27,7 +27,7 @@ use Rattle.package_sets.specs.Reaches.{is_own_interface}
 use Rattle.package_sets.specs.Joining.{before_own, import_count, imports, own_interfaces, IsFirst, has_name_of, import_rows, all_places}
 use Rattle.package_sets.specs.Joined.{renaming_of, IsJoined}
 use Rattle.package_sets.specs.Joined.{JoinedPlaces}
-use Rattle.package_sets.proofs.Lists.{map-get, front-get, behind-get, front-place, behind-place, all-append, all-put, all-drop, none-within}
+use Rattle.package_sets.proofs.Lists.{all-more, map-get, front-get, behind-get, front-place, behind-place, all-append, all-put, all-drop, none-within}
 use Rattle.package_sets.proofs.Kept.{list-filter}
 use Rattle.package_sets.proofs.Named.{definition-put, standard-put}
 use Rattle.package_sets.proofs.Renaming.{StandBehind, in_place, row-stays}
@@ -155,15 +155,11 @@ function-more ds es f h = by (slice_get ds f.0) refl h
     by (Some (row.Type d)) e q = absurd (true≢false (sym q))
     by (Some (row.Function g)) e q = rw (front-get ds es f.0 (row.Function g) e) refl
 
-each-more : {A : Type 0} (f g : A → Bool) (xs : List A) → ((x : A) → f x ≡ true → g x ≡ true) → list_all f xs ≡ true → list_all g xs ≡ true
-each-more f g [] one h = refl
-each-more f g (x ∷ xs) one h = let p = split (f x) (list_all f xs) h in both (g x) (list_all g xs) (one x p.0) (each-more f g xs one p.1)
-
 placed-more : (ds es : List Definition) (i : Interface) → is_placed ds i ≡ true → is_placed (ds ++ es) i ≡ true
 placed-more ds es i h =
     let p = split (list_all (is_type_id ds) i.uses) (list_all (is_type_id ds) i.types && list_all (is_function_id ds) i.functions) h in
     let q = split (list_all (is_type_id ds) i.types) (list_all (is_function_id ds) i.functions) p.1 in
-    both _ _ (each-more _ _ i.uses (type-more ds es) p.0) (both _ _ (each-more _ _ i.types (type-more ds es) q.0) (each-more _ _ i.functions (function-more ds es) q.1))
+    both _ _ (all-more _ _ i.uses (type-more ds es) p.0) (both _ _ (all-more _ _ i.types (type-more ds es) q.0) (all-more _ _ i.functions (function-more ds es) q.1))
 
 typed-more : (ds es : List Definition) (d : Definition) → definition_all (is_type ds) d ≡ true → definition_all (is_type (ds ++ es)) d ≡ true
 typed-more ds es d h = subst (λ (x : Definition). definition_all (is_type (ds ++ es)) x ≡ true) (row-stays d) (definition-put in_place (is_type ds) (is_type (ds ++ es)) each d h)
@@ -182,7 +178,7 @@ function-of-more ds es k w h = by (slice_get ds k) refl h
     by (Some (row.Function g)) e q = rw (front-get ds es k (row.Function g) e) q
 
 world-more : (ds es : List Definition) (count more w : ℕ) (x : World) → count ≤ more → is_placed_world ds count w x ≡ true → is_placed_world (ds ++ es) more w x ≡ true
-world-more ds es count more w x l h = each-more _ _ x.items (λ i e. one i.kind e) h
+world-more ds es count more w x l h = all-more _ _ x.items (λ i e. one i.kind e) h
   where
     one : (k : WorldItemKind) → is_placed_item ds count w k ≡ true → is_placed_item (ds ++ es) more w k ≡ true
     one (item.Interface i) e = lt-ltb i.0 more (omega (arith, l, ltb-true i.0 count e))
@@ -341,7 +337,7 @@ module _ (s c : Resolve) (j : JoinedPlaces) (q : IsJoined s c j) where
   val-there (val.Id t) h = type-there t h
 
   pub typed : name_types rows-there ≡ true
-  typed = all-append (definition_all (is_type rows-there)) s.definitions own-rows (each-more _ _ s.definitions (typed-more s.definitions own-rows) s.typed)
+  typed = all-append (definition_all (is_type rows-there)) s.definitions own-rows (all-more _ _ s.definitions (typed-more s.definitions own-rows) s.typed)
       (all-put (put_row to) (definition_all (is_type c.definitions)) (definition_all (is_type rows-there)) (drop j.imported c.definitions)
       (λ k d e h. definition-put to (is_type c.definitions) (is_type rows-there) val-there d h) (all-drop (definition_all (is_type c.definitions)) j.imported c.definitions c.typed))
 
@@ -353,7 +349,7 @@ module _ (s c : Resolve) (j : JoinedPlaces) (q : IsJoined s c j) where
   interfaces-there = s.interfaces ++ map (put_interface to) (own_interfaces c)
 
   pub placed : are_placed rows-there interfaces-there ≡ true
-  placed = all-append (is_placed rows-there) s.interfaces (map (put_interface to) (own_interfaces c)) (each-more _ _ s.interfaces (placed-more s.definitions own-rows) s.placed)
+  placed = all-append (is_placed rows-there) s.interfaces (map (put_interface to) (own_interfaces c)) (all-more _ _ s.interfaces (placed-more s.definitions own-rows) s.placed)
       (all-put (put_interface to) (is_placed c.definitions) (is_placed rows-there) (own_interfaces c) (λ k i e h. each i h) (all-drop (is_placed c.definitions) (import_count c) c.interfaces c.placed))
     where
       each : (i : Interface) → is_placed c.definitions i ≡ true → is_placed rows-there (put_interface to i) ≡ true

@@ -36,10 +36,9 @@ use Rattle.package_sets.proofs.Apart.{part-owner}
 use Rattle.package_sets.proofs.Behind.{before, rows-behind, interfaces-behind, worlds-behind, row-there}
 use Rattle.package_sets.proofs.Belonging.{Belongs, belongs, owner-some}
 use Rattle.package_sets.proofs.Identified.{id-of, id-was, id-there}
-use Rattle.package_sets.proofs.Kept.{list-at, placed-at, worlds-grouped-at}
+use Rattle.package_sets.proofs.Kept.{interface-in, list-at, placed-at, worlds-grouped-at}
 use Rattle.package_sets.proofs.Lasting.{item-of}
 use Rattle.package_sets.proofs.Lists.{map-unget, behind-get, one-there, contains-get, contains-unflat}
-use Rattle.package_sets.proofs.MarkedPlaces.{interface-in}
 use Rattle.package_sets.proofs.Named.{named-before, referred-named, row-references-put, names-put, unnamed-same}
 use Rattle.package_sets.proofs.Ordering.{front-interface, front-world, same-owner}
 use Rattle.package_sets.proofs.Owning.{cut, IsOwnedFrom, IsOfWorlds, rows-owned, worlds-owned, parted-worlds}

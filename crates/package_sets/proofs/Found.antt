@@ -36,6 +36,7 @@ use Rattle.package_sets.specs.Attached.{others, HasAll, Fits}
 use Rattle.package_sets.specs.Set.{AreRowsOf, ArePackageByPackage, behind_all, an_interface, a_world, IsSet, HasRowsInForm}
 use Rattle.package_sets.specs.SetForm.{HasNamesApart}
 use Rattle.package_sets.specs.declared.moved.Moved.{Moved}
+use Rattle.package_sets.proofs.Kept.{interface-in}
 use Rattle.package_sets.proofs.Lists.{map-unget, front-place, one-there, behind-get}
 use Rattle.package_sets.proofs.Beginning.{own-is, begins-packages, begins-imports, begins-rows}
 use Rattle.package_sets.proofs.Keeping.{kept-at}
@@ -46,7 +47,7 @@ use Rattle.package_sets.proofs.Reading.{is_kept}
 use Rattle.package_sets.proofs.Restricting as table
 use Rattle.package_sets.proofs.Standing.{interface-marks, interface-mark, id-kept}
 use Rattle.package_sets.proofs.Roundtrip.{IsBack, ComesBack, row-back, types-back, functions-back}
-use Rattle.package_sets.proofs.MarkedPlaces.{marked_places, marked-at, length-marked, was-kept, interface-in, kept-package, rows-found}
+use Rattle.package_sets.proofs.MarkedPlaces.{marked_places, marked-at, length-marked, was-kept, kept-package, rows-found}
 
 -- ---- lists
 

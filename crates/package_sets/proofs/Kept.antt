@@ -1,15 +1,18 @@
 -- What is true of all elements is true of those that are kept, as they are put elsewhere.
-use Rattle.std.proofs.Common.{◌≡◌, ◌≤◌, ◌<◌, ℕ, zero, suc, ◌+◌, Bool, true, false, ◌&&◌, nat_le, nat_lt, List, [], ◌∷◌, get_or, slice_get, map, Some, refl, subst, arith, IsTrue}
+use Rattle.std.proofs.Common.{◌≡◌, ◌≤◌, ◌<◌, ℕ, zero, suc, ◌+◌, Bool, true, false, ◌&&◌, nat_le, nat_lt, List, [], ◌∷◌, get_or, slice_get, map, Some, refl, subst, arith, IsTrue, length}
 use Rattle.std.specs.Prelude.{filter}
 use Rattle.std.specs.List.{list_all}
 use Rattle.std.proofs.lemmas.Bool.{ltb-true, lt-ltb, leb-true, le-leb}
+use Rattle.std.proofs.lemmas.Option.{slice_get_within, get_or_from_slice_get}
 use Rattle.tables.specs.Tables.{are_grouped, are_worlds_grouped, is_placed_world, are_placed_worlds}
 use Rattle.tables.proofs.Rows.{split, both}
+use Rattle.tables.proofs.Earlier.{grouped-at}
 use Rattle.package_sets.specs.Places.{kept, place}
 use Rattle.package_sets.proofs.Keeping.{place-order}
 use Rattle.tables.specs.declared.tables.Definition.{Definition}
 use Rattle.tables.specs.declared.tables.Interface.{Interface}
 use Rattle.tables.specs.declared.tables.World.{World}
+use Rattle.tables.specs.declared.tables.Resolve.{Resolve}
 
 pub list-at : {A : Type 0} (f : A → Bool) (xs : List A) (k : ℕ) (x : A) → list_all f xs ≡ true → slice_get xs k ≡ Some x → f x ≡ true
 list-at f [] k x h e = absurd (cc)
@@ -122,3 +125,7 @@ placed-at ds count w (y ∷ ws) (suc k) x h e =
   where
     next : (n m : ℕ) → n + 1 + m ≡ n + suc m
     next n m = omega arith
+
+-- an interface is of one of the packages
+pub interface-in : (s : Resolve) (k : ℕ) (i : Interface) → slice_get s.interfaces k ≡ Some i → i.«package».0 < length s.packages
+interface-in s k i e = grouped-at (length s.packages) 0 s.interfaces k i s.grouped (slice_get_within s.interfaces k i e) (get_or_from_slice_get s.interfaces k i i e)

@@ -1,5 +1,6 @@
 pub mod Accepting
 pub mod Again
+pub mod Alone
 pub mod Apart
 pub mod Appending
 pub mod Attaching

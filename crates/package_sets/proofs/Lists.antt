@@ -64,6 +64,10 @@ behind-get (x ∷ xs) ys k = ap (slice_get (x ∷ (xs ++ ys))) (up (length xs) k
     up : (n m : ℕ) → suc n + m ≡ suc (n + m)
     up n m = omega arith
 
+pub last-get : {A : Type 0} (xs : List A) (x : A) → slice_get (xs ++ x ∷ []) (length xs) ≡ Some x
+last-get [] x = refl
+last-get (y ∷ xs) x = last-get xs x
+
 pub item-get : {A : Type 0} (xs : List A) (k : ℕ) (x : A) → k < length xs → x ≡ get_or xs k x → slice_get xs k ≡ Some x
 item-get xs k x h e = slice_get-get_or xs k x h ∙ ap Some (sym e)
 
@@ -101,6 +105,10 @@ behind-place front behind count k h = get_or-append-add front (places_from behin
 pub all-append : {A : Type 0} (f : A → Bool) (xs ys : List A) → list_all f xs ≡ true → list_all f ys ≡ true → list_all f (xs ++ ys) ≡ true
 all-append f [] ys h k = k
 all-append f (x ∷ xs) ys h k = let p = split (f x) (list_all f xs) h in both (f x) (list_all f (xs ++ ys)) p.0 (all-append f xs ys p.1 k)
+
+pub all-more : {A : Type 0} (f g : A → Bool) (xs : List A) → ((x : A) → f x ≡ true → g x ≡ true) → list_all f xs ≡ true → list_all g xs ≡ true
+all-more f g [] one h = refl
+all-more f g (x ∷ xs) one h = let p = split (f x) (list_all f xs) h in both (g x) (list_all g xs) (one x p.0) (all-more f g xs one p.1)
 
 pub all-put : {A B : Type 0} (put : A → B) (f : A → Bool) (g : B → Bool) (xs : List A) → ((k : ℕ) (x : A) → slice_get xs k ≡ Some x → f x ≡ true → g (put x) ≡ true) → list_all f xs ≡ true → list_all g (map put xs) ≡ true
 all-put put f g [] one h = refl

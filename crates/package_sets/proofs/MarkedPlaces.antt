@@ -1,10 +1,8 @@
 -- Where what is kept of a set stands in the set.
 use Rattle.std.proofs.Common.{◌≡◌, ◌≤◌, ◌<◌, ◌⊎◌, inl, inr, ℕ, zero, suc, ◌+◌, ◌-◌, Bool, true, false, List, [], ◌∷◌, ◌++◌, length, map, get_or, slice_get, Option, Some, refl, ap, sym, ◌∙◌, arith, true≢false}
 use Rattle.std.proofs.lemmas.List.{get_or_append_left, get_or-append-add}
-use Rattle.std.proofs.lemmas.Option.{slice_get_within, get_or_from_slice_get}
 use Rattle.package_form.specs.Ends.{behind_types, behind_functions, end_of, world_end}
 use Rattle.package_form.proofs.OwnPackage.{package-there}
-use Rattle.tables.proofs.Earlier.{grouped-at}
 use Rattle.tables.specs.declared.tables.TypeId.{TypeId}
 use Rattle.tables.specs.declared.tables.FunctionId.{FunctionId}
 use Rattle.tables.specs.declared.tables.Interface.{Interface}
@@ -25,6 +23,7 @@ use Rattle.package_sets.proofs.Reading.{AreMarksFrom, marks-here, marks-next}
 use Rattle.package_sets.proofs.Belonging.{one-later, plus-none, none-plus}
 use Rattle.package_sets.proofs.Standing.{interface-step, interface-marks, interface-mark, world-marks, world-mark}
 use Rattle.package_sets.proofs.Owning.{cut}
+use Rattle.package_sets.proofs.Kept.{interface-in}
 
 -- ---- the places with a mark
 
@@ -71,9 +70,6 @@ was-kept (false ∷ bs) (y ∷ xs) a x e =
     record { from = suc r.from; marked = r.marked; stood = r.stood; is = r.is }
 
 -- ---- packages
-
-pub interface-in : (s : Resolve) (k : ℕ) (i : Interface) → slice_get s.interfaces k ≡ Some i → i.«package».0 < length s.packages
-interface-in s k i e = grouped-at (length s.packages) 0 s.interfaces k i s.grouped (slice_get_within s.interfaces k i e) (get_or_from_slice_get s.interfaces k i i e)
 
 -- the package of an interface that is kept
 pub kept-package : (s : Resolve) (to : Moved) → IsPart s to → (k : ℕ) (i : Interface) → get_or to.interfaces k false ≡ true → slice_get s.interfaces k ≡ Some i

@@ -90,7 +90,7 @@ module _ (c : Resolve) (form : HasRowsInForm c) (closed : is_closed c ≡ true) 
   import-owned : (t : ℕ) (d : Definition) → t < import-end → slice_get c.definitions t ≡ Some d → IsOwnedFrom 0 (import_count c) (owner_of d)
   import-owned t d l e = subst (λ n. IsOwnedFrom 0 n (owner_of d)) (omega (arith, count)) (rows-owned c.definitions 0 0 (imports c) parts.0 t d (omega arith) l e)
 
-  own-owned : (t : ℕ) (d : Definition) → import-end ≤ t → slice_get c.definitions t ≡ Some d → IsOwnedFrom (import_count c) (length c.interfaces) (owner_of d) ⊎ IsOfWorlds (length c.worlds) (owner_of d)
+  pub own-owned : (t : ℕ) (d : Definition) → import-end ≤ t → slice_get c.definitions t ≡ Some d → IsOwnedFrom (import_count c) (length c.interfaces) (owner_of d) ⊎ IsOfWorlds (length c.worlds) (owner_of d)
   own-owned t d a e = by (cut t (interfaces_end 0 c.interfaces))
     where
       cut : (n m : ℕ) → (n < m) ⊎ (m ≤ n)

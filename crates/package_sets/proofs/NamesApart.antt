@@ -2,7 +2,6 @@
 use Rattle.std.proofs.Common.{◌≡◌, ◌<◌, ◌⊎◌, inl, inr, ℕ, zero, suc, ◌+◌, ◌-◌, Bool, true, false, cond, ◌||◌, List, [], ◌∷◌, ◌++◌, All, length, map, slice_get, Some, refl, ap, sym, subst, ◌∙◌, arith, true≢false, eq-eqb}
 use Rattle.std.specs.Prelude.{Contains}
 use Rattle.std.specs.List.{list_any}
-use Rattle.std.proofs.lemmas.Option.{slice_get_within, get_or_from_slice_get}
 use Rattle.canonical_abi.proofs.Images.{slice_get-drop}
 use Rattle.package_form.specs.Closed.{own_package, is_same_package, is_closed}
 use Rattle.package_form.specs.Naming.{interface_label_of, interface_labels_of, package_scopes}
@@ -11,7 +10,6 @@ use Rattle.package_form.proofs.Lists.{contains-here, compared, get-front}
 use Rattle.package_form.proofs.OwnPackage.{apart-places, packages-apart, package-there, same-itself}
 use Rattle.package_form.proofs.OneRow.{twice-of}
 use Rattle.package_form.proofs.Scopes.{names-distinct}
-use Rattle.tables.proofs.Earlier.{grouped-at}
 use Rattle.tables.specs.PackageNames.{PackageParts}
 use Rattle.tables.specs.declared.tables.Interface.{Interface}
 use Rattle.tables.specs.declared.tables.Resolve.{Resolve}
@@ -23,11 +21,9 @@ use Rattle.package_sets.specs.Attached.{IsOwn, has_package}
 use Rattle.package_sets.specs.Joined.{JoinedPlaces}
 use Rattle.package_sets.proofs.Lists.{behind-get, map-unget}
 use Rattle.package_sets.proofs.Behind.{before, own-behind}
+use Rattle.package_sets.proofs.Kept.{interface-in}
 
 -- an interface is of one of the packages
-interface-in : (r : Resolve) (k : ℕ) (x : Interface) → slice_get r.interfaces k ≡ Some x → x.«package».0 < length r.packages
-interface-in r k x e = grouped-at (length r.packages) 0 r.interfaces k x r.grouped (slice_get_within r.interfaces k x e) (get_or_from_slice_get r.interfaces k x x e)
-
 -- ---- a closed table
 
 module _ (c : Resolve) (closed : is_closed c ≡ true) (distinct : All AreDistinct (package_scopes c)) where

@@ -37,7 +37,7 @@ use Rattle.package_sets.specs.Joining.{import_count, imports, own_interfaces}
 use Rattle.package_sets.specs.Joined.{renaming_of, IsJoined}
 use Rattle.package_sets.specs.Joined.{JoinedPlaces}
 use Rattle.package_sets.proofs.Blocks.{places-in}
-use Rattle.package_sets.proofs.Lists.{front-get, none-within, all-put, all-drop, drop-map, take-mapped}
+use Rattle.package_sets.proofs.Lists.{all-more, front-get, none-within, all-put, all-drop, drop-map, take-mapped}
 use Rattle.package_sets.proofs.Kept.{worlds-grouped-at}
 use Rattle.package_sets.proofs.Owning.{interfaces-split, ends-split, length-rows}
 use Rattle.package_sets.proofs.Named.{row-references-put, named-same}
@@ -84,10 +84,6 @@ map-in f g (x ∷ xs) h =
     let e = h x (0, omega arith, refl) in
     let r = map-in f g xs (λ y c. h y (Contains-append_right (x ∷ []) xs y c)) in
     cc
-
-each-more : {A : Type 0} (f g : A → Bool) (xs : List A) → ((x : A) → f x ≡ true → g x ≡ true) → list_all f xs ≡ true → list_all g xs ≡ true
-each-more f g [] one h = refl
-each-more f g (x ∷ xs) one h = let p = split (f x) (list_all f xs) h in both (g x) (list_all g xs) (one x p.0) (each-more f g xs one p.1)
 
 -- .. of two properties that each has
 each-both : {A : Type 0} (e f g : A → Bool) (xs : List A) → ((x : A) → e x ≡ true → f x ≡ true → g x ≡ true) → list_all e xs ≡ true → list_all f xs ≡ true → list_all g xs ≡ true
@@ -140,12 +136,12 @@ module _ (ds es : List Definition) where
   local-more : (k : ℕ) (d : Definition) → is_local ds k d ≡ true → is_local (ds ++ es) k d ≡ true
   local-more k d h =
       let p = split (is_owned ds k d) (list_all (is_own ds k) (row_references d)) h in
-      both _ _ (owned-more k d p.0) (each-more (is_own ds k) (is_own (ds ++ es) k) (row_references d) (own-more k) p.1)
+      both _ _ (owned-more k d p.0) (all-more (is_own ds k) (is_own (ds ++ es) k) (row_references d) (own-more k) p.1)
 
   world-row-more : (k : ℕ) (d : Definition) → is_world_row ds k d ≡ true → is_world_row (ds ++ es) k d ≡ true
   world-row-more k d h =
       let p = split (is_of_world k d) (list_all (is_nameless ds) (row_references d)) h in
-      both _ _ p.0 (each-more (is_nameless ds) (is_nameless (ds ++ es)) (row_references d) nameless-more p.1)
+      both _ _ p.0 (all-more (is_nameless ds) (is_nameless (ds ++ es)) (row_references d) nameless-more p.1)
 
   use-same : (t : TypeId) → is_type_id ds t ≡ true → is_use_at (ds ++ es) t ≡ is_use_at ds t
   use-same t h = by (slice_get ds t.0) refl h
@@ -162,7 +158,7 @@ module _ (ds es : List Definition) where
     ids = both _ _ (subst (λ (xs : List Definition). bytes_eq (ids_of i) (places_where is_named start xs) ≡ true) (sym same) p.0)
         (both _ _ (each-both (is_type_id ds) (is_use_at ds) (is_use_at (ds ++ es)) i.uses (λ t z u. use-same t z ∙ u) r.0 q.0)
         (each-both (is_type_id ds) (λ t. not (is_use_at ds t)) (λ t. not (is_use_at (ds ++ es) t)) i.types (λ t z u. ap not (use-same t z) ∙ u) t.0 q.1));
-    local = subst (λ (xs : List Definition). list_all (is_local (ds ++ es) k) xs ≡ true) (sym same) (each-more (is_local ds k) (is_local (ds ++ es) k) (rows_of ds start i) (local-more k) a.local);
+    local = subst (λ (xs : List Definition). list_all (is_local (ds ++ es) k) xs ≡ true) (sym same) (all-more (is_local ds k) (is_local (ds ++ es) k) (rows_of ds start i) (local-more k) a.local);
   }
     where
       same : rows_of (ds ++ es) start i ≡ rows_of ds start i
@@ -185,7 +181,7 @@ module _ (ds es : List Definition) where
     begins = a.begins;
     ends = omega (arith, a.ends, length-append ds es);
     items = subst (λ (xs : List Definition). bytes_eq (places_where is_named start xs) (functions_of w) ≡ true) (sym same) a.items;
-    local = subst (λ (xs : List Definition). list_all (is_world_row (ds ++ es) k) xs ≡ true) (sym same) (each-more (is_world_row ds k) (is_world_row (ds ++ es) k) (world_rows ds start w) (world-row-more k) a.local);
+    local = subst (λ (xs : List Definition). list_all (is_world_row (ds ++ es) k) xs ≡ true) (sym same) (all-more (is_world_row ds k) (is_world_row (ds ++ es) k) (world_rows ds start w) (world-row-more k) a.local);
   }
     where
       same : world_rows (ds ++ es) start w ≡ world_rows ds start w

@@ -18,7 +18,7 @@ use Rattle.package_sets.specs.Moved.{Renaming, put_val, put_field, put_case, put
 use Rattle.package_sets.specs.declared.moved.Moved.{Moved}
 use Rattle.package_sets.proofs.Keeping.{kept-none, kept-at}
 use Rattle.package_sets.proofs.Reading.{is_kept}
-use Rattle.package_sets.proofs.Lists.{map-get, front-get, none-within}
+use Rattle.package_sets.proofs.Lists.{last-get, map-get, front-get, none-within}
 use Rattle.package_sets.proofs.Named.{unnamed-same}
 use Rattle.package_sets.proofs.Belonging.{owner-next, unnamed-owner}
 use Rattle.package_sets.proofs.Restricting.{count-rows, kept-all}
@@ -146,10 +146,6 @@ pub record AreBlocks (to : Moved) (rows : List Definition) : Type 0 where
   pub named : (k : ℕ) (d : Definition) → slice_get rows k ≡ Some d → get_or to.rows k false ≡ true → definition_all (is_kept to.rows k) d ≡ true
   pub together : (k : ℕ) (d : Definition) → slice_get rows k ≡ Some d → is_unnamed d ≡ true → get_or to.rows k true ≡ get_or to.rows (suc k) true
 
-slice-end : {A : Type 0} (xs : List A) (x : A) → slice_get (xs ++ x ∷ []) (length xs) ≡ Some x
-slice-end [] x = refl
-slice-end (z ∷ xs) x = slice-end xs x
-
 front : (to : Moved) (rows : List Definition) (d : Definition) → AreBlocks to (rows ++ d ∷ []) → AreBlocks to rows
 front to rows d h = record {
   count = omega (arith, h.count, length_push rows d);
@@ -195,7 +191,7 @@ inner-step to rows unused k i h l = by (get_or to.rows (length rows) true) refl
     within = omega (arith, h.count, length_push rows (inner_row k))
 
     next : get_or to.rows (length rows) true ≡ get_or to.rows (length (rows ++ inner_row k ∷ [])) true
-    next = h.together (length rows) (inner_row k) (slice-end rows (inner_row k)) refl ∙ ap (λ n. get_or to.rows n true) (suc-push (length_push rows (inner_row k)))
+    next = h.together (length rows) (inner_row k) (last-get rows (inner_row k)) refl ∙ ap (λ n. get_or to.rows n true) (suc-push (length_push rows (inner_row k)))
       where
         suc-push : length (rows ++ inner_row k ∷ []) ≡ length rows + 1 → suc (length rows) ≡ length (rows ++ inner_row k ∷ [])
         suc-push e = omega arith
@@ -203,7 +199,7 @@ inner-step to rows unused k i h l = by (get_or to.rows (length rows) true) refl
     by : (b : Bool) → get_or to.rows (length rows) true ≡ b → Leaves (map (put_row (renaming to)) (kept to.rows (rows ++ inner_row k ∷ []))) (left-there to (rows ++ inner_row k ∷ []) (unused ++ length rows ∷ []))
     by true e =
         let here = default-true to.rows (length rows) true within e in
-        let all = h.named (length rows) (inner_row k) (slice-end rows (inner_row k)) here in
+        let all = h.named (length rows) (inner_row k) (last-get rows (inner_row k)) here in
         let K = map (put_row (renaming to)) (kept to.rows rows) in
         let same = row-parts (renaming to) rows K (is_kept to.rows (length rows)) (unnamed-at to rows) (inner_row k) all in
         let held : Leaves K (map (place to.rows) unused ++ parts K (put_kind (renaming to) k)) =
@@ -232,7 +228,7 @@ whole-step to rows d u a h l = subst (λ (ts : List ℕ). Leaves (map (put_row (
     by : (b : Bool) → get_or to.rows (length rows) true ≡ b → Leaves (map (put_row (renaming to)) (kept to.rows (rows ++ d ∷ []))) []
     by true e =
         let here = default-true to.rows (length rows) true within e in
-        let all = h.named (length rows) d (slice-end rows d) here in
+        let all = h.named (length rows) d (last-get rows d) here in
         let K = map (put_row (renaming to)) (kept to.rows rows) in
         let same = row-parts (renaming to) rows K (is_kept to.rows (length rows)) (unnamed-at to rows) d all in
         let none = row-aliased (renaming to) rows K (is_kept to.rows (length rows)) (unnamed-at to rows) d all in

@@ -1,5 +1,5 @@
 -- In postfix order a later row refers to each row without a name.
-use Rattle.std.proofs.Common.{◌≡◌, ◌<◌, ◌⊎◌, inl, inr, ℕ, zero, suc, Bool, true, false, List, [], ◌∷◌, ◌++◌, length, slice_get, Some, refl, ap, sym, subst, ◌∙◌, arith, true≢false}
+use Rattle.std.proofs.Common.{◌≡◌, ◌<◌, ◌⊎◌, inl, inr, ℕ, zero, suc, Bool, true, false, List, [], ◌∷◌, ◌++◌, length, slice_get, Some, ap, sym, subst, ◌∙◌, arith, true≢false}
 use Rattle.std.specs.Prelude.{Contains}
 use Rattle.std.proofs.lemmas.Option.{slice_get_within}
 use Rattle.package_form.specs.Postfix.{is_unnamed, one_if, parts, parts_of, aliased_by, inner_row, Leaves, begin, inner, whole, IsPostfix}
@@ -9,7 +9,7 @@ use Rattle.package_form.proofs.Lists.{contains-here, contains-left, contains-rig
 use Rattle.package_form.proofs.Postfixed.{can-inner, inner-can}
 use Rattle.tables.specs.declared.tables.Definition.{Definition}
 use Rattle.package_sets.proofs.Apart.{push-get, inner-plain}
-use Rattle.package_sets.proofs.Lists.{front-get, contains-unflat}
+use Rattle.package_sets.proofs.Lists.{last-get, front-get, contains-unflat}
 
 -- a row behind place k refers to the row there
 pub record IsReferred (rows : List Definition) (k : ℕ) : Type 0 where
@@ -18,10 +18,6 @@ pub record IsReferred (rows : List Definition) (k : ℕ) : Type 0 where
   pub later : k < place
   pub at : slice_get rows place ≡ Some one
   pub refers : Contains (row_references one) (record { 0 = k })
-
-push-last : {A : Type 0} (xs : List A) (x : A) → slice_get (xs ++ x ∷ []) (length xs) ≡ Some x
-push-last [] x = refl
-push-last (y ∷ xs) x = push-last xs x
 
 -- a row refers to what it is made of
 part-referred : (rows : List Definition) (d : Definition) (k : ℕ) → aliased_by rows d ≡ [] → Contains (parts_of rows d) k → Contains (row_references d) (record { 0 = k })
@@ -39,7 +35,7 @@ referred-more rows c k r = record { place = r.place; one = r.one; later = r.late
 
 -- .. that is the last
 referred-last : (rows : List Definition) (d : Definition) (k : ℕ) → k < length rows → aliased_by rows d ≡ [] → Contains (parts_of rows d) k → IsReferred (rows ++ d ∷ []) k
-referred-last rows d k l a c = record { place = length rows; one = d; later = l; at = push-last rows d; refers = part-referred rows d k a c }
+referred-last rows d k l a c = record { place = length rows; one = d; later = l; at = last-get rows d; refers = part-referred rows d k a c }
 
 -- .. or it is still to be used
 referred-or-left : (rows : List Definition) (unused : List ℕ) → Leaves rows unused → (k : ℕ) (d : Definition) → slice_get rows k ≡ Some d → is_unnamed d ≡ true → Contains unused k ⊎ IsReferred rows k

@@ -28,10 +28,10 @@ use Rattle.package_sets.specs.declared.moved.Moved.{Moved}
 use Rattle.package_sets.proofs.Images.{mark-within}
 use Rattle.package_sets.proofs.InTower as in-tower
 use Rattle.package_sets.proofs.Lists.{one-there}
-use Rattle.package_sets.proofs.MarkedPlaces.{interface-in}
 use Rattle.package_sets.proofs.One.{marked-same}
 use Rattle.package_sets.proofs.Ordering as ordering
 use Rattle.package_sets.proofs.Owned.{length-owners}
+use Rattle.package_sets.proofs.Kept.{interface-in}
 
 -- ---- marks that agree
 

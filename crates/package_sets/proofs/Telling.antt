@@ -1,14 +1,14 @@
 -- What is kept of a set tells what the set told.
-use Rattle.std.proofs.Common.{◌≡◌, ◌≤◌, ◌<◌, ◌⊎◌, inl, inr, ℕ, ◌+◌, Bool, true, false, List, [], ◌∷◌, ◌++◌, length, get_or, slice_get, map, Option, None, Some, refl, ap, sym, subst, ◌∙◌, arith, true≢false}
+use Rattle.std.proofs.Common.{◌≡◌, ◌≤◌, ◌<◌, ◌⊎◌, inl, inr, ℕ, Bool, true, false, List, [], length, get_or, slice_get, map, Option, None, Some, refl, ap, sym, subst, ◌∙◌, arith, true≢false}
 use Rattle.std.specs.Prelude.{Contains}
 use Rattle.std.specs.Option.{option_map}
 use Rattle.std.specs.List.{list_all}
-use Rattle.std.proofs.lemmas.List.{get_or_default, get_or_past, length-map, length_push}
+use Rattle.std.proofs.lemmas.List.{get_or_default, get_or_past, length-map}
 use Rattle.std.proofs.lemmas.Option.{slice_get_within, slice_get-get_or, get_or_from_slice_get}
 use Rattle.tables.specs.Tables.{option_all, function_of, is_function_of, is_placed_item, is_placed_world}
 use Rattle.tables.specs.Names.{full_name, full_name_in, world_name}
 use Rattle.tables.specs.PackageNames.{PackageParts}
-use Rattle.tables.specs.Package.{Tree, interface_names, definitions, definitions_from, worlds, world_meaning, item_meaning, function_item, WithFunction, WithInterface, read_params, read_val, trees, reference, references}
+use Rattle.tables.specs.Package.{Tree, interface_names, definitions, definitions_from, worlds, world_meaning, item_meaning, function_item, WithFunction, WithInterface, read_params, read_val, trees, references}
 use Rattle.tables.proofs.Rows.{split}
 use Rattle.tables.specs.declared.tables.FunctionId.{FunctionId}
 use Rattle.tables.specs.declared.tables.Direction.{Direction}
@@ -31,13 +31,10 @@ use Rattle.package_sets.specs.declared.moved.Moved.{Moved}
 use Rattle.package_sets.proofs.Keeping.{kept-at, kept-get, kept-past}
 use Rattle.package_sets.proofs.Kept.{list-at, map-kept-as, map-put-as, placed-at}
 use Rattle.package_sets.proofs.Placing.{place-none}
+use Rattle.package_sets.proofs.Renaming.{length-references}
 use Rattle.package_sets.proofs.Reading.{Agrees, NamesAgree, definitions-kept, trees-kept, params-same, result-same, is_kept}
 use Rattle.package_sets.proofs.Restricting as table
 use Rattle.package_sets.proofs.Lists.{map-get}
-
-length-references : (ns : List (List ℕ)) (ts : List Tree) (ds : List Definition) → length (references ns ts ds) ≡ length ts + length ds
-length-references ns ts [] = omega arith
-length-references ns ts (d ∷ ds) = omega (arith, length-references ns (ts ++ reference ns ts d ∷ []) ds, length_push ts (reference ns ts d))
 
 length-trees : (s : Resolve) → length (trees s) ≡ length s.definitions
 length-trees s = omega (arith, length-references (interface_names s) [] s.definitions)

@@ -1,7 +1,11 @@
 -- What is attached to a set, and what is imported from one, is one table.
-use Rattle.std.specs.Prelude.{◌≡◌, ℕ, Bool, List}
+use Rattle.std.specs.Prelude.{◌≡◌, ℕ, Bool, List, length}
+use Rattle.package_form.specs.Closed.{IsAlone}
+use Rattle.package_form.specs.Form.{IsInPackageForm}
 use Rattle.package_sets.specs.Attached.{IsAttached}
+use Rattle.package_sets.specs.BehindImports.{IsBehindImports}
 use Rattle.package_sets.specs.Imports.{IsImportsOf}
+use Rattle.package_sets.specs.Tower.{IsInTower}
 use Rattle.tables.specs.Same.{IsSamePackage}
 use Rattle.tables.specs.declared.tables.Resolve.{Resolve}
 
@@ -12,3 +16,11 @@ AttachesOne set closed = (r s : Resolve) (i j : ℕ) → IsAttached set closed r
 -- the packages and the interfaces with these marks have one table of imports
 abbrev pub ImportsOne : Resolve → List Bool → List Bool → Type 0
 ImportsOne set packages interfaces = (r s : Resolve) → IsImportsOf set packages interfaces r → IsImportsOf set packages interfaces s → IsSamePackage r s
+
+-- behind no package, a package that reaches no other is attached as it stands, and its imports are none
+pub record StandsAlone (set closed : Resolve) : Type 0 where
+  pub attached : IsAttached set closed closed 0
+  pub behind : IsBehindImports set closed
+
+abbrev pub AttachesAlone : Resolve → Resolve → Type 0
+AttachesAlone set closed = ∥ IsInTower set ∥₁ → length set.packages ≡ 0 → ∥ IsInPackageForm closed ∥₁ → IsAlone closed → StandsAlone set closed

@@ -3,7 +3,7 @@ ghost use Rattle.std.specs.Prelude.{Bool, List, ℕ};
 ghost use Rattle.package_sets.specs.Attached.{IsAttached};
 ghost use Rattle.package_sets.specs.Follows.{OfAttached, OfImports, OfRestricted};
 ghost use Rattle.package_sets.specs.Imports.{IsImportsOf};
-ghost use Rattle.package_sets.specs.One.{AttachesOne, ImportsOne};
+ghost use Rattle.package_sets.specs.One.{AttachesAlone, AttachesOne, ImportsOne};
 ghost use Rattle.package_sets.specs.Restricted.{IsRestricted};
 ghost use Rattle.package_sets.specs.Tower.{IsSetOfNone, KeepsTower};
 ghost use Rattle.tables.specs.declared.tables.Resolve.{Resolve};
@@ -18,6 +18,11 @@ pub fn is_set_of_none(_resolve: &Resolve)
 /// What a set is with a package more is one table, in which the package has one place.
 pub fn attaches_one()
     ensures { (set closed : Resolve) → AttachesOne set closed }
+{}
+
+/// A package that reaches no other is, behind no package, a set as it stands.
+pub fn attaches_alone()
+    ensures { (set closed : Resolve) → AttachesAlone set closed }
 {}
 
 /// What follows of a set with a package more.

@@ -9,6 +9,7 @@ use canonical_abi::{Fault, Full, Guest, Step, Trap, TrapKind};
 use ctype_bin::{decode, encode};
 use lift_lower::{Val, str_at};
 use memory::{Bump, Scripted, Space};
+use package_adding::from_raw;
 use std::alloc::Global;
 use std::process::Abort;
 use std::slice;
@@ -16,7 +17,7 @@ use std::test::Fail;
 use tables::{
     Definition, Primitive, Resolve, ResolveError, Sequence, TypeDef, TypeDefKind, TypeId, ValType,
 };
-use wit_component::{from_raw, to_raw};
+use wit_component::to_raw;
 use witcall::{Package, Reply, Session, open};
 
 /// A table of a list of this type.

@@ -1,5 +1,5 @@
 -- The table of a tree is its package; where it isn't, a fault is told.
-use Rattle.std.proofs.Common.{◌≡◌, ◌≢◌, ◌⊎◌, true, ◌==◌, ◌&&◌, nat_le, nat_lt, IsTrue, inl, inr, ℕ, ◌+◌, ◌<◌, ◌≤◌, List, [], ◌∷◌, ◌++◌, Result, Ok, Err, IfOk, Option, map, length, slice_get, refl, ap, sym, ◌∙◌, subst, arith}
+use Rattle.std.proofs.Common.{◌≡◌, ◌≢◌, ◌⊎◌, true, ◌==◌, ◌&&◌, nat_le, nat_lt, IsTrue, inl, inr, ℕ, ◌+◌, ◌<◌, ◌≤◌, List, [], ◌∷◌, ◌++◌, Option, map, length, slice_get, refl, ap, sym, ◌∙◌, subst, arith}
 use Rattle.std.specs.List.{filter_map, list_all}
 use Rattle.std.proofs.lemmas.List.{length-map, length-append, map-append}
 use Rattle.std.proofs.lemmas.Bool.{eqb-true, ltb-true}
@@ -190,7 +190,3 @@ module _ (imports : Resolve) (p : PackageParts) (names : List (List ℕ)) (t : T
     worlds = ap (list_all (is_world_in (length imports.packages))) f.worlds ∙ worlds-last 0 t.worlds stand;
     within = entries-same is;
   }
-
-pub ok-both : {T E : Type 0} (r : Result T E) (P Q R : T → Type 0) → ((x : T) → P x → Q x → R x) → IfOk r P → IfOk r Q → IfOk r R
-ok-both (Ok x) P Q R f h k = f x h k
-ok-both (Err e) P Q R f h k = tt

@@ -23,4 +23,3 @@ pub mod StandardRows
 pub mod Defined
 pub mod AloneForms
 pub mod Only
-pub mod ImportTables

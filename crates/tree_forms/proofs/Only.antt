@@ -17,14 +17,14 @@ use Rattle.placement.specs.Order.{IsPlacement}
 use Rattle.package_form.specs.Postfix.{IsPostfix}
 use Rattle.tree_meaning.specs.Declarations.{UsedItem, InterfaceTree, ItemTree, InterfaceNamed, ForeignNamed, FunctionOf, other_packages, interfaces, worlds, package_named, full_interface, full_interfaces, full_worlds, interface_at, interface_names, interface_name, type_names, named_definition, named_function}
 use Rattle.tree_meaning.specs.Scopes.{scopes}
-use Rattle.tree_meaning.specs.Imports.{Import, Imports, no_package, no_imports, no_import, import_at, AreApart, interfaces_of, imports_of}
-use Rattle.tree_meaning.specs.Resolves.{IsTooLargeBehind, ResolvesBehind, full_names, package_behind, with_names, interface_uses, type_uses, PassesLimit, HasDuplicate, HasDistinctNames, LacksPackage, KnowsPackagesOf, IsKnownIn, IsKnownUseOf, IsLackingIn, IsUnknownUse, IsUnknownIn, HasUnknown, HasKnownNamesOf, IsKnownItemOf, IsKnownWorldOf, IsUnknownItem, HasCycle, HasWorldsBehind, HasItems, file_fits, IsPackageOf, IsClosedPackageOf, HasNoFaultsOf, ResolveRefuses, ResolveRefusesOf, AnswersOnly, AnswersOnlyBehind}
+use Rattle.tree_meaning.specs.Imports.{Import, Imports, no_import, import_at, AreApart, interfaces_of, imports_of}
+use Rattle.tree_meaning.specs.Resolves.{IsTooLargeBehind, ResolvesBehind, full_names, package_behind, with_names, interface_uses, type_uses, PassesLimit, HasDuplicate, HasDistinctNames, LacksPackage, KnowsPackagesOf, IsKnownIn, IsKnownUseOf, IsLackingIn, IsUnknownUse, IsUnknownIn, HasUnknown, HasKnownNamesOf, IsKnownItemOf, IsKnownWorldOf, IsUnknownItem, HasCycle, HasWorldsBehind, HasItems, file_fits, IsClosedPackageOf, HasNoFaultsOf, ResolveRefusesOf, AnswersOnlyBehind}
 use Rattle.package_form.specs.Entries.{world_entries, Table, table_of, entries_of, type_entries}
 use Rattle.tree_forms.proofs.FinishedTrees.{distinct-interfaces}
 use Rattle.package_form.proofs.OneRow.{same-place}
 use Rattle.package_form.proofs.Lists.{contains-map}
 use Rattle.std.proofs.lemmas.List.{get_or-map, length-map, length-append, get_or_default}
-use Rattle.tree_meaning.proofs.Placed.{no-cycle, one-package, one-behind}
+use Rattle.tree_meaning.proofs.Placed.{no-cycle, one-behind}
 use Rattle.tree_meaning.proofs.FullNames.{interface-full, uses-full}
 use Rattle.tree_forms.proofs.Counted.{entries, entries-by-name}
 use Rattle.tree_meaning.proofs.TableRows.{IsTyped}
@@ -176,20 +176,10 @@ module _ (m : Imports) (apart : AreApart m.interfaces) (f : File) (r : Resolve) 
   only-memory error.Limit (inr x) = absurd (not-too-large m.meaning f r told x.1)
   only-memory error.NoMemory x = refl
 
-pub none-apart : AreApart no_imports.interfaces
-none-apart = record { each = λ j k l q e g. absurd (omega (arith, l)) }
-
-alone-told : (f : File) (r : Resolve) → IsPackageOf f r → IsTold no_package f r
-alone-told f r h = record { resolves = h.resolves; postfix = h.postfix; behind = h.behind; items = h.items; within = h.within }
-
 closed-told : (imports : Resolve) (f : File) (r : Resolve) → IsClosedPackageOf imports f r → IsTold (package_of imports) f r
 closed-told imports f r h = record { resolves = h.resolves; postfix = h.postfix; behind = h.behind; items = h.items; within = h.within }
 
--- .. and packages of one tree are one
-pub answers-only : (f : File) (answer : Result Resolve ResolveError) → IfOk answer (IsPackageOf f) → IfErr answer (ResolveRefuses f) → AnswersOnly f answer
-answers-only f (Ok p) ok err = λ r h. one-package (full_interfaces f) (full_worlds f) (package_of p) (package_of r) ok.resolves h.resolved.resolves
-answers-only f (Err e) ok err = λ r h. only-memory no_imports none-apart f r h.faults h.fits (alone-told f r h.resolved) e err
-
+-- .. and closed tables of one tree behind one table of imports are one
 pub answers-behind : (imports : Resolve) (f : File) (answer : Result Resolve ResolveError) → AreApart (interfaces_of imports) → IfOk answer (IsClosedPackageOf imports f)
     → IfErr answer (ResolveRefusesOf (imports_of imports) f) → AnswersOnlyBehind imports f answer
 answers-behind imports f (Ok p) apart ok err = λ r h. one-behind (package_of imports) (full_interfaces f) (full_worlds f) (package_of p) (package_of r) ok.resolves h.resolved.resolves

@@ -116,30 +116,5 @@ import-named r place l q i f =
     ∙ ap (λ (o : Option PackageParts). full_name_in o x.name) (slice_get-get_or r.packages x.«package».0 nameless inside ∙ ap (λ (p : PackageParts). Some p) of)
     ∙ ap (own_name q) named
 
--- ---- as the code looks for it
-
--- none of these is it
-pub none-named : (ks : List Import) (q : PackageParts) (i : List ℕ) → ((j : ℕ) → j < length ks → is_named q i (import_at ks j) ≡ false) → import_place ks q i ≡ None
-none-named [] q i h = refl
-none-named (k ∷ ks) q i h =
-    ap (λ (b : Bool). cond b (Some 0) (option_map suc (import_place ks q i))) (h 0 (omega arith))
-    ∙ ap (λ (o : Option ℕ). option_map suc o) (none-named ks q i (λ j l. h (suc j) (omega (arith, l))))
-
--- .. and this is the first
-pub first-named : (ks : List Import) (q : PackageParts) (i : List ℕ) (k : ℕ) → k < length ks → is_named q i (import_at ks k) ≡ true → ((j : ℕ) → j < k → is_named q i (import_at ks j) ≡ false)
-    → import_place ks q i ≡ Some k
-first-named [] q i k l e h = absurd (omega (arith, l))
-first-named (x ∷ ks) q i zero l e h = ap (λ (b : Bool). cond b (Some 0) (option_map suc (import_place ks q i))) e
-first-named (x ∷ ks) q i (suc k) l e h =
-    ap (λ (b : Bool). cond b (Some 0) (option_map suc (import_place ks q i))) (h 0 (omega arith))
-    ∙ ap (λ (o : Option ℕ). option_map suc o) (first-named ks q i k (omega (arith, l)) e (λ j m. h (suc j) (omega (arith, m))))
-
--- an import as its table has it
-pub import-is : (r : Resolve) (k : ℕ) (x : Interface) (q : PackageParts) (i : List ℕ) → k < length r.interfaces → x ≡ get_or r.interfaces k x
-    → is_named q i (import_at (interfaces_of r) k) ≡ (bytes_eq x.name i && is_same_package (get_or r.packages x.«package».0 nameless) q)
-import-is r k x q i l e =
-    ap (is_named q i) (imports-at r.packages r.definitions 0 r.interfaces k no_import x l)
-    ∙ ap (λ (y : Interface). bytes_eq y.name i && is_same_package (get_or r.packages y.«package».0 nameless) q) (sym e)
-
 pub import-within : (r : Resolve) (k : ℕ) (x : Interface) → k < length r.interfaces → x ≡ get_or r.interfaces k x → x.«package».0 < length r.packages
 import-within r k x l e = grouped-at (length r.packages) 0 r.interfaces k x r.grouped l (sym e)

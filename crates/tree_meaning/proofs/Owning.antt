@@ -104,10 +104,6 @@ module _ (ns : List (List ℕ)) (rows : List Definition) (i : List ℕ) where
   below-more : (n : ℕ) (ps : List ℕ) → Every (IsBelow n) ps → Every (IsBelow (n + 1)) ps
   below-more n ps h = every-mono (IsBelow n) (IsBelow (n + 1)) (λ p q. omega (arith, q)) ps h
 
-  ends-of : (d : Definition) (ds : List Definition) → ends_named (d ∷ ds) ≡ true → ends_named ds ≡ true
-  ends-of d [] h = refl
-  ends-of d (e ∷ ds) h = h
-
   no-unused : (n : ℕ) (d : Definition) (rest : List ℕ) → is_unnamed d ≡ false → rest ≡ [] → rest ++ one_if (is_unnamed d) n ≡ []
   no-unused n d rest u e = ap (λ (xs : List ℕ). xs ++ one_if (is_unnamed d) n) e ∙ ap (λ (b : Bool). one_if b n) u
 

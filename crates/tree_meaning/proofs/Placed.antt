@@ -9,8 +9,7 @@ use Rattle.std.proofs.lemmas.List.{take_all, length-map}
 use Rattle.tables.specs.Package.{WorldMeaning, Package, NamedDefinition}
 use Rattle.tree_meaning.specs.Declarations.{InterfaceTree, WorldTree, interface_at, interface_names}
 use Rattle.tree_meaning.specs.Resolved.{interface_meaning}
-use Rattle.tree_meaning.specs.Imports.{no_package}
-use Rattle.tree_meaning.specs.Resolves.{Resolves, ResolvesBehind, interface_uses, uses_of_interface, type_uses, names_in_order}
+use Rattle.tree_meaning.specs.Resolves.{ResolvesBehind, interface_uses, uses_of_interface, type_uses, names_in_order}
 use Rattle.placement.specs.Order.{is_among, IsNext, IsPlacement, IsCycle}
 
 all-at : (test : ℕ → Bool) (xs : List ℕ) (k x : ℕ) → list_all test xs ≡ true → k < length xs → get_or xs k x ≡ x → test x ≡ true
@@ -108,6 +107,3 @@ one-behind before is ws p q a b =
     ap (λ (ns : List (List ℕ)). record { interfaces = ns; worlds = p.worlds; definitions = p.definitions }) names
     ∙ ap (λ (ms : List WorldMeaning). record { interfaces = q.interfaces; worlds = ms; definitions = p.definitions }) (a.worlds ∙ sym b.worlds)
     ∙ ap (λ (ds : List NamedDefinition). record { interfaces = q.interfaces; worlds = q.worlds; definitions = ds }) definitions
-
-pub one-package : (is : List InterfaceTree) (ws : List WorldTree) (p q : Package) → Resolves is ws p → Resolves is ws q → p ≡ q
-one-package is ws p q a b = one-behind no_package is ws p q a b

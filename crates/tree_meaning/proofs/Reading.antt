@@ -1,5 +1,5 @@
 -- What a table's rows read as, when more rows come behind them.
-use Rattle.std.proofs.Common.{◌≡◌, ℕ, zero, suc, ◌+◌, ◌<◌, ◌≤◌, true, List, [], ◌∷◌, ◌++◌, length, get_or, slice_get, Option, Some, refl, ap, sym, subst, ◌∙◌, arith, append_assoc, append-nil}
+use Rattle.std.proofs.Common.{◌≡◌, ℕ, zero, suc, ◌+◌, ◌<◌, true, List, [], ◌∷◌, ◌++◌, length, get_or, slice_get, Option, Some, refl, ap, sym, subst, ◌∙◌, arith, append_assoc, append-nil}
 use Rattle.std.proofs.lemmas.List.{length-append, get_or_append_left}
 use Rattle.std.proofs.lemmas.Bool.{ltb-true}
 use Rattle.tables.specs.Tables.{is_type}
@@ -39,9 +39,6 @@ unfolding table_trees
 trees-more old new more is rows = rw (is, rows) (references-append old.interfaces [] old.rows more)
 
 -- ---- rows that stood
-
-pub longer : (old new : Table) → Front old new → length old.rows ≤ length new.rows
-longer old new x = omega (arith, ap length x.rows.1, length-append old.rows x.rows.0)
 
 pub typed-stays : (old new : Table) → Front old new → (v : ValType) → is_type old.rows v ≡ true → is_type new.rows v ≡ true
 typed-stays old new x v h = subst (λ (ds : List Definition). is_type ds v ≡ true) (sym x.rows.1) (type-later old.rows x.rows.0 v h)

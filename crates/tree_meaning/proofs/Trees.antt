@@ -12,20 +12,17 @@ use Rattle.std.specs.Option.{option_map}
 use Rattle.std.specs.String.{string_bytes}
 use Rattle.std.specs.declared.string.String.{String}
 use Rattle.std.specs.declared.alloc.Global.{Global}
-use Rattle.wit_syntax.specs.Syntax.{File}
 use Rattle.wit_syntax.specs.View.{version_view}
-use Rattle.wit_syntax.specs.declared.ast.PackageId.{PackageId}
 use Rattle.placement.specs.Order.{IsPlacement}
 use Rattle.tables.specs.Package.{Key, key_of, Tree, Reference, IsUse, NamedDefinition, ItemMeaning, WithInterface, WorldMeaning, trees, world_meaning, reference, reference_by, read_kind, references, package_of, interface_names as names_in, named_by, meaning_of, named_function, function_meaning as called, definition_of, definitions_from}
 use Rattle.tree_meaning.specs.Resolved.{interface_meaning}
 use Rattle.tree_meaning.specs.Resolved as tree
-use Rattle.tree_meaning.specs.Declarations.{UsedItem, InterfaceTree, ItemTree, InterfaceNamed, ForeignNamed, FunctionOf, WorldTree, full_item, interfaces, worlds, package_named, use_interface, full_label, full_use, full_interface, full_world, no_interface, interface_at, interface_name, interface_names}
+use Rattle.tree_meaning.specs.Declarations.{UsedItem, InterfaceTree, ItemTree, InterfaceNamed, ForeignNamed, FunctionOf, WorldTree, full_item, interfaces, worlds, use_interface, full_label, full_use, full_interface, full_world, no_interface, interface_at, interface_name, interface_names}
 use Rattle.package_form.specs.Entries.{Table}
 use Rattle.tree_meaning.specs.Imports.{imports_of}
 use Rattle.tree_meaning.specs.Resolves.{ResolvesBehind, package_behind, names_in_order, uses_of_interface, IsKnownIn, IsKnownUseOf, HasKnownNamesOf, interface_uses, type_uses, IsKnownItemOf, IsKnownWorldOf, is_name_of, is_owned_among, is_of_interfaces, AreImports}
 use Rattle.package_form.specs.Ids.{interfaces_from}
 use Rattle.tree_meaning.specs.Building.{package_meaning, start_table, table_trees, table_definitions}
-use Rattle.tree_meaning.specs.Finished.{header}
 use Rattle.tables.specs.declared.tables.Interface.{Interface}
 use Rattle.tables.specs.declared.tables.TypeName.{TypeName}
 use Rattle.tables.specs.declared.tables.Owner.{Owner}
@@ -282,9 +279,6 @@ names-kept rows i (n ∷ ns) = ap (λ (ms : List (List ℕ)). n ∷ ms) (names-k
 pub version-is : (v : Option (String Global)) → version_view v ≡ option_map string_bytes v
 version-is None = refl
 version-is (Some v) = refl
-
-pub header-is : (id : PackageId) (g : File) → g.namespace ≡ id.namespace → g.name ≡ id.name → g.version ≡ version_view id.version → header id ≡ package_named g
-header-is id g ens en ev = rw (ens, en, ev ∙ version-is id.version) refl
 
 pub ok-map : {T E : Type 0} (r : Result T E) (P Q : T → Type 0) → ((x : T) → P x → Q x) → IfOk r P → IfOk r Q
 ok-map (Ok x) P Q f h = f x h

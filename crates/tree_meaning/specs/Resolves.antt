@@ -102,9 +102,6 @@ package_under names p t = record {
 abbrev pub package_behind : List (List ℕ) → PackageParts → Table → Package
 package_behind before p t = package_under (before ++ full_names p t) p t
 
-abbrev pub package_in : PackageParts → Table → Package
-package_in p t = package_behind [] p t
-
 -- the table with the names of its imports before those of its own interfaces
 abbrev pub with_names : List (List ℕ) → Table → Table
 with_names before t = record { interfaces = before ++ t.interfaces; worlds = t.worlds; rows = t.rows }
@@ -368,15 +365,12 @@ pub record HasPackage (f : File) (r : Resolve) : Type 0 where
   pub fits : file_fits f ≡ true
   pub resolved : IsPackageOf f r
 
--- where a tree has a package, that package is answered, by its names, or only memory is wanting
-abbrev pub AnswersOnly : File → Result Resolve ResolveError → Type 0
-AnswersOnly f answer = (r : Resolve) → HasPackage f r → MatchResult answer (λ p. package_of p ≡ package_of r) (λ e. e ≡ error.NoMemory)
-
 -- .. behind its imports
 pub record HasClosedPackage (imports : Resolve) (f : File) (r : Resolve) : Type 0 where
   pub faults : HasNoFaultsOf (imports_of imports) f
   pub fits : file_fits f ≡ true
   pub resolved : IsClosedPackageOf imports f r
 
+-- where a tree has a closed table, that table is answered, by its names, or only memory is wanting
 abbrev pub AnswersOnlyBehind : Resolve → File → Result Resolve ResolveError → Type 0
 AnswersOnlyBehind imports f answer = (r : Resolve) → HasClosedPackage imports f r → MatchResult answer (λ p. package_of p ≡ package_of r) (λ e. e ≡ error.NoMemory)

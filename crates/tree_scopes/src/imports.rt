@@ -1,5 +1,5 @@
 //! The interfaces of other packages that a tree may name, its imports.
-ghost use Rattle.std.specs.Prelude.{◌≡◌, ◌++◌, ◌+◌, [], filter_map, length, IfOk, OnOk, MatchOption, None, Some};
+ghost use Rattle.std.specs.Prelude.{◌≡◌, ◌++◌, ◌+◌, filter_map, length, IfOk, OnOk, MatchOption, None, Some};
 ghost use Rattle.std.specs.List.{list_any};
 ghost use Rattle.package_form.specs.Closed.{is_same_package};
 ghost use Rattle.package_form.specs.Entries.{Table};
@@ -14,25 +14,9 @@ use atoms::{KeyedState, Label};
 use package_form::{IndexedTable, PackageKey, is_same_version};
 use std::alloc::{AllocError, Global};
 use tables::{
-    Definition, Interface, InterfaceId, PackageName, Resolve, Sequence, TypeId, TypeName,
-    copy_version,
+    Definition, Interface, InterfaceId, PackageName, Resolve, TypeId, TypeName, copy_version,
 };
 use wit_syntax::PackageId;
-
-/// No imports, of a tree that stands alone.
-pub fn no_imports(alloc: Global) -> Resolve
-    ensures packages { result.packages ≡ [] }
-    ensures interfaces { result.interfaces ≡ [] }
-    ensures worlds { result.worlds ≡ [] }
-    ensures definitions { result.definitions ≡ [] }
-{
-    Resolve {
-        packages: Sequence::new(Vec::new(alloc)),
-        interfaces: Sequence::new(Vec::new(alloc)),
-        worlds: Sequence::new(Vec::new(alloc)),
-        definitions: Sequence::new(Vec::new(alloc)),
-    }
-}
 
 /// Whether the package has the name that a path gives.
 fn is_package(package: &PackageName, id: &PackageId) -> bool

@@ -18,7 +18,7 @@ pub use declare::{interface_names, local_name, push_types};
 pub use declared::{Declarations, UsedType};
 pub use imported::Imports;
 pub use imports::{
-    has_package, import_place, interface_id, no_imports, package_key, package_name, place_behind,
+    has_package, import_place, interface_id, package_key, package_name, place_behind,
 };
 pub use known::{KnownTypes, TypeIds};
 pub use names::Names;

@@ -1,5 +1,5 @@
 -- What is answered of a raw component.
-use Rattle.std.specs.Prelude.{◌≡◌, ◌<◌, Bool, true, false, List, [], ◌∷◌, length, slice_get, Some, All}
+use Rattle.std.specs.Prelude.{◌≡◌, Bool, true, false, List, [], ◌∷◌}
 use Rattle.ctype_format.specs.Raw.{Definition, Define, Func, Component, Instance, Decls, none, then}
 use Rattle.ctype_bin.specs.FileView.{file_view}
 use Rattle.ctype_bin.specs.declared.component.RawComponent.{RawComponent}
@@ -7,9 +7,7 @@ use Rattle.tables.specs.declared.error.ResolveError.{ResolveError}
 use Rattle.tables.specs.declared.error.ResolveError.TheVariants as error
 use Rattle.tables.specs.declared.tables.Resolve.{Resolve}
 use Rattle.wit_component.specs.ToComponent.{ComponentStands}
-use Rattle.tables.specs.PackageNames.{PackageParts}
-use Rattle.package_form.specs.Scope.{AreDistinct}
-use Rattle.package_form.specs.Naming.{package_scopes, Repeats}
+use Rattle.package_form.specs.Naming.{Repeats}
 
 abbrev pub is_none : Decls → Bool
 is_none none = true
@@ -38,12 +36,3 @@ ClosedComponentRefuses raw (error.Unknown n) = ⊥
 ClosedComponentRefuses raw error.Cycle = ⊥
 ClosedComponentRefuses raw error.Limit = ⊥
 ClosedComponentRefuses raw (error.NoPackage p) = ⊥
-
--- the table has this package before its own, the first of them
-abbrev pub HasFirstImport : Resolve → PackageParts → Type 0
-HasFirstImport r p = (1 < length r.packages) × (slice_get r.packages 0 ≡ Some p)
-
--- Why a component that stands alone is refused: by 47, which names the first package that it imports, where nothing else is wrong with it.
-abbrev pub FromComponentRefuses : RawComponent → ResolveError → Type 0
-FromComponentRefuses raw (error.NoPackage p) = ∥ ((r : Resolve) × ComponentStands raw r × All AreDistinct (package_scopes r) × HasFirstImport r p) ∥₁
-FromComponentRefuses raw e = ClosedComponentRefuses raw e

@@ -1,6 +1,5 @@
 //! The package that a raw component stands for.
-ghost use Rattle.std.specs.Prelude.{◌≡◌, ◌≤◌, ◌⊎◌, All, length, IfOk, IfErr, MatchOption, MatchResult};
-ghost use Rattle.package_form.specs.Closed.{IsAlone};
+ghost use Rattle.std.specs.Prelude.{◌≡◌, ◌⊎◌, All, IfOk, IfErr, MatchResult};
 ghost use Rattle.ctype_bin.specs.FileView.{file_view};
 ghost use Rattle.ctype_format.specs.File.{file};
 ghost use Rattle.tables.specs.Same.{IsSamePackage};
@@ -8,16 +7,15 @@ ghost use Rattle.package_form.specs.Scope.{AreDistinct};
 ghost use Rattle.package_form.specs.Naming.{package_scopes};
 ghost use Rattle.package_form.specs.Form.{IsInPackageForm};
 ghost use Rattle.wit_component.specs.ToComponent.{ComponentStands};
-ghost use Rattle.wit_component.specs.FromComponent.{ClosedComponentRefuses, HasFirstImport, FromComponentRefuses};
+ghost use Rattle.wit_component.specs.FromComponent.{ClosedComponentRefuses};
 
-use crate::names::copy_package;
-use crate::same::{is_empty_package, is_same, spelling};
+use crate::same::{is_empty_package, is_same};
 use crate::to_component::to_written;
 use component_reader::{Unread, candidate};
 use ctype_bin::RawComponent;
 use package_form::distinct_names;
 use std::alloc::Global;
-use tables::{PackageName, Resolve, ResolveError};
+use tables::{Resolve, ResolveError};
 
 /// The package that a component stands for, whose names may stand twice in a scope.
 fn standing(alloc: Global, raw: &RawComponent, bytes: &[u8]) -> Result<Resolve, ResolveError>
@@ -41,9 +39,13 @@ fn standing(alloc: Global, raw: &RawComponent, bytes: &[u8]) -> Result<Resolve, 
     }
 }
 
-/// The closed table that a component stands for which these bytes spell: the same as `closed_from_raw` answers, which
-/// has to write the component first.
-pub fn closed_from_spelled(
+/// The closed table that a component stands for which these bytes spell, a package behind the interfaces of others that
+/// it imports: what is read of it is written again, and has to be the same. 43 `EmptyPackage` exactly where its one type
+/// is a component type without declarations, whatever is exported; 44 `NotThisShape` exactly where it stands for no
+/// package otherwise. 40 `Duplicate` where it stands for one, and a name of it stands twice in its scope, but for the case
+/// of its letters: the first in the order of the bytes, a definition's members before its name, an interface's definitions
+/// before the interface's. (Binary.md)
+pub fn closed_from_component(
     alloc: Global,
     raw: &RawComponent,
     bytes: &[u8],
@@ -61,50 +63,5 @@ pub fn closed_from_spelled(
     }
     let package = standing(alloc, raw, bytes)?;
     distinct_names(alloc, &package)?;
-    Ok(package)
-}
-
-/// The closed table that a component stands for, a package behind the interfaces of others that it imports: what is read
-/// of it is written again, and has to be the same. 43 `EmptyPackage` exactly where its one type is a component type
-/// without declarations, whatever is exported; 44 `NotThisShape` exactly where it stands for no package otherwise. 40
-/// `Duplicate` where it stands for one, and a name of it stands twice in its scope, but for the case of its letters: the
-/// first in the order of the bytes, a definition's members before its name, an interface's definitions before the
-/// interface's. (Binary.md)
-pub fn closed_from_raw(alloc: Global, raw: &RawComponent) -> Result<Resolve, ResolveError>
-    ensures ok { IfOk result (λ r. ∥ ComponentStands raw.now r ∥₁) }
-    ensures form { IfOk result (λ r. IsInPackageForm r) }
-    ensures distinct { IfOk result (λ r. All AreDistinct (package_scopes r)) }
-    ensures only { (r : Resolve) → ComponentStands raw.now r → All AreDistinct (package_scopes r)
-        → MatchResult result (λ p. IsSamePackage p r) (λ e. e ≡ ResolveError.NoMemory) }
-    ensures err { IfErr result (ClosedComponentRefuses raw.now) }
-{
-    let bytes = spelling(alloc, raw)?;
-    closed_from_spelled(alloc, raw, &bytes)
-}
-
-/// The first package that stands before the own one.
-fn first_import(resolve: &Resolve) -> Option<&PackageName>
-    ensures { MatchOption result (length resolve.now.packages ≤ 1) (λ p. HasFirstImport resolve.now p.now) }
-{
-    match resolve.packages.as_slice() {
-        [first, _, ..] => Some(first),
-        _ => None,
-    }
-}
-
-/// The package that a component stands for which stands alone: `closed_from_raw`, and 47 `NoPackage` with the first
-/// package that it imports, where it imports any. (Binary.md)
-pub fn from_raw(alloc: Global, raw: &RawComponent) -> Result<Resolve, ResolveError>
-    ensures ok { IfOk result (λ r. ∥ ComponentStands raw.now r ∥₁) }
-    ensures alone { IfOk result (λ r. IsAlone r) }
-    ensures distinct { IfOk result (λ r. All AreDistinct (package_scopes r)) }
-    ensures only { (r : Resolve) → ComponentStands raw.now r → All AreDistinct (package_scopes r) → IsAlone r
-        → MatchResult result (λ p. IsSamePackage p r) (λ e. e ≡ ResolveError.NoMemory) }
-    ensures err { IfErr result (FromComponentRefuses raw.now) }
-{
-    let package = closed_from_raw(alloc, raw)?;
-    if let Some(first) = first_import(&package) {
-        return Err(ResolveError::NoPackage(copy_package(alloc, first)?));
-    }
     Ok(package)
 }

@@ -2,9 +2,8 @@
 //!
 //! Each interface of a closed table is an instance type in one component type, as `wit-component` writes them, imported
 //! where it is of another package, and each world is a component type in it. `to_raw` writes a closed table, `to_written`
-//! with its bytes, as `component_with_bytes` does of one in form, `closed_from_raw` and `closed_from_spelled` answer the
-//! one that a component stands for, and `from_raw` the package of one that stands alone. It stands on `package_form`,
-//! `component_reader`, `tables`, `ctype_bin` and `atoms`.
+//! with its bytes, as `component_with_bytes` does of one in form, and `closed_from_component` answers the one that a
+//! component stands for. It stands on `package_form`, `component_reader`, `tables`, `ctype_bin` and `atoms`.
 #![tactic(auto)]
 
 mod component;
@@ -18,5 +17,6 @@ mod to_component;
 mod valtypes;
 mod worlds;
 
-pub use from_component::{closed_from_raw, closed_from_spelled, from_raw};
+pub use from_component::closed_from_component;
+pub use same::spelling;
 pub use to_component::{component_with_bytes, to_raw, to_written};

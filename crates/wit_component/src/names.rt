@@ -8,7 +8,7 @@ ghost use Rattle.package_form.specs.Form.{has_full_names};
 use atoms::{FullName, Label};
 use ctype_bin::ExternName;
 use std::alloc::{AllocError, Global};
-use tables::{PackageId, PackageName, Resolve, copy_version};
+use tables::{PackageId, Resolve, copy_version};
 
 /// The full name of a name in this package.
 pub fn full_name(
@@ -29,15 +29,4 @@ pub fn full_name(
         name: Label::from_bytes(alloc, name.as_bytes())?,
         version: copy_version(&package.version)?,
     }))
-}
-
-/// The same name of a package.
-pub fn copy_package(alloc: Global, package: &PackageName) -> Result<PackageName, AllocError>
-    ensures { IfOk result (λ p. p ≡ «package».now) }
-{
-    Ok(PackageName {
-        namespace: package.namespace.copy(alloc)?,
-        name: package.name.copy(alloc)?,
-        version: copy_version(&package.version)?,
-    })
 }

@@ -22,8 +22,8 @@ use atoms::Sink;
 use lift_lower::Val;
 use memory::{FirstFit, Guest, MemoryError, Space};
 use opening::Package;
-use resolve::FunctionId;
 use std::alloc::{AllocError, Global};
+use tables::FunctionId;
 
 /// The bytes of each of the two memories at first.
 const MEMORY: u32 = 65_536;

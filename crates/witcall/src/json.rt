@@ -16,9 +16,9 @@ use crate::laws::has_labels_apart;
 use adapter::parameter_types;
 use lift_lower::Val;
 use opening::Package;
-use resolve::{FunctionId, ValType};
 use serde_json::Value as Json;
 use std::alloc::{AllocError, AllocFailed, Global};
+use tables::{FunctionId, ValType};
 use thiserror::Error;
 use value_json::{
     JsonError as ValueError, has_one_value, json_of_value, value_of_json, values_of_json,

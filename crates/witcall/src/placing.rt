@@ -15,7 +15,7 @@ use crate::steps::Held;
 use canonical_abi::{Fault, Flat, Guest, Step, Trap, TrapKind};
 use lift_lower::{Flats, Types, Val, ask_area, lower_arguments, store};
 use opening::Package;
-use resolve::{FunctionId, ValType};
+use tables::{FunctionId, ValType};
 
 /// The core values that a call is given. The last is the address of the return area, where there is one.
 #[derive(Drop)]

@@ -19,8 +19,8 @@ use canonical_abi::Flat;
 use lift_lower::{Flats, Val, lift_params, lift_scalars, lower_answer};
 use memory::Space;
 use opening::Package;
-use resolve::{FunctionId, ValType};
 use std::alloc::Global;
+use tables::{FunctionId, ValType};
 
 /// A body that lifts its arguments and then answers one value, whatever they are. Any fault of its own is
 /// `Stopped`, and its post-return does nothing. For a scalar function it takes no memory of the host.

@@ -26,8 +26,8 @@ use adapter::{Body, Link};
 use canonical_abi::{Fault, Guest, NotTaken};
 use lift_lower::{Val, load, take_result};
 use opening::Package;
-use resolve::{FunctionId, ValType};
 use std::alloc::{AllocError, Global};
+use tables::{FunctionId, ValType};
 
 /// Two components' memories and the callee's body: typed calls of one package's functions.
 #[derive(Drop)]

@@ -11,7 +11,7 @@ ghost use Rattle.witcall.specs.Signature.{signature_of, IsMissing};
 
 use crate::refused::Refused;
 use opening::Package;
-use resolve::{FunctionId, Resolve, ValType};
+use tables::{FunctionId, Resolve, ValType};
 
 /// The function of a name: 63 where there is none.
 pub fn function_named(package: &Package, iface: &str, func: &str) -> Result<FunctionId, Refused>

@@ -9,7 +9,7 @@ ghost use Rattle.witcall.specs.Steps.{IsKnownAnswer, IsStep, answer_of, held_of}
 use canonical_abi::{Fault, NotTaken};
 use lift_lower::Val;
 use opening::Package;
-use resolve::{FunctionId, Resolve, ValType};
+use tables::{FunctionId, Resolve, ValType};
 
 /// A value that stands in the caller: its type and its address.
 #[derive(Clone, Copy, Debug, PartialEq, Eq)]

@@ -9,7 +9,7 @@ ghost use Rattle.lift_lower.specs.Val.{value_of};
 
 use layout::Layouts;
 use lift_lower::{Val, has_type};
-use resolve::{Resolve, ValType};
+use tables::{Resolve, ValType};
 
 /// Whether these are values of these types, each of its own.
 pub fn have_types(resolve: &Resolve, layouts: &Layouts, types: &[ValType], values: &[Val]) -> bool

@@ -1,9 +1,8 @@
-use Rattle.std.proofs.Common.{◌≡◌, ◌∙◌, ◌&&◌, List, ℕ, sym, subst}
+use Rattle.std.proofs.Common.{◌∙◌, ◌&&◌, sym, subst}
 use Rattle.std.specs.Str.{bytes_eq}
-use Rattle.wit_syntax.specs.View.{path_view, version_view}
+use Rattle.wit_syntax.specs.View.{path_view}
 use Rattle.wit_syntax.specs.declared.ast.Path.{Path}
 use Rattle.package_form.specs.Closed.{is_same_package}
-use Rattle.package_form.specs.Indexed.{key_parts}
 use Rattle.tables.specs.PackageNames.{PackageParts}
 use Rattle.tree_meaning.proofs.PathNames.{parts-are}
 use Rattle.package_adding.specs.Named.{path_names}

@@ -12,8 +12,8 @@ use Rattle.package_adding.proofs.Importing.{are-imports}
 use Rattle.package_adding.proofs.Only.{one-imports, has-closed}
 use Rattle.package_adding.proofs.tree.closed_over.Goals as goal
 
-pub closed_from_ast-requires : goal.closed_from_ast-requires
-closed_from_ast-requires c =
+pub closed_table-requires : goal.closed_table-requires
+closed_table-requires c =
     let n = c.in_ok-imports.ensures.from in
     are-imports c.args.set.now n.packages n.interfaces c.in_ok-imports.imports n.are c.requires.form
 

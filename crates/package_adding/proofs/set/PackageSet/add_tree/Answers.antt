@@ -3,7 +3,7 @@ use Rattle.std.proofs.Math.Logic.{∥∥₁_map, ∥∥₁_map₂}
 use Rattle.std.proofs.lemmas.Result.{err_from_is_err_and}
 use Rattle.wit_syntax.specs.View.{file_view}
 use Rattle.package_adding.proofs.Adding.{not-put}
-use Rattle.package_adding.proofs.Only.{want, refused-for-memory, makes-one}
+use Rattle.package_adding.proofs.Only.{want, refused-for-memory, makes-one, is-known}
 use Rattle.package_adding.proofs.set.PackageSet.add_tree.Goals as goal
 
 pub returns-in_err-id-clause-err : goal.returns-in_err-id-clause-err
@@ -14,11 +14,21 @@ returns-in_err-id-clause-err c =
 pub returns-clause-only : goal.returns-clause-only
 returns-clause-only c = λ closed r id h w fits.
     let same = c.in_ok-closed.ensures.only closed h.tree w fits in
-    (same, makes-one c.args.self.now.resolve closed r id h.attached c.attaches_one.ensures c.in_ok-closed.closed same _ _ c.in_ok-id.ensures.ok)
+    makes-one c.args.self.now.resolve closed r id h.attached c.attaches_one.ensures c.in_ok-closed.closed same _ _ c.in_ok-id.ensures.ok
 
-pub returns-clause-writable : goal.returns-clause-writable
-returns-clause-writable c =
-    ∥∥₁_map₂ c.in_ok-closed.ensures.form c.in_ok-closed.ensures.distinct (λ form distinct. record { form = form; distinct = distinct; labels = c.in_ok-closed.ensures.labels })
+pub returns-clause-ok : goal.returns-clause-ok
+returns-clause-ok c = record {
+  closed = c.in_ok-closed.closed;
+  adds = record { tree = c.in_ok-closed.ensures.ok; attached = c.in_ok-id.ensures.ok };
+  table = c.in_ok-id.ensures.again c.in_ok-closed.ensures.behind;
+  writable = ∥∥₁_map₂ c.in_ok-closed.ensures.form c.in_ok-closed.ensures.distinct (λ form distinct. record { form = form; distinct = distinct; labels = c.in_ok-closed.ensures.labels });
+  behind = c.in_ok-closed.ensures.behind;
+  fits = c.in_ok-closed.ensures.fits;
+  only = λ other new j h w. c.in_ok-closed.ensures.only other h.tree w c.in_ok-closed.ensures.fits;
+}
+
+pub returns-clause-known : goal.returns-clause-known
+returns-clause-known c = is-known c.args.self.now.resolve c.in_ok-closed.closed _ _ c.in_ok-id.ensures.ok
 
 pub returns-in_err-closed-clause-only : goal.returns-in_err-closed-clause-only
 returns-in_err-closed-clause-only c = λ closed r id h w fits.
@@ -33,6 +43,3 @@ returns-in_err-id-clause-only c = λ closed r id h w fits.
 
 pub closed_over-requires-clause-form : goal.closed_over-requires-clause-form
 closed_over-requires-clause-form c = ∥∥₁_map c.args.self.now.tower (λ t. t.form)
-
-pub returns-clause-again : goal.returns-clause-again
-returns-clause-again c = c.in_ok-id.ensures.again c.in_ok-closed.ensures.behind

@@ -1,0 +1,5 @@
+use Rattle.opening.proofs.Alone.{refuses-alone}
+use Rattle.opening.proofs.laws.refuses_alone.Goals as goal
+
+pub returns : goal.returns
+returns c = refuses-alone

@@ -1,0 +1,21 @@
+//! Laws of opened packages.
+ghost use Rattle.std.specs.Prelude.{◌∷◌, [], ℕ, List};
+ghost use Rattle.opening.specs.Alone.{OpensAlone, AloneRefuses};
+ghost use Rattle.opening.specs.Opening.{OpenRefuses};
+ghost use Rattle.opening.specs.declared.package.OpenError.{OpenError};
+ghost use Rattle.tables.specs.declared.tables.Resolve.{Resolve};
+
+use wit_text::texts_have_full_names;
+
+/// What is opened of one input, in the words for a package that names no other: a text each of whose names stands for something of
+/// its own, or a component that imports nothing.
+pub fn opens_alone()
+    ensures { (bytes : List ℕ) (r : Resolve) → OpensAlone bytes r }
+{
+    texts_have_full_names();
+}
+
+/// Why one input isn't opened, in the words for a package that names no other.
+pub fn refuses_alone()
+    ensures { (bytes : List ℕ) (e : OpenError) → OpenRefuses (bytes ∷ []) e → AloneRefuses bytes e }
+{}

@@ -1,0 +1,5 @@
+use Rattle.package_sets.proofs.Alone.{attaches-alone}
+use Rattle.package_sets.proofs.laws.attaches_alone.Goals as goal
+
+pub returns : goal.returns
+returns c = attaches-alone
