@@ -8,6 +8,7 @@
 mod arguments;
 mod body;
 mod fault;
+mod invocation;
 mod link;
 mod requests;
 mod results;
@@ -15,5 +16,6 @@ mod signature;
 
 pub use asking::Request;
 pub use body::{Body, BoxedBody, Export, Stopped};
+pub use invocation::Invocation;
 pub use link::Link;
 pub use signature::parameter_types;

@@ -20,10 +20,12 @@ ghost use Rattle.adapter.specs.Linked.{TellsNodes};
 use crate::arguments::pass_arguments;
 use crate::body::Body;
 use crate::fault::trap;
+use crate::invocation::Invocation;
 use crate::requests::{ask_answer, ask_arguments};
 use crate::results::pass_answer;
 use asking::Request;
 use canonical_abi::{Fault, Flat, Guest, Step, TrapKind};
+use crossing::Walk;
 use layout::Layouts;
 use lift_lower::{Flats, Types};
 use std::marker::Model;
@@ -79,24 +81,22 @@ impl<'a> Link<'a> {
     }
 
     /// The first half of a call, for a host that runs the core function itself: the arguments are lifted from the caller, which is
-    /// only read, and lowered into the callee. Puts the flat values for the core function into `handed`, whatever that held. `flats`
-    /// are those of a whole call, the return area's address behind the arguments. A fault is in `lift-args` or `lower-args`; then
-    /// `handed` says nothing, and nothing may be run.
+    /// only read, and lowered into the callee. Puts the flat values for the core function into `handed`, whatever that held. A fault
+    /// is in `lift-args` or `lower-args`; then `handed` says nothing, and nothing may be run.
     /// With one run of the core function, `leave` and one run of post-return this is a call (`laws::halves_are_a_call` of
     /// `canonical_abi`), and keeps its promise. `nodes` then tells the nodes of this half, and none of the other.
     /// Takes no memory of the host.
     pub fn enter<C: Guest, E: Guest>(
         &mut self,
-        func: FunctionId,
-        flats: &[Flat],
+        call: &Invocation,
         caller: &C,
         callee: &mut E,
         handed: &mut Flats,
     ) -> Result<(), Fault>
-        requires function { IsFunction self.old.resolve func }
-        ensures entered { OnOk result (HasEntered E.allocates (function_type self.old.resolve func) flats.now (C.memory caller.now).bytes
+        requires function { IsFunction self.old.resolve call.now.func }
+        ensures entered { OnOk result (HasEntered E.allocates (function_type self.old.resolve call.now.func) call.now.flats.now (C.memory caller.now).bytes
             (E.memory callee.old) handed.new.items (E.memory callee.new) self.new.there) }
-        ensures fault { IfErr result (λ fault. EntryFails E.allocates (function_type self.old.resolve func) flats.now (C.memory caller.now).bytes
+        ensures fault { IfErr result (λ fault. EntryFails E.allocates (function_type self.old.resolve call.now.func) call.now.flats.now (C.memory caller.now).bytes
             (E.memory callee.old) fault (E.memory callee.new) self.new.there) }
         ensures no_memory { result ≢ Err Fault.NoMemory }
         ensures back { self.new.back ≡ 0 }
@@ -106,9 +106,13 @@ impl<'a> Link<'a> {
         self.there = 0;
         self.back = 0;
         handed.clear();
-        let table = &Types::new(self.resolve, self.layouts);
-        let nodes = &mut self.there;
-        pass_arguments(table, func, flats, caller, callee, handed, nodes)
+        // A memory's length is a number of 32 bits.
+        let _len = caller.len();
+        let walk = Walk {
+            types: &Types::new(self.resolve, self.layouts),
+            source: caller.bytes(),
+        };
+        pass_arguments(&walk, call, callee, handed, &mut self.there)
     }
 
     /// What `enter` will ask the callee for, in its order, without it: the first requests are put over the slots, as many as
@@ -153,25 +157,24 @@ impl<'a> Link<'a> {
     }
 
     /// The second half: what the core function answered is lifted from the callee, which is only read, and lowered into the
-    /// caller. Puts the flat values for the caller into `back`, whatever that held. `flats` are those that `enter` was given. Their
-    /// kinds are tested first: K8 in `lower-result` if they are not those of the function, with nothing asked for and no byte
+    /// caller. Puts the flat values for the caller into `back`, whatever that held. `call` is what `enter` was given. The
+    /// kinds of its flat values are tested first: K8 in `lower-result` if they are not those of the function, with nothing asked for and no byte
     /// written. A fault is in `lift-result` or `lower-result`; then `back` says nothing, and post-return isn't run. `nodes` then
     /// tells the nodes of this half beside those that it told.
     /// Takes no memory of the host.
     pub fn leave<C: Guest, E: Guest>(
         &mut self,
-        func: FunctionId,
-        flats: &[Flat],
+        call: &Invocation,
         answer: &[Flat],
         caller: &mut C,
         callee: &E,
         back: &mut Flats,
     ) -> Result<(), Fault>
-        requires function { IsFunction self.old.resolve func }
-        ensures returned { OnOk result (HasReturned C.allocates (function_type self.old.resolve func) flats.now (E.memory callee.now).bytes answer.now
+        requires function { IsFunction self.old.resolve call.now.func }
+        ensures returned { OnOk result (HasReturned C.allocates (function_type self.old.resolve call.now.func) call.now.flats.now (E.memory callee.now).bytes answer.now
             (C.memory caller.old) back.new.items (C.memory caller.new) self.new.back) }
-        ensures kinds { OnOk result (KindsFit (function_type self.old.resolve func) flats.now) }
-        ensures fault { IfErr result (λ fault. LeaveFails C.allocates (function_type self.old.resolve func) flats.now (E.memory callee.now).bytes answer.now
+        ensures kinds { OnOk result (KindsFit (function_type self.old.resolve call.now.func) call.now.flats.now) }
+        ensures fault { IfErr result (λ fault. LeaveFails C.allocates (function_type self.old.resolve call.now.func) call.now.flats.now (E.memory callee.now).bytes answer.now
             (C.memory caller.old) fault (C.memory caller.new) self.new.back) }
         ensures no_memory { result ≢ Err Fault.NoMemory }
         ensures no_shorter { OnOk result (length (C.memory caller.old).bytes ≤ length (C.memory caller.new).bytes) }
@@ -181,9 +184,13 @@ impl<'a> Link<'a> {
     {
         self.back = 0;
         back.clear();
-        let table = &Types::new(self.resolve, self.layouts);
-        let nodes = &mut self.back;
-        pass_answer(table, func, flats, answer, caller, callee, back, nodes)
+        // A memory's length is a number of 32 bits.
+        let _len = callee.len();
+        let walk = Walk {
+            types: &Types::new(self.resolve, self.layouts),
+            source: callee.bytes(),
+        };
+        pass_answer(&walk, call, answer, caller, back, &mut self.back)
     }
 
     /// Calls a function of the package: the flat values are lifted from the caller and lowered into the
@@ -232,12 +239,13 @@ impl<'a> Link<'a> {
         // A link's package is within the limits of layouts.
         let _resolve = self.resolve;
         let mut given = Flats::new();
-        self.enter(func, flats, caller, callee, &mut given)?;
+        let call = &Invocation { func, flats };
+        self.enter(call, caller, callee, &mut given)?;
         let Ok(answer) = body.call(callee, given.as_slice()) else {
             return Err(trap(TrapKind::Body, Step::Body));
         };
         let answer = answer.as_slice();
-        self.leave(func, flats, answer, caller, callee, &mut given)?;
+        self.leave(call, answer, caller, callee, &mut given)?;
         let Ok(()) = body.post_return(callee, answer) else {
             return Err(trap(TrapKind::Body, Step::Post));
         };

@@ -13,7 +13,7 @@ ghost use Rattle.tables.specs.Closed.{IsFunction, function_type};
 ghost use Rattle.adapter.specs.Asked.{IsTrapIn};
 
 use crate::fault::trap;
-use asking::{Request, ask_params, ask_result};
+use asking::{Request, Walk};
 use canonical_abi::{Fault, Flat, Guest, Step, TrapKind};
 use lift_lower::{Types, are_kinds};
 use tables::{FunctionId, TypeId, ValType};
@@ -41,7 +41,11 @@ pub(crate) fn ask_arguments<C: Guest>(
     let _len = caller.len();
     // A function's row is the record of its parameters.
     let params = ValType::Id(TypeId(func.0));
-    match ask_params(table, params, caller.bytes(), &flats[..count], slots) {
+    let walk = Walk {
+        types: table,
+        source: caller.bytes(),
+    };
+    match walk.ask_params(params, &flats[..count], slots) {
         Ok(told) => Ok(told),
         Err(kind) => Err(trap(kind, Step::LiftArgs)),
     }
@@ -69,7 +73,11 @@ pub(crate) fn ask_answer<E: Guest>(
     // A memory's length is a number of 32 bits.
     let _len = callee.len();
     let types = table.resolve().signature(func).result.as_slice();
-    match ask_result(table, types, callee.bytes(), answer, slots) {
+    let walk = Walk {
+        types: table,
+        source: callee.bytes(),
+    };
+    match walk.ask_result(types, answer, slots) {
         Ok(told) => Ok(told),
         Err(kind) => Err(trap(kind, Step::LiftResult)),
     }

@@ -1,5 +1,5 @@
 //! The second way of a call: the result, from the callee into the caller.
-ghost use Rattle.std.specs.Prelude.{◌≡◌, ◌≤◌, [], length, map, OnOk, IfErr};
+ghost use Rattle.std.specs.Prelude.{◌≡◌, ◌^◌, ◌<◌, ◌≤◌, [], length, map, OnOk, IfErr};
 ghost use Rattle.canonical_abi.specs.Reading.{low_bits, number_of};
 ghost use Rattle.canonical_abi.specs.Call.{KindsFit};
 ghost use Rattle.canonical_abi.specs.Halves.{HasReturned};
@@ -8,48 +8,47 @@ ghost use Rattle.tables.specs.Closed.{IsFunction, function_type};
 ghost use Rattle.adapter.specs.Leaving.{LeaveFails};
 
 use crate::fault::{fault_of, trap};
+use crate::invocation::Invocation;
 use canonical_abi::{Fault, Flat, Guest, Step, TrapKind};
-use crossing::cross_result;
-use lift_lower::{Flats, Types, are_kinds, low_word};
-use tables::FunctionId;
+use crossing::{Returned, Walk};
+use lift_lower::{Flats, are_kinds, low_word};
 
-/// Puts the body's answer, as the callee holds it, into the caller: the flat values that carry it there into `back`, where there
+/// Puts the body's answer, as the walk's source holds it, into the caller: the flat values that carry it there into `back`, where there
 /// were none, and in `nodes` how many nodes were visited, those up to the fault where there was one. The kinds of the caller's flat
 /// values come first, and then those of the answer. Takes no memory of the host.
-pub(crate) fn pass_answer<C: Guest, E: Guest>(
-    table: &Types,
-    func: FunctionId,
-    flats: &[Flat],
+pub(crate) fn pass_answer<C: Guest>(
+    walk: &Walk,
+    call: &Invocation,
     answer: &[Flat],
     caller: &mut C,
-    callee: &E,
     back: &mut Flats,
     nodes: &mut u64,
 ) -> Result<(), Fault>
-    requires within { ∥ AreWithin table.now ∥₁ }
-    requires function { IsFunction table.now func }
+    requires within { ∥ AreWithin walk.now.types.now ∥₁ }
+    requires function { IsFunction walk.now.types.now call.now.func }
+    requires short { length walk.now.source.now < 2 ^ 32 }
     requires empty { back.old.items ≡ [] }
     requires fresh { nodes.old ≡ 0 }
-    ensures returned { OnOk result (HasReturned C.allocates (function_type table.now func) flats.now (E.memory callee.now).bytes answer.now
+    ensures returned { OnOk result (HasReturned C.allocates (function_type walk.now.types.now call.now.func) call.now.flats.now walk.now.source.now answer.now
         (C.memory caller.old) back.new.items (C.memory caller.new) nodes.new) }
-    ensures kinds { OnOk result (KindsFit (function_type table.now func) flats.now) }
-    ensures fault { IfErr result (λ fault. LeaveFails C.allocates (function_type table.now func) flats.now (E.memory callee.now).bytes answer.now
+    ensures kinds { OnOk result (KindsFit (function_type walk.now.types.now call.now.func) call.now.flats.now) }
+    ensures fault { IfErr result (λ fault. LeaveFails C.allocates (function_type walk.now.types.now call.now.func) call.now.flats.now walk.now.source.now answer.now
         (C.memory caller.old) fault (C.memory caller.new) nodes.new) }
     ensures no_shorter { OnOk result (length (C.memory caller.old).bytes ≤ length (C.memory caller.new).bytes) }
 {
-    let layouts = table.layouts();
-    if !layouts.takes(func, flats) {
+    let layouts = walk.types.layouts();
+    if !layouts.takes(call.func, call.flats) {
         return Err(trap(TrapKind::CoreSignature, Step::LowerResult));
     }
-    if !are_kinds(layouts.lifted_result(func).as_slice(), answer) {
+    if !are_kinds(layouts.lifted_result(call.func).as_slice(), answer) {
         return Err(trap(TrapKind::CoreSignature, Step::LiftResult));
     }
-    let area = area_in(flats, layouts.lifted_count(func));
-    // A memory's length is a number of 32 bits.
-    let _len = callee.len();
-    let types = table.resolve().signature(func).result.as_slice();
-    let bytes = callee.bytes();
-    let crossed = cross_result(table, types, bytes, answer, caller, area, back, nodes);
+    let returned = Returned {
+        flats: answer,
+        area: area_in(call.flats, layouts.lifted_count(call.func)),
+    };
+    let types = walk.types.resolve().signature(call.func).result.as_slice();
+    let crossed = walk.cross_result(types, &returned, caller, back, nodes);
     // A count is a number of 64 bits.
     let _count = *nodes;
     match crossed {

@@ -10,4 +10,4 @@ mod walk;
 mod ways;
 
 pub use request::Request;
-pub use ways::{ask_params, ask_result};
+pub use walk::Walk;

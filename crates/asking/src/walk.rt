@@ -16,6 +16,13 @@ use lift_lower::Types;
 use lift_lower::nodes::{Members, discriminant_bytes, number_of_size, test_block, text_in, u32_at};
 use tables::{Primitive, ValType};
 
+/// What values are told from: their types, and the bytes of the memory that holds them.
+#[derive(Clone, Copy)]
+pub struct Walk<'a> {
+    pub types: &'a Types<'a>,
+    pub source: &'a [u8],
+}
+
 /// Tests a primitive other than string, which asks for nothing.
 fn ask_primitive(
     primitive: Primitive,
@@ -76,133 +83,131 @@ pub(crate) fn ask_text(
     Ok(())
 }
 
-/// Tells what the value at an address asks for.
-#[cycle(ask)]
-fn ask_at(
-    table: &Types,
-    ty: ValType,
-    source: &[u8],
-    at: usize,
-    slots: &mut [Request],
-    count: &mut usize,
-) -> Result<(), TrapKind>
-    requires inside { IsInside table.now ty }
-    requires short { length source.now < 2 ^ 32 }
-    requires fits { at + size (closed_type table.now ty) ≤ length source.now }
-    ensures { let t = closed_type table.now ty in
-        Asks (reading t source.now at) (requests t) slots.old count.old result slots.new count.new }
-{
-    match table.shape_of(ty) {
-        Shape::Primitive(primitive) => ask_primitive(primitive, source, at, slots, count),
-        Shape::String => {
-            let start = u32_at(source, at) as usize;
-            let len = u32_at(source, at + 4) as usize;
-            ask_text(source, start, len, slots, count)
+impl Walk<'_> {
+    /// Tells what the value at an address asks for.
+    #[cycle(ask)]
+    fn ask_at(
+        &self,
+        ty: ValType,
+        at: usize,
+        slots: &mut [Request],
+        count: &mut usize,
+    ) -> Result<(), TrapKind>
+        requires inside { IsInside self.now.types.now ty }
+        requires short { length self.now.source.now < 2 ^ 32 }
+        requires fits { at + size (closed_type self.now.types.now ty) ≤ length self.now.source.now }
+        ensures { let t = closed_type self.now.types.now ty in
+            Asks (reading t self.now.source.now at) (requests t) slots.old count.old result slots.new count.new }
+    {
+        match self.types.shape_of(ty) {
+            Shape::Primitive(primitive) => ask_primitive(primitive, self.source, at, slots, count),
+            Shape::String => {
+                let start = u32_at(self.source, at) as usize;
+                let len = u32_at(self.source, at + 4) as usize;
+                ask_text(self.source, start, len, slots, count)
+            }
+            Shape::List(element) => {
+                let start = u32_at(self.source, at) as usize;
+                let len = u32_at(self.source, at + 4) as usize;
+                self.ask_list(element, start, len, slots, count)
+            }
+            Shape::Record(fields) => {
+                let members = Members::Of(ty);
+                self.ask_fields(&members, fields, at, slots, count)
+            }
+            Shape::Variant(cases) => self.ask_variant(ty, cases, at, slots, count),
+            Shape::Flags(_) => Ok(()),
         }
-        Shape::List(element) => {
-            let start = u32_at(source, at) as usize;
-            let len = u32_at(source, at + 4) as usize;
-            ask_list(table, element, source, start, len, slots, count)
-        }
-        Shape::Record(fields) => {
-            let members = Members::Of(ty);
-            ask_fields(table, &members, fields, source, at, slots, count)
-        }
-        Shape::Variant(cases) => ask_variant(table, ty, cases, source, at, slots, count),
-        Shape::Flags(_) => Ok(()),
     }
-}
 
-/// Tells the block of a list, once it is tested, and what its elements ask for.
-#[cycle(ask)]
-pub(crate) fn ask_list(
-    table: &Types,
-    element: ValType,
-    source: &[u8],
-    start: usize,
-    len: usize,
-    slots: &mut [Request],
-    count: &mut usize,
-) -> Result<(), TrapKind>
-    requires inside { IsInside table.now element }
-    requires short { length source.now < 2 ^ 32 }
-    requires start { start < 2 ^ 32 }
-    requires len { len < 2 ^ 32 }
-    ensures { let t = closed_type table.now element in
-        Asks (list_at (reading t source.now) source.now (align t) (size t) start len) (requests (list_type t))
-        slots.old count.old result slots.new count.new }
-{
-    let step = table.size_of(element);
-    let align = table.align_of(element);
-    test_block(source.len(), start, align, len * step)?;
-    tell(slots, count, align, len * step);
-    if asks_nothing(table, element) {
-        return Ok(());
+    /// Tells the block of a list, once it is tested, and what its elements ask for.
+    #[cycle(ask)]
+    pub(crate) fn ask_list(
+        &self,
+        element: ValType,
+        start: usize,
+        len: usize,
+        slots: &mut [Request],
+        count: &mut usize,
+    ) -> Result<(), TrapKind>
+        requires inside { IsInside self.now.types.now element }
+        requires short { length self.now.source.now < 2 ^ 32 }
+        requires start { start < 2 ^ 32 }
+        requires len { len < 2 ^ 32 }
+        ensures { let t = closed_type self.now.types.now element in
+            Asks (list_at (reading t self.now.source.now) self.now.source.now (align t) (size t) start len) (requests (list_type t))
+            slots.old count.old result slots.new count.new }
+    {
+        let step = self.types.size_of(element);
+        let align = self.types.align_of(element);
+        test_block(self.source.len(), start, align, len * step)?;
+        tell(slots, count, align, len * step);
+        if asks_nothing(self.types, element) {
+            return Ok(());
+        }
+        for index in 0..len {
+            self.ask_at(element, start + index * step, slots, count)?;
+        }
+        Ok(())
     }
-    for index in 0..len {
-        ask_at(table, element, source, start + index * step, slots, count)?;
-    }
-    Ok(())
-}
 
-/// Tells what the members of a record ask for, whose first begins at `at`, each at the next multiple of its alignment.
-#[cycle(ask)]
-pub(crate) fn ask_fields(
-    table: &Types,
-    members: &Members,
-    fields: usize,
-    source: &[u8],
-    at: usize,
-    slots: &mut [Request],
-    count: &mut usize,
-) -> Result<(), TrapKind>
-    requires inside { AreInside table.now members.now }
-    requires short { length source.now < 2 ^ 32 }
-    requires counted { field_count (members_fields table.now members.now) ≡ fields }
-    requires fits { at + end_from 0 (field_extents (members_fields table.now members.now)) ≤ length source.now }
-    ensures { let fs = members_fields table.now members.now in
-        Asks (reading_fields fs source.now at 0) (fields_requests fs) slots.old count.old result slots.new count.new }
-{
-    let mut end: usize = 0;
-    for index in 0..fields {
-        let Some(member) = table.member_type(members, index) else {
-            unreachable!()
+    /// Tells what the members of a record ask for, whose first begins at `at`, each at the next multiple of its alignment.
+    #[cycle(ask)]
+    pub(crate) fn ask_fields(
+        &self,
+        members: &Members,
+        fields: usize,
+        at: usize,
+        slots: &mut [Request],
+        count: &mut usize,
+    ) -> Result<(), TrapKind>
+        requires inside { AreInside self.now.types.now members.now }
+        requires short { length self.now.source.now < 2 ^ 32 }
+        requires counted { field_count (members_fields self.now.types.now members.now) ≡ fields }
+        requires fits { at + end_from 0 (field_extents (members_fields self.now.types.now members.now)) ≤ length self.now.source.now }
+        ensures { let fs = members_fields self.now.types.now members.now in
+            Asks (reading_fields fs self.now.source.now at 0) (fields_requests fs) slots.old count.old result slots.new count.new }
+    {
+        let mut end: usize = 0;
+        for index in 0..fields {
+            let Some(member) = self.types.member_type(members, index) else {
+                unreachable!()
+            };
+            let place = end.next_multiple_of(self.types.align_of(member));
+            self.ask_at(member, at + place, slots, count)?;
+            end = place + self.types.size_of(member);
+        }
+        Ok(())
+    }
+
+    /// Tells what the payload of the case that the discriminant names asks for.
+    #[cycle(ask)]
+    fn ask_variant(
+        &self,
+        ty: ValType,
+        cases: usize,
+        at: usize,
+        slots: &mut [Request],
+        count: &mut usize,
+    ) -> Result<(), TrapKind>
+        requires inside { IsInside self.now.types.now ty }
+        requires short { length self.now.source.now < 2 ^ 32 }
+        requires variant { variant_type (variant_cases (closed_type self.now.types.now ty)) ≡ closed_type self.now.types.now ty }
+        requires counted { case_count (variant_cases (closed_type self.now.types.now ty)) ≡ cases }
+        requires fits { at + size (closed_type self.now.types.now ty) ≤ length self.now.source.now }
+        ensures { let cs = variant_cases (closed_type self.now.types.now ty) in
+            let i = case_number cs self.now.source.now at in
+            Asks (reading_case cs self.now.source.now (at + payload_place cs) i i) (requests (variant_type cs)) slots.old count.old result slots.new count.new }
+    {
+        let case = number_of_size(self.source, at, discriminant_bytes(cases));
+        let Some(payload) = self.types.case_payload(ty, case as usize) else {
+            return Err(TrapKind::Case);
         };
-        let place = end.next_multiple_of(table.align_of(member));
-        ask_at(table, member, source, at + place, slots, count)?;
-        end = place + table.size_of(member);
+        let Some(member) = payload else {
+            return Ok(());
+        };
+        // A payload stands at the variant's alignment.
+        let place = self.types.align_of(ty);
+        self.ask_at(member, at + place, slots, count)
     }
-    Ok(())
-}
-
-/// Tells what the payload of the case that the discriminant names asks for.
-#[cycle(ask)]
-fn ask_variant(
-    table: &Types,
-    ty: ValType,
-    cases: usize,
-    source: &[u8],
-    at: usize,
-    slots: &mut [Request],
-    count: &mut usize,
-) -> Result<(), TrapKind>
-    requires inside { IsInside table.now ty }
-    requires short { length source.now < 2 ^ 32 }
-    requires variant { variant_type (variant_cases (closed_type table.now ty)) ≡ closed_type table.now ty }
-    requires counted { case_count (variant_cases (closed_type table.now ty)) ≡ cases }
-    requires fits { at + size (closed_type table.now ty) ≤ length source.now }
-    ensures { let cs = variant_cases (closed_type table.now ty) in
-        let i = case_number cs source.now at in
-        Asks (reading_case cs source.now (at + payload_place cs) i i) (requests (variant_type cs)) slots.old count.old result slots.new count.new }
-{
-    let case = number_of_size(source, at, discriminant_bytes(cases));
-    let Some(payload) = table.case_payload(ty, case as usize) else {
-        return Err(TrapKind::Case);
-    };
-    let Some(member) = payload else {
-        return Ok(());
-    };
-    // A payload stands at the variant's alignment.
-    let place = table.align_of(ty);
-    ask_at(table, member, source, at + place, slots, count)
 }

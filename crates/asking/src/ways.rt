@@ -11,79 +11,78 @@ ghost use Rattle.lift_lower.specs.Types.{IsInside};
 ghost use Rattle.tables.specs.Closed.{closed_type};
 ghost use Rattle.asking.specs.Asking.{IsToldAhead};
 
-use crate::flat::ask_flat_fields;
 use crate::request::{Request, tell};
-use crate::walk::ask_fields;
+use crate::walk::Walk;
 use canonical_abi::{Flat, TrapKind};
 use layout::Shape;
+use lift_lower::low_word;
 use lift_lower::nodes::{Members, test_block};
-use lift_lower::{Types, low_word};
 use tables::ValType;
 
-/// Tells what the parameters of a call ask for, given as the record of them, which `flats` denote over the source: the first
-/// requests, as many as there are slots, and how many there are in all, as far as 64 bits count. Where they denote none, it
-/// answers the first fault, and the slots then say nothing. The kinds of `flats` were tested before. CanonicalABI.md,
-/// "Lifting and Lowering Values".
-pub fn ask_params(
-    table: &Types,
-    params: ValType,
-    source: &[u8],
-    flats: &[Flat],
-    slots: &mut [Request],
-) -> Result<usize, TrapKind>
-    requires inside { IsInside table.now params }
-    requires is_record { closed_type table.now params ≡ record_type (record_fields (closed_type table.now params)) }
-    requires short { length source.now < 2 ^ 32 }
-    requires kinds { map kind_of flats.now ≡ passed_kinds max_flat_params (record_fields (closed_type table.now params)) }
-    ensures told { let ts = record_fields (closed_type table.now params) in
-        IfOk result (IsToldAhead (Denotes max_flat_params ts source.now flats.now) (params_requests max_flat_params ts) slots.old slots.new) }
-    ensures fault { IfErr result (DenotesFault max_flat_params (record_fields (closed_type table.now params)) source.now flats.now) }
-{
-    let Shape::Record(fields) = table.shape_of(params) else {
-        unreachable!()
-    };
-    let mut count = 0;
-    let members = Members::Of(params);
-    let Some(_) = table.count_within(&[params], 16) else {
-        let from = low_word(flats, 0) as usize;
-        let align = table.align_of(params);
-        let size = table.size_of(params);
-        test_block(source.len(), from, align, size)?;
-        tell(slots, &mut count, align, size);
-        ask_fields(table, &members, fields, source, from, slots, &mut count)?;
-        return Ok(count);
-    };
-    ask_flat_fields(table, &members, fields, source, flats, slots, &mut count)?;
-    Ok(count)
-}
+impl Walk<'_> {
+    /// Tells what the parameters of a call ask for, given as the record of them, which `flats` denote over the source: the first
+    /// requests, as many as there are slots, and how many there are in all, as far as 64 bits count. Where they denote none, it
+    /// answers the first fault, and the slots then say nothing. The kinds of `flats` were tested before. CanonicalABI.md,
+    /// "Lifting and Lowering Values".
+    pub fn ask_params(
+        &self,
+        params: ValType,
+        flats: &[Flat],
+        slots: &mut [Request],
+    ) -> Result<usize, TrapKind>
+        requires inside { IsInside self.now.types.now params }
+        requires is_record { closed_type self.now.types.now params ≡ record_type (record_fields (closed_type self.now.types.now params)) }
+        requires short { length self.now.source.now < 2 ^ 32 }
+        requires kinds { map kind_of flats.now ≡ passed_kinds max_flat_params (record_fields (closed_type self.now.types.now params)) }
+        ensures told { let ts = record_fields (closed_type self.now.types.now params) in
+            IfOk result (IsToldAhead (Denotes max_flat_params ts self.now.source.now flats.now) (params_requests max_flat_params ts) slots.old slots.new) }
+        ensures fault { IfErr result (DenotesFault max_flat_params (record_fields (closed_type self.now.types.now params)) self.now.source.now flats.now) }
+    {
+        let Shape::Record(fields) = self.types.shape_of(params) else {
+            unreachable!()
+        };
+        let mut count = 0;
+        let members = Members::Of(params);
+        let Some(_) = self.types.count_within(&[params], 16) else {
+            let from = low_word(flats, 0) as usize;
+            let align = self.types.align_of(params);
+            let size = self.types.size_of(params);
+            test_block(self.source.len(), from, align, size)?;
+            tell(slots, &mut count, align, size);
+            self.ask_fields(&members, fields, from, slots, &mut count)?;
+            return Ok(count);
+        };
+        self.ask_flat_fields(&members, fields, flats, slots, &mut count)?;
+        Ok(count)
+    }
 
-/// Tells the same of the result of a call, of at most one type. Where it doesn't go flat it is put into the return area, for
-/// which nothing is asked.
-pub fn ask_result(
-    table: &Types,
-    types: &[ValType],
-    source: &[u8],
-    flats: &[Flat],
-    slots: &mut [Request],
-) -> Result<usize, TrapKind>
-    requires inside { AreAllInside table.now types.now }
-    requires small { size (record_type (fields_of_types table.now types.now)) ≤ 16777216 }
-    requires short { length source.now < 2 ^ 32 }
-    requires kinds { map kind_of flats.now ≡ passed_kinds max_flat_results (fields_of_types table.now types.now) }
-    ensures told { let ts = fields_of_types table.now types.now in
-        IfOk result (IsToldAhead (Denotes max_flat_results ts source.now flats.now) (fields_requests ts) slots.old slots.new) }
-    ensures fault { IfErr result (DenotesFault max_flat_results (fields_of_types table.now types.now) source.now flats.now) }
-{
-    let mut count = 0;
-    let members = Members::Listed(types);
-    let fields = types.len();
-    let Some(_) = table.count_within(types, 1) else {
-        let (size, align) = table.record_extent(types);
-        let from = low_word(flats, 0) as usize;
-        test_block(source.len(), from, align, size)?;
-        ask_fields(table, &members, fields, source, from, slots, &mut count)?;
-        return Ok(count);
-    };
-    ask_flat_fields(table, &members, fields, source, flats, slots, &mut count)?;
-    Ok(count)
+    /// Tells the same of the result of a call, of at most one type. Where it doesn't go flat it is put into the return area, for
+    /// which nothing is asked.
+    pub fn ask_result(
+        &self,
+        types: &[ValType],
+        flats: &[Flat],
+        slots: &mut [Request],
+    ) -> Result<usize, TrapKind>
+        requires inside { AreAllInside self.now.types.now types.now }
+        requires small { size (record_type (fields_of_types self.now.types.now types.now)) ≤ 16777216 }
+        requires short { length self.now.source.now < 2 ^ 32 }
+        requires kinds { map kind_of flats.now ≡ passed_kinds max_flat_results (fields_of_types self.now.types.now types.now) }
+        ensures told { let ts = fields_of_types self.now.types.now types.now in
+            IfOk result (IsToldAhead (Denotes max_flat_results ts self.now.source.now flats.now) (fields_requests ts) slots.old slots.new) }
+        ensures fault { IfErr result (DenotesFault max_flat_results (fields_of_types self.now.types.now types.now) self.now.source.now flats.now) }
+    {
+        let mut count = 0;
+        let members = Members::Listed(types);
+        let fields = types.len();
+        let Some(_) = self.types.count_within(types, 1) else {
+            let (size, align) = self.types.record_extent(types);
+            let from = low_word(flats, 0) as usize;
+            test_block(self.source.len(), from, align, size)?;
+            self.ask_fields(&members, fields, from, slots, &mut count)?;
+            return Ok(count);
+        };
+        self.ask_flat_fields(&members, fields, flats, slots, &mut count)?;
+        Ok(count)
+    }
 }

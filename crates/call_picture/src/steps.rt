@@ -7,7 +7,7 @@ ghost use Rattle.tables.specs.Closed.{function_type};
 
 use crate::call::{Call, result_type};
 use crate::course::{Course, copied};
-use adapter::Link;
+use adapter::{Invocation, Link};
 use canonical_abi::{Fault, Flat, Step, Trap, TrapKind};
 use lift_lower::{Flats, Val, ask_area, is_area, lower_answer, lower_arguments, take_result};
 
@@ -35,13 +35,11 @@ impl Call<'_> {
     fn enter(&self, course: &mut Course, passed: &[Flat]) -> Result<(), Fault> {
         let mut link = Link::new(self.resolve, self.layouts);
         let mut handed = Flats::new();
-        let entered = link.enter(
-            self.func,
-            passed,
-            &course.caller,
-            &mut course.callee,
-            &mut handed,
-        );
+        let call = &Invocation {
+            func: self.func,
+            flats: passed,
+        };
+        let entered = link.enter(call, &course.caller, &mut course.callee, &mut handed);
         course.nodes_there = link.nodes().0;
         entered?;
         course.handed = Some(copied(self.alloc, handed.as_slice())?);
@@ -71,9 +69,12 @@ impl Call<'_> {
     ) -> Result<Flats, Fault> {
         let mut link = Link::new(self.resolve, self.layouts);
         let mut back = Flats::new();
+        let call = &Invocation {
+            func: self.func,
+            flats: passed,
+        };
         let left = link.leave(
-            self.func,
-            passed,
+            call,
             answered,
             &mut course.caller,
             &course.callee,

@@ -4,3 +4,4 @@ pub mod Nodes
 pub mod Flats
 pub mod Passing
 pub mod Ahead
+mod Stepping

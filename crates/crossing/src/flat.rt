@@ -10,52 +10,17 @@ ghost use Rattle.lift_lower.specs.Members.{AreInside, members_fields};
 ghost use Rattle.lift_lower.specs.Types.{IsInside};
 ghost use Rattle.tables.specs.Closed.{closed_type, prim_of};
 
+use crate::addresses::Elements;
 use crate::stopped::Stopped;
-use crate::walk::cross_elements;
+use crate::walk::{Fields, Walk, are_bytes};
 use canonical_abi::{Flat, Guest, TrapKind};
 use layout::Shape;
 use lift_lower::nodes::{
     Members, ask_block, flags_in, push_header, push_joined, scalar_in, test_block, text_in,
     write_bytes,
 };
-use lift_lower::{Flats, Types, low_word, lower_scalar};
+use lift_lower::{Flats, low_word, lower_scalar};
 use tables::{Primitive, ValType};
-
-/// Carries on the value in the first of these flat values.
-#[cycle(flat)]
-fn cross_flat<G: Guest>(
-    table: &Types,
-    ty: ValType,
-    source: &[u8],
-    flats: &[Flat],
-    guest: &mut G,
-    out: &mut Flats,
-    nodes: &mut u64,
-) -> Result<(), Stopped>
-    requires inside { IsInside table.now ty }
-    requires short { length source.now < 2 ^ 32 }
-    requires carried { length (flat_kinds (closed_type table.now ty)) ≤ length flats.now }
-    requires few { length flats.now ≤ 16 }
-    requires room { length out.old.items + length (flat_kinds (closed_type table.now ty)) ≤ 16 }
-    ensures { FlatEnds G.allocates (FlatWalks (closed_type table.now ty) source.now (map number_of flats.now) out.old.items)
-        (G.memory guest.old) nodes.old result (G.memory guest.new) nodes.new out.new.items }
-{
-    *nodes = nodes.saturating_add(1);
-    match table.shape_of(ty) {
-        Shape::Primitive(primitive) => carry_primitive(primitive, flats, out),
-        Shape::String => carry_text(source, flats, guest, out),
-        Shape::List(element) => carry_list(table, element, source, flats, guest, out, nodes),
-        Shape::Record(count) => {
-            let members = Members::Of(ty);
-            carry_fields(table, &members, count, source, flats, guest, out, nodes)
-        }
-        Shape::Variant(_) => carry_variant(table, ty, source, flats, guest, out, nodes),
-        Shape::Flags(labels) => {
-            out.push(Flat::I32(flags_in(flats, labels)));
-            Ok(())
-        }
-    }
-}
 
 /// Carries on a primitive other than string.
 fn carry_primitive(primitive: Primitive, flats: &[Flat], out: &mut Flats) -> Result<(), Stopped>
@@ -101,115 +66,150 @@ fn carry_text<G: Guest>(
     Ok(())
 }
 
-/// Carries on a list: its block is tested, one of the same size is asked for, and its elements cross into that.
-fn carry_list<G: Guest>(
-    table: &Types,
-    element: ValType,
-    source: &[u8],
-    flats: &[Flat],
-    guest: &mut G,
-    out: &mut Flats,
-    nodes: &mut u64,
-) -> Result<(), Stopped>
-    requires inside { IsInside table.now element }
-    requires short { length source.now < 2 ^ 32 }
-    requires some { 1 < length flats.now }
-    requires room { length out.old.items + 2 ≤ 16 }
-    ensures { FlatEnds G.allocates (FlatBehind (FlatWalks (list_type (closed_type table.now element)) source.now (map number_of flats.now) out.old.items))
-        (G.memory guest.old) nodes.old result (G.memory guest.new) nodes.new out.new.items }
-{
-    canonical_abi::laws::reads_exactly();
-    let start = low_word(flats, 0) as usize;
-    let count = low_word(flats, 1) as usize;
-    let align = table.align_of(element);
-    let size = count * table.size_of(element);
-    if let Err(kind) = test_block(source.len(), start, align, size) {
-        return Err(Stopped::Source(kind));
+impl Walk<'_> {
+    /// Carries on the value in the first of these flat values.
+    #[cycle(flat)]
+    fn cross_flat<G: Guest>(
+        &self,
+        ty: ValType,
+        flats: &[Flat],
+        guest: &mut G,
+        out: &mut Flats,
+        nodes: &mut u64,
+    ) -> Result<(), Stopped>
+        requires inside { IsInside self.now.types.now ty }
+        requires short { length self.now.source.now < 2 ^ 32 }
+        requires carried { length (flat_kinds (closed_type self.now.types.now ty)) ≤ length flats.now }
+        requires few { length flats.now ≤ 16 }
+        requires room { length out.old.items + length (flat_kinds (closed_type self.now.types.now ty)) ≤ 16 }
+        ensures { FlatEnds G.allocates (FlatWalks (closed_type self.now.types.now ty) self.now.source.now (map number_of flats.now) out.old.items)
+            (G.memory guest.old) nodes.old result (G.memory guest.new) nodes.new out.new.items }
+    {
+        *nodes = nodes.saturating_add(1);
+        match self.types.shape_of(ty) {
+            Shape::Primitive(primitive) => carry_primitive(primitive, flats, out),
+            Shape::String => carry_text(self.source, flats, guest, out),
+            Shape::List(element) => self.carry_list(element, flats, guest, out, nodes),
+            Shape::Record(count) => {
+                let fields = Fields {
+                    members: Members::Of(ty),
+                    count,
+                };
+                self.carry_fields(&fields, flats, guest, out, nodes)
+            }
+            Shape::Variant(_) => self.carry_variant(ty, flats, guest, out, nodes),
+            Shape::Flags(labels) => {
+                out.push(Flat::I32(flags_in(flats, labels)));
+                Ok(())
+            }
+        }
     }
-    let place = match ask_block(guest, u32::MAX, align, size) {
-        Ok(place) => place,
-        Err(kind) => return Err(Stopped::Target(kind)),
-    };
-    cross_elements(table, element, source, start, count, guest, place, nodes)?;
-    push_header(out, place, count);
-    Ok(())
-}
 
-/// Carries on the members of a record, each in the flat values behind those of the member before it: `out` grows by
-/// the flat values that carry them, and `nodes` by the nodes that were visited, as far as it has room. Where it ends
-/// early, what was put behind `out` says nothing. CanonicalABI.md, "Flat Lifting" and "Flat Lowering".
-#[cycle(flat)]
-pub fn carry_fields<G: Guest>(
-    table: &Types,
-    members: &Members,
-    count: usize,
-    source: &[u8],
-    flats: &[Flat],
-    guest: &mut G,
-    out: &mut Flats,
-    nodes: &mut u64,
-) -> Result<(), Stopped>
-    requires inside { AreInside table.now members.now }
-    requires short { length source.now < 2 ^ 32 }
-    requires counted { field_count (members_fields table.now members.now) ≡ count }
-    requires carried { length (field_kinds (members_fields table.now members.now)) ≤ length flats.now }
-    requires few { length flats.now ≤ 16 }
-    requires room { length out.old.items + length (field_kinds (members_fields table.now members.now)) ≤ 16 }
-    ensures { FlatEnds G.allocates (FieldsFlatWalk (members_fields table.now members.now) source.now (map number_of flats.now) out.old.items)
-        (G.memory guest.old) nodes.old result (G.memory guest.new) nodes.new out.new.items }
-{
-    let mut used: usize = 0;
-    for index in 0..count {
-        let Some(member) = table.member_type(members, index) else {
-            unreachable!()
+    /// Carries on a list: its block is tested, one of the same size is asked for, and its elements cross into that.
+    fn carry_list<G: Guest>(
+        &self,
+        element: ValType,
+        flats: &[Flat],
+        guest: &mut G,
+        out: &mut Flats,
+        nodes: &mut u64,
+    ) -> Result<(), Stopped>
+        requires inside { IsInside self.now.types.now element }
+        requires short { length self.now.source.now < 2 ^ 32 }
+        requires some { 1 < length flats.now }
+        requires room { length out.old.items + 2 ≤ 16 }
+        ensures { FlatEnds G.allocates (FlatBehind (FlatWalks (list_type (closed_type self.now.types.now element)) self.now.source.now (map number_of flats.now) out.old.items))
+            (G.memory guest.old) nodes.old result (G.memory guest.new) nodes.new out.new.items }
+    {
+        canonical_abi::laws::reads_exactly();
+        are_bytes(self.source);
+        let start = low_word(flats, 0) as usize;
+        let count = low_word(flats, 1) as usize;
+        let align = self.types.align_of(element);
+        let size = count * self.types.size_of(element);
+        if let Err(kind) = test_block(self.source.len(), start, align, size) {
+            return Err(Stopped::Source(kind));
+        }
+        let place = match ask_block(guest, u32::MAX, align, size) {
+            Ok(place) => place,
+            Err(kind) => return Err(Stopped::Target(kind)),
         };
-        let rest = &flats[used..];
-        cross_flat(table, member, source, rest, guest, out, nodes)?;
-        used += table.kind_count(member);
+        let elements = Elements {
+            from: start,
+            to: place,
+            count,
+        };
+        self.cross_elements(element, elements, guest, nodes)?;
+        push_header(out, place, count);
+        Ok(())
     }
-    Ok(())
-}
 
-/// Carries on the number of a case, and then its payload in the joined kinds of all payloads.
-#[cycle(flat)]
-fn carry_variant<G: Guest>(
-    table: &Types,
-    ty: ValType,
-    source: &[u8],
-    flats: &[Flat],
-    guest: &mut G,
-    out: &mut Flats,
-    nodes: &mut u64,
-) -> Result<(), Stopped>
-    requires inside { IsInside table.now ty }
-    requires variant { variant_type (variant_cases (closed_type table.now ty)) ≡ closed_type table.now ty }
-    requires short { length source.now < 2 ^ 32 }
-    requires carried { length (payload_kinds (variant_cases (closed_type table.now ty))) < length flats.now }
-    requires few { length flats.now ≤ 16 }
-    requires room { length out.old.items + length (flat_kinds (closed_type table.now ty)) ≤ 16 }
-    ensures { FlatEnds G.allocates (FlatBehind (FlatWalks (variant_type (variant_cases (closed_type table.now ty))) source.now (map number_of flats.now) out.old.items))
-        (G.memory guest.old) nodes.old result (G.memory guest.new) nodes.new out.new.items }
-{
-    let case = low_word(flats, 0);
-    let Some(known) = table.case_payload(ty, case as usize) else {
-        return Err(Stopped::Source(TrapKind::Case));
-    };
-    let kinds = table.kinds_of(ty);
-    out.push(Flat::I32(case));
-    let Some(member) = known else {
-        push_joined(&kinds.as_slice()[1..], &[], out);
-        return Ok(());
-    };
-    let mut carried = Flats::new();
-    cross_flat(
-        table,
-        member,
-        source,
-        &flats[1..],
-        guest,
-        &mut carried,
-        nodes,
-    )?;
-    push_joined(&kinds.as_slice()[1..], carried.as_slice(), out);
-    Ok(())
+    /// Carries on the members of a record, each in the flat values behind those of the member before it: `out` grows by
+    /// the flat values that carry them, and `nodes` by the nodes that were visited, as far as it has room. Where it ends
+    /// early, what was put behind `out` says nothing. CanonicalABI.md, "Flat Lifting" and "Flat Lowering".
+    #[cycle(flat)]
+    pub fn carry_fields<G: Guest>(
+        &self,
+        fields: &Fields,
+        flats: &[Flat],
+        guest: &mut G,
+        out: &mut Flats,
+        nodes: &mut u64,
+    ) -> Result<(), Stopped>
+        requires inside { AreInside self.now.types.now fields.now.members }
+        requires short { length self.now.source.now < 2 ^ 32 }
+        requires counted { field_count (members_fields self.now.types.now fields.now.members) ≡ fields.now.count }
+        requires carried { length (field_kinds (members_fields self.now.types.now fields.now.members)) ≤ length flats.now }
+        requires few { length flats.now ≤ 16 }
+        requires room { length out.old.items + length (field_kinds (members_fields self.now.types.now fields.now.members)) ≤ 16 }
+        ensures { FlatEnds G.allocates (FieldsFlatWalk (members_fields self.now.types.now fields.now.members) self.now.source.now (map number_of flats.now) out.old.items)
+            (G.memory guest.old) nodes.old result (G.memory guest.new) nodes.new out.new.items }
+    {
+        are_bytes(self.source);
+        let mut used: usize = 0;
+        for index in 0..fields.count {
+            let Some(member) = self.types.member_type(&fields.members, index) else {
+                unreachable!()
+            };
+            let rest = &flats[used..];
+            self.cross_flat(member, rest, guest, out, nodes)?;
+            used += self.types.kind_count(member);
+        }
+        Ok(())
+    }
+
+    /// Carries on the number of a case, and then its payload in the joined kinds of all payloads.
+    #[cycle(flat)]
+    fn carry_variant<G: Guest>(
+        &self,
+        ty: ValType,
+        flats: &[Flat],
+        guest: &mut G,
+        out: &mut Flats,
+        nodes: &mut u64,
+    ) -> Result<(), Stopped>
+        requires inside { IsInside self.now.types.now ty }
+        requires variant { variant_type (variant_cases (closed_type self.now.types.now ty)) ≡ closed_type self.now.types.now ty }
+        requires short { length self.now.source.now < 2 ^ 32 }
+        requires carried { length (payload_kinds (variant_cases (closed_type self.now.types.now ty))) < length flats.now }
+        requires few { length flats.now ≤ 16 }
+        requires room { length out.old.items + length (flat_kinds (closed_type self.now.types.now ty)) ≤ 16 }
+        ensures { FlatEnds G.allocates (FlatBehind (FlatWalks (variant_type (variant_cases (closed_type self.now.types.now ty))) self.now.source.now (map number_of flats.now) out.old.items))
+            (G.memory guest.old) nodes.old result (G.memory guest.new) nodes.new out.new.items }
+    {
+        let case = low_word(flats, 0);
+        let Some(known) = self.types.case_payload(ty, case as usize) else {
+            return Err(Stopped::Source(TrapKind::Case));
+        };
+        let kinds = self.types.kinds_of(ty);
+        out.push(Flat::I32(case));
+        let Some(member) = known else {
+            push_joined(&kinds.as_slice()[1..], &[], out);
+            return Ok(());
+        };
+        let mut carried = Flats::new();
+        self.cross_flat(member, &flats[1..], guest, &mut carried, nodes)?;
+        push_joined(&kinds.as_slice()[1..], carried.as_slice(), out);
+        Ok(())
+    }
 }

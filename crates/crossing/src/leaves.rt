@@ -6,6 +6,7 @@ ghost use Rattle.canonical_abi.specs.Layout.{prim_width, flags_size};
 ghost use Rattle.tables.specs.Closed.{prim_of};
 ghost use Rattle.crossing.specs.Outcome.{Walks, Behind, Ends};
 
+use crate::addresses::Addresses;
 use crate::stopped::Stopped;
 use canonical_abi::Guest;
 use lift_lower::nodes::{
@@ -18,20 +19,19 @@ use tables::Primitive;
 pub(crate) fn cross_primitive<G: Guest>(
     primitive: Primitive,
     source: &[u8],
-    from: usize,
+    at: Addresses,
     guest: &mut G,
-    to: usize,
 ) -> Result<(), Stopped>
-    requires inside { from + byte_len (prim_width (prim_of primitive)) ≤ length source.now }
-    requires room { to + byte_len (prim_width (prim_of primitive)) ≤ length (G.memory guest.old).bytes }
-    requires small { to < 2 ^ 32 }
+    requires inside { at.from + byte_len (prim_width (prim_of primitive)) ≤ length source.now }
+    requires room { at.to + byte_len (prim_width (prim_of primitive)) ≤ length (G.memory guest.old).bytes }
+    requires small { at.to < 2 ^ 32 }
     requires short { length source.now < 2 ^ 32 }
-    ensures { (n : ℕ) → Ends G.allocates (Behind (Walks (prim_type (prim_of primitive)) source.now from to))
+    ensures { (n : ℕ) → Ends G.allocates (Behind (Walks (prim_type (prim_of primitive)) source.now at.from at.to))
         (G.memory guest.old) n result (G.memory guest.new) n }
 {
-    match scalar_at(primitive, source, from) {
+    match scalar_at(primitive, source, at.from) {
         Ok(scalar) => {
-            write_scalar(guest, to, scalar);
+            write_scalar(guest, at.to, scalar);
             Ok(())
         }
         Err(kind) => Err(Stopped::Source(kind)),
@@ -42,19 +42,18 @@ pub(crate) fn cross_primitive<G: Guest>(
 pub(crate) fn cross_flags<G: Guest>(
     labels: usize,
     source: &[u8],
-    from: usize,
+    at: Addresses,
     guest: &mut G,
-    to: usize,
 ) -> Result<(), Stopped>
-    requires inside { from + flags_size labels ≤ length source.now }
-    requires room { to + flags_size labels ≤ length (G.memory guest.old).bytes }
-    requires small { to < 2 ^ 32 }
-    ensures { (n : ℕ) → Ends G.allocates (Behind (Walks (flags_type labels) source.now from to))
+    requires inside { at.from + flags_size labels ≤ length source.now }
+    requires room { at.to + flags_size labels ≤ length (G.memory guest.old).bytes }
+    requires small { at.to < 2 ^ 32 }
+    ensures { (n : ℕ) → Ends G.allocates (Behind (Walks (flags_type labels) source.now at.from at.to))
         (G.memory guest.old) n result (G.memory guest.new) n }
 {
     let width = flags_bytes(labels);
-    let bits = number_of_size(source, from, width);
-    write_number(guest, to, width, low_flags(bits, labels));
+    let bits = number_of_size(source, at.from, width);
+    write_number(guest, at.to, width, low_flags(bits, labels));
     Ok(())
 }
 
@@ -62,19 +61,18 @@ pub(crate) fn cross_flags<G: Guest>(
 #[inline(always)]
 pub(crate) fn cross_text<G: Guest>(
     source: &[u8],
-    from: usize,
+    at: Addresses,
     guest: &mut G,
-    to: usize,
 ) -> Result<(), Stopped>
-    requires inside { from + 8 ≤ length source.now }
-    requires room { to + 8 ≤ length (G.memory guest.old).bytes }
-    requires small { to < 2 ^ 32 }
+    requires inside { at.from + 8 ≤ length source.now }
+    requires room { at.to + 8 ≤ length (G.memory guest.old).bytes }
+    requires small { at.to < 2 ^ 32 }
     requires short { length source.now < 2 ^ 32 }
-    ensures { (n : ℕ) → Ends G.allocates (Behind (Walks string_type source.now from to))
+    ensures { (n : ℕ) → Ends G.allocates (Behind (Walks string_type source.now at.from at.to))
         (G.memory guest.old) n result (G.memory guest.new) n }
 {
-    let start = u32_at(source, from) as usize;
-    let len = u32_at(source, from + 4) as usize;
+    let start = u32_at(source, at.from) as usize;
+    let len = u32_at(source, at.from + 4) as usize;
     let text = match text_in(source, start, len) {
         Ok(text) => text,
         Err(kind) => return Err(Stopped::Source(kind)),
@@ -84,6 +82,6 @@ pub(crate) fn cross_text<G: Guest>(
         Err(kind) => return Err(Stopped::Target(kind)),
     };
     write_bytes(guest, place, text.as_bytes());
-    write_header(guest, to, place, text.len());
+    write_header(guest, at.to, place, text.len());
     Ok(())
 }

@@ -6,16 +6,18 @@
 //! (the parts of one node) and on any `Guest`, honest or not.
 #![tactic(auto)]
 
+mod addresses;
 mod flat;
 mod fronts;
 mod leaves;
 mod lists;
+mod records;
 mod stopped;
 mod texts;
 mod walk;
 mod ways;
 
-pub use flat::carry_fields;
+pub use addresses::Addresses;
 pub use stopped::Stopped;
-pub use walk::{cross_at, cross_fields};
-pub use ways::{cross_params, cross_result};
+pub use walk::{Fields, Walk};
+pub use ways::Returned;

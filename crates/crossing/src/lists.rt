@@ -6,6 +6,7 @@ ghost use Rattle.lift_lower.specs.Types.{IsInside};
 ghost use Rattle.ranges.specs.Bytewise.{IsNumber};
 ghost use Rattle.tables.specs.Closed.{closed_type, prim_of};
 
+use crate::addresses::{Addresses, Elements};
 use crate::stopped::Stopped;
 use canonical_abi::Guest;
 use layout::Shape;
@@ -33,28 +34,27 @@ pub(crate) fn listed_number(table: &Types, ty: ValType) -> Option<Primitive>
 /// Crosses a list of numbers: its block is tested, one of the same size is asked for, and then its header and its numbers are
 /// written, these as one range.
 #[inline(always)]
-fn cross_listed<G: Guest>(
+pub(crate) fn cross_listed<G: Guest>(
     primitive: Primitive,
     source: &[u8],
-    from: usize,
+    at: Addresses,
     guest: &mut G,
-    to: usize,
     nodes: &mut u64,
 ) -> Result<(), Stopped>
     requires number { IsNumber (prim_of primitive) }
     requires short { length source.now < 2 ^ 32 }
-    requires fits { from + 8 ≤ length source.now }
-    requires room { to + 8 ≤ length (G.memory guest.old).bytes }
-    requires small { to + 8 < 2 ^ 32 }
-    ensures { Ends G.allocates (Behind (Walks (list_type (prim_type (prim_of primitive))) source.now from to))
+    requires fits { at.from + 8 ≤ length source.now }
+    requires room { at.to + 8 ≤ length (G.memory guest.old).bytes }
+    requires small { at.to + 8 < 2 ^ 32 }
+    ensures { Ends G.allocates (Behind (Walks (list_type (prim_type (prim_of primitive))) source.now at.from at.to))
         (G.memory guest.old) nodes.old result (G.memory guest.new) nodes.new }
 {
     canonical_abi::laws::reads_exactly();
     let Some(width) = number_width(primitive) else {
         unreachable!()
     };
-    let start = u32_at(source, from) as usize;
-    let count = u32_at(source, from + 4) as usize;
+    let start = u32_at(source, at.from) as usize;
+    let count = u32_at(source, at.from + 4) as usize;
     let size = count * width;
     if let Err(kind) = test_block(source.len(), start, width, size) {
         return Err(Stopped::Source(kind));
@@ -63,7 +63,7 @@ fn cross_listed<G: Guest>(
         Ok(place) => place,
         Err(kind) => return Err(Stopped::Target(kind)),
     };
-    write_header(guest, to, place, count);
+    write_header(guest, at.to, place, count);
     cross_numbers(width, source, start, count, guest, place);
     *nodes = nodes.saturating_add(count as u64);
     Ok(())
@@ -71,28 +71,30 @@ fn cross_listed<G: Guest>(
 
 /// Crosses so many lists of numbers one after another: a loop by itself, with no look at their type for each.
 #[inline(always)]
-fn cross_each<G: Guest>(
+fn cross_each_list<G: Guest>(
     primitive: Primitive,
     source: &[u8],
-    from: usize,
-    count: usize,
+    elements: Elements,
     guest: &mut G,
-    to: usize,
     nodes: &mut u64,
 ) -> Result<(), Stopped>
     requires number { IsNumber (prim_of primitive) }
     requires short { length source.now < 2 ^ 32 }
-    requires fits { from + count * 8 ≤ length source.now }
-    requires room { to + count * 8 ≤ length (G.memory guest.old).bytes }
-    requires small { to + count * 8 < 2 ^ 32 }
-    ensures { Ends G.allocates (EachWalks (list_type (prim_type (prim_of primitive))) source.now from to count)
+    requires fits { elements.from + elements.count * 8 ≤ length source.now }
+    requires room { elements.to + elements.count * 8 ≤ length (G.memory guest.old).bytes }
+    requires small { elements.to + elements.count * 8 < 2 ^ 32 }
+    ensures { Ends G.allocates (EachWalks (list_type (prim_type (prim_of primitive))) source.now elements.from elements.to elements.count)
         (G.memory guest.old) nodes.old result (G.memory guest.new) nodes.new }
 {
     canonical_abi::laws::reads_exactly();
-    for index in 0..count {
+    for index in 0..elements.count {
         let ahead = index * 8;
+        let at = Addresses {
+            from: elements.from + ahead,
+            to: elements.to + ahead,
+        };
         *nodes = nodes.saturating_add(1);
-        cross_listed(primitive, source, from + ahead, guest, to + ahead, nodes)?;
+        cross_listed(primitive, source, at, guest, nodes)?;
     }
     Ok(())
 }
@@ -102,24 +104,22 @@ fn cross_each<G: Guest>(
 pub(crate) fn cross_lists<G: Guest>(
     primitive: Primitive,
     source: &[u8],
-    from: usize,
-    count: usize,
+    elements: Elements,
     guest: &mut G,
-    to: usize,
     nodes: &mut u64,
 ) -> Result<(), Stopped>
     requires number { IsNumber (prim_of primitive) }
     requires short { length source.now < 2 ^ 32 }
-    requires fits { from + count * 8 ≤ length source.now }
-    requires room { to + count * 8 ≤ length (G.memory guest.old).bytes }
-    requires small { to + count * 8 < 2 ^ 32 }
-    ensures { Ends G.allocates (EachWalks (list_type (prim_type (prim_of primitive))) source.now from to count)
+    requires fits { elements.from + elements.count * 8 ≤ length source.now }
+    requires room { elements.to + elements.count * 8 ≤ length (G.memory guest.old).bytes }
+    requires small { elements.to + elements.count * 8 < 2 ^ 32 }
+    ensures { Ends G.allocates (EachWalks (list_type (prim_type (prim_of primitive))) source.now elements.from elements.to elements.count)
         (G.memory guest.old) nodes.old result (G.memory guest.new) nodes.new }
 {
     let mut seen = *nodes;
     let done = match primitive {
-        Primitive::U8 => cross_each(Primitive::U8, source, from, count, guest, to, &mut seen),
-        _ => cross_each(primitive, source, from, count, guest, to, &mut seen),
+        Primitive::U8 => cross_each_list(Primitive::U8, source, elements, guest, &mut seen),
+        _ => cross_each_list(primitive, source, elements, guest, &mut seen),
     };
     *nodes = seen;
     done

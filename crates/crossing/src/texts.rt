@@ -3,32 +3,35 @@ ghost use Rattle.std.specs.Prelude.{ℕ, ◌+◌, ◌*◌, ◌^◌, ◌<◌, ◌
 ghost use Rattle.canonical_abi.specs.Types.{string_type};
 ghost use Rattle.crossing.specs.Outcome.{EachWalks, Ends};
 
+use crate::addresses::{Addresses, Elements};
 use crate::leaves::cross_text;
 use crate::stopped::Stopped;
 use canonical_abi::Guest;
 
 /// Crosses so many texts one after another: a loop by itself, with no look at their type for each.
 #[inline(always)]
-fn cross_each<G: Guest>(
+fn cross_each_text<G: Guest>(
     source: &[u8],
-    from: usize,
-    count: usize,
+    elements: Elements,
     guest: &mut G,
-    to: usize,
     nodes: &mut u64,
 ) -> Result<(), Stopped>
     requires short { length source.now < 2 ^ 32 }
-    requires fits { from + count * 8 ≤ length source.now }
-    requires room { to + count * 8 ≤ length (G.memory guest.old).bytes }
-    requires small { to + count * 8 < 2 ^ 32 }
-    ensures { Ends G.allocates (EachWalks string_type source.now from to count)
+    requires fits { elements.from + elements.count * 8 ≤ length source.now }
+    requires room { elements.to + elements.count * 8 ≤ length (G.memory guest.old).bytes }
+    requires small { elements.to + elements.count * 8 < 2 ^ 32 }
+    ensures { Ends G.allocates (EachWalks string_type source.now elements.from elements.to elements.count)
         (G.memory guest.old) nodes.old result (G.memory guest.new) nodes.new }
 {
     canonical_abi::laws::reads_exactly();
-    for index in 0..count {
+    for index in 0..elements.count {
         let ahead = index * 8;
+        let at = Addresses {
+            from: elements.from + ahead,
+            to: elements.to + ahead,
+        };
         *nodes = nodes.saturating_add(1);
-        cross_text(source, from + ahead, guest, to + ahead)?;
+        cross_text(source, at, guest)?;
     }
     Ok(())
 }
@@ -36,21 +39,19 @@ fn cross_each<G: Guest>(
 /// Crosses so many texts. The nodes are counted in a place of their own, which can be a register.
 pub(crate) fn cross_texts<G: Guest>(
     source: &[u8],
-    from: usize,
-    count: usize,
+    elements: Elements,
     guest: &mut G,
-    to: usize,
     nodes: &mut u64,
 ) -> Result<(), Stopped>
     requires short { length source.now < 2 ^ 32 }
-    requires fits { from + count * 8 ≤ length source.now }
-    requires room { to + count * 8 ≤ length (G.memory guest.old).bytes }
-    requires small { to + count * 8 < 2 ^ 32 }
-    ensures { Ends G.allocates (EachWalks string_type source.now from to count)
+    requires fits { elements.from + elements.count * 8 ≤ length source.now }
+    requires room { elements.to + elements.count * 8 ≤ length (G.memory guest.old).bytes }
+    requires small { elements.to + elements.count * 8 < 2 ^ 32 }
+    ensures { Ends G.allocates (EachWalks string_type source.now elements.from elements.to elements.count)
         (G.memory guest.old) nodes.old result (G.memory guest.new) nodes.new }
 {
     let mut seen = *nodes;
-    let done = cross_each(source, from, count, guest, to, &mut seen);
+    let done = cross_each_text(source, elements, guest, &mut seen);
     *nodes = seen;
     done
 }

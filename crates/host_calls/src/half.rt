@@ -7,7 +7,7 @@ ghost use Rattle.tables.specs.Closed.{IsFunction, function_type};
 ghost use Rattle.host_calls.specs.Halves.{EntersLent, EntryOfLentFails, ReturnsLent, ReturnOfLentFails};
 
 use crate::half_error::{HalfError, half_error};
-use adapter::Link;
+use adapter::{Invocation, Link};
 use canonical_abi::{Fault, Flat};
 use lift_lower::{Flats, Types};
 use memory::{Block, Lent};
@@ -59,7 +59,11 @@ impl Half<'_> {
         let mut target = Lent::new(callee, self.blocks);
         let (resolve, layouts) = (self.types.resolve(), self.types.layouts());
         let mut link = Link::new(resolve, layouts);
-        let done = link.enter(self.func, flats, &source, &mut target, handed);
+        let call = &Invocation {
+            func: self.func,
+            flats,
+        };
+        let done = link.enter(call, &source, &mut target, handed);
         let left = target.left().len();
         match done {
             Ok(()) => Ok(()),
@@ -96,7 +100,11 @@ impl Half<'_> {
         let mut target = Lent::new(caller, self.blocks);
         let (resolve, layouts) = (self.types.resolve(), self.types.layouts());
         let mut link = Link::new(resolve, layouts);
-        let done = link.leave(self.func, flats, answer, &mut target, &source, back);
+        let call = &Invocation {
+            func: self.func,
+            flats,
+        };
+        let done = link.leave(call, answer, &mut target, &source, back);
         let left = target.left().len();
         match done {
             Ok(()) => Ok(()),

@@ -8,3 +8,5 @@ pub mod ByCase
 pub mod Whole
 pub mod Filled
 pub mod Filling
+pub mod Laid
+pub mod Planning

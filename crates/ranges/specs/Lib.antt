@@ -1,2 +1,3 @@
 pub mod Bytewise
 pub mod Plan
+pub mod Columns

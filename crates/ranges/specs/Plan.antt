@@ -1,5 +1,5 @@
 -- What a plan tells of a type.
-use Rattle.std.specs.Prelude.{◌≡◌, ℕ, zero, suc, ◌+◌, ◌-◌, ◌*◌, ◌%◌, ◌<◌, ◌≤◌, cond, nat_lt, List, Some, get_or}
+use Rattle.std.specs.Prelude.{◌≡◌, ℕ, suc, ◌+◌, ◌-◌, ◌*◌, ◌<◌, ◌≤◌, cond, nat_lt, List, Some, get_or}
 use Rattle.canonical_abi.specs.Types.{ClosedType, Cases, case_count, nth_case}
 use Rattle.canonical_abi.specs.Layout.{discriminant_size, payload_place}
 use Rattle.ranges.specs.Bytewise.{IsBytewise, IsTested, IsTestedCase, cap_at, case_cap, nodes_at, nodes_of_case}
@@ -27,8 +27,3 @@ pub record IsRow (cs : Cases) (n : ℕ) (caps : List ℕ) (nodes : ℕ) : Type 0
   pub tested : (m : List ℕ) (b : ℕ) → IsTestedCase cs m b n
   pub caps_are : (m : List ℕ) (b i : ℕ) → i < 16 → get_or caps (n * 16 + i) 0 ≡ row_cap cs m b n i
   pub visited : (m : List ℕ) (b : ℕ) → suc (nodes_of_case cs m b n) ≡ nodes
-
--- the nodes of the first n elements of a part, by the numbers of their cases
-abbrev pub row_nodes : ℕ → List ℕ → List ℕ → ℕ → ℕ
-row_nodes step nodes part zero = 0
-row_nodes step nodes part (suc n) = row_nodes step nodes part n + get_or nodes (get_or part (n * step) 0 % 16) 0

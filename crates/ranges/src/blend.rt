@@ -18,7 +18,7 @@ pub struct Caps {
 }
 
 /// The caps of one element after another, for so many bytes.
-fn repeat(caps: &mut [u8; 2048], pattern: &[u8; 256], size: usize, len: usize)
+pub(crate) fn repeat(caps: &mut [u8; 2048], pattern: &[u8; 256], size: usize, len: usize)
     requires some { 0 < size }
     requires small { size ≤ 64 }
     requires few { len ≤ 2048 }
@@ -145,7 +145,7 @@ fn is_whole(element: &Caps) -> bool
 }
 
 /// Crosses elements of a type that crosses byte by byte, whose tests all stand.
-pub fn cross_capped<G: Guest>(
+pub(crate) fn cross_capped<G: Guest>(
     element: &Caps,
     source: &[u8],
     from: usize,

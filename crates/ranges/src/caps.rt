@@ -3,38 +3,14 @@ ghost use Rattle.std.specs.Prelude.{◌≡◌, ◌≢◌, ℕ, ◌+◌, ◌*◌,
 ghost use Rattle.canonical_abi.specs.Types.{prim_type, flags_type, record_type, record_fields, field_count, scalar_value};
 ghost use Rattle.canonical_abi.specs.Layout.{size, end_from, field_extents};
 ghost use Rattle.lift_lower.specs.Types.{IsInside};
-ghost use Rattle.ranges.specs.Bytewise.{IsBytewise, IsTested, HasCaps, caps, nodes_at};
+ghost use Rattle.ranges.specs.Bytewise.{caps};
 ghost use Rattle.ranges.specs.Plan.{IsBlank, Fills};
 ghost use Rattle.tables.specs.Closed.{closed_type, prim_of};
 
-use crate::blend::Caps;
 use layout::Shape;
 use lift_lower::Types;
 use lift_lower::nodes::Members;
 use tables::{Primitive, ValType};
-
-/// The most bytes of an element that has caps.
-const MOST: usize = 64;
-
-/// How the bytes of a type's values cross, where they do so byte by byte with no tests: numbers, bools, flags of 8, 16 or
-/// 32 labels and records of these, within 64 bytes and 255 nodes.
-pub fn caps_of(table: &Types, ty: ValType) -> Option<Caps>
-    requires inside { IsInside table.now ty }
-    ensures bytewise { IfSome result (λ _. IsBytewise (closed_type table.now ty)) }
-    ensures tested { IfSome result (λ _. (m : List ℕ) (a : ℕ) → IsTested (closed_type table.now ty) m a) }
-    ensures caps { IfSome result (λ c. HasCaps (closed_type table.now ty) c.size c.bytes) }
-    ensures nodes { IfSome result (λ c. (m : List ℕ) (a : ℕ) → nodes_at (closed_type table.now ty) m a ≡ c.nodes) }
-    ensures some { IfSome result (λ c. 0 < c.size) }
-    ensures few { IfSome result (λ c. c.size ≤ 64) }
-{
-    let size = table.size_of(ty);
-    if size == 0 || size > MOST {
-        return None;
-    }
-    let mut bytes = [0; 256];
-    let nodes = fill(table, ty, &mut bytes, 0)?;
-    Some(Caps { size, nodes, bytes })
-}
 
 /// Puts one cap for so many bytes.
 pub(crate) fn put(bytes: &mut [u8; 256], at: usize, width: usize, cap: u8)

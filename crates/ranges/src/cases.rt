@@ -1,75 +1,12 @@
-//! Elements of a variant: the caps of each are those of its case.
-ghost use Rattle.std.specs.Prelude.{◌≡◌, ◌⊎◌, ℕ, ◌+◌, ◌-◌, ◌*◌, ◌%◌, ◌^◌, ◌<◌, ◌≤◌, min, nat_eq, if◌then◌else◌, length, get_or, IfSome};
+//! The caps of a variant's bytes, which are those of its case.
+ghost use Rattle.std.specs.Prelude.{◌≡◌, ℕ, [], ◌∷◌, ◌+◌, ◌-◌, ◌*◌, ◌^◌, ◌<◌, ◌≤◌, length, get_or, IfSome};
 ghost use Rattle.std.specs.Int.{w64, to_le_bytes};
-ghost use Rattle.canonical_abi.specs.Types.{ClosedType};
-ghost use Rattle.ranges.specs.Bytewise.{Crosses, IsBytewise, HasRows, each_nodes};
-ghost use Rattle.ranges.specs.Plan.{row_nodes};
+ghost use Rattle.ranges.specs.Columns.{case_in, laid, columns_seen};
 
-use crate::blend::blend_chunk;
-use crate::rows::Rows;
-use canonical_abi::Guest;
+use crate::columns::Column;
 
-/// A number for each of four cases.
-#[derive(Drop)]
-struct Four {
-    first: u64,
-    second: u64,
-    third: u64,
-    fourth: u64,
-}
-
-impl Four {
-    /// The number of a case, by choices without a branch.
-    #[inline(always)]
-    fn of(&self, case: u64) -> u64
-        ensures { result ≡ (if nat_eq case 3 then self.now.fourth else (if nat_eq case 2 then self.now.third else (if nat_eq case 0 then self.now.first else self.now.second))) }
-    {
-        let number = if case == 0 { self.first } else { self.second };
-        let number = if case == 2 { self.third } else { number };
-        if case == 3 { self.fourth } else { number }
-    }
-}
-
-/// The bytes of the elements of a chunk: a row is put as sixteen bytes, of which the last may be past its element.
-const CHUNK: usize = 2032;
-
-/// Puts the sixteen caps of a case.
+/// The eight caps at a place, as a number.
 #[inline(always)]
-fn put_row(caps: &mut [u8; 2048], at: usize, rows: &[u8; 256], row: usize)
-    requires room { at + 16 ≤ 2048 }
-    requires known { row < 16 }
-    ensures put { (j : ℕ) → j < 16 → get_or caps.new (at + j) 0 ≡ get_or rows.now (row * 16 + j) 0 }
-    ensures below { (i : ℕ) → i < at → get_or caps.new i 0 ≡ get_or caps.old i 0 }
-{
-    caps[at..at + 16].copy_from_slice(&rows[row * 16..row * 16 + 16]);
-}
-
-/// The caps of so many elements, each by its case: the nodes of these, or None where one has no case. A function by itself, over
-/// a slice of its own, as `all_chars`.
-#[inline(never)]
-fn fill_any(caps: &mut [u8; 2048], rows: &Rows, part: &[u8], count: usize) -> Option<u64>
-    requires some { 0 < rows.now.size }
-    requires few { count * rows.now.size ≤ 2032 }
-    requires small { rows.now.size ≤ 16 }
-    requires inside { count * rows.now.size ≤ length part.now }
-    ensures good { IfSome result (λ _. (e : ℕ) → e < count → get_or part.now (e * rows.now.size) 0 < rows.now.cases) }
-    ensures caps { IfSome result (λ _. (e j : ℕ) → e < count → j < rows.now.size → get_or caps.new (e * rows.now.size + j) 0
-        ≡ get_or rows.now.caps (get_or part.now (e * rows.now.size) 0 % 16 * 16 + j) 0) }
-    ensures nodes { IfSome result (λ k. k ≡ row_nodes rows.now.size rows.now.nodes part.now count) }
-{
-    let mut bad: u64 = 0;
-    let mut seen: u64 = 0;
-    for i in 0..count {
-        let at = i * rows.size;
-        let case = usize::from(part[at]);
-        bad += u64::from(case >= rows.cases);
-        seen += u64::from(rows.nodes[case % 16]);
-        put_row(caps, at, &rows.caps, case % 16);
-    }
-    if bad == 0 { Some(seen) } else { None }
-}
-
-/// The eight caps of a case, as a number.
 fn word_of(rows: &[u8; 256], at: usize) -> u64
     requires { at + 8 ≤ 256 }
     ensures { (j : ℕ) → j < 8 → get_or (to_le_bytes w64 result) j 0 ≡ get_or rows.now (at + j) 0 }
@@ -79,162 +16,215 @@ fn word_of(rows: &[u8; 256], at: usize) -> u64
     u64::from_le_bytes(bytes)
 }
 
-/// The first byte of an element of eight, which is taken at one go, so that a loop over many is fast.
+/// The first byte of a variant of so many bytes. Eight are taken at one go, so that a loop over many is made into vector code.
 #[inline(always)]
-fn case_at(part: &[u8], at: usize) -> u64
-    requires { at + 8 ≤ length part.now }
-    ensures { result ≡ get_or part.now at 0 }
+fn case_at(memory: &[u8], at: usize, width: usize) -> u64
+    requires some { 0 < width }
+    requires inside { at + width ≤ length memory.now }
+    ensures { result ≡ get_or memory.now at 0 }
 {
+    if width < 8 {
+        return u64::from(memory[at]);
+    }
     let mut bytes = [0; 8];
-    bytes.copy_from_slice(&part[at..at + 8]);
+    bytes.copy_from_slice(&memory[at..at + 8]);
     u64::from_le_bytes(bytes) % 256
 }
 
-/// Puts the eight caps of a case.
+/// Puts the first caps of a word.
 #[inline(always)]
-fn put_word(caps: &mut [u8; 2048], at: usize, word: u64)
-    requires { at + 8 ≤ 2048 }
-    ensures put { (j : ℕ) → j < 8 → get_or caps.new (at + j) 0 ≡ get_or (to_le_bytes w64 word) j 0 }
+fn put_word(caps: &mut [u8; 2048], at: usize, word: u64, width: usize)
+    requires room { at + width ≤ 2048 }
+    requires short { width ≤ 8 }
+    ensures put { (j : ℕ) → j < width → get_or caps.new (at + j) 0 ≡ get_or (to_le_bytes w64 word) j 0 }
     ensures below { (i : ℕ) → i < at → get_or caps.new i 0 ≡ get_or caps.old i 0 }
+    ensures above { (i : ℕ) → at + width ≤ i → get_or caps.new i 0 ≡ get_or caps.old i 0 }
 {
-    caps[at..at + 8].copy_from_slice(&word.to_le_bytes());
+    let bytes = word.to_le_bytes();
+    caps[at..at + width].copy_from_slice(&bytes[..width]);
 }
 
-/// The same where elements have eight bytes and one of two cases, as an option of a number: a choice of two words is faster
-/// than a row of a table.
-#[inline(never)]
-fn fill_pairs(caps: &mut [u8; 2048], rows: &Rows, part: &[u8], count: usize) -> Option<u64>
-    requires eight { rows.now.size ≡ 8 }
-    requires two { rows.now.cases ≡ 2 }
-    requires few { count * 8 ≤ 2032 }
-    requires inside { count * 8 ≤ length part.now }
-    ensures good { IfSome result (λ _. (e : ℕ) → e < count → get_or part.now (e * rows.now.size) 0 < rows.now.cases) }
-    ensures caps { IfSome result (λ _. (e j : ℕ) → e < count → j < rows.now.size → get_or caps.new (e * rows.now.size + j) 0
-        ≡ get_or rows.now.caps (get_or part.now (e * rows.now.size) 0 % 16 * 16 + j) 0) }
-    ensures nodes { IfSome result (λ k. k ≡ row_nodes rows.now.size rows.now.nodes part.now count) }
+/// Puts the first caps of a case, as one word or two: as bytes, they would be put one by one, since the two arrays could overlap.
+#[inline(always)]
+fn put_row(caps: &mut [u8; 2048], at: usize, rows: &[u8; 256], row: usize, width: usize)
+    requires room { at + width ≤ 2048 }
+    requires known { row < 16 }
+    requires short { width ≤ 16 }
+    ensures put { (j : ℕ) → j < width → get_or caps.new (at + j) 0 ≡ get_or rows.now (row * 16 + j) 0 }
+    ensures below { (i : ℕ) → i < at → get_or caps.new i 0 ≡ get_or caps.old i 0 }
+    ensures above { (i : ℕ) → at + width ≤ i → get_or caps.new i 0 ≡ get_or caps.old i 0 }
 {
-    let first = word_of(&rows.caps, 0);
-    let second = word_of(&rows.caps, 16);
+    let first = word_of(rows, row * 16);
+    if width <= 8 {
+        put_word(caps, at, first, width);
+    } else {
+        let second = word_of(rows, row * 16 + 8);
+        put_word(caps, at, first, 8);
+        put_word(caps, at + 8, second, width - 8);
+    }
+}
+
+/// The caps of a column's variant in so many elements, each by its case: the nodes of these, or None where one has no case.
+#[inline(always)]
+fn fill_rows(
+    caps: &mut [u8; 2048],
+    column: &Column,
+    width: usize,
+    source: &[u8],
+    from: usize,
+    step: usize,
+    count: usize,
+) -> Option<u64>
+    requires wide { column.now.rows.size ≡ width }
+    requires some { 0 < width }
+    requires short { width ≤ 16 }
+    requires few_cases { column.now.rows.cases ≤ 16 }
+    requires within { column.now.at + width ≤ step }
+    requires few { count ≤ 2048 }
+    requires room { count * step ≤ 2048 }
+    requires inside { from + count * step ≤ length source.now }
+    ensures good { IfSome result (λ _. (e : ℕ) → e < count → case_in column.now source.now (from + e * step) < column.now.rows.cases) }
+    ensures caps { IfSome result (λ _. (e j : ℕ) → e < count → j < step → get_or caps.new (e * step + j) 0
+        ≡ laid column.now (case_in column.now source.now (from + e * step)) j (get_or caps.old (e * step + j) 0)) }
+    ensures nodes { IfSome result (λ k. k ≡ columns_seen (column.now ∷ []) step source.now from count) }
+    ensures small { IfSome result (λ k. k ≤ 522240) }
+{
+    let start = column.at;
+    let cases = column.rows.cases;
+    let mut bad: u64 = 0;
+    let mut seen: u64 = 0;
+    for i in 0..count {
+        let place = i * step + start;
+        let case = usize::from(source[from + place]);
+        bad += u64::from(case >= cases);
+        seen += u64::from(column.rows.nodes[case % 16]);
+        put_row(caps, place, &column.rows.caps, case % 16, width);
+    }
+    if bad == 0 { Some(seen) } else { None }
+}
+
+/// The same where the variant has two cases, as an option, and at most eight bytes: a choice of two words is faster than a row.
+#[inline(always)]
+fn fill_two(
+    caps: &mut [u8; 2048],
+    column: &Column,
+    width: usize,
+    source: &[u8],
+    from: usize,
+    step: usize,
+    count: usize,
+) -> Option<u64>
+    requires wide { column.now.rows.size ≡ width }
+    requires some { 0 < width }
+    requires short { width ≤ 8 }
+    requires two { column.now.rows.cases ≡ 2 }
+    requires within { column.now.at + width ≤ step }
+    requires few { count ≤ 2048 }
+    requires room { count * step ≤ 2048 }
+    requires inside { from + count * step ≤ length source.now }
+    ensures good { IfSome result (λ _. (e : ℕ) → e < count → case_in column.now source.now (from + e * step) < column.now.rows.cases) }
+    ensures caps { IfSome result (λ _. (e j : ℕ) → e < count → j < step → get_or caps.new (e * step + j) 0
+        ≡ laid column.now (case_in column.now source.now (from + e * step)) j (get_or caps.old (e * step + j) 0)) }
+    ensures nodes { IfSome result (λ k. k ≡ columns_seen (column.now ∷ []) step source.now from count) }
+    ensures small { IfSome result (λ k. k ≤ 522240) }
+{
+    let first = word_of(&column.rows.caps, 0);
+    let second = word_of(&column.rows.caps, 16);
+    let start = column.at;
     let mut bad: u64 = 0;
     let mut seconds: u64 = 0;
     for i in 0..count {
-        let case = case_at(part, i * 8);
+        let place = i * step + start;
+        let case = case_at(source, from + place, width);
         bad += u64::from(case >= 2);
         seconds += case;
         let word = if case == 0 { first } else { second };
-        put_word(caps, i * 8, word);
+        put_word(caps, place, word, width);
     }
     if bad > 0 {
         return None;
     }
     let firsts = count as u64 - seconds;
-    Some(firsts * u64::from(rows.nodes[0]) + seconds * u64::from(rows.nodes[1]))
+    Some(firsts * u64::from(column.rows.nodes[0]) + seconds * u64::from(column.rows.nodes[1]))
 }
 
-/// The same where elements have eight bytes and one of at most four cases: choices of a word and of a case's nodes.
+/// The same where the element is such a variant of eight bytes, over a slice of its own: so the loop is made into vector code.
 #[inline(never)]
-fn fill_words(caps: &mut [u8; 2048], rows: &Rows, part: &[u8], count: usize) -> Option<u64>
-    requires eight { rows.now.size ≡ 8 }
-    requires four { rows.now.cases ≤ 4 }
-    requires few { count * 8 ≤ 2032 }
+fn fill_part(caps: &mut [u8; 2048], column: &Column, part: &[u8], count: usize) -> Option<u64>
+    requires wide { column.now.rows.size ≡ 8 }
+    requires two { column.now.rows.cases ≡ 2 }
+    requires within { column.now.at + 8 ≤ 8 }
+    requires few { count ≤ 2048 }
+    requires room { count * 8 ≤ 2048 }
     requires inside { count * 8 ≤ length part.now }
-    ensures good { IfSome result (λ _. (e : ℕ) → e < count → get_or part.now (e * rows.now.size) 0 < rows.now.cases) }
-    ensures caps { IfSome result (λ _. (e j : ℕ) → e < count → j < rows.now.size → get_or caps.new (e * rows.now.size + j) 0
-        ≡ get_or rows.now.caps (get_or part.now (e * rows.now.size) 0 % 16 * 16 + j) 0) }
-    ensures nodes { IfSome result (λ k. k ≡ row_nodes rows.now.size rows.now.nodes part.now count) }
+    ensures good { IfSome result (λ _. (e : ℕ) → e < count → case_in column.now part.now (0 + e * 8) < column.now.rows.cases) }
+    ensures caps { IfSome result (λ _. (e j : ℕ) → e < count → j < 8 → get_or caps.new (e * 8 + j) 0
+        ≡ laid column.now (case_in column.now part.now (0 + e * 8)) j (get_or caps.old (e * 8 + j) 0)) }
+    ensures nodes { IfSome result (λ k. k ≡ columns_seen (column.now ∷ []) 8 part.now 0 count) }
+    ensures small { IfSome result (λ k. k ≤ 522240) }
 {
-    let words = Four {
-        first: word_of(&rows.caps, 0),
-        second: word_of(&rows.caps, 16),
-        third: word_of(&rows.caps, 32),
-        fourth: word_of(&rows.caps, 48),
-    };
-    let nodes = Four {
-        first: u64::from(rows.nodes[0]),
-        second: u64::from(rows.nodes[1]),
-        third: u64::from(rows.nodes[2]),
-        fourth: u64::from(rows.nodes[3]),
-    };
-    let cases = rows.cases as u64;
-    let mut bad: u64 = 0;
-    let mut seen: u64 = 0;
-    for i in 0..count {
-        let case = case_at(part, i * 8);
-        bad += u64::from(case >= cases);
-        seen += nodes.of(case);
-        put_word(caps, i * 8, words.of(case));
-    }
-    if bad == 0 { Some(seen) } else { None }
+    fill_two(caps, column, 8, part, 0, 8, count)
 }
 
-/// The caps of so many elements, each by its case, as fast as their type allows.
+/// The same of a memory from a place on.
 #[inline(always)]
-fn fill_part(caps: &mut [u8; 2048], rows: &Rows, part: &[u8], count: usize) -> Option<u64>
-    requires some { 0 < rows.now.size }
-    requires few { count * rows.now.size ≤ 2032 }
-    requires small { rows.now.size ≤ 16 }
-    requires inside { count * rows.now.size ≤ length part.now }
-    ensures good { IfSome result (λ _. (e : ℕ) → e < count → get_or part.now (e * rows.now.size) 0 < rows.now.cases) }
-    ensures caps { IfSome result (λ _. (e j : ℕ) → e < count → j < rows.now.size → get_or caps.new (e * rows.now.size + j) 0
-        ≡ get_or rows.now.caps (get_or part.now (e * rows.now.size) 0 % 16 * 16 + j) 0) }
-    ensures nodes { IfSome result (λ k. k ≡ row_nodes rows.now.size rows.now.nodes part.now count) }
-{
-    if rows.size == 8 && rows.cases == 2 {
-        fill_pairs(caps, rows, part, count)
-    } else if rows.size == 8 && rows.cases <= 4 {
-        fill_words(caps, rows, part, count)
-    } else {
-        fill_any(caps, rows, part, count)
-    }
-}
-
-/// Crosses elements up to the chunk with the first that has no case. Answers how many crossed, and `nodes` grows by their
-/// nodes, as far as it has room.
-pub fn cross_cases<G: Guest>(
-    rows: &Rows,
+fn fill_pairs(
+    caps: &mut [u8; 2048],
+    column: &Column,
     source: &[u8],
     from: usize,
     count: usize,
-    guest: &mut G,
-    to: usize,
-    nodes: &mut u64,
-) -> usize
-    requires some { 0 < rows.now.size }
-    requires few { rows.now.size ≤ 16 }
-    requires few_cases { rows.now.cases ≤ 16 }
-    requires inside { from + count * rows.now.size ≤ length source.now }
-    requires room { to + count * rows.now.size ≤ length (G.memory guest.old).bytes }
-    requires small { to + count * rows.now.size < 2 ^ 32 }
-    ensures within { result ≤ count }
-    ensures crosses { (t : ClosedType) → IsBytewise t → HasRows t rows.now.size rows.now.cases rows.now.caps rows.now.nodes
-        → Crosses t source.now from result G.allocates (G.memory guest.old) to (G.memory guest.new) }
-    ensures visited { (t : ClosedType) → HasRows t rows.now.size rows.now.cases rows.now.caps rows.now.nodes
-        → min nodes.new (2 ^ 64 - 1) ≡ min (nodes.old + each_nodes t source.now from result) (2 ^ 64 - 1) }
-    ensures same_length { length (G.memory guest.new).bytes ≡ length (G.memory guest.old).bytes }
+) -> Option<u64>
+    requires wide { column.now.rows.size ≡ 8 }
+    requires two { column.now.rows.cases ≡ 2 }
+    requires within { column.now.at + 8 ≤ 8 }
+    requires few { count ≤ 2048 }
+    requires room { count * 8 ≤ 2048 }
+    requires inside { from + count * 8 ≤ length source.now }
+    ensures good { IfSome result (λ _. (e : ℕ) → e < count → case_in column.now source.now (from + e * 8) < column.now.rows.cases) }
+    ensures caps { IfSome result (λ _. (e j : ℕ) → e < count → j < 8 → get_or caps.new (e * 8 + j) 0
+        ≡ laid column.now (case_in column.now source.now (from + e * 8)) j (get_or caps.old (e * 8 + j) 0)) }
+    ensures nodes { IfSome result (λ k. k ≡ columns_seen (column.now ∷ []) 8 source.now from count) }
+    ensures small { IfSome result (λ k. k ≤ 522240) }
 {
-    let mut caps = [0; 2048];
-    let mut buffer = [0; 2048];
-    let step = rows.size;
-    let whole = CHUNK / step;
-    let mut done = 0;
-    while done < count {
-        let part = whole.min(count - done);
-        let start = from + done * step;
-        let bytes = part * step;
-        let Some(seen) = fill_part(&mut caps, rows, &source[start..start + bytes], part) else {
-            return done;
-        };
-        blend_chunk(
-            &caps,
-            &mut buffer,
-            source,
-            start,
-            bytes,
-            guest,
-            to + done * step,
-        );
-        *nodes = nodes.saturating_add(seen);
-        done += part;
+    fill_part(caps, column, &source[from..from + count * 8], count)
+}
+
+/// The same with the width as a constant where it is a usual one, so that a row is put by a move or two.
+#[inline(never)]
+pub(crate) fn fill_column(
+    caps: &mut [u8; 2048],
+    column: &Column,
+    source: &[u8],
+    from: usize,
+    step: usize,
+    count: usize,
+) -> Option<u64>
+    requires some { 0 < column.now.rows.size }
+    requires short { column.now.rows.size ≤ 16 }
+    requires few_cases { column.now.rows.cases ≤ 16 }
+    requires within { column.now.at + column.now.rows.size ≤ step }
+    requires few { count ≤ 2048 }
+    requires room { count * step ≤ 2048 }
+    requires inside { from + count * step ≤ length source.now }
+    ensures good { IfSome result (λ _. (e : ℕ) → e < count → case_in column.now source.now (from + e * step) < column.now.rows.cases) }
+    ensures caps { IfSome result (λ _. (e j : ℕ) → e < count → j < step → get_or caps.new (e * step + j) 0
+        ≡ laid column.now (case_in column.now source.now (from + e * step)) j (get_or caps.old (e * step + j) 0)) }
+    ensures nodes { IfSome result (λ k. k ≡ columns_seen (column.now ∷ []) step source.now from count) }
+    ensures small { IfSome result (λ k. k ≤ 522240) }
+{
+    match (column.rows.cases, column.rows.size) {
+        (2, 8) if step == 8 => fill_pairs(caps, column, source, from, count),
+        (2, 1) => fill_two(caps, column, 1, source, from, step, count),
+        (2, 2) => fill_two(caps, column, 2, source, from, step, count),
+        (2, 4) => fill_two(caps, column, 4, source, from, step, count),
+        (2, 8) => fill_two(caps, column, 8, source, from, step, count),
+        (_, 1) => fill_rows(caps, column, 1, source, from, step, count),
+        (_, 2) => fill_rows(caps, column, 2, source, from, step, count),
+        (_, 4) => fill_rows(caps, column, 4, source, from, step, count),
+        (_, 8) => fill_rows(caps, column, 8, source, from, step, count),
+        (_, 12) => fill_rows(caps, column, 12, source, from, step, count),
+        (_, 16) => fill_rows(caps, column, 16, source, from, step, count),
+        (_, width) => fill_rows(caps, column, width, source, from, step, count),
     }
-    done
 }

@@ -10,21 +10,36 @@ use canonical_abi::Guest;
 use lift_lower::nodes::{flags_bytes, low_flags, number_of_size};
 
 /// The most flags that are tested before they are written.
-const FLAGS: usize = 1024;
+const FLAGS: usize = 4096;
 
-/// Whether numbers of so many bytes are at most this one. By itself, over a slice of its own, this loop is made into vector code.
-#[inline(never)]
+/// Whether numbers of so many bytes are at most this one.
+#[inline(always)]
 fn are_at_most(part: &[u8], width: usize, count: usize, most: u32) -> bool
     requires known { (width ≡ 1) ⊎ ((width ≡ 2) ⊎ (width ≡ 4)) }
     requires few { count < 2 ^ 32 }
     requires inside { count * width ≤ length part.now }
     ensures { IsTrue result → (i : ℕ) → i < count → number_at part.now (i * width) (byte_width width) ≤ most }
 {
-    let mut bad: u32 = 0;
+    let mut largest: u32 = 0;
     for i in 0..count {
-        bad += u32::from(number_of_size(part, i * width, width) > most);
+        largest = largest.max(number_of_size(part, i * width, width));
     }
-    bad == 0
+    largest <= most
+}
+
+/// The same with the width as a constant, by itself, over a slice of its own: so the loop is made into vector code.
+#[inline(never)]
+fn are_all_at_most(part: &[u8], width: usize, count: usize, most: u32) -> bool
+    requires known { (width ≡ 1) ⊎ ((width ≡ 2) ⊎ (width ≡ 4)) }
+    requires few { count < 2 ^ 32 }
+    requires inside { count * width ≤ length part.now }
+    ensures { IsTrue result → (i : ℕ) → i < count → number_at part.now (i * width) (byte_width width) ≤ most }
+{
+    match width {
+        1 => are_at_most(part, 1, count, most),
+        2 => are_at_most(part, 2, count, most),
+        _ => are_at_most(part, 4, count, most),
+    }
 }
 
 /// Whether so many flags stand one after another, with no bit behind their labels.
@@ -37,7 +52,7 @@ fn are_flags(labels: usize, memory: &[u8], from: usize, count: usize) -> bool
     let width = flags_bytes(labels);
     let most = low_flags(u32::MAX, labels);
     let part = &memory[from..from + count * width];
-    are_at_most(part, width, count, most)
+    are_all_at_most(part, width, count, most)
 }
 
 /// Crosses flags up to the chunk with the first that has a bit behind its labels. Answers how many crossed.

@@ -25,7 +25,7 @@ pub struct Rows {
 
 /// How the elements of a variant of so many cases cross, where each payload crosses byte by byte with no tests: at most 16 bytes
 /// and 16 cases.
-pub fn rows_of(table: &Types, ty: ValType, count: usize) -> Option<Rows>
+pub(crate) fn rows_of(table: &Types, ty: ValType, count: usize) -> Option<Rows>
     requires inside { IsInside table.now ty }
     requires variant { variant_type (variant_cases (closed_type table.now ty)) ≡ closed_type table.now ty }
     requires counted { case_count (variant_cases (closed_type table.now ty)) ≡ count }

@@ -1,7 +1,7 @@
 //! A call in halves, without a body: what each half will ask for, and what stands in both memories after it.
 
 use crate::packages::function;
-use adapter::{Link, Request};
+use adapter::{Invocation, Link, Request};
 use canonical_abi::{Flat, Guest};
 use lift_lower::Flats;
 use memory::Bump;
@@ -73,7 +73,11 @@ fn handed(package: &Package, caller: &Bump, callee: &mut Bump) -> Result<Flats, 
     let f = function(package)?;
     let mut link = Link::new(package.resolve(), package.layouts());
     let mut handed = Flats::new();
-    match link.enter(f, &FLATS, caller, callee, &mut handed) {
+    let call = &Invocation {
+        func: f,
+        flats: &FLATS,
+    };
+    match link.enter(call, caller, callee, &mut handed) {
         Ok(()) => Ok(handed),
         Err(_) => Err(Fail::from("a trap on the way there")),
     }
@@ -84,7 +88,11 @@ fn given_back(package: &Package, caller: &mut Bump, callee: &Bump) -> Result<Fla
     let f = function(package)?;
     let mut link = Link::new(package.resolve(), package.layouts());
     let mut back = Flats::new();
-    match link.leave(f, &FLATS, &ANSWER, caller, callee, &mut back) {
+    let call = &Invocation {
+        func: f,
+        flats: &FLATS,
+    };
+    match link.leave(call, &ANSWER, caller, callee, &mut back) {
         Ok(()) => Ok(back),
         Err(_) => Err(Fail::from("a trap on the way back")),
     }

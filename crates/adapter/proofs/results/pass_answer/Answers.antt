@@ -11,59 +11,59 @@ use Rattle.adapter.proofs.Crossings.{area-is, EndsResult, result-ends}
 use Rattle.adapter.proofs.results.pass_answer.Goals as goal
 
 pub takes-requires : goal.takes-requires
-takes-requires g c = function-stands c.args.table.now c.layouts-layouts.result.now c.args.func c.layouts-layouts.ensures c.requires.function
+takes-requires g c = function-stands c.args.walk.now.types.now c.layouts-layouts.result.now c.args.call.now.func c.layouts-layouts.ensures c.requires.function
 
 pub lifted_result-requires : goal.lifted_result-requires
-lifted_result-requires g c = function-stands c.args.table.now c.layouts-layouts.result.now c.args.func c.layouts-layouts.ensures c.requires.function
+lifted_result-requires g c = function-stands c.args.walk.now.types.now c.layouts-layouts.result.now c.args.call.now.func c.layouts-layouts.ensures c.requires.function
 
 pub lifted_count-requires : goal.lifted_count-requires
-lifted_count-requires g c = function-stands c.args.table.now c.layouts-layouts.result.now c.args.func c.layouts-layouts.ensures c.requires.function
+lifted_count-requires g c = function-stands c.args.walk.now.types.now c.layouts-layouts.result.now c.args.call.now.func c.layouts-layouts.ensures c.requires.function
 
 pub cross_result-crossed-requires-clause-inside : goal.cross_result-crossed-requires-clause-inside
 cross_result-crossed-requires-clause-inside g c =
-    let r = c.args.table.now in
+    let r = c.args.walk.now.types.now in
     let s = c.signature.result.now in
-    let known = result-inside r c.args.func c.requires.function s (rw c.resolve.ensures at c.signature.ensures) in
+    let known = result-inside r c.args.call.now.func c.requires.function s (rw c.resolve.ensures at c.signature.ensures) in
     subst (AreAllInside r) (sym (same_types s.result _ c.as_slice-types.ensures)) (all-inside r s.result known)
 
 pub cross_result-crossed-requires-clause-small : goal.cross_result-crossed-requires-clause-small
 cross_result-crossed-requires-clause-small g c =
-    let r = c.args.table.now in
+    let r = c.args.walk.now.types.now in
     let s = c.signature.result.now in
-    let known = result-known r c.args.func c.requires.function s (rw c.resolve.ensures at c.signature.ensures) in
+    let known = result-known r c.args.call.now.func c.requires.function s (rw c.resolve.ensures at c.signature.ensures) in
     subst (λ ts. size (record_type (fields_of_types r ts)) ≤ 16777216) (sym (same_types s.result _ c.as_slice-types.ensures)) (result-small r c.requires.within s.result known)
 
 pub returns-in-Ok-clause-returned : goal.returns-in-Ok-clause-returned
 returns-in-Ok-clause-returned g c =
-    let r = c.args.table.now in
-    let f = function_type r c.args.func in
-    let flats = c.args.flats.now in
+    let r = c.args.walk.now.types.now in
+    let f = function_type r c.args.call.now.func in
+    let flats = c.args.call.now.flats.now in
     let CA = g.C.Guest.allocates in
     let caller = g.C.Guest.memory c.args.caller.now in
     let caller' = g.C.Guest.memory c.cross_result-crossed.new.guest in
-    let callee = g.E.Guest.memory c.args.callee.now in
+    let m = c.args.walk.now.source.now in
     let s = c.signature.result.now in
-    let is = result-is r c.args.func c.requires.function s (rw c.resolve.ensures at c.signature.ensures) in
+    let is = result-is r c.args.call.now.func c.requires.function s (rw c.resolve.ensures at c.signature.ensures) in
     let own : fields_of_types r c.as_slice-types.result.now ≡ result_fields f.result = ap (fields_of_types r) (same_types s.result _ c.as_slice-types.ensures) ∙ result-fields r s.result ∙ ap result_fields (sym is) in
-    let area = area-is f flats c.area_in-area.result c.lifted_count.result (lifted_signature f) c.area_in-area.ensures (c.lifted_count.ensures r c.layouts-layouts.ensures c.requires.function) refl in
-    let ends = rw (own, area, c.bytes-bytes.ensures) at c.cross_result-crossed.ensures in
-    let told = result-ends CA f flats caller callee.bytes c.args.answer.now _ c.cross_result-crossed.result caller' _ c.cross_result-crossed.new.out.items c.requires.fresh (omega arith) ends in
-    subst (EndsResult CA f flats caller callee.bytes c.args.answer.now caller' c.cross_result-crossed.new.nodes c.cross_result-crossed.new.out.items) c.in-Ok.is told
+    let area = area-is f flats c.area_in.result c.lifted_count.result (lifted_signature f) c.area_in.ensures (c.lifted_count.ensures r c.layouts-layouts.ensures c.requires.function) refl in
+    let ends = rw (own, area) at c.cross_result-crossed.ensures in
+    let told = result-ends CA f flats caller m c.args.answer.now _ c.cross_result-crossed.result caller' _ c.cross_result-crossed.new.out.items c.requires.fresh (omega arith) ends in
+    subst (EndsResult CA f flats caller m c.args.answer.now caller' c.cross_result-crossed.new.nodes c.cross_result-crossed.new.out.items) c.in-Ok.is told
 
 pub returns-in-Err-clause-fault : goal.returns-in-Err-clause-fault
 returns-in-Err-clause-fault g c =
-    let r = c.args.table.now in
-    let f = function_type r c.args.func in
-    let flats = c.args.flats.now in
+    let r = c.args.walk.now.types.now in
+    let f = function_type r c.args.call.now.func in
+    let flats = c.args.call.now.flats.now in
     let CA = g.C.Guest.allocates in
     let caller = g.C.Guest.memory c.args.caller.now in
     let caller' = g.C.Guest.memory c.cross_result-crossed.new.guest in
-    let callee = g.E.Guest.memory c.args.callee.now in
+    let m = c.args.walk.now.source.now in
     let s = c.signature.result.now in
-    let is = result-is r c.args.func c.requires.function s (rw c.resolve.ensures at c.signature.ensures) in
+    let is = result-is r c.args.call.now.func c.requires.function s (rw c.resolve.ensures at c.signature.ensures) in
     let own : fields_of_types r c.as_slice-types.result.now ≡ result_fields f.result = ap (fields_of_types r) (same_types s.result _ c.as_slice-types.ensures) ∙ result-fields r s.result ∙ ap result_fields (sym is) in
-    let area = area-is f flats c.area_in-area.result c.lifted_count.result (lifted_signature f) c.area_in-area.ensures (c.lifted_count.ensures r c.layouts-layouts.ensures c.requires.function) refl in
-    let ends = rw (own, area, c.bytes-bytes.ensures) at c.cross_result-crossed.ensures in
-    let told = result-ends CA f flats caller callee.bytes c.args.answer.now _ c.cross_result-crossed.result caller' _ c.cross_result-crossed.new.out.items c.requires.fresh (omega arith) ends in
+    let area = area-is f flats c.area_in.result c.lifted_count.result (lifted_signature f) c.area_in.ensures (c.lifted_count.ensures r c.layouts-layouts.ensures c.requires.function) refl in
+    let ends = rw (own, area) at c.cross_result-crossed.ensures in
+    let told = result-ends CA f flats caller m c.args.answer.now _ c.cross_result-crossed.result caller' _ c.cross_result-crossed.new.out.items c.requires.fresh (omega arith) ends in
     let kinds : KindsFit f flats = search rules in
-    inr (kinds, rw c.fault_of.ensures (subst (EndsResult CA f flats caller callee.bytes c.args.answer.now caller' c.cross_result-crossed.new.nodes c.cross_result-crossed.new.out.items) c.in-Err.is told))
+    inr (kinds, rw c.fault_of.ensures (subst (EndsResult CA f flats caller m c.args.answer.now caller' c.cross_result-crossed.new.nodes c.cross_result-crossed.new.out.items) c.in-Err.is told))

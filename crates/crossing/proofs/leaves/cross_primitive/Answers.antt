@@ -18,11 +18,11 @@ returns-in-Ok g c =
     let s = c.in-Ok.scalar in
     let v = value_in s in
     let A = g.G.Guest.allocates in
-    let P : Prim → Type 0 = λ q. EventLeads A (g.G.Guest.memory c.args.guest.now) (write c.args.to (to_le_bytes (prim_width q) (number_in (prim_width q) v))) (g.G.Guest.memory c.write_scalar.new.guest) in
+    let P : Prim → Type 0 = λ q. EventLeads A (g.G.Guest.memory c.args.guest.now) (write c.args.at.to (to_le_bytes (prim_width q) (number_in (prim_width q) v))) (g.G.Guest.memory c.write_scalar.new.guest) in
     let led = subst P c.in-Ok.ensures.typed c.write_scalar.ensures.led in
     λ n. record {
-      events = write c.args.to (to_le_bytes (prim_width p) (number_in (prim_width p) v)) ∷ [];
-      scripted = (v, c.in-Ok.ensures.value, (holds-typed m bytes c.requires.short (prim_type p) c.args.from v c.in-Ok.ensures.value, refl));
+      events = write c.args.at.to (to_le_bytes (prim_width p) (number_in (prim_width p) v)) ∷ [];
+      scripted = (v, c.in-Ok.ensures.value, (holds-typed m bytes c.requires.short (prim_type p) c.args.at.from v c.in-Ok.ensures.value, refl));
       leads = (g.G.Guest.memory c.write_scalar.new.guest, led, refl);
       no_shorter = omega (arith, c.write_scalar.ensures.same_length);
       counted = omega arith;

@@ -22,7 +22,7 @@ returns-in-Err-ask_block g c =
     let old = g.G.Guest.memory c.args.guest.now in
     let new = g.G.Guest.memory c.ask_block.new.guest in
     let k = c.in-Err-ask_block.kind in
-    λ n. text-refused A m c.args.from c.args.to start len text c.u32_at-start.ensures c.u32_at-len.ensures held old k new n (request-fails A old 1 (length text) k new few c.in-Err-ask_block.ensures.fault)
+    λ n. text-refused A m c.args.at.from c.args.at.to start len text c.u32_at-start.ensures c.u32_at-len.ensures held old k new n (request-fails A old 1 (length text) k new few c.in-Err-ask_block.ensures.fault)
 
 pub returns : goal.returns
 returns g c =
@@ -37,6 +37,6 @@ returns g c =
     let gr = granted-led 4294967295 A 1 (length text) c.in-Ok-ask_block.place old mid ok in
     let led = rw c.as_bytes.ensures.value at c.write_bytes.ensures.led in
     let P : ℕ → Type 0 = λ p. EventLeads A mid (write p text) next in
-    let Q : ℕ → Type 0 = λ p. EventLeads A next (write c.args.to (header p (length text))) new in
-    λ n. text-done A m c.args.from c.args.to c.u32_at-start.result c.u32_at-len.result text c.u32_at-start.ensures c.u32_at-len.ensures c.in-Ok.ensures.text gr.0 gr.1 old mid next new n gr.3 ok.no_shorter
+    let Q : ℕ → Type 0 = λ p. EventLeads A next (write c.args.at.to (header p (length text))) new in
+    λ n. text-done A m c.args.at.from c.args.at.to c.u32_at-start.result c.u32_at-len.result text c.u32_at-start.ensures c.u32_at-len.ensures c.in-Ok.ensures.text gr.0 gr.1 old mid next new n gr.3 ok.no_shorter
     (subst P (sym gr.2) led) c.write_bytes.ensures.same_length (subst Q (sym gr.2) c.write_header.ensures.led) c.write_header.ensures.same_length

@@ -30,7 +30,7 @@ returns-in-Err-ask_block g c =
     let new = g.G.Guest.memory c.ask_block.new.guest in
     let k = c.in-Err-ask_block.kind in
     let few : n * size u < 2 ^ 32 = omega (arith, stands.1, c.requires.short) in
-    list-refused A u m c.args.from c.args.to c.u32_at-start.result n c.u32_at-start.ensures c.u32_at-count.ensures stands bytes c.requires.short c.reads_exactly.ensures old k new c.args.nodes.now
+    list-refused A u m c.args.at.from c.args.at.to c.u32_at-start.result n c.u32_at-start.ensures c.u32_at-count.ensures stands bytes c.requires.short c.reads_exactly.ensures old k new c.args.nodes.now
     (request-fails A old (align u) (n * size u) k new few fault)
 
 pub returns : goal.returns
@@ -51,7 +51,7 @@ returns g c =
     let gr = granted-led 4294967295 A (align u) (n * size u) c.in-Ok.place old mid ok in
     let crossed = crossed-done A u m start c.in-Ok.place n n next new c.cross_numbers.ensures.same_length (c.cross_numbers.ensures.crosses p c.requires.number is) (prims-visited p m start n)
     c.args.nodes.now c.saturating_add.result (omega (arith, c.saturating_add.ensures)) in
-    let P : ℕ → Type 0 = λ q. EventLeads A mid (write c.args.to (header q n)) next in
+    let P : ℕ → Type 0 = λ q. EventLeads A mid (write c.args.at.to (header q n)) next in
     let Q : ℕ → Type 0 = λ q. IsDone A (EachWalks u m start q n) next c.args.nodes.now new c.saturating_add.result in
-    list-ends A u m c.args.from c.args.to start n c.u32_at-start.ensures c.u32_at-count.ensures stands gr.0 gr.1 old mid next (Ok tt) new c.args.nodes.now c.saturating_add.result gr.3 ok.no_shorter
+    list-ends A u m c.args.at.from c.args.at.to start n c.u32_at-start.ensures c.u32_at-count.ensures stands gr.0 gr.1 old mid next (Ok tt) new c.args.nodes.now c.saturating_add.result gr.3 ok.no_shorter
     (subst P (sym gr.2) c.write_header.ensures.led) c.write_header.ensures.same_length (subst Q (sym gr.2) crossed)

@@ -1,37 +1,36 @@
-use Rattle.std.proofs.Common.{◌≡◌, inl, inr, suc, ◌+◌, ◌*◌, ◌%◌, ◌<◌, get_or, ap, ◌∙◌, arith}
-use Rattle.std.specs.Int.{w64, to_le_bytes}
-use Rattle.std.proofs.lemmas.Grind.{common_steps}
-use Rattle.std.proofs.lemmas.Bool.{cases_lt}
-use Rattle.ranges.proofs.ByCase.{pair-nodes}
-use Rattle.ranges.proofs.cases.fill_pairs.Goals.{then-case-eq0, else-case-eq0}
+use Rattle.std.proofs.Common.{◌≡◌, ◌+◌, ◌*◌, get_or, ap, ◌∙◌, arith}
+use Rattle.std.proofs.lemmas.Option.{IfSome_then}
+use Rattle.std.specs.Prelude.{slice_range}
+use Rattle.ranges.specs.Columns.{laid}
+use Rattle.ranges.proofs.Laid.{seen-same}
+use Rattle.ranges.proofs.Leaves.{part-get}
 use Rattle.ranges.proofs.cases.fill_pairs.Goals as goal
 
-pub loop-i-preserved : goal.loop-i-preserved
-loop-i-preserved c =
-    let inv = c.loop-i.invariant in
-    let i = c.loop-i.i in
-    let rows = c.args.rows.now in
-    let own = get_or c.args.part.now (i * 8) 0 in
-    let is : c.case_at-case.result ≡ own = c.case_at-case.ensures in
-    let low : c.loop-i.bad + c.from-bad.result ≡ 0 → c.case_at-case.result < 2 = λ none. grind (arith, common_steps, none) in
-    let more : i + 1 ≡ suc i = omega arith in (
-      grind (arith, common_steps, inv.0),
-      grind (arith, common_steps, inv.1),
-      λ none e h. elim (cases_lt e i) [
-        | inl b ↦ inv.2 (omega (arith, none)) e b
-        | inr b ↦ (let same : e ≡ i = omega (arith, b, h) in rw same (omega (arith, is, low none)))
-      ],
-      λ none e j h g. elim (cases_lt e i) [
-        | inl b ↦ c.put_word.ensures.below (e * 8 + j) (omega (arith, b, g)) ∙ inv.3 (omega (arith, none)) e j b g
-        | inr b ↦
-            let same : e ≡ i = omega (arith, b, h) in
-            let word : get_or (to_le_bytes w64 c.if-case-eq0.word) j 0 ≡ get_or rows.caps (own % 16 * 16 + j) 0 = elim c.if-case-eq0.branch [
-              | then-case-eq0 w ↦ ap (λ n. get_or (to_le_bytes w64 n) j 0) w.word-is ∙ c.word_of-first.ensures j g ∙ ap (λ k. get_or rows.caps k 0) (omega (arith, is, w.if-case-eq0.true))
-              | else-case-eq0 w ↦ ap (λ n. get_or (to_le_bytes w64 n) j 0) w.word-is ∙ c.word_of-second.ensures j g ∙ ap (λ k. get_or rows.caps k 0) (omega (arith, is, low none, w.if-case-eq0.false))
-            ] in
-            rw same (c.put_word.ensures.put j g ∙ word)
-      ],
-      λ none.
-          let t = inv.4 (omega (arith, none)) in
-          rw more (pair-nodes c.case_at-case.result (low none) rows.nodes i t.0 c.loop-i.seconds _ _ t.1 t.2 (ap (λ n. get_or rows.nodes (n % 16) 0) is)),
-    )
+pub returns-clause-good : goal.returns-clause-good
+returns-clause-good c = IfSome_then c.fill_part.result c.fill_part.ensures.good (λ k good e h.
+    let m = c.args.source.now in
+    let n = c.args.count * 8 in
+    let at = c.args.column.now.at in
+    let place : c.args.from + (0 + e * 8 + at) ≡ c.args.from + e * 8 + at = omega arith in
+    let byte = part-get m c.args.from n (0 + e * 8 + at) (omega (arith, h, c.requires.within)) in
+    let here = rw place at byte in
+    let low = good e h in
+    rw here at low)
+
+pub returns-clause-caps : goal.returns-clause-caps
+returns-clause-caps c = IfSome_then c.fill_part.result c.fill_part.ensures.caps (λ k caps e j h g.
+    let m = c.args.source.now in
+    let n = c.args.count * 8 in
+    let column = c.args.column.now in
+    let place : c.args.from + (0 + e * 8 + column.at) ≡ c.args.from + e * 8 + column.at = omega arith in
+    let byte = part-get m c.args.from n (0 + e * 8 + column.at) (omega (arith, h, c.requires.within)) in
+    caps e j h g ∙ ap (λ x. laid column x j (get_or c.args.caps.now (e * 8 + j) 0)) (byte ∙ ap (λ x. get_or m x 0) place))
+
+pub returns-clause-nodes : goal.returns-clause-nodes
+returns-clause-nodes c = IfSome_then c.fill_part.result c.fill_part.ensures.nodes (λ k nodes.
+    let m = c.args.source.now in
+    let n = c.args.count * 8 in
+    let column = c.args.column.now in
+    nodes ∙ seen-same column 8 (slice_range m c.args.from (c.args.from + n)) 0 m c.args.from c.args.count (λ e h.
+    let place : c.args.from + (0 + e * 8 + column.at) ≡ c.args.from + e * 8 + column.at = omega arith in
+    part-get m c.args.from n (0 + e * 8 + column.at) (omega (arith, h, c.requires.within)) ∙ ap (λ x. get_or m x 0) place))

@@ -13,5 +13,5 @@ returns c = λ good i h.
     let is : k ≡ flags_size n = c.flags_bytes-width.ensures.value in
     let same = part-sized k c.flags_bytes-width.ensures.known c.args.memory.now c.args.from (c.args.count * k) (i * k) (element-fits i c.args.count k h) (rw is c.requires.inside) in
     let few : c.low_flags-most.result < 2 ^ n = rw c.low_flags-most.ensures (mod-lt 4294967295 (pow_pos n)) in
-    let low = c.are_at_most.ensures good i h in
+    let low = c.are_all_at_most.ensures good i h in
     rw (← is) (omega (arith, same, few, low))

@@ -1,0 +1,28 @@
+use Rattle.std.proofs.Common.{◌≡◌, ◌+◌, ◌*◌, ◌≤◌, List, length, map, drop}
+use Rattle.canonical_abi.specs.Types.{depth, fields_depth}
+use Rattle.canonical_abi.specs.Values.{Value}
+use Rattle.canonical_abi.specs.Layout.{field_kinds}
+use Rattle.canonical_abi.specs.Reading.{number_of, lifting_fields}
+use Rattle.canonical_abi.specs.Requests.{fields_requests}
+use Rattle.tables.specs.Closed.{closed_type}
+use Rattle.lift_lower.specs.Members.{members_fields}
+use Rattle.lift_lower.proofs.Steps.{with_front, fields_from}
+use Rattle.asking.specs.Asking.{IsTold}
+use Rattle.asking.proofs.walk.Walk.+flat.Given as goal
+
+abbrev pub decreases-ask_flat : goal.decreases-ask_flat
+decreases-ask_flat l = 2 * depth (closed_type l.self.now.types.now l.ty) + 1
+
+abbrev pub decreases-ask_flat_fields : goal.decreases-ask_flat_fields
+decreases-ask_flat_fields l = 2 * fields_depth (members_fields l.self.now.types.now l.members.now) + 2
+
+abbrev pub decreases-ask_flat_variant : goal.decreases-ask_flat_variant
+decreases-ask_flat_variant l = 2 * depth (closed_type l.self.now.types.now l.ty)
+
+abbrev pub invariant-ask_flat_fields-loop-index : goal.invariant-ask_flat_fields-loop-index
+invariant-ask_flat_fields-loop-index l =
+    let fs = members_fields l.self.types.now l.members in
+    let ns = map number_of l.flats in
+    (vs : List Value) × (with_front vs (lifting_fields (fields_from l.index fs) l.self.source.now (drop l.used ns)) ≡ lifting_fields fs l.self.source.now ns)
+    × (length vs ≡ l.index) × IsTold l.initial.slots l.initial.count (fields_requests fs vs) l.slots l.count
+    × (l.used + length (field_kinds (fields_from l.index fs)) ≤ length l.flats)

@@ -1,5 +1,0 @@
-use Rattle.lift_lower.proofs.Denoting.{count-types}
-use Rattle.crossing.proofs.ways.cross_result.Goals as goal
-
-pub carry_fields-requires-clause-counted : goal.carry_fields-requires-clause-counted
-carry_fields-requires-clause-counted g c = count-types c.args.table.now c.args.types.now

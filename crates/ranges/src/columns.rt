@@ -1,0 +1,109 @@
+//! Elements with variants: their caps depend on what stands in the source.
+ghost use Rattle.std.specs.Prelude.{◌≡◌, ℕ, ◌+◌, ◌-◌, ◌*◌, ◌^◌, ◌<◌, ◌≤◌, min, length, get_or, IfSome};
+ghost use Rattle.canonical_abi.specs.Types.{ClosedType};
+ghost use Rattle.ranges.specs.Bytewise.{Crosses, each_nodes};
+ghost use Rattle.ranges.specs.Columns.{overlaid, HaveCases, columns_seen, AreBefore, HasPlan};
+
+use crate::blend::{blend_chunk, repeat};
+use crate::cases::fill_column;
+use crate::planned::Plan;
+use crate::rows::Rows;
+use canonical_abi::Guest;
+
+/// The bytes of the elements of a chunk.
+const CHUNK: usize = 2048;
+
+/// Where a variant stands within an element, and how its bytes cross.
+#[derive(Clone, Copy, Debug)]
+pub struct Column {
+    pub at: usize,
+    pub rows: Rows,
+}
+
+impl Default for Column {
+    fn default() -> Self {
+        let rows = Rows {
+            size: 0,
+            cases: 0,
+            caps: [0; 256],
+            nodes: [0; 16],
+        };
+        Column { at: 0, rows }
+    }
+}
+
+/// The caps of all columns' variants in so many elements, each by its case: the nodes of these, or None where one has no case.
+fn fill_columns(
+    caps: &mut [u8; 2048],
+    columns: &[Column],
+    source: &[u8],
+    from: usize,
+    step: usize,
+    count: usize,
+) -> Option<u64>
+    requires few_columns { length columns.now ≤ 8 }
+    requires before { AreBefore step columns.now }
+    requires few { count ≤ 2048 }
+    requires room { count * step ≤ 2048 }
+    requires inside { from + count * step ≤ length source.now }
+    ensures good { IfSome result (λ _. (e : ℕ) → e < count → HaveCases columns.now source.now (from + e * step)) }
+    ensures caps { IfSome result (λ _. (e j : ℕ) → e < count → j < step → get_or caps.new (e * step + j) 0
+        ≡ overlaid columns.now source.now (from + e * step) j (get_or caps.old (e * step + j) 0)) }
+    ensures nodes { IfSome result (λ k. k ≡ columns_seen columns.now step source.now from count) }
+    ensures small { IfSome result (λ k. k ≤ length columns.now * 522240) }
+{
+    match columns {
+        [] => Some(0),
+        [column, rest @ ..] => {
+            let seen = fill_column(caps, column, source, from, step, count)?;
+            let others = fill_columns(caps, rest, source, from, step, count)?;
+            Some(seen + others)
+        }
+    }
+}
+
+/// Crosses elements up to the chunk with the first that has a variant without a case. Answers how many crossed, and `nodes`
+/// grows by their nodes, as far as it has room.
+pub(crate) fn cross_columns<G: Guest>(
+    plan: &Plan,
+    source: &[u8],
+    from: usize,
+    count: usize,
+    guest: &mut G,
+    to: usize,
+    nodes: &mut u64,
+) -> usize
+    requires some { 0 < plan.now.plain.size }
+    requires few { plan.now.plain.size ≤ 64 }
+    requires before { AreBefore plan.now.plain.size plan.now.columns.items }
+    requires inside { from + count * plan.now.plain.size ≤ length source.now }
+    requires room { to + count * plan.now.plain.size ≤ length (G.memory guest.old).bytes }
+    requires small { to + count * plan.now.plain.size < 2 ^ 32 }
+    ensures within { result ≤ count }
+    ensures crosses { (t : ClosedType) → HasPlan t plan.now
+        → Crosses t source.now from result G.allocates (G.memory guest.old) to (G.memory guest.new) }
+    ensures visited { (t : ClosedType) → HasPlan t plan.now
+        → min nodes.new (2 ^ 64 - 1) ≡ min (nodes.old + each_nodes t source.now from result) (2 ^ 64 - 1) }
+    ensures same_length { length (G.memory guest.new).bytes ≡ length (G.memory guest.old).bytes }
+{
+    let mut caps = [0; 2048];
+    let mut buffer = [0; 2048];
+    let step = plan.plain.size;
+    let whole = CHUNK / step;
+    repeat(&mut caps, &plan.plain.bytes, step, whole.min(count) * step);
+    let mut done = 0;
+    while done < count {
+        let part = whole.min(count - done);
+        let start = from + done * step;
+        let columns = plan.columns.as_slice();
+        let Some(seen) = fill_columns(&mut caps, columns, source, start, step, part) else {
+            return done;
+        };
+        let place = to + done * step;
+        blend_chunk(&caps, &mut buffer, source, start, part * step, guest, place);
+        let own = part as u64 * u64::from(plan.plain.nodes);
+        *nodes = nodes.saturating_add(seen + own);
+        done += part;
+    }
+    done
+}
