@@ -22,8 +22,9 @@ Exit status: 0 if all is well, 1 after a fault or a trap, 2 if the words are no 
 static CHECK: &str = "\
 usage: wit-explain check [--json] [--color WHEN] PATH..
 
-Checks the packages of these files, each after those that it depends on. Prints each fault: the file, line and column,
-the error's number and words, the line with the place marked, and a hint. Prints nothing if all is well.
+Checks the packages of these files, each after those that it depends on. Prints the first fault of each file: the file,
+line and column, the error's number and words, the line with the place marked, and a hint. Prints nothing if all is
+well.
 With --json, prints the faults as an array of objects.
 ";
 

@@ -62,9 +62,3 @@ impl From<AddError> for Cause {
         }
     }
 }
-
-impl From<AttachError> for Cause {
-    fn from(error: AttachError) -> Cause {
-        Cause::Attach(error)
-    }
-}

@@ -1,12 +1,14 @@
 //! Where a fault stands in its text.
 
 use crate::cause::Cause;
+use crate::hints::Around;
 use crate::limits::Refused;
 use package_adding::AttachError;
 use std::alloc::{AllocError, Global};
 use tables::ResolveError;
+use wit_hints::find_twins;
 use wit_places::{Declarations, Lexed, PackageRef, importers};
-use wit_text::{Span, TextError};
+use wit_text::{Span, TextError, TokenKind};
 
 /// The first place where a name is used.
 fn first_use(lexed: &Lexed<'_>, name: &str) -> Option<Span> {
@@ -18,27 +20,30 @@ fn first_use(lexed: &Lexed<'_>, name: &str) -> Option<Span> {
     None
 }
 
-/// The first place of a name after another one that differs at most in the case of letters.
-fn second_place(lexed: &Lexed<'_>, name: &str) -> Option<Span> {
-    let mut has_first = false;
+/// The token that begins the first path that names a package.
+fn first_index(lexed: &Lexed<'_>, package: PackageRef<'_>) -> Option<usize> {
     for index in 0..lexed.tokens.len() {
-        let word = lexed.name_at(index).unwrap_or("");
-        if has_first && word == name {
-            return lexed.span_at(index);
+        if let Some(path) = lexed.path_at(index) {
+            if package.is(path.package) {
+                return Some(index);
+            }
         }
-        has_first |= word.eq_ignore_ascii_case(name);
     }
     None
 }
 
 /// The first path of a text that names a package.
 fn path_to(lexed: &Lexed<'_>, package: PackageRef<'_>) -> Option<Span> {
-    for index in 0..lexed.tokens.len() {
-        if let Some(path) = lexed.path_at(index) {
-            if package.is(path.package) {
-                return Some(path.span);
-            }
-        }
+    let path = lexed.path_at(first_index(lexed, package)?)?;
+    Some(path.span)
+}
+
+/// The version of the first path that names a package, if it has one.
+fn first_version(lexed: &Lexed<'_>, package: PackageRef<'_>) -> Option<Span> {
+    let version = first_index(lexed, package)?.checked_add(5)?;
+    let token = lexed.tokens.get(version)?;
+    if token.kind == TokenKind::Version {
+        return Some(token.span);
     }
     None
 }
@@ -88,6 +93,25 @@ pub fn declared_twice<'a>(
         }
     }
     Ok(None)
+}
+
+/// Where a package is named that is not there: its version, if another version of it is known.
+fn of_package(
+    lexed: &Lexed<'_>,
+    known: &[PackageRef<'_>],
+    package: PackageRef<'_>,
+) -> Option<Span> {
+    for other in known {
+        if other.has_name_of(package) {
+            return first_version(lexed, package).or(path_to(lexed, package));
+        }
+    }
+    path_to(lexed, package)
+}
+
+/// The later place of a name that is twice.
+fn of_duplicate(lexed: &Lexed<'_>, name: &str) -> Option<Span> {
+    Some(find_twins(lexed, name)?.second)
 }
 
 fn of_text(error: &TextError) -> Option<Span> {
@@ -154,12 +178,15 @@ fn place_among<'a>(
 fn of_names(
     alloc: Global,
     lexed: &Lexed<'_>,
+    known: &[PackageRef<'_>],
     error: &ResolveError,
 ) -> Result<Option<Span>, AllocError> {
     match error {
-        ResolveError::Duplicate(name) => Ok(second_place(lexed, name.as_str())),
+        ResolveError::Duplicate(name) => Ok(of_duplicate(lexed, name.as_str())),
         ResolveError::Unknown(label) => Ok(first_use(lexed, label.as_str())),
-        ResolveError::NoPackage(name) => Ok(path_to(lexed, PackageRef::of_tables(name))),
+        ResolveError::NoPackage(name) => {
+            Ok(of_package(lexed, known, PackageRef::of_tables(name)))
+        }
         ResolveError::Cycle => Declarations::of(alloc, lexed)?.ring(alloc, lexed),
         ResolveError::Limit => Ok(Declarations::of(alloc, lexed)?.long_flags(lexed)),
         _ => Ok(None),
@@ -185,6 +212,7 @@ fn of_refused(
 pub fn place_in(
     alloc: Global,
     lexed: &Lexed<'_>,
+    known: &[PackageRef<'_>],
     cause: &Cause,
 ) -> Result<Option<Span>, AllocError> {
     match cause {
@@ -193,9 +221,9 @@ pub fn place_in(
             end: *place,
         })),
         Cause::Text(error) => Ok(of_text(error)),
-        Cause::Resolve(error) => of_names(alloc, lexed, error),
+        Cause::Resolve(error) => of_names(alloc, lexed, known, error),
         Cause::Attach(AttachError::NoPackage(name)) => {
-            Ok(path_to(lexed, PackageRef::of_tables(name)))
+            Ok(of_package(lexed, known, PackageRef::of_tables(name)))
         }
         Cause::Layout(_, Some(refused)) => of_refused(alloc, lexed, refused),
         Cause::Read(_) | Cause::Attach(_) | Cause::Layout(_, None) => Ok(None),
@@ -217,19 +245,19 @@ fn own_name<'a>(files: &'a [Lexed<'a>]) -> Option<Found<'a>> {
 /// Where a package has a fault: in the first file that has a place of it, or at the package's name.
 pub fn place_of<'a>(
     alloc: Global,
-    files: &'a [Lexed<'a>],
+    around: Around<'a>,
     cause: &Cause,
 ) -> Result<Option<Found<'a>>, AllocError> {
     if let Cause::Resolve(error) = cause
-        && let Some(found) = place_among(alloc, files, error)?
+        && let Some(found) = place_among(alloc, around.files, error)?
     {
         return Ok(Some(found));
     }
-    for lexed in files {
-        let span = place_in(alloc, lexed, cause)?;
+    for lexed in around.files {
+        let span = place_in(alloc, lexed, around.known, cause)?;
         if span.is_some() {
             return Ok(Some(Found { lexed, span }));
         }
     }
-    Ok(own_name(files))
+    Ok(own_name(around.files))
 }

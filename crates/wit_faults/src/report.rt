@@ -115,7 +115,7 @@ impl Report {
         let words = format!(in alloc; "{cause}")?;
         let around = Around { files: &[], known };
         let hint = hint_of(alloc, lexed, around, cause)?;
-        let place = place_in(alloc, lexed, cause)?;
+        let place = place_in(alloc, lexed, known, cause)?;
         self.add_at(alloc, lexed, place, words.as_str(), hint.as_str())
     }
 
@@ -146,7 +146,7 @@ impl Report {
         ensures { OnOk result (self.new.status ≡ 1) }
     {
         let words = format!(in alloc; "{cause}")?;
-        let found = place_of(alloc, around.files, cause)?;
+        let found = place_of(alloc, around, cause)?;
         let hint = match found {
             Some(found) => hint_of(alloc, found.lexed, around, cause)?,
             None => String::new(alloc),

@@ -1,0 +1,21 @@
+//! Hints: what to do about a fault of a WIT text.
+//!
+//! `hint_of_text` looks at the token that is not allowed where it is, and at what is around it: the brackets that it is in, and
+//! the tokens beside it. It knows words of other languages, and what WIT writes for them. `hint_of_unknown` and
+//! `hint_of_duplicate` are hints about names; `find_twins` finds the two places of a name that is twice. It stands on
+//! `wit_text`, `wit_places` and `source_lines`.
+#![tactic(auto)]
+
+mod bad;
+mod features;
+mod foreign;
+mod marks;
+mod missing;
+mod names;
+mod scopes;
+mod spot;
+mod texts;
+
+pub use names::{hint_of_duplicate, hint_of_unknown};
+pub use scopes::{Twins, find_twins};
+pub use texts::{MORE_MEMORY, hint_of_text};

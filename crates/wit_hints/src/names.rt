@@ -1,0 +1,117 @@
+//! What to do about a name that stands for nothing, or is twice in a scope.
+
+use crate::features::NO_FLOATS;
+use crate::foreign::{is_float, is_nothing, type_for};
+use crate::scopes::{Twins, find_twins};
+use source_lines::place_at;
+use std::alloc::{AllocError, Global};
+use strsim::levenshtein;
+use wit_places::{Declarations, Lexed};
+
+/// The words that are types.
+static TYPES: [&str; 15] = [
+    "bool", "char", "string", "list", "option", "result", "tuple", "s8", "s16", "s32", "s64", "u8",
+    "u16", "u32", "u64",
+];
+
+/// The nearer of two names to a word. A name is near if less than a third of the letters differ, or one.
+fn nearer<'a>(
+    alloc: Global,
+    word: &str,
+    best: Option<(usize, &'a str)>,
+    name: &'a str,
+) -> Result<Option<(usize, &'a str)>, AllocError> {
+    let edits = levenshtein(alloc, word, name)?;
+    let most = match best {
+        Some((least, _)) => least,
+        None => (word.len() / 3).saturating_add(1),
+    };
+    if edits > 0 && edits < most {
+        return Ok(Some((edits, name)));
+    }
+    Ok(best)
+}
+
+/// The nearest to a word among the words that are types and the names that the text uses.
+fn nearest<'a>(
+    alloc: Global,
+    lexed: &Lexed<'a>,
+    word: &str,
+) -> Result<Option<(usize, &'a str)>, AllocError> {
+    let mut best = None;
+    for name in &TYPES {
+        best = nearer(alloc, word, best, name)?;
+    }
+    for index in 0..lexed.tokens.len() {
+        if let Some(name) = lexed.use_at(index) {
+            best = nearer(alloc, word, best, name)?;
+        }
+    }
+    Ok(best)
+}
+
+/// What to do about a type of another language.
+fn of_other_type(alloc: Global, word: &str) -> Result<String, AllocError> {
+    if is_float(word) {
+        return String::from_str(alloc, NO_FLOATS);
+    }
+    if is_nothing(word) {
+        return format!(in alloc;
+            "no `{word}` here: leave out `-> {word}`, or write `_` in a result"
+        );
+    }
+    match type_for(word) {
+        Some(name) => format!(in alloc; "no `{word}` here; WIT has `{name}`"),
+        None => Ok(String::new(alloc)),
+    }
+}
+
+/// What to do about a name that stands for nothing.
+pub fn hint_of_unknown(alloc: Global, lexed: &Lexed<'_>, word: &str) -> Result<String, AllocError> {
+    if let Some(interface) = Declarations::of(alloc, lexed)?.interface_with(word) {
+        return format!(in alloc; "write `use {interface}.{{{word}}};` in this interface");
+    }
+    let other = of_other_type(alloc, word)?;
+    if !other.is_empty() {
+        return Ok(other);
+    }
+    match nearest(alloc, lexed, word)? {
+        Some((_, name)) => format!(in alloc; "no `{word}` here; did you mean `{name}`?"),
+        None => {
+            format!(in alloc; "declare `{word}`, or `use` it from the interface that has it")
+        }
+    }
+}
+
+/// Where a name is: in which line, or in which column of the line of another one.
+fn line_or_column(alloc: Global, lexed: &Lexed<'_>, twins: &Twins) -> Result<String, AllocError> {
+    let first = place_at(lexed.text, twins.first.start);
+    match (first, place_at(lexed.text, twins.second.start)) {
+        (Some(first), Some(second)) if first.line == second.line => {
+            format!(in alloc; "column {}", first.column)
+        }
+        (Some(first), _) => format!(in alloc; "line {}", first.line),
+        (None, _) => Ok(String::new(alloc)),
+    }
+}
+
+/// What to do about a name that its scope has before. It may be the full name of an interface.
+pub fn hint_of_duplicate(
+    alloc: Global,
+    lexed: &Lexed<'_>,
+    name: &str,
+) -> Result<String, AllocError> {
+    let Some(twins) = find_twins(lexed, name) else {
+        return String::from_str(alloc, "leave out one of the two");
+    };
+    let place = line_or_column(alloc, lexed, &twins)?;
+    let place = place.as_str();
+    let (first, second) = (lexed.at(twins.first), lexed.at(twins.second));
+    if name.rsplit_once('/').is_some() {
+        return format!(in alloc; "leave out one: the first is in {place}");
+    }
+    if first.strip_prefix("%").unwrap_or(first) == second.strip_prefix("%").unwrap_or(second) {
+        return format!(in alloc; "rename one: the first is in {place}");
+    }
+    format!(in alloc; "rename one: `{first}` in {place} differs in the case of letters alone")
+}
