@@ -17,8 +17,8 @@ import sys
 import tempfile
 
 TOP = pathlib.Path(__file__).resolve().parent.parent
-LIBRARIES = ["atoms", "canonical_abi", "tables", "layout", "memory", "lift_lower"]
-CALLS = ["atoms", "canonical_abi", "tables", "layout", "memory", "lift_lower", "adapter"]
+LIBRARIES = ["atoms", "canonical_abi", "tables", "table_building", "layout", "memory", "lift_lower"]
+CALLS = ["atoms", "canonical_abi", "tables", "table_building", "layout", "memory", "lift_lower", "adapter"]
 
 # of each table: its library's crate and that crate's source, what it stands on, and the program over it
 TABLES = {

@@ -21,6 +21,7 @@ use ctype_bin::{ExternName, RawAlias, RawComponent, RawDecl, RawDescription, Raw
 use indexmap::IndexMap;
 use package_form::is_same_version;
 use std::alloc::{AllocError, Global};
+use table_building::from_parts;
 use tables::{
     Definition, Interface, InterfaceId, PackageId, PackageName, Resolve, Sequence, TypeId, World,
     WorldId, copy_version,
@@ -246,7 +247,7 @@ impl ComponentReader {
     fn finish(self) -> Result<Resolve, Unread>
         ensures { Makes (candidate_read (component_view self)) result }
     {
-        let resolve = Resolve::from_parts(
+        let resolve = from_parts(
             Sequence::new(self.packages),
             Sequence::new(self.interfaces),
             Sequence::new(self.worlds),

@@ -18,6 +18,7 @@ use package_adding::{AddError, AttachError};
 use package_form::own_package;
 use package_sets::restricted;
 use std::alloc::{AllocError, Global};
+use table_building::copy_of;
 use tables::{PackageId, Resolve, ResolveError};
 use thiserror::Error;
 use wit_text::TextError;
@@ -196,7 +197,7 @@ impl Package {
     pub fn copy(&self, alloc: Global) -> Result<Package, AllocError>
         ensures { IfOk result (λ p. IsSamePackage p.resolve self.now.resolve) }
     {
-        let resolve = self.resolve.copy(alloc)?;
+        let resolve = copy_of(alloc, &self.resolve)?;
         match Layouts::of(alloc, &resolve) {
             Ok(layouts) => Ok(Package { resolve, layouts }),
             Err(LayoutError::NoMemory) => Err(AllocError),

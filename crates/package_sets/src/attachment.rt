@@ -13,6 +13,7 @@ use crate::moved::{Movable, copied_name, moved_functions, moved_types, push_move
 use crate::same::{Same, are_same};
 use package_form::own_package;
 use std::alloc::{AllocError, Global};
+use table_building::copy_of;
 use tables::{Definition, Interface, PackageId, PackageName, Resolve};
 
 /// The packages that a set may have.
@@ -144,7 +145,7 @@ fn put_behind(
     requires { IsJoined set.now closed.now (listed to.now) }
     ensures { IfOk result (IsPut set.now closed.now own.now (listed to.now)) }
 {
-    let copy = set.copy(alloc)?;
+    let copy = copy_of(alloc, set)?;
     let mut packages = copy.packages;
     let mut interfaces = copy.interfaces;
     let mut worlds = copy.worlds;

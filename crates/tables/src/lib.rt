@@ -6,21 +6,17 @@
 //! and stands on `canonical_abi` and `atoms`.
 #![tactic(auto)]
 
-mod copy;
 mod error;
 pub mod laws;
 mod lookup;
 mod members;
 mod name;
-mod parts;
 mod sequence;
 mod tables;
 
-pub use copy::copy_version;
 pub use error::ResolveError;
 pub use members::{Choice, Member};
-pub use name::Name;
-pub use parts::are_standard;
+pub use name::{Name, copy_version};
 pub use sequence::Sequence;
 pub use tables::{
     Case, Definition, Direction, Field, Function, FunctionId, Interface, InterfaceId, Owner,

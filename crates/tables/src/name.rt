@@ -1,5 +1,5 @@
 //! Names as they are told, and the full names of a package's interfaces.
-ghost use Rattle.std.specs.Prelude.{◌≡◌, string_bytes, IfOk};
+ghost use Rattle.std.specs.Prelude.{◌≡◌, option_map, string_bytes, IfOk};
 ghost use Rattle.tables.specs.PackageNames.{own_name};
 
 use crate::tables::PackageName;
@@ -60,6 +60,16 @@ impl PackageName {
             text.push_str(version.as_str())?;
         }
         Ok(Name::new(text))
+    }
+}
+
+/// A copy of a version, if there is one.
+pub fn copy_version(version: &Option<String>) -> Result<Option<String>, AllocError>
+    ensures { IfOk result (λ copy. option_map string_bytes copy ≡ option_map string_bytes version.now) }
+{
+    match version {
+        Some(version) => Ok(Some(version.clone()?)),
+        None => Ok(None),
     }
 }
 

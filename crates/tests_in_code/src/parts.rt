@@ -14,6 +14,7 @@ use std::alloc::Global;
 use std::process::Abort;
 use std::slice;
 use std::test::Fail;
+use table_building::from_parts;
 use tables::{
     Definition, Primitive, Resolve, ResolveError, Sequence, TypeDef, TypeDefKind, TypeId, ValType,
 };
@@ -27,7 +28,7 @@ fn with_list(alloc: Global, element: ValType) -> Result<Result<Resolve, ResolveE
         name: None,
         kind: TypeDefKind::List(element),
     }))?;
-    Ok(Resolve::from_parts(
+    Ok(from_parts(
         Sequence::new(Vec::new(alloc)),
         Sequence::new(Vec::new(alloc)),
         Sequence::new(Vec::new(alloc)),

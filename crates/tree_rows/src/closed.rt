@@ -14,9 +14,10 @@ use crate::plan::Plan;
 use atoms::Label;
 use package_form::{IndexedTable, passes_entries};
 use std::alloc::{AllocError, Global};
+use table_building::{are_standard, copy_of};
 use tables::{
     Definition, FunctionId, Interface, Owner, PackageId, PackageName, Resolve, ResolveError,
-    Sequence, TypeDefKind, TypeId, World, are_standard,
+    Sequence, TypeDefKind, TypeId, World,
 };
 use tree_scopes::{package_name, place_behind};
 
@@ -130,7 +131,7 @@ pub fn copied_parts(
         interfaces,
         worlds: _,
         definitions,
-    } = imports.table().copy(alloc)?;
+    } = copy_of(alloc, imports.table())?;
     Ok((
         packages.into_vec(),
         interfaces.into_vec(),

@@ -1,7 +1,0 @@
-use Rattle.std.proofs.Common.{◌≡◌, true, take}
-use Rattle.std.specs.List.{list_all}
-use Rattle.tables.specs.Tables.{is_type_id}
-use Rattle.tables.proofs.parts.are_type_ids.Given as goal
-
-abbrev pub invariant-loop-id : goal.invariant-loop-id
-invariant-loop-id l = list_all (is_type_id l.definitions) (take l.id-index l.ids) ≡ true
