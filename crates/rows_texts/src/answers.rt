@@ -2,12 +2,12 @@
 
 use crate::calls::{called, job_of, short_call, streamed};
 use crate::changes::{changes, cuts, fronts, is_opened_alone};
-use crate::inputs::{Inputs, Set};
-use crate::layouts::laid_out;
+use crate::json;
 use crate::opened::{line_of, package, told};
-use crate::parts::inputs_in;
-use crate::{json, reading};
 use atoms::Watched;
+use row_bytes::done;
+use row_inputs::{Inputs, Set, inputs_in};
+use row_layouts::laid_out;
 use std::alloc::Global;
 use wit_text::parse;
 use witcall::{Package, Refused, run_set};
@@ -146,6 +146,6 @@ pub fn answer_of(alloc: Global, kept: &Inputs, asked: &str) -> anyhow::Result<St
         "layouts" => laid_out(alloc, rest, false),
         "last" => laid_out(alloc, rest, true),
         _ if is_of_set(word) => answer_to(alloc, word, &mut inputs_in(alloc, kept, rest)?),
-        _ => reading::done(alloc, word, rest),
+        _ => done(alloc, word, rest),
     }
 }

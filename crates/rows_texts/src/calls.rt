@@ -2,11 +2,9 @@
 
 ghost use Rattle.std.specs.Prelude.{◌≡◌, false};
 
-use crate::inputs::{Inputs, Set};
 use crate::opened::{line_of, package, told};
-use crate::parts::{first_word, inputs_in};
-use crate::streams::{Drip, Short};
 use atoms::{Sink, Watched};
+use row_inputs::{Drip, Inputs, Set, Short, first_word, inputs_in};
 use std::alloc::Global;
 use witcall::{Package, Refused, Reply, run_call, run_set};
 use words::asked::Job;

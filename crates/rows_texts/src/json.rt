@@ -4,8 +4,7 @@ ghost use Rattle.std.specs.Prelude.{IfOk};
 ghost use Rattle.tables.specs.Standard.{IsTypeOf};
 
 use crate::calls::{Call, written};
-use crate::inputs::Set;
-use crate::parts::{expanded, parted};
+use row_inputs::{Set, expanded, parted};
 use std::alloc::Global;
 use tables::ValType;
 use witcall::{Package, from_json, open, to_json};

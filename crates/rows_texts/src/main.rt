@@ -4,20 +4,11 @@
 #![tactic(auto)]
 
 mod answers;
-mod binaries;
 mod calls;
 mod changes;
-mod inputs;
 mod json;
-mod layouts;
-mod memories;
 mod opened;
-mod parts;
-mod reading;
 mod rows;
-mod shapes;
-mod streams;
-mod trees;
 
 use rows::{Rows, read};
 use std::alloc::Global;

@@ -2,8 +2,8 @@
 
 ghost use Rattle.std.specs.Prelude.{◌<◌, IfOk, length};
 
-use crate::inputs::Set;
 use atoms::Watched;
+use row_inputs::Set;
 use std::alloc::{AllocError, Global};
 use witcall::{OpenError, Package, Refused, open_set, report};
 

@@ -1,9 +1,8 @@
 //! Lines: comments, inputs that are kept, and rows.
 
 use crate::answers::answer_of;
-use crate::inputs::{Inputs, Set};
-use crate::parts::{inputs_in, parted};
 use atoms::Watched;
+use row_inputs::{Inputs, Set, inputs_in, parted};
 use std::alloc::Global;
 use std::fs;
 use witcall::read_all;

@@ -3,16 +3,16 @@
 ghost use Rattle.std.specs.Prelude.{◌≡◌, IfOk};
 ghost use Rattle.tables.specs.Closed.{IsFunction};
 
-use crate::acting::Acting;
-use crate::logged::Logged;
-use crate::row::{body, field, flats, guest, list, package_bytes, text};
-use crate::telling::{all_given, first_given, object_of, outcome_told, push_memories};
 use adapter::Link;
 use canonical_abi::{Fault, Flat};
 use lift_lower::Flats;
 use serde_json::Value;
 use std::alloc::Global;
 use tables::FunctionId;
+use vector_sides::{
+    Acting, Logged, all_given, body, field, first_given, flats, flats_told, guest, list, object_of,
+    package_bytes, push_memories, text,
+};
 use witcall::{Package, Refused, open};
 
 /// The caller, the callee and the body of a row.
@@ -29,6 +29,19 @@ struct Ended {
     first: Result<Flats, Refused>,
     nodes: (u64, u64),
     other: Option<Result<Flats, Refused>>,
+}
+
+/// How a call ended. Words are those of the program's lines.
+fn outcome_told(alloc: Global, ended: &Result<Flats, Refused>) -> anyhow::Result<String> {
+    match ended {
+        Ok(flats) => {
+            let flats = flats_told(alloc, flats.as_slice())?;
+            Ok(format!(in alloc; "{{\"ok\":{flats}}}")?)
+        }
+        Err(Refused::NoMemory) => Err(anyhow::anyhow!("no memory")),
+        Err(trap @ Refused::Trap(_)) => Ok(format!(in alloc; "{{\"trap\":\"{trap}\"}}")?),
+        Err(refused) => Ok(format!(in alloc; "{{\"refused\":\"{refused}\"}}")?),
+    }
 }
 
 /// A function of an interface.

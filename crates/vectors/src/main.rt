@@ -2,12 +2,8 @@
 //! lowered. docs/FORMATS.md has the form. It shows implementers of other runtimes the answers of calls that carry the promise.
 #![tactic(auto)]
 
-mod acting;
 mod links;
-mod logged;
-mod row;
 mod sessions;
-mod telling;
 mod values;
 
 use serde_json::Value;

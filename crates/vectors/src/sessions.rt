@@ -4,16 +4,16 @@ ghost use Rattle.std.specs.Prelude.{◌≡◌, IfOk};
 ghost use Rattle.tables.specs.Closed.{IsFunction};
 ghost use Rattle.tables.specs.Standard.{IsTypeOf};
 
-use crate::acting::Acting;
 use crate::links::function;
-use crate::logged::Logged;
-use crate::row::{body, field, guest, list, number, package_bytes, text};
-use crate::telling::{list_of, object_of, push_memories};
 use canonical_abi::Fault;
 use lift_lower::Val;
 use serde_json::Value;
 use std::alloc::Global;
 use tables::{FunctionId, ValType};
+use vector_sides::{
+    Acting, Logged, body, field, guest, list, list_of, number, object_of, package_bytes,
+    push_memories, text,
+};
 use witcall::{Answer, Package, Session, Step, from_json, open, takes_steps, to_json};
 
 /// The value of a type that a row says.

@@ -7,15 +7,15 @@ ghost use Rattle.lift_lower.specs.Crossing.{fields_of_types};
 ghost use Rattle.tables.specs.Standard.{IsTypeOf};
 
 use crate::links::function;
-use crate::logged::Logged;
-use crate::row::{field, flats, guest, list, package_bytes, text};
 use crate::sessions::{fault_told, parameter, value_of, value_told};
-use crate::telling::{flats_told, object_of, push_memories};
 use canonical_abi::{Fault, Flat};
 use lift_lower::{Flats, Val, lift, lower};
 use serde_json::Value;
 use std::alloc::Global;
 use tables::ValType;
+use vector_sides::{
+    Logged, field, flats, flats_told, guest, list, object_of, package_bytes, push_memories, text,
+};
 use witcall::{Package, open};
 
 /// The type of the first parameter of the row's function, which is small.

@@ -1,3 +1,5 @@
 pub mod Handed
 pub mod TypeLemmas
 pub mod Results
+pub mod Versions
+pub mod Names

@@ -1,5 +1,3 @@
-pub mod Versions
-pub mod Names
 pub mod KindLemmas
 pub mod FaultLemmas
 pub mod Exactness

@@ -7,11 +7,11 @@ ghost use Rattle.wit_grammar.specs.Faults.{AnswersRead};
 ghost use Rattle.wit_grammar.specs.Grammar.{nesting, alias, record_fields, payload, optional_payload, case_fault, case_id, variant_case, variant_cases, enum_cases, flag_names};
 
 use crate::functions::{NESTING, field};
-use crate::header::first_feature;
 use atoms::Label;
 use std::alloc::Global;
 use wit_grammar::{
-    EntryReader, comma_list, feature_or, identifier, is_name, label_of, punctuation, same, type_at,
+    EntryReader, comma_list, feature_or, first_feature, identifier, is_name, label_of, punctuation,
+    same, type_at,
 };
 use wit_syntax::{Case, Field, TypeDefKind, TypeExpression};
 use wit_tokens::{Expected, Punctuation, TextError, Token, TokenKind};

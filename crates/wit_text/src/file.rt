@@ -10,11 +10,10 @@ ghost use Rattle.wit_grammar.specs.Faults.{AnswersRead};
 ghost use Rattle.wit_grammar.specs.Grammar.{nesting, file_keyword, file_feature, file_fault, begins_item, item, optional_item, items, file};
 ghost use Rattle.wit_text.specs.Reading.{IsRead, Faulty};
 
-use crate::header::{gate, header};
 use crate::interfaces::interface;
 use crate::worlds::world;
 use std::alloc::Global;
-use wit_grammar::{feature_or, same};
+use wit_grammar::{feature_or, gate, header, same};
 use wit_syntax::{Ast, Item};
 use wit_tokens::{
     Expected, Feature, Keyword, TextError, Token, TokenKind, lex, texts_have_one_lexing,

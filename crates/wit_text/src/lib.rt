@@ -7,10 +7,8 @@
 mod definitions;
 mod file;
 mod functions;
-mod header;
 mod interfaces;
 mod laws;
-mod paths;
 mod uses;
 mod worlds;
 

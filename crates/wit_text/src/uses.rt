@@ -6,10 +6,9 @@ ghost use Rattle.wit_syntax.specs.View.{used_view, entry_view};
 ghost use Rattle.wit_grammar.specs.Faults.{AnswersRead};
 ghost use Rattle.wit_grammar.specs.Grammar.{local_name, used, use_item};
 
-use crate::paths::{path, path_end};
 use atoms::Label;
 use std::alloc::Global;
-use wit_grammar::{EntryReader, comma_list, identifier, punctuation, same};
+use wit_grammar::{EntryReader, comma_list, identifier, path, path_end, punctuation, same};
 use wit_syntax::{InterfaceItem, Use, UsedName};
 use wit_tokens::{Expected, Keyword, Punctuation, Span, TextError, Token, TokenKind};
 

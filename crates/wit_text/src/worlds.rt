@@ -7,11 +7,11 @@ ghost use Rattle.wit_grammar.specs.Faults.{AnswersRead};
 ghost use Rattle.wit_grammar.specs.Grammar.{nesting, direction_keyword, direction_of, world_keyword, world_feature, world_fault, single_keyword, single_kind, single_fault, begins_behind_colon, whole_foreign, single, colon_behind, world_colon, world_entry_behind, world_entry, world_list, world};
 
 use crate::functions::whole_function;
-use crate::header::gate;
-use crate::paths::{foreign, path_end};
 use atoms::Label;
 use std::alloc::Global;
-use wit_grammar::{feature_or, identifier, is_name, label_of, peek, punctuation, same};
+use wit_grammar::{
+    feature_or, foreign, gate, identifier, is_name, label_of, path_end, peek, punctuation, same,
+};
 use wit_syntax::{Direction, Func, Item, Path, World, WorldItem, WorldItemKind};
 use wit_tokens::{Expected, Feature, Keyword, Punctuation, Span, TextError, Token, TokenKind};
 

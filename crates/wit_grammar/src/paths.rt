@@ -5,15 +5,15 @@ ghost use Rattle.wit_syntax.specs.View.{path_view};
 ghost use Rattle.wit_grammar.specs.Faults.{AnswersRead};
 ghost use Rattle.wit_grammar.specs.Grammar.{foreign, behind_namespace, path, path_fault, path_end};
 
-use crate::header::{version, version_or};
+use crate::file_head::{version, version_or};
+use crate::parser::{identifier, met, punctuation, same};
 use atoms::Label;
 use std::alloc::Global;
-use wit_grammar::{identifier, met, punctuation, same};
 use wit_syntax::{PackageId, Path};
 use wit_tokens::{Expected, Punctuation, TextError, Token, TokenKind};
 
 /// Another package's interface, behind the names of its package.
-#[tactic(auto, unfolding(wit_grammar::specs::Grammar::foreign))]
+#[tactic(auto, unfolding(crate::specs::Grammar::foreign))]
 pub fn foreign<'a>(
     alloc: Global,
     source: &[u8],
@@ -36,7 +36,7 @@ pub fn foreign<'a>(
 }
 
 /// The same behind the `:` of its package's name.
-#[tactic(auto, unfolding(wit_grammar::specs::Grammar::behind_namespace))]
+#[tactic(auto, unfolding(crate::specs::Grammar::behind_namespace))]
 fn behind_namespace<'a>(
     alloc: Global,
     source: &[u8],
@@ -51,7 +51,7 @@ fn behind_namespace<'a>(
 }
 
 /// A path behind its first name.
-#[tactic(auto, unfolding(wit_grammar::specs::Grammar::path))]
+#[tactic(auto, unfolding(crate::specs::Grammar::path))]
 pub fn path<'a>(
     alloc: Global,
     source: &[u8],
@@ -71,7 +71,7 @@ pub fn path<'a>(
 }
 
 /// What is answered where this mark doesn't stand behind a path.
-#[tactic(auto, unfolding(wit_grammar::specs::Grammar::path_fault))]
+#[tactic(auto, unfolding(crate::specs::Grammar::path_fault))]
 fn path_fault(source: &[u8], path: &Path, mark: Punctuation, tokens: &[Token]) -> TextError
     ensures { result ≡ path_fault (length source.now) (path_view path.now) mark (lexemes source.now tokens.now) }
 {
@@ -90,7 +90,7 @@ fn path_fault(source: &[u8], path: &Path, mark: Punctuation, tokens: &[Token]) -
 }
 
 /// The mark behind a path.
-#[tactic(auto, unfolding(wit_grammar::specs::Grammar::path_end))]
+#[tactic(auto, unfolding(crate::specs::Grammar::path_end))]
 pub fn path_end<'a>(
     source: &[u8],
     path: &Path,

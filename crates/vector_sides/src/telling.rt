@@ -5,7 +5,6 @@ use crate::logged::{Logged, Request};
 use canonical_abi::{Flat, Guest};
 use lift_lower::Flats;
 use std::alloc::{AllocError, Global};
-use witcall::Refused;
 
 /// A list of what is told already.
 pub fn list_of(alloc: Global, parts: &[String]) -> Result<String, AllocError> {
@@ -51,19 +50,6 @@ fn requests_told(alloc: Global, requests: &[Request]) -> Result<String, AllocErr
         })?;
     }
     list_of(alloc, parts.as_slice())
-}
-
-/// How a call ended. Words are those of the program's lines.
-pub fn outcome_told(alloc: Global, ended: &Result<Flats, Refused>) -> anyhow::Result<String> {
-    match ended {
-        Ok(flats) => {
-            let flats = flats_told(alloc, flats.as_slice())?;
-            Ok(format!(in alloc; "{{\"ok\":{flats}}}")?)
-        }
-        Err(Refused::NoMemory) => Err(anyhow::anyhow!("no memory")),
-        Err(trap @ Refused::Trap(_)) => Ok(format!(in alloc; "{{\"trap\":\"{trap}\"}}")?),
-        Err(refused) => Ok(format!(in alloc; "{{\"refused\":\"{refused}\"}}")?),
-    }
 }
 
 /// Members of an object that are told already.

@@ -1,13 +1,13 @@
 //! What the definitions of a package take.
 
-use crate::parts::expanded;
 use crate::shapes::{flat, shape_and_size, signature};
 use layout::Layouts;
+use opening::{Package, open};
+use row_inputs::expanded;
 use std::alloc::Global;
 use tables::{
     Definition, Function, FunctionId, InterfaceId, Owner, Resolve, TypeDef, TypeId, ValType,
 };
-use witcall::{Package, open};
 
 fn interface_name(resolve: &Resolve, id: InterfaceId) -> &str {
     match resolve.interfaces.as_slice().get(id.0 as usize) {

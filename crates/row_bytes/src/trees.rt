@@ -1,8 +1,8 @@
 //! Rows of numbers with a tree of their maxima, and what is asked of them in turn.
 
 use crate::memories::{number, pair};
-use crate::parts::parted;
 use max_tree::MaxTree;
+use row_inputs::parted;
 use std::alloc::Global;
 
 fn found(alloc: Global, place: Option<usize>) -> anyhow::Result<String> {

@@ -1,8 +1,7 @@
 //! Component type binaries: at once and by a reader that gives a byte at a time, may fail, or never ends.
 
-use crate::parts::first_word;
-use crate::streams::{Drip, Zeros};
 use ctype_bin::{BinError, Fault, RawComponent, decode, decode_from, encode};
+use row_inputs::{Drip, Zeros, first_word};
 use std::alloc::Global;
 
 /// What decoding by a reader answers that gives a byte at a time, and fails after so many.

@@ -1,7 +1,7 @@
 //! Memories, and what is asked of them in turn.
 
-use crate::parts::parted;
 use memory::{Block, Bump, FirstFit, Guest, Lent, MemoryError, Space, can_lend};
+use row_inputs::parted;
 use std::alloc::{AllocError, Global};
 use std::fmt;
 

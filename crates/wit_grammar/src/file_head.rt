@@ -7,9 +7,9 @@ ghost use Rattle.wit_syntax.specs.View.{version_view};
 ghost use Rattle.wit_grammar.specs.Faults.{AnswersRead};
 ghost use Rattle.wit_grammar.specs.Grammar.{is_version_text, is_version_token, version, is_lower_name, lower_id, gate, first_feature, first_fault, package_word, version_or, header_fault, header_end, header};
 
+use crate::parser::{feature_or, label_of, met, name_of, punctuation, same};
 use atoms::{Label, is_package_label, is_version};
 use std::alloc::{AllocError, Global};
-use wit_grammar::{feature_or, label_of, met, name_of, punctuation, same};
 use wit_syntax::PackageId;
 use wit_tokens::{Expected, Feature, Keyword, Punctuation, TextError, Token, TokenKind};
 
@@ -29,7 +29,7 @@ fn version_text(alloc: Global, text: &[u8]) -> Result<Option<String>, AllocError
     }
 }
 
-#[tactic(auto, unfolding(wit_grammar::specs::Grammar::is_lower_name))]
+#[tactic(auto, unfolding(crate::specs::Grammar::is_lower_name))]
 fn is_lower_name(source: &[u8], token: Token) -> bool
     ensures { result ≡ is_lower_name (lexeme source.now token) }
 {
@@ -37,7 +37,7 @@ fn is_lower_name(source: &[u8], token: Token) -> bool
 }
 
 /// Takes a name in lower case.
-#[tactic(auto, using(crate::proofs::Names::named), unfolding(wit_grammar::specs::Grammar::lower_id))]
+#[tactic(auto, using(crate::proofs::Names::named), unfolding(crate::specs::Grammar::lower_id))]
 fn lower_identifier<'a>(
     alloc: Global,
     source: &[u8],
@@ -73,7 +73,7 @@ pub fn first_feature(kind: TokenKind) -> Option<Feature>
 }
 
 /// What is answered where a text doesn't begin with `package`.
-#[tactic(auto, unfolding(wit_grammar::specs::Grammar::first_fault))]
+#[tactic(auto, unfolding(crate::specs::Grammar::first_fault))]
 fn first_fault(source: &[u8], tokens: &[Token]) -> TextError
     ensures { result ≡ first_fault (length source.now) (lexemes source.now tokens.now) }
 {
@@ -85,7 +85,7 @@ fn first_fault(source: &[u8], tokens: &[Token]) -> TextError
 }
 
 /// The version behind the name of a package or of its interface, if a well-formed one stands there.
-#[tactic(auto, unfolding(wit_grammar::specs::Grammar::version, wit_grammar::specs::Grammar::is_version_token))]
+#[tactic(auto, unfolding(crate::specs::Grammar::version, crate::specs::Grammar::is_version_token))]
 pub fn version<'a>(
     alloc: Global,
     source: &[u8],
@@ -118,7 +118,7 @@ pub fn version_or(version: &Option<String>, mark: Punctuation, kind: TokenKind) 
 }
 
 /// What is answered where no `;` stands behind the package's name.
-#[tactic(auto, unfolding(wit_grammar::specs::Grammar::header_fault))]
+#[tactic(auto, unfolding(crate::specs::Grammar::header_fault))]
 fn header_fault(source: &[u8], version: &Option<String>, tokens: &[Token]) -> TextError
     ensures { result ≡ header_fault (length source.now) (version_view version.now) (lexemes source.now tokens.now) }
 {
@@ -138,7 +138,7 @@ fn header_fault(source: &[u8], version: &Option<String>, tokens: &[Token]) -> Te
     }
 }
 
-#[tactic(auto, unfolding(wit_grammar::specs::Grammar::header_end))]
+#[tactic(auto, unfolding(crate::specs::Grammar::header_end))]
 fn header_end<'a>(
     source: &[u8],
     version: &Option<String>,
@@ -154,7 +154,7 @@ fn header_end<'a>(
     }
 }
 
-#[tactic(auto, unfolding(wit_grammar::specs::Grammar::package_word))]
+#[tactic(auto, unfolding(crate::specs::Grammar::package_word))]
 fn package_word<'a>(source: &[u8], tokens: &'a [Token]) -> Result<(Token, &'a [Token]), TextError>
     ensures gives { AnswersRead (λ x. (lexeme source.now x.0, lexemes source.now x.1.now)) result ((package_word (length source.now)).read (lexemes source.now tokens.now)) }
     ensures shorter { IfOk result (λ x. length x.1.now < length tokens.now) }
@@ -167,7 +167,7 @@ fn package_word<'a>(source: &[u8], tokens: &'a [Token]) -> Result<(Token, &'a [T
 }
 
 /// `package`, its name, its version if it has one, and `;`.
-#[tactic(auto, unfolding(wit_grammar::specs::Grammar::header))]
+#[tactic(auto, unfolding(crate::specs::Grammar::header))]
 pub fn header<'a>(
     alloc: Global,
     source: &[u8],

@@ -1,0 +1,7 @@
+//! Rows of layouts: what the types and functions of a text's package take. docs/FORMATS.md has the language of rows.
+#![tactic(auto)]
+
+mod layouts;
+mod shapes;
+
+pub use layouts::laid_out;

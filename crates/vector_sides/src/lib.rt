@@ -1,0 +1,13 @@
+//! The two sides of a vector's calls: memories that log what they are asked, bodies that do what a row says, how a row says both, and how
+//! they are told. `vectors` answers rows over them. docs/FORMATS.md has the form of rows.
+#![tactic(auto)]
+
+mod acting;
+mod logged;
+mod row;
+mod telling;
+
+pub use acting::Acting;
+pub use logged::Logged;
+pub use row::{body, field, flats, guest, list, number, package_bytes, text};
+pub use telling::{all_given, first_given, flats_told, list_of, object_of, push_memories};
