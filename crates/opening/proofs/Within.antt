@@ -9,7 +9,7 @@ use Rattle.canonical_abi.proofs.Images.{slice_get-take, slice_get-drop}
 use Rattle.layout.specs.Layout.{IsWithin, AreWithin}
 use Rattle.package_sets.specs.Attached.{IsAttached}
 use Rattle.package_sets.specs.Joining.{import_rows, joined}
-use Rattle.package_sets.specs.Moved.{Renaming, put_val, put_field, put_case, put_parameter, put_kind, put_row}
+use Rattle.set_rows.specs.Moved.{Renaming, put_val, put_field, put_case, put_parameter, put_kind, put_row}
 use Rattle.package_sets.proofs.Lists.{map-get, front-get, behind-get, behind-place}
 use Rattle.tables.specs.Tables.{option_all, kind_all, definition_all, is_below, definition_below}
 use Rattle.tables.specs.Closed.{closed_val, closed_kind, closed_definition, closed_rows, closed_types}

@@ -163,10 +163,8 @@ impl Package {
         let Ok(own) = u32::try_from(own_package(self.resolve.packages.as_slice())) else {
             return Err(AllocError);
         };
-        match restricted(alloc, &self.resolve, PackageId(own)) {
-            Ok(table) => Ok(table),
-            Err(_) => Err(AllocError),
-        }
+        let table = restricted(alloc, &self.resolve, PackageId(own))?;
+        Ok(table)
     }
 
     /// The table of the set: all packages, the last of which is the one that was opened behind the others.

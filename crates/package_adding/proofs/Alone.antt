@@ -12,7 +12,7 @@ use Rattle.package_form.specs.Form.{IsInPackageForm}
 use Rattle.package_form.proofs.OwnPackage.{some-package}
 use Rattle.package_sets.specs.Attached.{HasRoom, has_package, others, HasAll, LacksFirst, IsAttached}
 use Rattle.package_sets.specs.BehindImports.{IsBehindImports}
-use Rattle.package_sets.specs.Places.{kept}
+use Rattle.set_rows.specs.Places.{kept}
 use Rattle.package_sets.specs.SetForm.{IsEmpty}
 use Rattle.package_sets.specs.declared.error.AttachError.TheVariants as attach
 use Rattle.package_sets.proofs.Alone.{attached-alone, behind-alone, no-imports-of, no-marks-of}

@@ -18,7 +18,7 @@ use Rattle.package_sets.proofs.One.{imports-one}
 use Rattle.package_sets.proofs.SameTables.{same-tables}
 use Rattle.package_sets.specs.Imports.{IsImportsOf}
 use Rattle.package_sets.specs.Joining.{are_same_packages, import_count, imports}
-use Rattle.package_sets.specs.Reaches.{is_own_interface}
+use Rattle.set_rows.specs.Reaches.{is_own_interface}
 use Rattle.tables.proofs.Rows.{split, both}
 use Rattle.tables.specs.PackageNames.{PackageParts}
 use Rattle.tables.specs.declared.tables.Interface.{Interface}

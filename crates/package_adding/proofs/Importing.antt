@@ -18,7 +18,7 @@ use Rattle.package_sets.specs.Attached.{HasRoom, has_package}
 use Rattle.package_sets.specs.Follows.{IsOfInterfaces, OfImports}
 use Rattle.package_sets.specs.Imports.{IsImportsOf}
 use Rattle.package_sets.proofs.Imported.{follows}
-use Rattle.package_sets.specs.Owners.{owner_of}
+use Rattle.set_rows.specs.Owners.{owner_of}
 use Rattle.package_sets.specs.Restricted.{IsReachedIn}
 use Rattle.package_sets.specs.SetForm.{HasNamesApart, IsInSetForm}
 use Rattle.package_sets.proofs.Closing.{kept-from}

@@ -25,10 +25,7 @@ impl PackageSet {
         ensures form { IfOk result (λ r. ∥ IsInPackageForm r × All AreDistinct (package_scopes r) ∥₁) }
         ensures writable { IfOk result (λ r. ∥ IsWritable r ∥₁) }
     {
-        // It fails where memory is wanting alone.
-        let Ok(table) = restricted(alloc, self.resolve(), id) else {
-            return Err(AllocError);
-        };
+        let table = restricted(alloc, self.resolve(), id)?;
         names_are_labels(&table);
         Ok(table)
     }

@@ -20,7 +20,7 @@ use Rattle.tables.specs.declared.tables.World.{World}
 use Rattle.tables.specs.declared.tables.WorldItemKind.{WorldItemKind}
 use Rattle.tables.specs.declared.tables.WorldItemKind.TheVariants as item
 use Rattle.tables.specs.declared.tables.Resolve.{Resolve}
-use Rattle.package_sets.specs.Moved.{Renaming, put_val, put_row, put_function, put_interface, put_item, put_item_kind, put_world}
+use Rattle.set_rows.specs.Moved.{Renaming, put_val, put_row, put_function, put_interface, put_item, put_item_kind, put_world}
 use Rattle.package_sets.specs.Set.{IsPackageByPackage, HasRowsInForm}
 use Rattle.package_sets.specs.Joining.{imports, own_interfaces, joined, HasImports}
 use Rattle.package_sets.specs.Joined.{renaming_of, IsJoined, IsPut}

@@ -44,19 +44,19 @@ use Rattle.package_sets.specs.Follows.{OfImports, BeginsWith}
 use Rattle.package_sets.specs.Imports.{IsImportsOf}
 use Rattle.package_sets.specs.Joined.{renaming_of, IsJoined, IsPut}
 use Rattle.package_sets.specs.Joining.{import_count, imports, own_interfaces, import_rows, joined, are_same_packages, HasIds}
-use Rattle.package_sets.specs.Moved.{Renaming, put_id, put_interface, put_item, put_item_kind, put_world, put_row, put_types, put_functions}
+use Rattle.set_rows.specs.Moved.{Renaming, put_id, put_interface, put_item, put_item_kind, put_world, put_row, put_types, put_functions}
 use Rattle.package_sets.specs.NamedIn.{own_rows, own_reached, IsImportAt, AreNamedIn}
-use Rattle.package_sets.specs.Owners.{owner_of, owners, names, names_or}
+use Rattle.set_rows.specs.Owners.{owner_of, owners, names, names_or}
 use Rattle.package_sets.specs.Part.{IsPart, IsTableOf}
-use Rattle.package_sets.specs.Places.{kept, place}
-use Rattle.package_sets.specs.Reaches.{Marks, is_marked, own_marks, given_marks, is_own_interface, is_own_world, item_owners, owners_in, world_owners, owner_at, named_owners, OfPackage, OfInterfaces, Reaches, of_start, of_row, AreReached}
-use Rattle.package_sets.specs.Renamed.{renaming}
+use Rattle.set_rows.specs.Places.{kept, place}
+use Rattle.set_rows.specs.Reaches.{Marks, is_marked, own_marks, given_marks, is_own_interface, is_own_world, item_owners, owners_in, world_owners, owner_at, named_owners, OfPackage, OfInterfaces, Reaches, of_start, of_row, AreReached}
+use Rattle.set_rows.specs.Renamed.{renaming}
 use Rattle.package_sets.specs.Restricted.{IsReachedIn, AreNeeded, number_or, package_of_owner, IsNeeded}
 use Rattle.package_sets.specs.Set.{HasRowsInForm}
 use Rattle.package_sets.specs.SetForm.{IsInSetForm}
 use Rattle.package_sets.specs.Tower.{IsInTower}
 use Rattle.package_sets.specs.Joined.{JoinedPlaces}
-use Rattle.package_sets.specs.declared.moved.Moved.{Moved}
+use Rattle.set_rows.specs.declared.moved.Moved.{Moved}
 use Rattle.package_sets.proofs.Attaching.{same-packages}
 use Rattle.package_sets.proofs.Behind.{own-behind, rows-behind, interfaces-behind, worlds-behind, import-found, interface-below, rows-there}
 use Rattle.package_sets.proofs.Belonging.{Belongs, belongs, owner-some}
@@ -68,14 +68,14 @@ use Rattle.package_sets.proofs.Images.{AreImages, mark-within, image-place, kept
 use Rattle.package_sets.proofs.Imported.{given-there, follows}
 use Rattle.package_sets.proofs.InTower as in-tower
 use Rattle.package_sets.proofs.InTower.{IsOf}
-use Rattle.package_sets.proofs.Keeping.{kept-at, place-order}
+use Rattle.set_rows.proofs.Keeping.{kept-at, place-order}
 use Rattle.package_sets.proofs.Kept.{interface-in, list-at, placed-at}
 use Rattle.package_sets.proofs.Lists.{map-get, map-unget, front-get, behind-get, one-there, get-contains, contains-get, contains-unflat}
 use Rattle.package_sets.proofs.MarkedPlaces.{marked_places, marked-at, length-marked, was-kept}
 use Rattle.package_sets.proofs.Meaning.{all-worlds}
 use Rattle.package_sets.proofs.Named.{definition-all, named-before, names-put}
 use Rattle.package_sets.proofs.Ordering as ordering
-use Rattle.package_sets.proofs.Owned.{length-owners}
+use Rattle.set_rows.proofs.Owned.{length-owners}
 use Rattle.package_sets.proofs.Owning.{cut, IsOwnedFrom, IsOfWorlds, parted-worlds}
 use Rattle.package_sets.proofs.Parting.{own-stand}
 use Rattle.package_sets.proofs.Parts.{package-part, interfaces-part, no-world}

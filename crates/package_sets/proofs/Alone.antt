@@ -30,14 +30,14 @@ use Rattle.package_form.proofs.Lists.{contains-map}
 use Rattle.std.proofs.lemmas.List.Elements.{Contains-append_left, Contains-append_right}
 use Rattle.package_sets.specs.Attached.{IsAttached, IsOwn}
 use Rattle.package_sets.specs.Joining.{before_own, import_count, imports, own_interfaces, import_rows, row_places, all_places, place_in, joined}
-use Rattle.package_sets.specs.Moved.{Renaming, put_id, put_function_id, put_interface, put_item, put_world, put_row, put_types, put_functions, has_type, has_function}
-use Rattle.package_sets.specs.Owners.{owner_of, owners}
+use Rattle.set_rows.specs.Moved.{Renaming, put_id, put_function_id, put_interface, put_item, put_world, put_row, put_types, put_functions, has_type, has_function}
+use Rattle.set_rows.specs.Owners.{owner_of, owners}
 use Rattle.package_sets.specs.BehindImports.{IsBehindImports}
 use Rattle.package_sets.specs.Imports.{IsImportsOf}
 use Rattle.package_sets.specs.NamedIn.{AreMarksOf, NamesIn}
 use Rattle.package_sets.specs.One.{AttachesAlone}
-use Rattle.package_sets.specs.Reaches.{Marks, is_marked, padded, given_marks, OfInterfaces, Reaches, of_start, of_row, AreReached}
-use Rattle.package_sets.specs.declared.moved.Moved.{Moved}
+use Rattle.set_rows.specs.Reaches.{Marks, is_marked, padded, given_marks, OfInterfaces, Reaches, of_start, of_row, AreReached}
+use Rattle.set_rows.specs.declared.moved.Moved.{Moved}
 use Rattle.package_sets.specs.Set.{ArePackageByPackage, behind_all, HasRowsInForm}
 use Rattle.package_sets.specs.Tower.{IsInTower}
 use Rattle.package_sets.specs.SetForm.{IsEmpty}

@@ -23,8 +23,8 @@ use Rattle.tables.specs.declared.tables.Owner.TheVariants as owner
 use Rattle.tables.specs.declared.tables.Definition.{Definition}
 use Rattle.tables.specs.declared.tables.Definition.TheVariants as row
 use Rattle.tables.specs.declared.tables.Resolve.{Resolve}
-use Rattle.package_sets.specs.Owners.{owner_of, owners, names_or, names}
-use Rattle.package_sets.specs.Reaches.{owner_at}
+use Rattle.set_rows.specs.Owners.{owner_of, owners, names_or, names}
+use Rattle.set_rows.specs.Reaches.{owner_at}
 use Rattle.package_sets.specs.Set.{IsPackageByPackage, AreWorldsApart}
 use Rattle.package_sets.proofs.Lists.{none-within, contains-get}
 use Rattle.package_sets.proofs.Kept.{list-at}

@@ -19,7 +19,7 @@ use Rattle.tables.specs.declared.tables.Definition.{Definition}
 use Rattle.tables.specs.declared.tables.Interface.{Interface}
 use Rattle.tables.specs.declared.tables.World.{World}
 use Rattle.tables.specs.declared.tables.Resolve.{Resolve}
-use Rattle.package_sets.specs.Moved.{Renaming, put_kind, put_row}
+use Rattle.set_rows.specs.Moved.{Renaming, put_kind, put_row}
 use Rattle.package_sets.specs.Set.{HasRowsInForm}
 use Rattle.package_sets.specs.Joining.{import_count, imports}
 use Rattle.package_sets.specs.Joined.{renaming_of, IsJoined}

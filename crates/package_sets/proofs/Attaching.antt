@@ -15,7 +15,7 @@ use Rattle.tables.proofs.Rows.{split}
 use Rattle.tables.proofs.Earlier.{grouped-at}
 use Rattle.tables.specs.declared.tables.Interface.{Interface}
 use Rattle.tables.specs.declared.tables.Resolve.{Resolve}
-use Rattle.package_sets.specs.Moved.{put_interface}
+use Rattle.set_rows.specs.Moved.{put_interface}
 use Rattle.package_sets.specs.Joining.{import_count, own_interfaces, are_same_packages, has_name_of}
 use Rattle.package_sets.specs.Joined.{renaming_of, IsJoined, IsPut}
 use Rattle.package_sets.specs.Attached.{IsOwn}

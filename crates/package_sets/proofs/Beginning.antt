@@ -9,7 +9,7 @@ use Rattle.tables.specs.declared.tables.Resolve.{Resolve}
 use Rattle.package_sets.specs.Attached.{others}
 use Rattle.package_sets.specs.Follows.{BeginsWith}
 use Rattle.package_sets.specs.Joining.{before_own, import_count, imports}
-use Rattle.package_sets.specs.Reaches.{is_own_interface}
+use Rattle.set_rows.specs.Reaches.{is_own_interface}
 use Rattle.package_sets.proofs.Kept.{interface-in}
 
 before-append : (own : ℕ) (is xs : List Interface) → ((k : ℕ) (i : Interface) → slice_get is k ≡ Some i → is_own_interface own i ≡ false) → ((i : Interface) → Contains xs i → is_own_interface own i ≡ true)

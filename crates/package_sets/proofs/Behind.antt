@@ -22,8 +22,8 @@ use Rattle.tables.specs.declared.tables.World.{World}
 use Rattle.tables.specs.declared.tables.WorldItemKind.{WorldItemKind}
 use Rattle.tables.specs.declared.tables.WorldItemKind.TheVariants as item
 use Rattle.tables.specs.declared.tables.Resolve.{Resolve}
-use Rattle.package_sets.specs.Moved.{Renaming, put_id, put_function_id, put_val, put_row, put_owner, has_type, has_function, put_interface, put_item, put_item_kind, put_world}
-use Rattle.package_sets.specs.Reaches.{is_own_interface}
+use Rattle.set_rows.specs.Moved.{Renaming, put_id, put_function_id, put_val, put_row, put_owner, has_type, has_function, put_interface, put_item, put_item_kind, put_world}
+use Rattle.set_rows.specs.Reaches.{is_own_interface}
 use Rattle.package_sets.specs.Joining.{before_own, import_count, imports, own_interfaces, IsFirst, has_name_of, import_rows, all_places}
 use Rattle.package_sets.specs.Joined.{renaming_of, IsJoined}
 use Rattle.package_sets.specs.Joined.{JoinedPlaces}

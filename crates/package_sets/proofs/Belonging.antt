@@ -22,7 +22,7 @@ use Rattle.tables.specs.declared.tables.Definition.{Definition}
 use Rattle.tables.specs.declared.tables.Definition.TheVariants as row
 use Rattle.tables.specs.declared.tables.Interface.{Interface}
 use Rattle.tables.specs.declared.tables.World.{World}
-use Rattle.package_sets.specs.Owners.{owner_of, first_owner, owners}
+use Rattle.set_rows.specs.Owners.{owner_of, first_owner, owners}
 use Rattle.package_sets.specs.Set.{AreRowsOf, AreRowsOfWorld, ArePackageByPackage, behind_all, an_interface, a_world}
 use Rattle.package_sets.proofs.Blocks.{places-in, end-is-id, end-is-function}
 use Rattle.package_sets.proofs.Kept.{list-at}

@@ -13,8 +13,8 @@ use Rattle.tables.specs.declared.tables.WorldItemKind.{WorldItemKind}
 use Rattle.tables.specs.declared.tables.WorldItemKind.TheVariants as item
 use Rattle.std.proofs.lemmas.List.Elements.{Contains-append_left, Contains-append_right}
 use Rattle.package_form.proofs.Lists.{contains-map}
-use Rattle.package_sets.specs.Places.{kept, place}
-use Rattle.package_sets.proofs.Placing.{place-none, place-yes, place-no}
+use Rattle.set_rows.specs.Places.{kept, place}
+use Rattle.set_rows.proofs.Placing.{place-none, place-yes, place-no}
 
 -- the n marks from a on are all of this kind
 pub record AreAll (b : Bool) (bs : List Bool) (a n : ℕ) : Type 0 where

@@ -22,17 +22,17 @@ use Rattle.tables.specs.declared.tables.Owner.TheVariants as owner
 use Rattle.tables.specs.declared.tables.Definition.{Definition}
 use Rattle.tables.specs.declared.tables.Definition.TheVariants as row
 use Rattle.tables.specs.declared.tables.Resolve.{Resolve}
-use Rattle.package_sets.specs.Moved.{Renaming, put_id, put_kind, put_name, put_row}
-use Rattle.package_sets.specs.Owners.{owners, names}
+use Rattle.set_rows.specs.Moved.{Renaming, put_id, put_kind, put_name, put_row}
+use Rattle.set_rows.specs.Owners.{owners, names}
 use Rattle.package_sets.specs.Part.{IsPart, IsTableOf, of_world}
-use Rattle.package_sets.specs.Places.{kept, place}
-use Rattle.package_sets.specs.Reaches.{Start, IsStart, Reaches, of_start, of_row, owner_at, is_marked, AreReached}
-use Rattle.package_sets.specs.Renamed.{renaming}
+use Rattle.set_rows.specs.Places.{kept, place}
+use Rattle.set_rows.specs.Reaches.{Start, IsStart, Reaches, of_start, of_row, owner_at, is_marked, AreReached}
+use Rattle.set_rows.specs.Renamed.{renaming}
 use Rattle.package_sets.specs.Set.{IsSet}
-use Rattle.package_sets.specs.declared.moved.Moved.{Moved}
+use Rattle.set_rows.specs.declared.moved.Moved.{Moved}
 use Rattle.package_sets.proofs.Apart.{named-as, used-earlier, used-named, nameless-unnamed, part-owner}
 use Rattle.package_sets.proofs.Belonging.{owner-some, belongs, IsOfInterface, IsOfWorld}
-use Rattle.package_sets.proofs.Keeping.{kept-at}
+use Rattle.set_rows.proofs.Keeping.{kept-at}
 use Rattle.package_sets.proofs.Kept.{list-at}
 use Rattle.package_sets.proofs.Lists.{map-get, contains-get, get-contains}
 use Rattle.package_sets.proofs.Restricting.{mark-at}

@@ -23,15 +23,15 @@ use Rattle.tables.specs.declared.tables.Definition.TheVariants as row
 use Rattle.tables.specs.declared.tables.Interface.{Interface}
 use Rattle.tables.specs.declared.tables.Resolve.{Resolve}
 use Rattle.tables.specs.declared.tables.Owner.{Owner}
-use Rattle.package_sets.specs.Places.{kept, place}
-use Rattle.package_sets.specs.Reaches.{is_marked}
-use Rattle.package_sets.specs.Renamed.{renaming}
-use Rattle.package_sets.specs.Moved.{put_val, put_field, put_case, put_parameter, put_kind, put_row, put_function, put_function_id, has_function, put_interface}
+use Rattle.set_rows.specs.Places.{kept, place}
+use Rattle.set_rows.specs.Reaches.{is_marked}
+use Rattle.set_rows.specs.Renamed.{renaming}
+use Rattle.set_rows.specs.Moved.{put_val, put_field, put_case, put_parameter, put_kind, put_row, put_function, put_function_id, has_function, put_interface}
 use Rattle.package_sets.specs.Part.{IsPart}
-use Rattle.package_sets.specs.declared.moved.Moved.{Moved}
-use Rattle.package_sets.proofs.Keeping.{kept-none, kept-at}
+use Rattle.set_rows.specs.declared.moved.Moved.{Moved}
+use Rattle.set_rows.proofs.Keeping.{kept-none, kept-at}
 use Rattle.package_sets.proofs.Kept.{list-at}
-use Rattle.package_sets.proofs.Placing.{place-none}
+use Rattle.set_rows.proofs.Placing.{place-none}
 use Rattle.package_sets.proofs.Reading.{AgreesOr, agrees-kept, agrees-over, is_kept, AllRight, AreMarksFrom, marks-here, marks-next}
 use Rattle.package_sets.proofs.Restricting as table
 use Rattle.package_sets.proofs.Lists.{map-get}

@@ -12,7 +12,7 @@ use Rattle.tables.specs.declared.tables.Interface.{Interface}
 use Rattle.tables.specs.declared.tables.Resolve.{Resolve}
 use Rattle.package_form.specs.Indexed.{is_package_named, is_interface_named, interface_place}
 use Rattle.package_form.proofs.Positions.{position-none}
-use Rattle.package_sets.specs.Moved.{Renaming}
+use Rattle.set_rows.specs.Moved.{Renaming}
 use Rattle.package_sets.specs.Joining.{imports, import_rows, IsFirst, are_same_packages, has_name_of, AreFound, AreRowsThere, AreIdsThere, HasImports, joined, all_places, place_in}
 use Rattle.package_sets.specs.Joined.{renaming_of, AreJoined, IsJoined}
 use Rattle.package_sets.specs.Attached.{has_package, LacksFirst}

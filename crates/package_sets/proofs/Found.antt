@@ -24,22 +24,22 @@ use Rattle.tables.specs.declared.tables.Definition.{Definition}
 use Rattle.tables.specs.declared.tables.Interface.{Interface}
 use Rattle.tables.specs.declared.tables.World.{World}
 use Rattle.tables.specs.declared.tables.Resolve.{Resolve}
-use Rattle.package_sets.specs.Owners.{owner_of, owners}
-use Rattle.package_sets.specs.Places.{kept, place}
-use Rattle.package_sets.specs.Reaches.{is_marked}
-use Rattle.package_sets.specs.Renamed.{renaming}
-use Rattle.package_sets.specs.Moved.{Renaming, put_row, put_interface}
+use Rattle.set_rows.specs.Owners.{owner_of, owners}
+use Rattle.set_rows.specs.Places.{kept, place}
+use Rattle.set_rows.specs.Reaches.{is_marked}
+use Rattle.set_rows.specs.Renamed.{renaming}
+use Rattle.set_rows.specs.Moved.{Renaming, put_row, put_interface}
 use Rattle.package_sets.specs.Part.{IsPart, IsTableOf}
 use Rattle.package_sets.specs.Follows.{BeginsWith}
 use Rattle.package_sets.specs.Joining.{imports, IsFirst, are_same_packages, has_name_of, AreFound, import_rows, row_places, joined, AreRowsThere, HasIds, AreIdsThere, HasImports}
 use Rattle.package_sets.specs.Attached.{others, HasAll, Fits}
 use Rattle.package_sets.specs.Set.{AreRowsOf, ArePackageByPackage, behind_all, an_interface, a_world, IsSet, HasRowsInForm}
 use Rattle.package_sets.specs.SetForm.{HasNamesApart}
-use Rattle.package_sets.specs.declared.moved.Moved.{Moved}
+use Rattle.set_rows.specs.declared.moved.Moved.{Moved}
 use Rattle.package_sets.proofs.Kept.{interface-in}
 use Rattle.package_sets.proofs.Lists.{map-unget, front-place, one-there, behind-get}
 use Rattle.package_sets.proofs.Beginning.{own-is, begins-packages, begins-imports, begins-rows}
-use Rattle.package_sets.proofs.Keeping.{kept-at}
+use Rattle.set_rows.proofs.Keeping.{kept-at}
 use Rattle.package_sets.proofs.Owning.{length-rows, parted-worlds}
 use Rattle.package_sets.proofs.Attaching.{same-packages}
 use Rattle.package_sets.proofs.Belonging.{owner-some, belongs, Belongs, one-later, plus-none}

@@ -2,12 +2,12 @@
 use Rattle.std.proofs.Common.{◌≡◌, ◌≤◌, ◌<◌, inl, inr, ℕ, zero, suc, ◌+◌, ◌-◌, Bool, true, false, List, [], ◌∷◌, length, map, get_or, slice_get, Some, refl, ap, sym, ◌∙◌, arith, true≢false}
 use Rattle.std.proofs.lemmas.List.{length-map}
 use Rattle.std.proofs.lemmas.Option.{slice_get_within}
-use Rattle.package_sets.specs.Places.{kept, place}
+use Rattle.set_rows.specs.Places.{kept, place}
 use Rattle.package_sets.proofs.Blocks.{AreAll, place-left}
-use Rattle.package_sets.proofs.Keeping.{kept-at, length-kept}
+use Rattle.set_rows.proofs.Keeping.{kept-at, length-kept}
 use Rattle.package_sets.proofs.Lists.{map-get}
 use Rattle.package_sets.proofs.Owning.{cut}
-use Rattle.package_sets.proofs.Placing.{place-none, place-yes}
+use Rattle.set_rows.proofs.Placing.{place-none, place-yes}
 
 -- just these places are marked, and each is behind the one before it
 pub record AreImages (bs : List Bool) (f : ℕ → ℕ) (n : ℕ) : Type 0 where

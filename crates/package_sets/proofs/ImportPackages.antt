@@ -11,14 +11,14 @@ use Rattle.tables.specs.PackageNames.{PackageParts}
 use Rattle.tables.proofs.Rows.{split, both}
 use Rattle.tables.specs.declared.tables.Interface.{Interface}
 use Rattle.tables.specs.declared.tables.Resolve.{Resolve}
-use Rattle.package_sets.specs.Places.{kept, place}
-use Rattle.package_sets.specs.Renamed.{renaming}
-use Rattle.package_sets.specs.Moved.{put_interface}
+use Rattle.set_rows.specs.Places.{kept, place}
+use Rattle.set_rows.specs.Renamed.{renaming}
+use Rattle.set_rows.specs.Moved.{put_interface}
 use Rattle.package_sets.specs.Restricted.{IsReachedIn}
 use Rattle.package_sets.specs.Part.{IsPart, IsTableOf}
-use Rattle.package_sets.specs.declared.moved.Moved.{Moved}
+use Rattle.set_rows.specs.declared.moved.Moved.{Moved}
 use Rattle.package_sets.proofs.Lists.{map-get, not-is}
-use Rattle.package_sets.proofs.Keeping.{kept-at}
+use Rattle.set_rows.proofs.Keeping.{kept-at}
 use Rattle.package_sets.proofs.MarkedPlaces.{was-kept}
 use Rattle.std.proofs.lemmas.List.{get_or_default}
 

@@ -18,15 +18,15 @@ use Rattle.tables.specs.declared.tables.Definition.{Definition}
 use Rattle.tables.specs.declared.tables.Interface.{Interface}
 use Rattle.tables.specs.declared.tables.World.{World}
 use Rattle.tables.specs.declared.tables.Resolve.{Resolve}
-use Rattle.package_sets.specs.Places.{kept, place}
-use Rattle.package_sets.specs.Renamed.{renaming}
-use Rattle.package_sets.specs.Moved.{put_id, put_function_id, put_row, put_interface, has_type, has_function, put_types, put_functions, put_world}
+use Rattle.set_rows.specs.Places.{kept, place}
+use Rattle.set_rows.specs.Renamed.{renaming}
+use Rattle.set_rows.specs.Moved.{put_id, put_function_id, put_row, put_interface, has_type, has_function, put_types, put_functions, put_world}
 use Rattle.package_sets.specs.Part.{IsPart, IsTableOf}
 use Rattle.package_sets.specs.Set.{IsSet, HasRowsInForm}
 use Rattle.package_sets.specs.SetScopes.{interface_scopes, HasDistinctScopes}
-use Rattle.package_sets.specs.declared.moved.Moved.{Moved}
+use Rattle.set_rows.specs.declared.moved.Moved.{Moved}
 use Rattle.package_sets.proofs.Lists.{map-get, map-unget}
-use Rattle.package_sets.proofs.Keeping.{kept-at, place-before}
+use Rattle.set_rows.proofs.Keeping.{kept-at, place-before}
 use Rattle.package_sets.proofs.Standing.{filter-all, all-from, list-ids, list-function-ids}
 use Rattle.package_sets.proofs.Scopes.{all-by-rows}
 use Rattle.package_sets.proofs.SetScopes.{scopes-put, placed-id, placed-in}

@@ -12,12 +12,12 @@ use Rattle.tables.specs.declared.tables.Definition.{Definition}
 use Rattle.tables.specs.declared.tables.Interface.{Interface}
 use Rattle.tables.specs.declared.tables.World.{World}
 use Rattle.tables.specs.declared.tables.Resolve.{Resolve}
-use Rattle.package_sets.specs.Owners.{owner_of}
-use Rattle.package_sets.specs.Places.{kept, place}
-use Rattle.package_sets.specs.Renamed.{renaming}
-use Rattle.package_sets.specs.Moved.{put_interface, put_world}
+use Rattle.set_rows.specs.Owners.{owner_of}
+use Rattle.set_rows.specs.Places.{kept, place}
+use Rattle.set_rows.specs.Renamed.{renaming}
+use Rattle.set_rows.specs.Moved.{put_interface, put_world}
 use Rattle.package_sets.specs.Part.{IsTableOf}
-use Rattle.package_sets.specs.Reaches.{OfInterfaces, padded}
+use Rattle.set_rows.specs.Reaches.{OfInterfaces, padded}
 use Rattle.package_sets.specs.Follows.{IsOfInterfaces, OfImports}
 use Rattle.package_sets.specs.Imports.{IsImported, IsImportsOf}
 use Rattle.package_sets.specs.Set.{IsSet, HasRowsInForm}
@@ -31,7 +31,7 @@ use Rattle.package_sets.proofs.ImportPackages.{kept-set, kept-names, has-each}
 use Rattle.std.specs.List.{list_all}
 use Rattle.package_form.specs.Closed.{are_of_a_set}
 use Rattle.package_form.specs.Form.{is_package_name}
-use Rattle.package_sets.specs.declared.moved.Moved.{Moved}
+use Rattle.set_rows.specs.declared.moved.Moved.{Moved}
 use Rattle.package_sets.proofs.Citing.{kept-cited}
 use Rattle.package_sets.proofs.Closing.{kept-from}
 use Rattle.package_sets.proofs.Forming.{AreBefore, rows-in-form}

@@ -23,10 +23,10 @@ use Rattle.tables.specs.declared.tables.TypeId.{TypeId}
 use Rattle.tables.specs.declared.tables.Resolve.{Resolve}
 use Rattle.package_sets.specs.Joined.{renaming_of, IsJoined, IsPut}
 use Rattle.package_sets.specs.Joining.{import_count, own_interfaces}
-use Rattle.package_sets.specs.Moved.{Renaming, put_interface, put_world, put_row}
-use Rattle.package_sets.specs.Owners.{owners, names}
-use Rattle.package_sets.specs.Places.{kept}
-use Rattle.package_sets.specs.Reaches.{Marks, is_marked, own_marks, is_own_interface, is_own_world, owners_in, world_owners, owner_at, named_owners, OfPackage, Reaches, of_start, of_row, AreReached}
+use Rattle.set_rows.specs.Moved.{Renaming, put_interface, put_world, put_row}
+use Rattle.set_rows.specs.Owners.{owners, names}
+use Rattle.set_rows.specs.Places.{kept}
+use Rattle.set_rows.specs.Reaches.{Marks, is_marked, own_marks, is_own_interface, is_own_world, owners_in, world_owners, owner_at, named_owners, OfPackage, Reaches, of_start, of_row, AreReached}
 use Rattle.package_sets.specs.Restricted.{number_or, package_of_owner}
 use Rattle.package_sets.specs.Set.{HasRowsInForm}
 use Rattle.package_sets.specs.SetForm.{IsInSetForm, IsEmpty}
@@ -42,7 +42,7 @@ use Rattle.package_sets.proofs.Lasting.{item-of, reached-before}
 use Rattle.package_sets.proofs.Lists.{map-get, front-get, behind-get, one-there, get-contains}
 use Rattle.package_sets.proofs.Named.{named-before}
 use Rattle.package_sets.proofs.Ordering as ordering
-use Rattle.package_sets.proofs.Owned.{length-owners}
+use Rattle.set_rows.proofs.Owned.{length-owners}
 use Rattle.package_sets.proofs.Owning.{cut}
 use Rattle.package_sets.proofs.SetForm.{none-in-form}
 use Rattle.package_sets.proofs.TowerForm.{any-at, at-any, or-either, or-left, or-right}

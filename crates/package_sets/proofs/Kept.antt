@@ -7,8 +7,8 @@ use Rattle.std.proofs.lemmas.Option.{slice_get_within, get_or_from_slice_get}
 use Rattle.tables.specs.Tables.{are_grouped, are_worlds_grouped, is_placed_world, are_placed_worlds}
 use Rattle.tables.proofs.Rows.{split, both}
 use Rattle.tables.proofs.Earlier.{grouped-at}
-use Rattle.package_sets.specs.Places.{kept, place}
-use Rattle.package_sets.proofs.Keeping.{place-order}
+use Rattle.set_rows.specs.Places.{kept, place}
+use Rattle.set_rows.proofs.Keeping.{place-order}
 use Rattle.tables.specs.declared.tables.Definition.{Definition}
 use Rattle.tables.specs.declared.tables.Interface.{Interface}
 use Rattle.tables.specs.declared.tables.World.{World}

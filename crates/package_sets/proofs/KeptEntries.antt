@@ -3,12 +3,12 @@ use Rattle.std.proofs.Common.{◌≡◌, ℕ, ◌+◌, List, [], ◌∷◌, leng
 use Rattle.std.specs.Prelude.{sum, option_map}
 use Rattle.std.proofs.lemmas.List.{length-map}
 use Rattle.package_form.specs.Entries.{entries_under, entries_of, entries_at, item_entries, world_entries, type_entries, table_of, labels_of}
-use Rattle.package_sets.specs.Moved.{Renaming, put_name, put_kind, put_row, put_item, put_item_kind, put_world, put_interface}
+use Rattle.set_rows.specs.Moved.{Renaming, put_name, put_kind, put_row, put_item, put_item_kind, put_world, put_interface}
 use Rattle.package_sets.specs.Part.{IsTableOf}
-use Rattle.package_sets.specs.Places.{kept}
-use Rattle.package_sets.specs.Renamed.{renaming}
+use Rattle.set_rows.specs.Places.{kept}
+use Rattle.set_rows.specs.Renamed.{renaming}
 use Rattle.package_sets.specs.Tower.{kept_entries}
-use Rattle.package_sets.specs.declared.moved.Moved.{Moved}
+use Rattle.set_rows.specs.declared.moved.Moved.{Moved}
 use Rattle.tables.specs.declared.tables.Definition.{Definition}
 use Rattle.tables.specs.declared.tables.Definition.TheVariants as row
 use Rattle.tables.specs.declared.tables.Resolve.{Resolve}

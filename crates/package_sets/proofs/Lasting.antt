@@ -8,9 +8,9 @@ use Rattle.tables.specs.declared.tables.Owner.TheVariants as owner
 use Rattle.tables.specs.declared.tables.Interface.{Interface}
 use Rattle.tables.specs.declared.tables.World.{World}
 use Rattle.tables.specs.declared.tables.Resolve.{Resolve}
-use Rattle.package_sets.specs.Reaches.{is_marked, own_marks, is_own_interface, is_own_world, world_owners, owners_in, OfPackage, Reaches, of_start, of_row}
+use Rattle.set_rows.specs.Reaches.{is_marked, own_marks, is_own_interface, is_own_world, world_owners, owners_in, OfPackage, Reaches, of_start, of_row}
 use Rattle.package_sets.specs.Restricted.{number_or, package_of_owner, NamesEarlierPackages, IsNeeded, IsReachedIn}
-use Rattle.package_sets.specs.declared.moved.Moved.{Moved}
+use Rattle.set_rows.specs.declared.moved.Moved.{Moved}
 
 own-of : {A : Type 0} (of : A → ℕ) (is : A → Bool) (own : ℕ) → ((x : A) → is x ≡ true → of x ≡ own) → (xs : List A) (k : ℕ) → get_or (map is xs) k true ≡ true → number_or (option_map of (slice_get xs k)) ≤ own
 own-of of is own each [] k h = omega arith

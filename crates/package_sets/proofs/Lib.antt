@@ -22,13 +22,11 @@ pub mod Imported
 pub mod ImportPackages
 pub mod ImportScopes
 pub mod InTower
-pub mod Keeping
 pub mod Kept
 pub mod KeptEntries
 pub mod Lasting
 pub mod Lists
 pub mod MarkedPlaces
-pub mod Marking
 pub mod Meaning
 pub mod Named
 pub mod NamesApart
@@ -36,11 +34,9 @@ pub mod Needed
 pub mod Needing
 pub mod One
 pub mod Ordering
-pub mod Owned
 pub mod Owning
 pub mod Parting
 pub mod Parts
-pub mod Placing
 pub mod Postfixing
 pub mod Putting
 pub mod Reading

@@ -8,16 +8,16 @@ use Rattle.tables.specs.declared.tables.FunctionId.{FunctionId}
 use Rattle.tables.specs.declared.tables.Interface.{Interface}
 use Rattle.tables.specs.declared.tables.World.{World}
 use Rattle.tables.specs.declared.tables.Resolve.{Resolve}
-use Rattle.package_sets.specs.Places.{kept, place}
-use Rattle.package_sets.specs.Renamed.{renaming}
-use Rattle.package_sets.specs.Moved.{put_interface}
+use Rattle.set_rows.specs.Places.{kept, place}
+use Rattle.set_rows.specs.Renamed.{renaming}
+use Rattle.set_rows.specs.Moved.{put_interface}
 use Rattle.package_sets.specs.Joining.{places_from, end_in, row_places}
 use Rattle.package_sets.specs.Part.{IsPart}
 use Rattle.package_sets.specs.Set.{AreRowsOf, ArePackageByPackage, behind_all, an_interface, a_world, AreWorldsApart}
-use Rattle.package_sets.specs.declared.moved.Moved.{Moved}
+use Rattle.set_rows.specs.declared.moved.Moved.{Moved}
 use Rattle.package_sets.proofs.Blocks.{AreAll, place-all, place-left}
-use Rattle.package_sets.proofs.Keeping.{kept-at, place-order}
-use Rattle.package_sets.proofs.Placing.{place-none}
+use Rattle.set_rows.proofs.Keeping.{kept-at, place-order}
+use Rattle.set_rows.proofs.Placing.{place-none}
 use Rattle.package_sets.proofs.Lists.{length-places, place-get}
 use Rattle.package_sets.proofs.Reading.{AreMarksFrom, marks-here, marks-next}
 use Rattle.package_sets.proofs.Belonging.{one-later, plus-none, none-plus}

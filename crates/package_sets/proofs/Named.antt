@@ -7,8 +7,8 @@ use Rattle.std.proofs.lemmas.List.Elements.{Contains-append_cases, Contains-appe
 use Rattle.package_form.specs.References.{references, references_if, field_references, case_references, parameter_references, kind_references, row_references}
 use Rattle.package_form.specs.Form.{is_named}
 use Rattle.package_form.specs.Postfix.{is_unnamed}
-use Rattle.package_sets.specs.Owners.{names}
-use Rattle.package_sets.specs.Moved.{Renaming, put_id, put_val, put_field, put_case, put_parameter, put_kind, put_name, put_row}
+use Rattle.set_rows.specs.Owners.{names}
+use Rattle.set_rows.specs.Moved.{Renaming, put_id, put_val, put_field, put_case, put_parameter, put_kind, put_name, put_row}
 use Rattle.std.proofs.lemmas.Bool.{ltb-true}
 use Rattle.std.proofs.lemmas.List.{length-map, map-append}
 use Rattle.std.proofs.lemmas.Option.{slice_get_within, get_or_from_slice_get}

@@ -13,7 +13,7 @@ use Rattle.package_form.proofs.Scopes.{names-distinct}
 use Rattle.tables.specs.PackageNames.{PackageParts}
 use Rattle.tables.specs.declared.tables.Interface.{Interface}
 use Rattle.tables.specs.declared.tables.Resolve.{Resolve}
-use Rattle.package_sets.specs.Moved.{put_interface}
+use Rattle.set_rows.specs.Moved.{put_interface}
 use Rattle.package_sets.specs.SetForm.{HasNamesApart}
 use Rattle.package_sets.specs.Joining.{import_count, own_interfaces}
 use Rattle.package_sets.specs.Joined.{renaming_of, IsJoined, IsPut}

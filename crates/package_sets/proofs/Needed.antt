@@ -7,16 +7,16 @@ use Rattle.tables.specs.Package.{worlds}
 use Rattle.tables.specs.declared.tables.Interface.{Interface}
 use Rattle.tables.specs.declared.tables.World.{World}
 use Rattle.tables.specs.declared.tables.Resolve.{Resolve}
-use Rattle.package_sets.specs.Places.{kept, place}
-use Rattle.package_sets.specs.Renamed.{renaming}
-use Rattle.package_sets.specs.Moved.{put_interface, put_world}
+use Rattle.set_rows.specs.Places.{kept, place}
+use Rattle.set_rows.specs.Renamed.{renaming}
+use Rattle.set_rows.specs.Moved.{put_interface, put_world}
 use Rattle.package_sets.specs.Part.{IsTableOf}
 use Rattle.package_sets.specs.Follows.{OfRestricted}
 use Rattle.package_sets.specs.Restricted.{IsNeeded, IsRestricted, NamesEarlierPackages}
-use Rattle.package_sets.specs.declared.moved.Moved.{Moved}
+use Rattle.set_rows.specs.declared.moved.Moved.{Moved}
 use Rattle.package_sets.proofs.Closing.{kept-from, functions-same}
 use Rattle.package_sets.proofs.Forming.{AreBefore, rows-in-form}
-use Rattle.package_sets.proofs.Keeping.{place-order}
+use Rattle.set_rows.proofs.Keeping.{place-order}
 use Rattle.package_sets.proofs.Lasting.{last-own}
 use Rattle.package_sets.proofs.Parts.{package-part, world-own}
 use Rattle.package_sets.proofs.Postfixing.{postfix-kept, blocks}

@@ -2,44 +2,13 @@
 use Rattle.std.proofs.Common.{◌≡◌, ◌≤◌, ◌<◌, ◌⊎◌, inl, inr, ℕ, zero, suc, ◌+◌, Bool, true, false, List, [], ◌∷◌, ◌++◌, length, get_or, set as put, slice_get, Some, refl, ap, sym, subst, ◌∙◌, arith, true≢false}
 use Rattle.std.proofs.lemmas.List.{length-set}
 use Rattle.std.proofs.lemmas.Option.{slice_get_within, slice_get-get_or}
-use Rattle.package_sets.specs.Reaches.{Marks, padded}
-use Rattle.package_sets.specs.Restricted.{AreNeeded, IsReachedIn}
+use Rattle.set_rows.specs.Reaches.{Marks, padded}
+use Rattle.package_sets.specs.Restricted.{AreNeeded, AddsNeeded, IsReachedIn}
 use Rattle.package_sets.specs.Imports.{AreNeededBy}
-use Rattle.package_sets.specs.Marking.{AddsNeeded}
-use Rattle.package_sets.proofs.Marking.{set-has, set-keeps, length-padded}
+use Rattle.set_rows.proofs.Marking.{set-has, set-keeps, length-padded}
+use Rattle.set_rows.proofs.Padding.{padded-none, padded-get, padded-only}
 use Rattle.tables.specs.declared.tables.Interface.{Interface}
 use Rattle.tables.specs.declared.tables.Resolve.{Resolve}
-
--- ---- so many marks
-
-padded-suc : (n : ℕ) (bs : List Bool) → padded (suc n) bs ≡ padded n bs ++ get_or bs n false ∷ []
-padded-suc zero [] = refl
-padded-suc zero (b ∷ bs) = refl
-padded-suc (suc n) [] = ap (λ xs. false ∷ xs) (padded-suc n [])
-padded-suc (suc n) (b ∷ bs) = ap (λ xs. b ∷ xs) (padded-suc n bs)
-
--- one more mark
-pub padded-more : (n m : ℕ) (b : Bool) (bs old new : List Bool) → m ≡ n + 1 → b ≡ get_or bs n false → old ≡ padded n bs → new ≡ old ++ b ∷ [] → new ≡ padded m bs
-padded-more n m b bs old new e is a p =
-    let next : m ≡ suc n = omega (arith, e) in
-    p ∙ (ap (λ xs. xs ++ b ∷ []) a ∙ (ap (λ x. padded n bs ++ x ∷ []) is ∙ (sym (padded-suc n bs) ∙ ap (λ k. padded k bs) (sym next))))
-
-pub padded-none : (n k : ℕ) → get_or (padded n []) k false ≡ false
-padded-none zero k = refl
-padded-none (suc n) zero = refl
-padded-none (suc n) (suc k) = padded-none n k
-
-padded-get : (n : ℕ) (bs : List Bool) (k : ℕ) → k < n → get_or bs k false ≡ true → get_or (padded n bs) k false ≡ true
-padded-get zero bs k h e = absurd (omega arith)
-padded-get (suc n) [] k h e = absurd (true≢false (sym e))
-padded-get (suc n) (b ∷ bs) zero h e = e
-padded-get (suc n) (b ∷ bs) (suc k) h e = padded-get n bs k (omega (arith, h)) e
-
-padded-only : (n : ℕ) (bs : List Bool) (k : ℕ) → get_or (padded n bs) k false ≡ true → get_or bs k false ≡ true
-padded-only zero bs k e = absurd (true≢false (sym e))
-padded-only (suc n) [] k e = absurd (true≢false (sym (sym (padded-none (suc n) k) ∙ e)))
-padded-only (suc n) (b ∷ bs) zero e = e
-padded-only (suc n) (b ∷ bs) (suc k) e = padded-only n bs k e
 
 -- ---- the packages of the first n interfaces
 

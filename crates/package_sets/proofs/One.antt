@@ -7,15 +7,15 @@ use Rattle.tables.specs.Same.{IsSamePackage}
 use Rattle.tables.specs.declared.tables.Owner.{Owner}
 use Rattle.tables.specs.declared.tables.Owner.TheVariants as owner
 use Rattle.tables.specs.declared.tables.Resolve.{Resolve}
-use Rattle.package_sets.specs.Owners.{owners}
-use Rattle.package_sets.specs.Reaches.{Marks, is_marked, Start, OfInterfaces, AreReached}
+use Rattle.set_rows.specs.Owners.{owners}
+use Rattle.set_rows.specs.Reaches.{Marks, is_marked, Start, OfInterfaces, AreReached}
 use Rattle.package_sets.specs.Restricted.{IsReachedIn}
 use Rattle.package_sets.specs.Joining.{imports}
 use Rattle.package_sets.specs.Part.{IsTableOf}
 use Rattle.package_sets.specs.Attached.{IsOwnBehind}
 use Rattle.package_sets.specs.Imports.{AreNeededBy}
 use Rattle.package_sets.specs.One.{AttachesOne, ImportsOne}
-use Rattle.package_sets.specs.declared.moved.Moved.{Moved}
+use Rattle.set_rows.specs.declared.moved.Moved.{Moved}
 use Rattle.package_sets.proofs.Finding.{found-same}
 
 -- ---- a set with a package more

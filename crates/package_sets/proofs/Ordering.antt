@@ -18,9 +18,9 @@ use Rattle.tables.specs.declared.tables.WorldItem.{WorldItem}
 use Rattle.tables.specs.declared.tables.WorldItemKind.{WorldItemKind}
 use Rattle.tables.specs.declared.tables.WorldItemKind.TheVariants as item
 use Rattle.tables.specs.declared.tables.Resolve.{Resolve}
-use Rattle.package_sets.specs.Owners.{owners, names}
-use Rattle.package_sets.specs.Reaches.{item_owners, owners_in, owner_at, named_owners}
-use Rattle.package_sets.specs.Moved.{Renaming, put_interface, put_world}
+use Rattle.set_rows.specs.Owners.{owners, names}
+use Rattle.set_rows.specs.Reaches.{item_owners, owners_in, owner_at, named_owners}
+use Rattle.set_rows.specs.Moved.{Renaming, put_interface, put_world}
 use Rattle.package_sets.specs.Restricted.{number_or, package_of_owner, NamesEarlierPackages}
 use Rattle.package_sets.specs.Set.{IsPackageByPackage, HasRowsInForm}
 use Rattle.package_sets.specs.Joining.{own_interfaces}

@@ -30,7 +30,7 @@ use Rattle.tables.specs.declared.tables.WorldItem.{WorldItem}
 use Rattle.tables.specs.declared.tables.WorldItemKind.{WorldItemKind}
 use Rattle.tables.specs.declared.tables.WorldItemKind.TheVariants as item
 use Rattle.tables.specs.declared.tables.Resolve.{Resolve}
-use Rattle.package_sets.specs.Moved.{Renaming, put_id, put_function_id, put_kind, put_name, put_owner, put_row, has_type, has_function, put_types, put_functions, put_interface, put_item, put_item_kind, put_world}
+use Rattle.set_rows.specs.Moved.{Renaming, put_id, put_function_id, put_kind, put_name, put_owner, put_row, has_type, has_function, put_types, put_functions, put_interface, put_item, put_item_kind, put_world}
 use Rattle.package_form.specs.Closed.{own_package}
 use Rattle.package_sets.specs.Set.{AreRowsOf, AreRowsOfWorld, ArePackageByPackage, behind_all, an_interface, a_world, IsPackageByPackage, HasRowsInForm}
 use Rattle.package_sets.specs.Joining.{import_count, imports, own_interfaces}

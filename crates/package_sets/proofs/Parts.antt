@@ -14,18 +14,18 @@ use Rattle.tables.specs.declared.tables.World.{World}
 use Rattle.tables.specs.declared.tables.WorldItemKind.{WorldItemKind}
 use Rattle.tables.specs.declared.tables.WorldItemKind.TheVariants as item
 use Rattle.tables.specs.declared.tables.Resolve.{Resolve}
-use Rattle.package_sets.specs.Owners.{owners}
-use Rattle.package_sets.specs.Reaches.{Marks, is_marked, own_marks, is_own_world, item_owners, owners_in, world_owners, named_owners, padded, Start, IsStart, OfPackage, OfInterfaces, Reaches, of_start, of_row, AreReached}
+use Rattle.set_rows.specs.Owners.{owners}
+use Rattle.set_rows.specs.Reaches.{Marks, is_marked, own_marks, is_own_world, item_owners, owners_in, world_owners, named_owners, padded, Start, IsStart, OfPackage, OfInterfaces, Reaches, of_start, of_row, AreReached}
 use Rattle.package_sets.specs.Restricted.{IsReachedIn, IsNeeded}
 use Rattle.package_sets.specs.Imports.{IsImported}
 use Rattle.package_sets.specs.Part.{of_world, IsPart}
 use Rattle.package_sets.specs.Set.{AreWorldsApart}
-use Rattle.package_sets.specs.declared.moved.Moved.{Moved}
+use Rattle.set_rows.specs.declared.moved.Moved.{Moved}
 use Rattle.package_sets.proofs.Kept.{worlds-grouped-at}
 use Rattle.package_sets.proofs.Lasting.{item-of}
 use Rattle.package_sets.proofs.Lists.{contains-unflat, get-contains}
-use Rattle.package_sets.proofs.Marking.{length-padded}
-use Rattle.package_sets.proofs.Needing.{padded-none}
+use Rattle.set_rows.proofs.Marking.{length-padded}
+use Rattle.set_rows.proofs.Padding.{padded-none}
 
 -- ---- of either
 

@@ -9,14 +9,14 @@ use Rattle.std.proofs.lemmas.Bool.{ltb-true}
 use Rattle.package_form.specs.Postfix.{is_unnamed, is_unnamed_row, one_if, unnamed, unnamed_if, unnamed_field, unnamed_case, unnamed_parameter, parts, parts_of, aliased, aliased_by, is_inner, inner_row, Leaves, begin, inner, whole, IsPostfix}
 use Rattle.tables.specs.Tables.{option_all, kind_all, definition_all}
 use Rattle.tables.proofs.Rows.{split}
-use Rattle.package_sets.specs.Owners.{owners}
-use Rattle.package_sets.specs.Reaches.{is_marked}
+use Rattle.set_rows.specs.Owners.{owners}
+use Rattle.set_rows.specs.Reaches.{is_marked}
 use Rattle.package_sets.specs.Part.{IsPart}
-use Rattle.package_sets.specs.Places.{kept, place}
-use Rattle.package_sets.specs.Renamed.{renaming}
-use Rattle.package_sets.specs.Moved.{Renaming, put_val, put_field, put_case, put_parameter, put_kind, put_row}
-use Rattle.package_sets.specs.declared.moved.Moved.{Moved}
-use Rattle.package_sets.proofs.Keeping.{kept-none, kept-at}
+use Rattle.set_rows.specs.Places.{kept, place}
+use Rattle.set_rows.specs.Renamed.{renaming}
+use Rattle.set_rows.specs.Moved.{Renaming, put_val, put_field, put_case, put_parameter, put_kind, put_row}
+use Rattle.set_rows.specs.declared.moved.Moved.{Moved}
+use Rattle.set_rows.proofs.Keeping.{kept-none, kept-at}
 use Rattle.package_sets.proofs.Reading.{is_kept}
 use Rattle.package_sets.proofs.Lists.{last-get, map-get, front-get, none-within}
 use Rattle.package_sets.proofs.Named.{unnamed-same}

@@ -8,14 +8,14 @@ use Rattle.std.proofs.Math.Seq.{get_or-append_seam}
 use Rattle.tables.specs.Tables.{is_below, option_all, kind_all, definition_all}
 use Rattle.tables.specs.Package.{Tree, TextTree, VariantTree, RecordTree, Plain, AsResult, IsUse, IsType, Meaning, Choices, no_choices, read_val, read_choice, read_tuple, read_fields, read_params, read_cases, read_kind, meaning_of, reference, reference_by, references, key_of, named_by, named_function, definition_of, definitions_from, Reference}
 use Rattle.tables.proofs.Rows.{split}
-use Rattle.package_sets.specs.Places.{kept, place}
-use Rattle.package_sets.specs.Owners.{owner_of}
-use Rattle.package_sets.specs.Renamed.{renaming}
-use Rattle.package_sets.specs.Moved.{put_val, put_field, put_case, put_parameter, put_kind, put_name, put_owner, put_row}
+use Rattle.set_rows.specs.Places.{kept, place}
+use Rattle.set_rows.specs.Owners.{owner_of}
+use Rattle.set_rows.specs.Renamed.{renaming}
+use Rattle.set_rows.specs.Moved.{put_val, put_field, put_case, put_parameter, put_kind, put_name, put_owner, put_row}
 use Rattle.package_sets.specs.Restricted.{definitions_where}
-use Rattle.package_sets.specs.declared.moved.Moved.{Moved}
-use Rattle.package_sets.proofs.Keeping.{place-before, kept-none}
-use Rattle.package_sets.proofs.Placing.{place-yes, place-no}
+use Rattle.set_rows.specs.declared.moved.Moved.{Moved}
+use Rattle.set_rows.proofs.Keeping.{place-before, kept-none}
+use Rattle.set_rows.proofs.Placing.{place-yes, place-no}
 use Rattle.tables.specs.declared.tables.ValType.{ValType}
 use Rattle.tables.specs.declared.tables.ValType.TheVariants as val
 use Rattle.tables.specs.declared.tables.TypeDefKind.{TypeDefKind}

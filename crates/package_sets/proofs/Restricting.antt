@@ -27,20 +27,20 @@ use Rattle.tables.specs.declared.tables.WorldItem.{WorldItem}
 use Rattle.tables.specs.declared.tables.WorldItemKind.{WorldItemKind}
 use Rattle.tables.specs.declared.tables.WorldItemKind.TheVariants as item
 use Rattle.tables.specs.declared.tables.Resolve.{Resolve}
-use Rattle.package_sets.specs.Owners.{owner_of, owners, names}
-use Rattle.package_sets.specs.Places.{kept, place}
-use Rattle.package_sets.specs.Reaches.{is_marked, item_owners, owners_in, owner_at}
-use Rattle.package_sets.specs.Renamed.{renaming}
-use Rattle.package_sets.specs.Moved.{put_id, put_val, put_owner, put_row, put_function_id, has_type, has_function, put_interface, put_item, put_item_kind, put_world}
+use Rattle.set_rows.specs.Owners.{owner_of, owners, names}
+use Rattle.set_rows.specs.Places.{kept, place}
+use Rattle.set_rows.specs.Reaches.{is_marked, item_owners, owners_in, owner_at}
+use Rattle.set_rows.specs.Renamed.{renaming}
+use Rattle.set_rows.specs.Moved.{put_id, put_val, put_owner, put_row, put_function_id, has_type, has_function, put_interface, put_item, put_item_kind, put_world}
 use Rattle.package_sets.specs.Part.{of_world, IsPart}
-use Rattle.package_sets.specs.declared.moved.Moved.{Moved}
-use Rattle.package_sets.proofs.Keeping.{kept-at, length-kept, place-before}
+use Rattle.set_rows.specs.declared.moved.Moved.{Moved}
+use Rattle.set_rows.proofs.Keeping.{kept-at, length-kept, place-before}
 use Rattle.package_sets.proofs.Kept.{list-at, list-kept, list-filter, grouped-kept, worlds-grouped-kept, worlds-grouped-at}
 use Rattle.package_sets.proofs.Named.{definition-all, named-before, definition-put, standard-put}
 use Rattle.package_sets.proofs.Lists.{map-get}
 use Rattle.package_sets.proofs.Belonging.{owner-some, one-later}
-use Rattle.package_sets.proofs.Owned.{length-owners}
-use Rattle.package_sets.proofs.Placing.{place-none, place-yes, place-no}
+use Rattle.set_rows.proofs.Owned.{length-owners}
+use Rattle.set_rows.proofs.Placing.{place-none, place-yes, place-no}
 use Rattle.package_sets.proofs.Reading.{is_there, is_kept, AreRight, AllRight, AreMarksFrom, marks-here, marks-next}
 
 all-right : (has : Option Owner → Bool) (bs : List Bool) (n : ℕ) (ds : List Definition) → ((k : ℕ) (d : Definition) → slice_get ds k ≡ Some d → AreRight has bs (n + k) d) → AllRight has bs n ds

@@ -14,7 +14,7 @@ use Rattle.tables.specs.declared.tables.Definition.{Definition}
 use Rattle.tables.specs.declared.tables.Interface.{Interface}
 use Rattle.tables.specs.declared.tables.World.{World}
 use Rattle.tables.specs.declared.tables.Resolve.{Resolve}
-use Rattle.package_sets.specs.Moved.{put_interface}
+use Rattle.set_rows.specs.Moved.{put_interface}
 use Rattle.package_sets.specs.Set.{ArePackageByPackage, behind_all, IsPackageByPackage, HasRowsInForm}
 use Rattle.package_sets.specs.SetForm.{IsInSetForm, IsEmpty}
 use Rattle.package_sets.specs.Joining.{own_interfaces}

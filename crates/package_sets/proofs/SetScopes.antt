@@ -28,7 +28,7 @@ use Rattle.tables.specs.declared.tables.Definition.TheVariants as row
 use Rattle.tables.specs.declared.tables.Interface.{Interface}
 use Rattle.tables.specs.declared.tables.World.{World}
 use Rattle.tables.specs.declared.tables.Resolve.{Resolve}
-use Rattle.package_sets.specs.Moved.{Renaming, put_kind, put_name, put_field, put_case, put_parameter, put_row, put_interface, put_world}
+use Rattle.set_rows.specs.Moved.{Renaming, put_kind, put_name, put_field, put_case, put_parameter, put_row, put_interface, put_world}
 use Rattle.package_sets.specs.Set.{HasRowsInForm}
 use Rattle.package_sets.specs.SetForm.{IsEmpty}
 use Rattle.package_sets.specs.SetScopes.{names_if, members_if, names_at, members_at, interface_scopes, HasDistinctScopes}

@@ -30,19 +30,19 @@ use Rattle.tables.specs.declared.tables.WorldItem.{WorldItem}
 use Rattle.tables.specs.declared.tables.WorldItemKind.{WorldItemKind}
 use Rattle.tables.specs.declared.tables.WorldItemKind.TheVariants as item
 use Rattle.tables.specs.declared.tables.Resolve.{Resolve}
-use Rattle.package_sets.specs.Owners.{owner_of, names}
-use Rattle.package_sets.specs.Places.{kept, place}
-use Rattle.package_sets.specs.Reaches.{is_marked}
-use Rattle.package_sets.specs.Renamed.{renaming}
-use Rattle.package_sets.specs.Moved.{put_id, put_function_id, put_kind, put_name, put_owner, put_row, has_type, has_function, put_package_id, put_interface, put_item, put_item_kind, put_world}
+use Rattle.set_rows.specs.Owners.{owner_of, names}
+use Rattle.set_rows.specs.Places.{kept, place}
+use Rattle.set_rows.specs.Reaches.{is_marked}
+use Rattle.set_rows.specs.Renamed.{renaming}
+use Rattle.set_rows.specs.Moved.{put_id, put_function_id, put_kind, put_name, put_owner, put_row, has_type, has_function, put_package_id, put_interface, put_item, put_item_kind, put_world}
 use Rattle.package_sets.specs.Part.{IsPart}
 use Rattle.package_sets.specs.Set.{AreRowsOf, AreRowsOfWorld, ArePackageByPackage, behind_all, an_interface, a_world, AreWorldsApart, IsSet}
-use Rattle.package_sets.specs.declared.moved.Moved.{Moved}
+use Rattle.set_rows.specs.declared.moved.Moved.{Moved}
 use Rattle.package_sets.proofs.Blocks.{AreAll, place-all, place-left, block-there, places-there, places-in}
 use Rattle.package_sets.proofs.Kept.{list-at, list-kept}
 use Rattle.package_form.proofs.Lists.{contains-map}
-use Rattle.package_sets.proofs.Keeping.{kept-none, kept-at, place-before, place-order}
-use Rattle.package_sets.proofs.Placing.{place-none, place-yes, place-no}
+use Rattle.set_rows.proofs.Keeping.{kept-none, kept-at, place-before, place-order}
+use Rattle.set_rows.proofs.Placing.{place-none, place-yes, place-no}
 use Rattle.package_sets.proofs.Reading.{AreMarksFrom, marks-here, marks-next}
 use Rattle.package_sets.proofs.Postfixing.{kept-length}
 use Rattle.package_sets.proofs.Lists.{map-get, drop-map, take-mapped}

@@ -14,23 +14,23 @@ use Rattle.tables.specs.declared.tables.World.{World}
 use Rattle.tables.specs.declared.tables.Resolve.{Resolve}
 use Rattle.package_sets.specs.Joined.{renaming_of, IsJoined, IsPut}
 use Rattle.package_sets.specs.Joining.{own_interfaces}
-use Rattle.package_sets.specs.Moved.{Renaming, put_interface, put_world, put_row}
-use Rattle.package_sets.specs.Owners.{owners}
+use Rattle.set_rows.specs.Moved.{Renaming, put_interface, put_world, put_row}
+use Rattle.set_rows.specs.Owners.{owners}
 use Rattle.package_sets.specs.Part.{IsTableOf}
-use Rattle.package_sets.specs.Places.{kept, place}
-use Rattle.package_sets.specs.Reaches.{Marks, is_marked, is_own_world, OfPackage, AreReached}
-use Rattle.package_sets.specs.Renamed.{renaming}
+use Rattle.set_rows.specs.Places.{kept, place}
+use Rattle.set_rows.specs.Reaches.{Marks, is_marked, is_own_world, OfPackage, AreReached}
+use Rattle.set_rows.specs.Renamed.{renaming}
 use Rattle.package_sets.specs.Restricted.{IsReachedIn, AreNeeded, IsNeeded}
 use Rattle.package_sets.specs.SetForm.{IsInSetForm}
 use Rattle.package_sets.specs.Tower.{IsInTower}
 use Rattle.package_sets.specs.Joined.{JoinedPlaces}
-use Rattle.package_sets.specs.declared.moved.Moved.{Moved}
+use Rattle.set_rows.specs.declared.moved.Moved.{Moved}
 use Rattle.package_sets.proofs.Images.{mark-within}
 use Rattle.package_sets.proofs.InTower as in-tower
 use Rattle.package_sets.proofs.Lists.{one-there}
 use Rattle.package_sets.proofs.One.{marked-same}
 use Rattle.package_sets.proofs.Ordering as ordering
-use Rattle.package_sets.proofs.Owned.{length-owners}
+use Rattle.set_rows.proofs.Owned.{length-owners}
 use Rattle.package_sets.proofs.Kept.{interface-in}
 
 -- ---- marks that agree

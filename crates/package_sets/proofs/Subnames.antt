@@ -4,7 +4,7 @@ use Rattle.std.proofs.lemmas.List.{get_or_default}
 use Rattle.package_form.specs.Scope.{lowered, AreDistinct, IsMetBefore}
 use Rattle.package_form.proofs.Lists.{contains-later}
 use Rattle.package_form.proofs.OneRow.{distinct-back}
-use Rattle.package_sets.specs.Places.{kept}
+use Rattle.set_rows.specs.Places.{kept}
 
 -- some of these names, in their order
 pub data IsWithin : List (List ℕ) → List (List ℕ) → Type 0 where

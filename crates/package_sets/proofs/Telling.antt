@@ -21,16 +21,16 @@ use Rattle.tables.specs.declared.tables.WorldItem.{WorldItem}
 use Rattle.tables.specs.declared.tables.WorldItemKind.{WorldItemKind}
 use Rattle.tables.specs.declared.tables.WorldItemKind.TheVariants as item
 use Rattle.tables.specs.declared.tables.Resolve.{Resolve}
-use Rattle.package_sets.specs.Places.{kept, place}
-use Rattle.package_sets.specs.Reaches.{is_marked}
-use Rattle.package_sets.specs.Renamed.{renaming}
-use Rattle.package_sets.specs.Moved.{put_row, put_function, put_interface, put_item, put_item_kind, put_world}
+use Rattle.set_rows.specs.Places.{kept, place}
+use Rattle.set_rows.specs.Reaches.{is_marked}
+use Rattle.set_rows.specs.Renamed.{renaming}
+use Rattle.set_rows.specs.Moved.{put_row, put_function, put_interface, put_item, put_item_kind, put_world}
 use Rattle.package_sets.specs.Part.{IsPart}
 use Rattle.package_sets.specs.Restricted.{definitions_where}
-use Rattle.package_sets.specs.declared.moved.Moved.{Moved}
-use Rattle.package_sets.proofs.Keeping.{kept-at, kept-get, kept-past}
+use Rattle.set_rows.specs.declared.moved.Moved.{Moved}
+use Rattle.set_rows.proofs.Keeping.{kept-at, kept-get, kept-past}
 use Rattle.package_sets.proofs.Kept.{list-at, map-kept-as, map-put-as, placed-at}
-use Rattle.package_sets.proofs.Placing.{place-none}
+use Rattle.set_rows.proofs.Placing.{place-none}
 use Rattle.package_sets.proofs.Renaming.{length-references}
 use Rattle.package_sets.proofs.Reading.{Agrees, NamesAgree, definitions-kept, trees-kept, params-same, result-same, is_kept}
 use Rattle.package_sets.proofs.Restricting as table

@@ -23,27 +23,27 @@ use Rattle.tables.specs.declared.tables.World.{World}
 use Rattle.tables.specs.declared.tables.WorldItem.{WorldItem}
 use Rattle.tables.specs.declared.tables.WorldItemKind.{WorldItemKind}
 use Rattle.tables.specs.declared.tables.WorldItemKind.TheVariants as item
-use Rattle.package_sets.specs.Moved.{put_interface, put_item, put_world}
-use Rattle.package_sets.specs.Owners.{owners}
+use Rattle.set_rows.specs.Moved.{put_interface, put_item, put_world}
+use Rattle.set_rows.specs.Owners.{owners}
 use Rattle.package_sets.specs.Part.{IsTableOf}
-use Rattle.package_sets.specs.Places.{kept, place}
-use Rattle.package_sets.specs.Reaches.{is_marked, own_marks, is_own_interface, is_own_world, item_owners, owners_in, OfPackage, IsStart, of_start}
-use Rattle.package_sets.specs.Renamed.{renaming}
+use Rattle.set_rows.specs.Places.{kept, place}
+use Rattle.set_rows.specs.Reaches.{is_marked, own_marks, is_own_interface, is_own_world, item_owners, owners_in, OfPackage, IsStart, of_start}
+use Rattle.set_rows.specs.Renamed.{renaming}
 use Rattle.package_sets.specs.Restricted.{IsNeeded}
 use Rattle.package_sets.specs.Set.{HasRowsInForm}
 use Rattle.package_sets.specs.Tower.{kept_entries, IsInTower}
-use Rattle.package_sets.specs.declared.moved.Moved.{Moved}
+use Rattle.set_rows.specs.declared.moved.Moved.{Moved}
 use Rattle.package_sets.proofs.Citing.{kept-cited}
 use Rattle.package_sets.proofs.Forming.{rows-in-form}
 use Rattle.package_sets.proofs.ImportPackages.{kept-set, kept-names, has-each}
 use Rattle.package_sets.proofs.ImportScopes.{table-scopes}
-use Rattle.package_sets.proofs.Keeping.{kept-at, length-kept}
+use Rattle.set_rows.proofs.Keeping.{kept-at, length-kept}
 use Rattle.package_sets.proofs.Lasting.{item-of, last-own}
 use Rattle.package_sets.proofs.Lists.{map-get, map-unget, get-contains, contains-get, contains-unflat}
 use Rattle.package_sets.proofs.MarkedPlaces.{was-kept}
 use Rattle.package_sets.proofs.Needed.{before-there}
 use Rattle.package_sets.proofs.Parts.{package-part, world-own}
-use Rattle.package_sets.proofs.Placing.{place-yes, place-no}
+use Rattle.set_rows.proofs.Placing.{place-yes, place-no}
 use Rattle.package_sets.proofs.Postfixing.{postfix-kept, blocks}
 use Rattle.package_sets.proofs.Restricting.{interface-there}
 use Rattle.package_sets.proofs.Standing.{all-from}

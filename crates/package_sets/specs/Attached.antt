@@ -2,7 +2,7 @@
 use Rattle.std.specs.Prelude.{◌≡◌, ◌≤◌, ◌<◌, ℕ, Bool, true, false, List, [], ◌∷◌, ◌++◌, map, take, drop, length, slice_get, Some}
 use Rattle.std.specs.List.{list_any}
 use Rattle.package_form.specs.Closed.{own_package, is_same_package}
-use Rattle.package_sets.specs.Moved.{put_interface, put_world, put_row}
+use Rattle.set_rows.specs.Moved.{put_interface, put_world, put_row}
 use Rattle.package_sets.specs.Joining.{own_interfaces, import_rows, joined, HasImports}
 use Rattle.tables.specs.PackageNames.{PackageParts}
 use Rattle.package_sets.specs.declared.error.AttachError.{AttachError}

@@ -1,10 +1,10 @@
 -- The table of some interfaces of a set, with those whose types they name.
 use Rattle.std.specs.Prelude.{◌≡◌, ◌⊎◌, ◌<◌, ℕ, Bool, true, false, List, [], length, map, slice_index_or}
-use Rattle.package_sets.specs.Owners.{owners}
+use Rattle.set_rows.specs.Owners.{owners}
 use Rattle.package_sets.specs.Part.{IsTableOf}
-use Rattle.package_sets.specs.Reaches.{Marks, is_marked, padded, OfInterfaces, AreReached}
+use Rattle.set_rows.specs.Reaches.{Marks, is_marked, padded, OfInterfaces, AreReached}
 use Rattle.package_sets.specs.Restricted.{IsReachedIn}
-use Rattle.package_sets.specs.declared.moved.Moved.{Moved}
+use Rattle.set_rows.specs.declared.moved.Moved.{Moved}
 use Rattle.tables.specs.declared.tables.Resolve.{Resolve}
 
 -- the packages that are needed: those that are given, and each that has an interface which is reached

@@ -1,6 +1,6 @@
 -- Places in a set, as lists of them.
 use Rattle.std.specs.Prelude.{◌≡◌, ◌++◌, ◌∷◌, ℕ, [], List, length, true, map, take, drop}
-use Rattle.package_sets.specs.Moved.{Renaming, put_row, put_interface, put_world}
+use Rattle.set_rows.specs.Moved.{Renaming, put_row, put_interface, put_world}
 use Rattle.package_sets.specs.Joining.{imports, own_interfaces, AreFound, import_rows, all_places, place_in, AreRowsThere, AreIdsThere}
 use Rattle.package_sets.specs.declared.joining.Joined.{Joined}
 use Rattle.tables.specs.PackageNames.{PackageParts}

@@ -3,8 +3,8 @@ use Rattle.std.specs.Prelude.{◌≡◌, ◌<◌, ◌+◌, ◌-◌, ◌&&◌, �
 use Rattle.std.specs.Str.{bytes_eq}
 use Rattle.package_form.specs.Ends.{end_of}
 use Rattle.package_form.specs.Closed.{own_package, is_same_package}
-use Rattle.package_sets.specs.Moved.{Renaming, put_row, put_types, put_functions}
-use Rattle.package_sets.specs.Reaches.{is_own_interface}
+use Rattle.set_rows.specs.Moved.{Renaming, put_row, put_types, put_functions}
+use Rattle.set_rows.specs.Reaches.{is_own_interface}
 use Rattle.tables.specs.PackageNames.{PackageParts}
 use Rattle.tables.specs.declared.tables.Interface.{Interface}
 use Rattle.tables.specs.declared.tables.Definition.{Definition}

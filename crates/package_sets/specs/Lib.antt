@@ -4,15 +4,9 @@ pub mod Follows
 pub mod Imports
 pub mod Joined
 pub mod Joining
-pub mod Marking
-pub mod Moved
 pub mod NamedIn
 pub mod One
-pub mod Owners
 pub mod Part
-pub mod Places
-pub mod Reaches
-pub mod Renamed
 pub mod Restricted
 pub mod Set
 pub mod SetForm

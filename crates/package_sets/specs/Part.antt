@@ -1,12 +1,12 @@
 -- A part of a set that names nothing outside itself, and the table of it.
 use Rattle.std.specs.Prelude.{◌≡◌, ◌<◌, ℕ, true, false, map, flat_map, length, slice_get, slice_index_or, Option, None, Some, Contains}
-use Rattle.package_sets.specs.Owners.{owners}
-use Rattle.package_sets.specs.Places.{kept}
-use Rattle.package_sets.specs.Renamed.{renaming}
-use Rattle.package_sets.specs.Moved.{put_interface, put_world, put_row}
-use Rattle.package_sets.specs.Reaches.{Marks, is_marked, owners_in, named_owners}
+use Rattle.set_rows.specs.Owners.{owners}
+use Rattle.set_rows.specs.Places.{kept}
+use Rattle.set_rows.specs.Renamed.{renaming}
+use Rattle.set_rows.specs.Moved.{put_interface, put_world, put_row}
+use Rattle.set_rows.specs.Reaches.{Marks, is_marked, owners_in, named_owners}
 use Rattle.package_sets.specs.Set.{AreWorldsApart}
-use Rattle.package_sets.specs.declared.moved.Moved.{Moved}
+use Rattle.set_rows.specs.declared.moved.Moved.{Moved}
 use Rattle.tables.specs.declared.tables.Owner.{Owner}
 use Rattle.tables.specs.declared.tables.Owner.TheVariants as owner
 use Rattle.tables.specs.declared.tables.Definition.{Definition}

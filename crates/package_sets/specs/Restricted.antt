@@ -1,10 +1,10 @@
 -- The table of one package of a set: what the package reaches of the set, as the set's names tell it.
 use Rattle.std.specs.Prelude.{◌≡◌, ◌≤◌, ◌<◌, ◌⊎◌, ℕ, Bool, true, false, List, [], ◌∷◌, ◌++◌, map, flat_map, length, slice_get, slice_index_or, Option, None, Some, Contains, if◌then◌else◌}
 use Rattle.std.specs.Option.{option_map}
-use Rattle.package_sets.specs.Owners.{owner_of, owners}
-use Rattle.package_sets.specs.declared.moved.Moved.{Moved}
+use Rattle.set_rows.specs.Owners.{owner_of, owners}
+use Rattle.set_rows.specs.declared.moved.Moved.{Moved}
 use Rattle.package_sets.specs.Part.{IsTableOf}
-use Rattle.package_sets.specs.Reaches.{Marks, is_marked, is_own_world, owners_in, named_owners, OfPackage, AreReached}
+use Rattle.set_rows.specs.Reaches.{Marks, is_marked, is_own_world, owners_in, named_owners, OfPackage, AreReached}
 use Rattle.tables.specs.Package.{Tree, NamedDefinition, reference, definition_of, interface_names}
 use Rattle.tables.specs.declared.tables.Owner.{Owner}
 use Rattle.tables.specs.declared.tables.Owner.TheVariants as owner
@@ -24,6 +24,13 @@ reached_definitions set m = definitions_where (is_marked m) (interface_names set
 
 abbrev pub IsReachedIn : Resolve → Marks → ℕ → Type 0
 IsReachedIn set m k = (i : ℕ) × (x : Interface) × (slice_get set.interfaces i ≡ Some x) × (slice_index_or m.interfaces i true ≡ true) × (x.«package».0 ≡ k)
+
+-- the packages of the interfaces that are reached are marked besides
+pub record AddsNeeded (set : Resolve) (m : Marks) (old new : List Bool) : Type 0 where
+  pub count : length new ≡ length old
+  pub keeps : (k : ℕ) → slice_index_or old k false ≡ true → slice_index_or new k false ≡ true
+  pub others : (k : ℕ) → IsReachedIn set m k → slice_index_or new k true ≡ true
+  pub only : (k : ℕ) → slice_index_or new k false ≡ true → (slice_index_or old k false ≡ true) ⊎ IsReachedIn set m k
 
 -- the packages that are needed: the own one, and each that has an interface which is reached
 pub record AreNeeded (set : Resolve) (own : ℕ) (m : Marks) (needed : List Bool) : Type 0 where

@@ -3,8 +3,8 @@ use Rattle.std.specs.Prelude.{◌≡◌, ◌≤◌, ◌+◌, ℕ, nat_lt, true, 
 use Rattle.std.specs.List.{list_all}
 use Rattle.package_form.specs.Ends.{end_of, rows_of, interfaces_end, world_end, world_rows, is_parted}
 use Rattle.package_form.specs.Form.{has_ids, is_local, has_items, is_world_row, are_interfaces, have_items}
-use Rattle.package_sets.specs.Owners.{owners}
-use Rattle.package_sets.specs.Reaches.{named_owners}
+use Rattle.set_rows.specs.Owners.{owners}
+use Rattle.set_rows.specs.Reaches.{named_owners}
 use Rattle.tables.specs.declared.tables.WorldId.{WorldId}
 use Rattle.tables.specs.declared.tables.Owner.TheVariants as owner
 use Rattle.tables.specs.declared.tables.Definition.{Definition}

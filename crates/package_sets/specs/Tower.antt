@@ -5,9 +5,9 @@ use Rattle.package_form.specs.Entries.{entries_of, world_entries}
 use Rattle.package_form.specs.Form.{IsInPackageForm}
 use Rattle.package_form.specs.Naming.{package_scopes}
 use Rattle.package_form.specs.Scope.{AreDistinct}
-use Rattle.package_sets.specs.Owners.{owners}
-use Rattle.package_sets.specs.Places.{kept}
-use Rattle.package_sets.specs.Reaches.{Marks, is_marked, is_own_interface, is_own_world, OfPackage, AreReached}
+use Rattle.set_rows.specs.Owners.{owners}
+use Rattle.set_rows.specs.Places.{kept}
+use Rattle.set_rows.specs.Reaches.{Marks, is_marked, is_own_interface, is_own_world, OfPackage, AreReached}
 use Rattle.package_sets.specs.Attached.{IsAttached}
 use Rattle.package_sets.specs.BehindImports.{IsBehindImports}
 use Rattle.package_sets.specs.Restricted.{IsRestricted}

@@ -1,6 +1,6 @@
 //! A set with one package more.
 ghost use Rattle.std.specs.Prelude.{◌≡◌, ◌≤◌, ◌⊎◌, Decides, IfOk, IfErr, OnOk, length, slice_get, Some};
-ghost use Rattle.package_sets.specs.Moved.{put_row};
+ghost use Rattle.set_rows.specs.Moved.{put_row};
 ghost use Rattle.package_sets.specs.Attached.{HasAll, LacksFirst, IsAttached, IsRefused};
 ghost use Rattle.tables.specs.PackageNames.{PackageParts};
 ghost use Rattle.package_sets.specs.Joining.{AreRowsThere, AreIdsThere, HasIds, HasIdsAt, HasImports};
@@ -9,9 +9,9 @@ ghost use Rattle.package_sets.specs.declared.error.AttachError.TheVariants.{NotT
 
 use crate::error::AttachError;
 use crate::joining::{Joined, has_package, imports, own_interfaces, places_of};
-use crate::moved::{Movable, copied_name, moved_functions, moved_types, push_moved};
 use crate::same::{Same, are_same};
 use package_form::own_package;
+use set_rows::moved::{Movable, copied_name, moved_functions, moved_types, push_moved};
 use std::alloc::{AllocError, Global};
 use table_building::copy_of;
 use tables::{Definition, Interface, PackageId, PackageName, Resolve};

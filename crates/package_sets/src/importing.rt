@@ -2,11 +2,11 @@
 ghost use Rattle.std.specs.Prelude.{IfOk};
 ghost use Rattle.package_sets.specs.Imports.{AreNeededBy, IsImported, IsImportsOf};
 
-use crate::moved::Moved;
-use crate::owners::owners;
-use crate::part::{add_needed, reached_rows};
-use crate::places::Places;
-use crate::reached::{Reached, padded};
+use crate::part::{add_needed, part_table, reached_rows};
+use set_rows::moved::Moved;
+use set_rows::owners::owners;
+use set_rows::places::Places;
+use set_rows::reached::{Reached, padded};
 use std::alloc::{AllocError, Global};
 use tables::Resolve;
 
@@ -24,28 +24,26 @@ fn needed_by(
     Ok(marks)
 }
 
-impl Moved {
-    /// What these interfaces reach, and where it stands then.
-    fn of_interfaces(
-        alloc: Global,
-        set: &Resolve,
-        packages: &[bool],
-        interfaces: &[bool],
-    ) -> Result<Moved, AllocError>
-        ensures { IfOk result (IsImported set.now packages.now interfaces.now) }
-    {
-        let owners = owners(alloc, set.definitions.as_slice())?;
-        let reached = Reached::from_marks(alloc, set, owners.as_slice(), interfaces)?;
-        let rows = reached_rows(alloc, owners.as_slice(), &reached)?;
-        let needed = needed_by(alloc, set, &reached, packages)?;
-        let worlds = padded(alloc, &[], set.worlds.len())?;
-        Ok(Moved {
-            packages: Places::of(alloc, needed)?,
-            interfaces: Places::of(alloc, reached.into_interfaces())?,
-            worlds: Places::of(alloc, worlds)?,
-            rows: Places::of(alloc, rows)?,
-        })
-    }
+/// What these interfaces reach, and where it stands then.
+fn interfaces_part(
+    alloc: Global,
+    set: &Resolve,
+    packages: &[bool],
+    interfaces: &[bool],
+) -> Result<Moved, AllocError>
+    ensures { IfOk result (IsImported set.now packages.now interfaces.now) }
+{
+    let owners = owners(alloc, set.definitions.as_slice())?;
+    let reached = Reached::from_marks(alloc, set, owners.as_slice(), interfaces)?;
+    let rows = reached_rows(alloc, owners.as_slice(), &reached)?;
+    let needed = needed_by(alloc, set, &reached, packages)?;
+    let worlds = padded(alloc, &[], set.worlds.len())?;
+    Ok(Moved {
+        packages: Places::of(alloc, needed)?,
+        interfaces: Places::of(alloc, reached.into_interfaces())?,
+        worlds: Places::of(alloc, worlds)?,
+        rows: Places::of(alloc, rows)?,
+    })
 }
 
 /// The table of the interfaces of a set that have a mark, and of those whose types they name, directly or by others, in
@@ -62,7 +60,7 @@ pub fn imports(
 ) -> Result<Resolve, AllocError>
     ensures { IfOk result (IsImportsOf set.now packages.now interfaces.now) }
 {
-    let to = Moved::of_interfaces(alloc, set, packages, interfaces)?;
-    let table = to.table(alloc, set)?;
+    let to = interfaces_part(alloc, set, packages, interfaces)?;
+    let table = part_table(alloc, set, &to)?;
     Ok(table)
 }

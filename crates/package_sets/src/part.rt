@@ -1,11 +1,11 @@
 //! A part of a set that names nothing outside itself, and the table of it.
 ghost use Rattle.std.specs.Prelude.{◌≡◌, IfOk, map};
-ghost use Rattle.package_sets.specs.Reaches.{is_marked};
-ghost use Rattle.package_sets.specs.Marking.{AddsNeeded};
+ghost use Rattle.set_rows.specs.Reaches.{is_marked};
 ghost use Rattle.package_sets.specs.Part.{IsPart, IsTableOf};
+ghost use Rattle.package_sets.specs.Restricted.{AddsNeeded};
 
-use crate::moved::{Moved, moved_kept};
-use crate::reached::{Reached, mark};
+use set_rows::moved::{Moved, moved_kept};
+use set_rows::reached::{Reached, mark};
 use std::alloc::{AllocError, Global};
 use tables::{Owner, Resolve};
 
@@ -35,17 +35,15 @@ pub fn add_needed(set: &Resolve, reached: &Reached, marks: &mut Vec<bool>)
     }
 }
 
-impl Moved {
-    /// The table of what is kept.
-    pub fn table(&self, alloc: Global, set: &Resolve) -> Result<Resolve, AllocError>
-        requires { IsPart set.now self.now }
-        ensures { IfOk result (IsTableOf set.now self.now) }
-    {
-        Ok(Resolve {
-            packages: moved_kept(alloc, &set.packages, &self.packages, self)?,
-            interfaces: moved_kept(alloc, &set.interfaces, &self.interfaces, self)?,
-            worlds: moved_kept(alloc, &set.worlds, &self.worlds, self)?,
-            definitions: moved_kept(alloc, &set.definitions, &self.rows, self)?,
-        })
-    }
+/// The table of what is kept.
+pub fn part_table(alloc: Global, set: &Resolve, to: &Moved) -> Result<Resolve, AllocError>
+    requires { IsPart set.now to.now }
+    ensures { IfOk result (IsTableOf set.now to.now) }
+{
+    Ok(Resolve {
+        packages: moved_kept(alloc, &set.packages, &to.packages, to)?,
+        interfaces: moved_kept(alloc, &set.interfaces, &to.interfaces, to)?,
+        worlds: moved_kept(alloc, &set.worlds, &to.worlds, to)?,
+        definitions: moved_kept(alloc, &set.definitions, &to.rows, to)?,
+    })
 }

@@ -1,16 +1,15 @@
 //! The table of one package of a set.
-ghost use Rattle.std.specs.Prelude.{◌≡◌, IfOk, IfErr};
-ghost use Rattle.tables.specs.declared.error.ResolveError.TheVariants.{NoMemory};
+ghost use Rattle.std.specs.Prelude.{IfOk};
 ghost use Rattle.package_sets.specs.Restricted.{AreNeeded, IsNeeded, IsRestricted};
 ghost use Rattle.package_sets.specs.Tower.{IsFormedOf};
 
-use crate::moved::Moved;
-use crate::owners::owners;
-use crate::part::{add_needed, reached_rows};
-use crate::places::Places;
-use crate::reached::{Reached, mark, own_worlds, padded};
+use crate::part::{add_needed, part_table, reached_rows};
+use set_rows::moved::Moved;
+use set_rows::owners::owners;
+use set_rows::places::Places;
+use set_rows::reached::{Reached, mark, own_worlds, padded};
 use std::alloc::{AllocError, Global};
-use tables::{PackageId, Resolve, ResolveError};
+use tables::{PackageId, Resolve};
 
 /// The packages that are needed: a package's own, and each that has an interface which is reached.
 fn needed(
@@ -27,34 +26,31 @@ fn needed(
     Ok(marks)
 }
 
-impl Moved {
-    /// What a package reaches, and where it stands then.
-    fn of(alloc: Global, set: &Resolve, id: PackageId) -> Result<Moved, AllocError>
-        ensures { IfOk result (IsNeeded set.now id.0) }
-    {
-        let owners = owners(alloc, set.definitions.as_slice())?;
-        let reached = Reached::of(alloc, set, owners.as_slice(), id)?;
-        let rows = reached_rows(alloc, owners.as_slice(), &reached)?;
-        let packages = needed(alloc, set, &reached, id)?;
-        let worlds = own_worlds(alloc, set.worlds.as_slice(), id)?;
-        Ok(Moved {
-            packages: Places::of(alloc, packages)?,
-            interfaces: Places::of(alloc, reached.into_interfaces())?,
-            worlds: Places::of(alloc, worlds)?,
-            rows: Places::of(alloc, rows)?,
-        })
-    }
+/// What a package reaches, and where it stands then.
+fn package_part(alloc: Global, set: &Resolve, id: PackageId) -> Result<Moved, AllocError>
+    ensures { IfOk result (IsNeeded set.now id.0) }
+{
+    let owners = owners(alloc, set.definitions.as_slice())?;
+    let reached = Reached::of(alloc, set, owners.as_slice(), id)?;
+    let rows = reached_rows(alloc, owners.as_slice(), &reached)?;
+    let packages = needed(alloc, set, &reached, id)?;
+    let worlds = own_worlds(alloc, set.worlds.as_slice(), id)?;
+    Ok(Moved {
+        packages: Places::of(alloc, packages)?,
+        interfaces: Places::of(alloc, reached.into_interfaces())?,
+        worlds: Places::of(alloc, worlds)?,
+        rows: Places::of(alloc, rows)?,
+    })
 }
 
 /// The table of one package of a set: what the package reaches, in the set's order. Its packages are the own one and
 /// those that have an interface which is reached; its worlds are the package's. In a set each package stands behind
 /// those that it names, so that the own one is the last.
-pub fn restricted(alloc: Global, set: &Resolve, id: PackageId) -> Result<Resolve, ResolveError>
+pub fn restricted(alloc: Global, set: &Resolve, id: PackageId) -> Result<Resolve, AllocError>
     ensures ok { IfOk result (IsRestricted set.now id.0) }
     ensures form { IfOk result (IsFormedOf set.now id.0) }
-    ensures err { IfErr result (λ e. e ≡ NoMemory) }
 {
-    let to = Moved::of(alloc, set, id)?;
-    let table = to.table(alloc, set)?;
+    let to = package_part(alloc, set, id)?;
+    let table = part_table(alloc, set, &to)?;
     Ok(table)
 }

@@ -1,6 +1,6 @@
 use Rattle.std.proofs.Common.{◌∷◌, [], map, ap}
 use Rattle.tables.specs.PackageNames.{PackageParts}
-use Rattle.package_sets.specs.Moved.{put_interface, put_world, put_row}
+use Rattle.set_rows.specs.Moved.{put_interface, put_world, put_row}
 use Rattle.package_sets.specs.Joined.{listed, renaming_of}
 use Rattle.package_sets.proofs.Behind as table
 use Rattle.package_sets.proofs.Putting.{put-behind}

@@ -1,5 +1,5 @@
 use Rattle.std.proofs.Common.{ap, ◌∙◌}
-use Rattle.package_sets.specs.Reaches.{padded}
+use Rattle.set_rows.specs.Reaches.{padded}
 use Rattle.package_sets.proofs.Needing.{needed-by}
 use Rattle.package_sets.proofs.importing.needed_by.Goals as goal
 

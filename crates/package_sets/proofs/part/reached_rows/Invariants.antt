@@ -1,5 +1,5 @@
 use Rattle.std.proofs.Common.{◌≡◌, map, take}
-use Rattle.package_sets.specs.Reaches.{is_marked}
+use Rattle.set_rows.specs.Reaches.{is_marked}
 use Rattle.package_sets.proofs.part.reached_rows.Given as goal
 
 abbrev pub invariant-loop-owner : goal.invariant-loop-owner

@@ -1,5 +1,5 @@
 use Rattle.std.proofs.Common.{ap, ◌∙◌, []}
-use Rattle.package_sets.specs.Reaches.{padded}
+use Rattle.set_rows.specs.Reaches.{padded}
 use Rattle.package_sets.proofs.Needing.{needed-own}
 use Rattle.package_sets.proofs.restriction.needed.Goals as goal
 

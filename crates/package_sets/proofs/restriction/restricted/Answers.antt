@@ -2,8 +2,8 @@ use Rattle.package_sets.proofs.Parts.{package-part}
 use Rattle.package_sets.proofs.TowerForm.{table-form, table-distinct}
 use Rattle.package_sets.proofs.restriction.restricted.Goals as goal
 
-pub table-requires : goal.table-requires
-table-requires c = package-part c.args.set.now c.args.id.0 c.in_ok-to.to c.in_ok-to.ensures
+pub part_table-requires : goal.part_table-requires
+part_table-requires c = package-part c.args.set.now c.args.id.0 c.in_ok-to.to c.in_ok-to.ensures
 
 pub returns-clause-ok : goal.returns-clause-ok
 returns-clause-ok c = record { to = c.in_ok-to.to; needed = c.in_ok-to.ensures; table = c.in_ok-table.ensures }

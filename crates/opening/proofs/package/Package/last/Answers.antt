@@ -3,8 +3,8 @@ use Rattle.std.proofs.Math.Logic.{∥∥₁_map}
 use Rattle.package_form.specs.Closed.{own_package}
 use Rattle.opening.proofs.package.Package.last.Goals as goal
 
-pub returns-in-Ok-restricted-clause-form : goal.returns-in-Ok-restricted-clause-form
-returns-in-Ok-restricted-clause-form c =
+pub returns-clause-form : goal.returns-clause-form
+returns-clause-form c =
     let p = c.args.self.now in
     let own : c.in-Ok.own ≡ length p.resolve.packages - 1 = c.in-Ok.ensures.1 ∙ c.own_package.ensures ∙ ap own_package c.as_slice.ensures in
-    ∥∥₁_map p.tower (λ tower. c.in-Ok-restricted.ensures.form tower (omega (arith, own, p.some)))
+    ∥∥₁_map p.tower (λ tower. c.in_ok-table.ensures.form tower (omega (arith, own, p.some)))

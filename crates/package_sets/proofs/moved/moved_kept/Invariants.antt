@@ -1,6 +1,0 @@
-use Rattle.std.proofs.Common.{◌≡◌, take, map}
-use Rattle.package_sets.specs.Places.{kept}
-use Rattle.package_sets.proofs.moved.moved_kept.Given as goal
-
-abbrev pub invariant-loop-place : goal.invariant-loop-place
-invariant-loop-place g l = l.moved.items ≡ map (g.T.Movable.put (g.P.Placed.renaming l.to)) (kept l.places (take l.place l.item-items))

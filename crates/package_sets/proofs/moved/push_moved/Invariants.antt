@@ -1,5 +1,0 @@
-use Rattle.std.proofs.Common.{◌≡◌, ◌++◌, take, map}
-use Rattle.package_sets.proofs.moved.push_moved.Given as goal
-
-abbrev pub invariant-loop-item : goal.invariant-loop-item
-invariant-loop-item g l = l.onto ≡ l.initial.onto ++ map (g.T.Movable.put (g.P.Placed.renaming l.to)) (take l.item-index l.items)

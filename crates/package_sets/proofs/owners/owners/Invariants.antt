@@ -1,6 +1,0 @@
-use Rattle.std.proofs.Common.{◌-◌, length, drop}
-use Rattle.package_sets.proofs.Owned.{OwnersBehind}
-use Rattle.package_sets.proofs.owners.owners.Given as goal
-
-abbrev pub invariant-loop-behind : goal.invariant-loop-behind
-invariant-loop-behind l = OwnersBehind (drop (length l.rows - l.behind) l.rows) l.owners.items l.last

@@ -1,8 +1,0 @@
-use Rattle.std.proofs.Common.{take}
-use Rattle.std.specs.Prelude.{flat_map}
-use Rattle.package_sets.specs.Reaches.{owners_in}
-use Rattle.package_sets.specs.Marking.{Adds}
-use Rattle.package_sets.proofs.reached.Reached.add_items.Given as goal
-
-abbrev pub invariant-loop-item : goal.invariant-loop-item
-invariant-loop-item l = Adds (flat_map owners_in (take l.item-index l.items)) l.initial.self l.self

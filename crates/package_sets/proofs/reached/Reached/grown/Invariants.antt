@@ -1,9 +1,0 @@
-use Rattle.package_sets.specs.Marking.{unmarked}
-use Rattle.package_sets.proofs.Marking.{IsGrowing}
-use Rattle.package_sets.proofs.reached.Reached.grown.Given as goal
-
-abbrev pub invariant-loop-reached : goal.invariant-loop-reached
-invariant-loop-reached l = IsGrowing l.set l.initial.reached l.reached
-
-abbrev pub decreases-loop-reached : goal.decreases-loop-reached
-decreases-loop-reached l = unmarked l.reached

@@ -1,6 +1,0 @@
-use Rattle.std.proofs.Common.{length, ◌-◌}
-use Rattle.package_sets.proofs.Marking.{PassesFrom}
-use Rattle.package_sets.proofs.reached.Reached.pass.Given as goal
-
-abbrev pub invariant-loop-behind : goal.invariant-loop-behind
-invariant-loop-behind l = PassesFrom l.set (length l.set.definitions - l.behind) l.initial.self l.self l.grew

@@ -1,6 +1,0 @@
-use Rattle.std.proofs.Common.{◌≡◌, map, take}
-use Rattle.package_sets.specs.Reaches.{is_own_interface}
-use Rattle.package_sets.proofs.reached.own_interfaces.Given as goal
-
-abbrev pub invariant-loop-interface : goal.invariant-loop-interface
-invariant-loop-interface l = l.marks.items ≡ map (is_own_interface l.id.0) (take l.interface-index l.interfaces)

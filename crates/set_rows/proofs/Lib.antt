@@ -1,0 +1,5 @@
+pub mod Keeping
+pub mod Marking
+pub mod Owned
+pub mod Padding
+pub mod Placing
