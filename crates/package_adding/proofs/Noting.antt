@@ -7,7 +7,7 @@ use Rattle.std.proofs.lemmas.List.Quantifiers.{position-Some}
 use Rattle.std.proofs.lemmas.Option.{get_or_from_slice_get, slice_get_within, slice_get-get_or}
 use Rattle.std.proofs.lemmas.Slice.Eq.{bytes_eq-Decides}
 use Rattle.package_form.specs.Closed.{is_same_package}
-use Rattle.package_form.specs.Indexed.{is_package_named, is_interface_named, interface_place}
+use Rattle.package_names.specs.Indexed.{is_package_named, is_interface_named, interface_place}
 use Rattle.package_form.proofs.Lists.{map-more}
 use Rattle.package_form.proofs.Meeting.{below_or_at}
 use Rattle.package_form.proofs.OwnPackage.{package-is, same-itself}

@@ -1,6 +1,6 @@
 -- Marks of what is named of a set, while they are made: of interfaces of one name the first is marked.
 use Rattle.std.specs.Prelude.{◌≡◌, ◌↔◌, ◌||◌, ℕ, Bool, true, false, List, length, slice_get, slice_index_or, slice_set, Option, None, Some}
-use Rattle.package_form.specs.Indexed.{interface_place}
+use Rattle.package_names.specs.Indexed.{interface_place}
 use Rattle.tables.specs.PackageNames.{PackageParts}
 use Rattle.tables.specs.declared.tables.Interface.{Interface}
 use Rattle.tables.specs.declared.tables.Resolve.{Resolve}

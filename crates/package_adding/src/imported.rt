@@ -11,7 +11,8 @@ ghost use Rattle.package_adding.specs.ImportNames.{import_names, marked_names};
 ghost use Rattle.package_sets.specs.BehindImports.{HasImportTable, IsBehindImports};
 
 use crate::marking::{Named, mark, mark_named};
-use package_form::{IndexedTable, PackageKey, interfaces_end, own_package, used_name};
+use package_form::{interfaces_end, own_package, used_name};
+use package_names::{IndexedTable, PackageKey};
 use package_sets::same::are_same_items;
 use package_sets::{imported_interfaces, imports};
 use std::alloc::{AllocError, Global};

@@ -2,13 +2,13 @@
 ghost use Rattle.std.specs.Prelude.{◌≡◌, ◌<◌, ◌&&◌, ◌||◌, ℕ, Bool, true, false, List, map, length, slice_get, slice_index_or, slice_set, Some, IfOk};
 ghost use Rattle.std.specs.Str.{bytes_eq};
 ghost use Rattle.package_form.specs.Closed.{is_same_package};
-ghost use Rattle.package_form.specs.Indexed.{key_parts};
+ghost use Rattle.package_names.specs.Indexed.{key_parts};
 ghost use Rattle.tables.specs.PackageNames.{PackageParts};
 ghost use Rattle.package_sets.specs.NamedIn.{AreMarksOf};
 ghost use Rattle.package_adding.specs.Noted.{also, nothing, AreNoted, marked_at, first_mark};
 
 use atoms::Label;
-use package_form::{IndexedTable, PackageKey};
+use package_names::{IndexedTable, PackageKey};
 use std::alloc::{AllocError, Global};
 use tables::{Interface, PackageName, Resolve};
 

@@ -7,7 +7,7 @@ ghost use Rattle.package_adding.specs.Named.{AreNamed, path_names, entry_names, 
 ghost use Rattle.package_adding.specs.Noted.{also, AreNoted};
 
 use crate::marking::{Named, mark_named};
-use package_form::IndexedTable;
+use package_names::IndexedTable;
 use std::alloc::{AllocError, Global};
 use tables::Resolve;
 use tree_scopes::package_key;

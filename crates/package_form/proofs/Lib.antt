@@ -1,8 +1,6 @@
 pub mod Lists
-pub mod MetNames
 pub mod EachPackage
 pub mod Meeting
-pub mod Naming
 pub mod Positions
 pub mod Marks
 pub mod RowEnds
@@ -14,8 +12,6 @@ pub mod Forms
 pub mod OnePackage
 pub mod OneRow
 pub mod Scopes
-pub mod WorldItems
 pub mod OwnPackage
-pub mod Indexing
 pub mod OneFunction
 pub mod DistinctTypes

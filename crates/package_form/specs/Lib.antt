@@ -10,7 +10,6 @@ pub mod Unused
 pub mod Reached
 pub mod Marks
 pub mod Closed
-pub mod Indexed
 pub mod Form
 pub mod Naming
 pub mod Laws

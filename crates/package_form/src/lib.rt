@@ -6,23 +6,16 @@
 #![tactic(auto)]
 
 mod closed;
-mod distinct;
 mod ends;
 mod entries;
 mod form;
-mod indexed;
-mod keys;
 pub mod laws;
 mod references;
-mod scope;
 mod unused;
 
 pub use closed::{is_same_version, own_package, used_name};
-pub use distinct::{Sides, distinct_names};
 pub use ends::{end_of, interfaces_end, world_end};
 pub use entries::passes_entries;
 pub use form::is_in_form;
-pub use indexed::{IndexedTable, PackageKey};
 pub use references::push_references;
-pub use scope::{FEW, Scope};
 pub use unused::is_postfix;

@@ -10,7 +10,7 @@ use Rattle.canonical_abi.proofs.Images.{slice_get-take}
 use Rattle.tables.specs.PackageNames.{PackageParts}
 use Rattle.tables.specs.declared.tables.Interface.{Interface}
 use Rattle.tables.specs.declared.tables.Resolve.{Resolve}
-use Rattle.package_form.specs.Indexed.{is_package_named, is_interface_named, interface_place}
+use Rattle.package_names.specs.Indexed.{is_package_named, is_interface_named, interface_place}
 use Rattle.package_form.proofs.Positions.{position-none}
 use Rattle.set_rows.specs.Moved.{Renaming}
 use Rattle.package_sets.specs.Joining.{imports, import_rows, IsFirst, are_same_packages, has_name_of, AreFound, AreRowsThere, AreIdsThere, HasImports, joined, all_places, place_in}

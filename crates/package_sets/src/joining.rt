@@ -9,7 +9,8 @@ ghost use Rattle.package_sets.specs.Joined.{listed, AreJoined};
 ghost use Rattle.package_sets.specs.declared.error.AttachError.TheVariants.{NotThisShape, NoMemory};
 
 use crate::error::AttachError;
-use package_form::{IndexedTable, PackageKey, end_of, is_same_version, own_package};
+use package_form::{end_of, is_same_version, own_package};
+use package_names::{IndexedTable, PackageKey};
 use set_rows::moved::Placed;
 use std::alloc::Global;
 use tables::{Definition, Interface, PackageName, Resolve};

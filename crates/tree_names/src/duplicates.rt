@@ -7,11 +7,12 @@ ghost use Rattle.tree_meaning.specs.Declarations.{local_name, member_name, case_
 ghost use Rattle.tree_meaning.specs.Scopes.{file_name, interface_scopes, scopes_in};
 ghost use Rattle.tree_scopes.specs.Sources.{item_in, world_in};
 ghost use Rattle.package_form.specs.Naming.{item_name, item_parameters, world_scopes};
-ghost use Rattle.package_form.specs.Distinct.{AreMet, AreMetOnSides, RefusesNames, RefusesSides, RefusesScopes};
+ghost use Rattle.package_form.specs.Distinct.{AreMet, RefusesNames, RefusesScopes};
+ghost use Rattle.package_names.specs.Sides.{AreMetOnSides, RefusesSides};
 ghost use Rattle.package_form.specs.Scope.{AreDistinct};
 
 use atoms::{KeyedState, Label};
-use package_form::{Scope, Sides};
+use package_names::{Scope, Sides};
 use std::alloc::{AllocError, Global};
 use tables::{Name, PackageName, ResolveError};
 use tree_scopes::{local_name, package_name, side_of};

@@ -1,6 +1,6 @@
 //! The key of a syntax tree's names.
 use atoms::{KeyedState, Label, NameKey};
-use package_form::FEW;
+use package_names::FEW;
 use tables::{Definition, Resolve};
 use tree_scopes::{interface_label, local_name};
 use wit_syntax::{

@@ -6,7 +6,7 @@ ghost use Rattle.package_form.specs.Entries.{Table};
 ghost use Rattle.tree_meaning.specs.Building.{Lowers, LowersInner, name_at};
 
 use atoms::Label;
-use package_form::IndexedTable;
+use package_names::IndexedTable;
 use std::alloc::{AllocError, Global};
 use std::marker::Model;
 use tables::{Definition, Resolve, TypeDef, TypeDefKind, TypeId, ValType};

@@ -12,7 +12,8 @@ ghost use Rattle.tree_meaning.specs.WorldRows.{worlds_stand, with_worlds};
 use crate::builder::Builder;
 use crate::plan::Plan;
 use atoms::Label;
-use package_form::{IndexedTable, passes_entries};
+use package_form::passes_entries;
+use package_names::IndexedTable;
 use std::alloc::{AllocError, Global};
 use table_building::{are_standard, copy_of};
 use tables::{

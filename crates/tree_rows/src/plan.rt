@@ -1,6 +1,6 @@
 //! What the rows of a tree are made of.
 use atoms::{KeyedState, Label};
-use package_form::IndexedTable;
+use package_names::IndexedTable;
 use tables::{InterfaceId, Sequence};
 use tree_scopes::{Declarations, Names};
 use wit_syntax::Ast;

@@ -8,7 +8,7 @@ use Rattle.std.proofs.lemmas.Bool.{ltb-true}
 use Rattle.std.proofs.lemmas.Option.{slice_get-get_or}
 use Rattle.std.proofs.lemmas.Slice.Eq.{bytes_eq-Decides}
 use Rattle.package_form.specs.Closed.{is_same_package}
-use Rattle.package_form.specs.Indexed.{is_package_named, is_interface_named, interface_place}
+use Rattle.package_names.specs.Indexed.{is_package_named, is_interface_named, interface_place}
 use Rattle.package_form.proofs.OwnPackage.{package-is, same-itself}
 use Rattle.package_form.proofs.Positions.{position-cons}
 use Rattle.tables.specs.PackageNames.{PackageParts}

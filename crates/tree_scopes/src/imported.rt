@@ -5,7 +5,7 @@ ghost use Rattle.tree_scopes.specs.KnownScopes.{HaveImportNames, AreImportScopes
 use crate::imports::import_scopes;
 use crate::known::KnownTypes;
 use atoms::KeyedState;
-use package_form::IndexedTable;
+use package_names::IndexedTable;
 use std::alloc::{AllocError, Global};
 use tables::Resolve;
 

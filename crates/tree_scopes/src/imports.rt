@@ -3,7 +3,7 @@ ghost use Rattle.std.specs.Prelude.{◌≡◌, ◌++◌, ◌+◌, filter_map, le
 ghost use Rattle.std.specs.List.{list_any};
 ghost use Rattle.package_form.specs.Closed.{is_same_package};
 ghost use Rattle.package_form.specs.Entries.{Table};
-ghost use Rattle.package_form.specs.Indexed.{key_parts};
+ghost use Rattle.package_names.specs.Indexed.{key_parts};
 ghost use Rattle.package_form.specs.Reached.{name_at};
 ghost use Rattle.tree_meaning.specs.Finished.{header};
 ghost use Rattle.tree_meaning.specs.Imports.{import_place, interfaces_of, type_within, types_within};
@@ -11,7 +11,8 @@ ghost use Rattle.tree_scopes.specs.KnownScopes.{IsScope, scope_names, AreImportS
 
 use crate::known::{KnownTypes, TypeIds};
 use atoms::{KeyedState, Label};
-use package_form::{IndexedTable, PackageKey, is_same_version};
+use package_form::is_same_version;
+use package_names::{IndexedTable, PackageKey};
 use std::alloc::{AllocError, Global};
 use tables::{
     Definition, Interface, InterfaceId, PackageName, Resolve, TypeId, TypeName, copy_version,

@@ -7,7 +7,7 @@ ghost use Rattle.tree_meaning.specs.Knowing.{TellsPlaces};
 
 use atoms::{KeyedState, Label};
 use indexmap::IndexMap;
-use package_form::FEW;
+use package_names::FEW;
 use std::alloc::{AllocError, Global};
 use std::marker::Model;
 

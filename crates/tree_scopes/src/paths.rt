@@ -8,7 +8,7 @@ ghost use Rattle.tree_meaning.specs.Resolves.{path_place};
 use crate::imports::{import_place, place_behind};
 use crate::names::Names;
 use atoms::Label;
-use package_form::IndexedTable;
+use package_names::IndexedTable;
 use std::alloc::AllocError;
 use wit_syntax::Path;
 

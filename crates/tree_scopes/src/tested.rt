@@ -5,7 +5,8 @@ ghost use Rattle.tree_meaning.specs.Imports.{AreApart, interfaces_of};
 ghost use Rattle.tree_meaning.specs.Resolves.{AreImports, is_of_interfaces};
 ghost use Rattle.tree_scopes.specs.Tested.{IsFirst};
 
-use package_form::{IndexedTable, PackageKey, is_postfix};
+use package_form::is_postfix;
+use package_names::{IndexedTable, PackageKey};
 use std::alloc::{AllocError, Global};
 use tables::{Definition, Interface, Owner, Resolve};
 

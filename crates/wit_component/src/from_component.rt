@@ -13,7 +13,7 @@ use crate::same::{is_empty_package, is_same};
 use crate::to_component::to_written;
 use component_reader::{Unread, candidate};
 use ctype_bin::RawComponent;
-use package_form::distinct_names;
+use package_names::distinct_names;
 use std::alloc::Global;
 use tables::{Resolve, ResolveError};
 

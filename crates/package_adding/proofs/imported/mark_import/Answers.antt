@@ -2,7 +2,7 @@ use Rattle.std.proofs.Common.{◌≡◌, ◌∙◌, ◌&&◌, ◌||◌, List, Op
 use Rattle.std.specs.Str.{bytes_eq}
 use Rattle.std.proofs.lemmas.Option.{slice_get_past}
 use Rattle.package_form.specs.Closed.{is_same_package}
-use Rattle.package_form.specs.Indexed.{key_parts}
+use Rattle.package_names.specs.Indexed.{key_parts}
 use Rattle.package_sets.specs.Joining.{are_same_packages}
 use Rattle.package_sets.proofs.Lists.{item-get}
 use Rattle.tables.specs.PackageNames.{PackageParts}

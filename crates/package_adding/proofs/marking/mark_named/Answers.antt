@@ -1,5 +1,5 @@
 use Rattle.std.proofs.Common.{◌≡◌, ◌∙◌, ap, List, slice_get}
-use Rattle.package_form.specs.Indexed.{key_parts}
+use Rattle.package_names.specs.Indexed.{key_parts}
 use Rattle.tables.specs.PackageNames.{PackageParts}
 use Rattle.tables.specs.declared.tables.Resolve.{Resolve}
 use Rattle.package_adding.specs.Noted.{marked_at}

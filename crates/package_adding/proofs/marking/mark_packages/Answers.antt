@@ -1,6 +1,6 @@
 use Rattle.std.proofs.Common.{◌∙◌, ◌+◌, refl, ap, sym, subst, arith}
 use Rattle.std.proofs.lemmas.Option.{slice_get_within}
-use Rattle.package_form.specs.Indexed.{key_parts}
+use Rattle.package_names.specs.Indexed.{key_parts}
 use Rattle.package_sets.proofs.Lists.{item-get}
 use Rattle.package_adding.proofs.Noting.{AreCompared, none-compared, marked-compared, kept-compared}
 use Rattle.package_adding.proofs.marking.mark_packages.Goals as goal

@@ -1,4 +1,4 @@
-use Rattle.package_form.specs.Indexed.{key_parts}
+use Rattle.package_names.specs.Indexed.{key_parts}
 use Rattle.package_adding.proofs.Noting.{AreCompared}
 use Rattle.package_adding.proofs.marking.mark_packages.Given as goal
 

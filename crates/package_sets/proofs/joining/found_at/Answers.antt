@@ -1,6 +1,6 @@
 use Rattle.std.proofs.Common.{◌≡◌, ◌∙◌, ap, sym, subst, List, Some, slice_get}
 use Rattle.tables.specs.PackageNames.{PackageParts}
-use Rattle.package_form.specs.Indexed.{interface_place}
+use Rattle.package_names.specs.Indexed.{interface_place}
 use Rattle.package_sets.proofs.Finding.{IsFoundAt, place-first}
 use Rattle.package_sets.proofs.Lists.{item-get}
 use Rattle.package_sets.proofs.joining.found_at.Goals as goal

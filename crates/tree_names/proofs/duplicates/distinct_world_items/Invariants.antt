@@ -1,7 +1,7 @@
 use Rattle.std.proofs.Common.{map, take, All}
 use Rattle.tree_scopes.specs.Sources.{item_in}
 use Rattle.package_form.specs.Scope.{AreDistinct}
-use Rattle.package_form.specs.Distinct.{AreMetOnSides}
+use Rattle.package_names.specs.Sides.{AreMetOnSides}
 use Rattle.package_form.specs.Naming.{item_parameters}
 use Rattle.tree_names.proofs.duplicates.distinct_world_items.Given as goal
 

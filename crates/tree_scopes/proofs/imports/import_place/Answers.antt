@@ -1,5 +1,5 @@
 use Rattle.std.proofs.Common.{◌∙◌, ap}
-use Rattle.package_form.specs.Indexed.{interface_place}
+use Rattle.package_names.specs.Indexed.{interface_place}
 use Rattle.tables.specs.PackageNames.{PackageParts}
 use Rattle.tree_meaning.specs.Finished.{header}
 use Rattle.tree_scopes.proofs.ImportPlaces.{place-same}

@@ -1,5 +1,0 @@
-use Rattle.package_form.proofs.WorldItems.{sides-met-none}
-use Rattle.package_form.proofs.distinct.Sides.new.Goals as goal
-
-pub returns : goal.returns
-returns c = sides-met-none _ c.new.ensures c.new-2.ensures

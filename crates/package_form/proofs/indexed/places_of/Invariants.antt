@@ -1,6 +1,0 @@
-use Rattle.std.proofs.Common.{take}
-use Rattle.package_form.specs.Indexed.{IsIndex}
-use Rattle.package_form.proofs.indexed.places_of.Given as goal
-
-abbrev pub invariant-loop-place : goal.invariant-loop-place
-invariant-loop-place l = IsIndex l.packages (take l.place l.interfaces) l.names.items

@@ -1,0 +1,4 @@
+mod MetNames
+mod Naming
+pub mod WorldItems
+mod Indexing

@@ -1,0 +1,20 @@
+use Rattle.std.proofs.Common.{inl, sym}
+use Rattle.std.proofs.lemmas.Result.{err_from_is_err_and}
+use Rattle.tables.specs.Package.{interface_names, trees}
+use Rattle.package_names.proofs.WorldItems.{direction-told, item-met, item-refused}
+use Rattle.package_names.proofs.distinct.meet_item.Goals as goal
+
+pub returns-in_err-name-clause-err : goal.returns-in_err-name-clause-err
+returns-in_err-name-clause-err c =
+    let p = err_from_is_err_and c.from_residual.result c.from_residual.ensures.1 in
+    rw (p.1, p.2) (λ items h. inl tt)
+
+pub returns-clause-ok : goal.returns-clause-ok
+returns-clause-ok c =
+    let r = c.args.resolve.now in
+    item-met c.meet.result _ _ _ _ _ (direction-told (interface_names r) (trees r) r.definitions c.args.item.direction c.args.item.kind) (sym c.in_ok-name.ensures) c.meet.ensures.ok
+
+pub returns-clause-err : goal.returns-clause-err
+returns-clause-err c =
+    let r = c.args.resolve.now in
+    item-refused c.meet.result _ _ _ _ (direction-told (interface_names r) (trees r) r.definitions c.args.item.direction c.args.item.kind) (sym c.in_ok-name.ensures) c.meet.ensures.err
