@@ -17,7 +17,7 @@ import sys
 import tempfile
 
 TOP = pathlib.Path(__file__).resolve().parent.parent
-LIBRARIES = ["atoms", "canonical_abi", "tables", "table_building", "layout", "memory", "lift_lower"]
+LIBRARIES = ["atoms", "canonical_abi", "tables", "table_building", "layout", "memory", "values", "lift_lower"]
 CALLS = ["atoms", "canonical_abi", "tables", "table_building", "layout", "memory", "lift_lower", "adapter"]
 
 # of each table: its library's crate and that crate's source, what it stands on, and the program over it

@@ -23,11 +23,10 @@ use Rattle.tables.specs.declared.tables.TypeId.{TypeId}
 use Rattle.tables.specs.declared.tables.ValType.{ValType}
 use Rattle.tables.specs.declared.tables.ValType.TheVariants as val
 use Rattle.tables.proofs.Rows.{length-closed_rows, stands, function-row}
-use Rattle.lift_lower.specs.Crossing.{fields_of_types}
-use Rattle.lift_lower.specs.Members.{AreAllInside, AreTypesOf}
-use Rattle.lift_lower.specs.Types.{IsInside}
+use Rattle.values.specs.Members.{fields_of_types, AreAllInside, AreTypesOf}
+use Rattle.values.specs.Types.{IsInside}
 use Rattle.lift_lower.proofs.Alone.{alone-size}
-use Rattle.lift_lower.proofs.Known.{known-inside}
+use Rattle.values.proofs.Known.{known-inside}
 use Rattle.adapter.specs.Carrying.{types_in}
 use Rattle.adapter.proofs.Functions.{params_in}
 use Rattle.adapter.proofs.Within.{type-shallow, type-small}

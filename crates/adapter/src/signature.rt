@@ -3,8 +3,7 @@ ghost use Rattle.std.specs.Prelude.{◌≡◌, ◌≤◌, Some, map, IfOk};
 ghost use Rattle.canonical_abi.specs.Types.{record_type};
 ghost use Rattle.canonical_abi.specs.Layout.{size};
 ghost use Rattle.layout.specs.Layout.{AreWithin};
-ghost use Rattle.lift_lower.specs.Crossing.{fields_of_types};
-ghost use Rattle.lift_lower.specs.Members.{AreTypesOf};
+ghost use Rattle.values.specs.Members.{fields_of_types, AreTypesOf};
 ghost use Rattle.tables.specs.Closed.{IsFunction, function_at, function_type};
 ghost use Rattle.tables.specs.declared.tables.Function.{Function};
 

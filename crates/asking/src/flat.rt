@@ -4,8 +4,8 @@ ghost use Rattle.canonical_abi.specs.Types.{prim_type, variant_type, variant_cas
 ghost use Rattle.canonical_abi.specs.Layout.{flat_kinds, field_kinds, payload_kinds};
 ghost use Rattle.canonical_abi.specs.Reading.{number_of, low_bits, lifting, lifting_fields, lifting_case};
 ghost use Rattle.canonical_abi.specs.Requests.{requests, fields_requests};
-ghost use Rattle.lift_lower.specs.Members.{AreInside, members_fields};
-ghost use Rattle.lift_lower.specs.Types.{IsInside};
+ghost use Rattle.values.specs.Members.{AreInside, members_fields};
+ghost use Rattle.values.specs.Types.{IsInside};
 ghost use Rattle.tables.specs.Closed.{prim_of, closed_type};
 ghost use Rattle.asking.specs.Asking.{Asks};
 

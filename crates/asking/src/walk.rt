@@ -4,8 +4,8 @@ ghost use Rattle.canonical_abi.specs.Types.{prim_type, string_type, list_type, v
 ghost use Rattle.canonical_abi.specs.Layout.{size, align, payload_place, end_from, field_extents};
 ghost use Rattle.canonical_abi.specs.Reading.{reading, text_at, list_at, reading_fields, reading_case, case_number};
 ghost use Rattle.canonical_abi.specs.Requests.{requests, fields_requests};
-ghost use Rattle.lift_lower.specs.Members.{AreInside, members_fields};
-ghost use Rattle.lift_lower.specs.Types.{IsInside};
+ghost use Rattle.values.specs.Members.{AreInside, members_fields};
+ghost use Rattle.values.specs.Types.{IsInside};
 ghost use Rattle.tables.specs.Closed.{prim_of, closed_type};
 ghost use Rattle.asking.specs.Asking.{Asks, AsksNothing};
 

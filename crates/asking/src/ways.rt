@@ -5,9 +5,8 @@ ghost use Rattle.canonical_abi.specs.Layout.{size, max_flat_params, max_flat_res
 ghost use Rattle.canonical_abi.specs.Reading.{kind_of};
 ghost use Rattle.canonical_abi.specs.Requests.{params_requests, fields_requests};
 ghost use Rattle.canonical_abi.specs.Types.{field_count, record_type, record_fields};
-ghost use Rattle.lift_lower.specs.Crossing.{fields_of_types};
-ghost use Rattle.lift_lower.specs.Members.{AreAllInside};
-ghost use Rattle.lift_lower.specs.Types.{IsInside};
+ghost use Rattle.values.specs.Members.{fields_of_types, AreAllInside};
+ghost use Rattle.values.specs.Types.{IsInside};
 ghost use Rattle.tables.specs.Closed.{closed_type};
 ghost use Rattle.asking.specs.Asking.{IsToldAhead};
 

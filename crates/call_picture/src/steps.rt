@@ -1,8 +1,8 @@
 //! The steps of a call, as `witcall` makes them.
 ghost use Rattle.std.specs.Prelude.{◌≡◌, map};
 ghost use Rattle.canonical_abi.specs.Values.{HaveTypes};
-ghost use Rattle.lift_lower.specs.Crossing.{fields_of_types};
-ghost use Rattle.lift_lower.specs.Val.{value_of};
+ghost use Rattle.values.specs.Members.{fields_of_types};
+ghost use Rattle.values.specs.Val.{value_of};
 ghost use Rattle.tables.specs.Closed.{function_type};
 
 use crate::call::{Call, result_type};

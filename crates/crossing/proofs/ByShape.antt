@@ -12,7 +12,7 @@ use Rattle.canonical_abi.specs.Trace.{Grant, Event, node, grant, write}
 use Rattle.canonical_abi.specs.Laws.{ReadsExactly}
 use Rattle.canonical_abi.specs.declared.trap.TrapKind.{TrapKind}
 use Rattle.canonical_abi.specs.declared.trap.TrapKind.TheVariants as trap
-use Rattle.lift_lower.specs.Loading.{AreBytes}
+use Rattle.values.specs.Bytes.{AreBytes}
 use Rattle.lift_lower.proofs.Denoted.{holds-typed}
 use Rattle.lift_lower.proofs.Scripted.{stores-script}
 use Rattle.lift_lower.proofs.Stopping.{stores-until}

@@ -21,12 +21,12 @@ use Rattle.canonical_abi.specs.declared.trap.TrapKind.{TrapKind}
 use Rattle.canonical_abi.specs.declared.trap.TrapKind.TheVariants as trap
 use Rattle.canonical_abi.specs.Laws.{ReadsExactly}
 use Rattle.canonical_abi.proofs.Tells.{fields-lift}
-use Rattle.lift_lower.specs.Loading.{AreBytes}
+use Rattle.values.specs.Bytes.{AreBytes}
 use Rattle.lift_lower.proofs.Denoted.{fields-lift-typed}
 use Rattle.lift_lower.proofs.FlatSteps.{drop-more}
 use Rattle.lift_lower.proofs.Lowerings.{plain-lowered, payload-lowered}
 use Rattle.lift_lower.proofs.Scripted.{fields-lower-script}
-use Rattle.lift_lower.proofs.Steps.{fields_from, fields-next, fields-last}
+use Rattle.values.proofs.Fields.{fields_from, fields-next, fields-last}
 use Rattle.lift_lower.proofs.Stopping.{fields-lower-until}
 use Rattle.crossing.specs.Outcome.{FlatScript, FlatWalks, FieldsFlatWalk, FlatBehind, FlatEnds, EachWalks, Behind, Counts, Ends, IsDone, MetFault, WasRefused, HasStopped}
 use Rattle.crossing.specs.declared.stopped.Stopped.{Stopped}

@@ -13,10 +13,10 @@ use Rattle.canonical_abi.specs.Storing.{header, IsBlock}
 use Rattle.canonical_abi.specs.Trace.{Grant, Event, node, grant, write, EventLeads, TraceLeads, RequestFails}
 use Rattle.canonical_abi.specs.Laws.{ReadsExactly}
 use Rattle.canonical_abi.specs.declared.trap.TrapKind.{TrapKind}
-use Rattle.lift_lower.specs.Loading.{AreBytes}
+use Rattle.values.specs.Bytes.{AreBytes}
 use Rattle.lift_lower.specs.Scripts.{GrantsBlock}
 use Rattle.lift_lower.specs.Scripts as low
-use Rattle.lift_lower.proofs.Steps.{fields_from, fields-next, fields-last}
+use Rattle.values.proofs.Fields.{fields_from, fields-next, fields-last}
 use Rattle.crossing.specs.Outcome.{Walks, EachWalks, FieldsWalk, Behind, Counts, IsDone, WasRefused, HasStopped, Ends}
 use Rattle.crossing.specs.declared.stopped.Stopped.{Stopped}
 use Rattle.crossing.proofs.Parts.{IsBegun, begun, begun-as, begun-then, begun-done, begun-stopped, begun-ends, begun-node, begun-write, begun-grant, part-stopped, refused}

@@ -13,7 +13,7 @@ use Rattle.canonical_abi.specs.Laws.{ReadsExactly}
 use Rattle.canonical_abi.specs.declared.flat.Flat.{Flat}
 use Rattle.canonical_abi.specs.declared.flat.Flat.TheVariants.{I32}
 use Rattle.canonical_abi.specs.declared.trap.TrapKind.{TrapKind}
-use Rattle.lift_lower.specs.Loading.{AreBytes}
+use Rattle.values.specs.Bytes.{AreBytes}
 use Rattle.crossing.specs.Outcome.{FlatScript, FieldsFlatWalk, FieldsWalk, FlatEnds, Ends, IsDone, WasRefused, HasStopped}
 use Rattle.crossing.specs.Ways.{ParamsWalk, ResultWalk, WayEnds}
 use Rattle.crossing.specs.declared.stopped.Stopped.{Stopped}

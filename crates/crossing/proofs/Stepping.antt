@@ -3,8 +3,8 @@ use Rattle.std.proofs.Common.{◌≡◌, ℕ, zero, suc, ◌+◌, ◌<◌, List,
 use Rattle.std.specs.Int.{next_multiple_of}
 use Rattle.canonical_abi.specs.Types.{ClosedType, Fields, no_field, field, nth_field, field_count}
 use Rattle.canonical_abi.specs.Layout.{size, align}
-use Rattle.lift_lower.proofs.Steps.{fields_from, fields-next, fields-last}
-use Rattle.lift_lower.proofs.Typings.{drop-next}
+use Rattle.values.proofs.Fields.{fields_from, fields-next, fields-last}
+use Rattle.values.proofs.Typings.{drop-next}
 use Rattle.crossing.specs.Steps.{leaf_type, IsLeaf, AreSteps}
 use Rattle.crossing.specs.declared.records.Leaf.TheVariants as leaf
 use Rattle.crossing.specs.declared.records.Step.{Step}

@@ -6,8 +6,8 @@ ghost use Rattle.canonical_abi.specs.Reading.{number_of};
 ghost use Rattle.canonical_abi.specs.Trace.{node};
 ghost use Rattle.canonical_abi.specs.declared.trap.TrapKind.{TrapKind};
 ghost use Rattle.crossing.specs.Outcome.{FlatWalks, FieldsFlatWalk, FlatBehind, FlatEnds};
-ghost use Rattle.lift_lower.specs.Members.{AreInside, members_fields};
-ghost use Rattle.lift_lower.specs.Types.{IsInside};
+ghost use Rattle.values.specs.Members.{AreInside, members_fields};
+ghost use Rattle.values.specs.Types.{IsInside};
 ghost use Rattle.tables.specs.Closed.{closed_type, prim_of};
 
 use crate::addresses::Elements;

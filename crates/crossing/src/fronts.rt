@@ -6,7 +6,7 @@ ghost use Rattle.std.specs.Prelude.{◌≡◌, ℕ, ◌+◌, ◌*◌, ◌^◌, �
 ghost use Rattle.canonical_abi.specs.Layout.{size, flags_size};
 ghost use Rattle.canonical_abi.specs.Types.{prim_type, boolean, scalar_value, flags_type};
 ghost use Rattle.crossing.specs.Outcome.{EachWalks, IsDone};
-ghost use Rattle.lift_lower.specs.Types.{IsInside};
+ghost use Rattle.values.specs.Types.{IsInside};
 ghost use Rattle.tables.specs.Closed.{closed_type, prim_of};
 
 use crate::addresses::Elements;

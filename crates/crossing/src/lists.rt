@@ -2,7 +2,7 @@
 ghost use Rattle.std.specs.Prelude.{◌≡◌, ◌+◌, ◌*◌, ◌^◌, ◌<◌, ◌≤◌, length, IfSome};
 ghost use Rattle.canonical_abi.specs.Types.{prim_type, list_type};
 ghost use Rattle.crossing.specs.Outcome.{Walks, EachWalks, Behind, Ends};
-ghost use Rattle.lift_lower.specs.Types.{IsInside};
+ghost use Rattle.values.specs.Types.{IsInside};
 ghost use Rattle.ranges.specs.Bytewise.{IsNumber};
 ghost use Rattle.tables.specs.Closed.{closed_type, prim_of};
 

@@ -4,7 +4,7 @@ ghost use Rattle.canonical_abi.specs.Types.{record_type, record_fields, field_co
 ghost use Rattle.canonical_abi.specs.Layout.{size, end_from, field_extents};
 ghost use Rattle.crossing.specs.Outcome.{Walks, FieldsWalk, EachWalks, Ends};
 ghost use Rattle.crossing.specs.Steps.{IsLeaf, leaf_type, AreSteps, AreStepsOf};
-ghost use Rattle.lift_lower.specs.Types.{IsInside};
+ghost use Rattle.values.specs.Types.{IsInside};
 ghost use Rattle.tables.specs.Closed.{closed_type};
 
 use crate::addresses::{Addresses, Elements};

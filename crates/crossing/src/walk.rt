@@ -4,9 +4,9 @@ ghost use Rattle.std.specs.Int.{next_multiple_of};
 ghost use Rattle.canonical_abi.specs.Guest.{IsAlignment};
 ghost use Rattle.canonical_abi.specs.Types.{list_type, variant_type, variant_cases, case_count, field_count};
 ghost use Rattle.canonical_abi.specs.Layout.{size, end_from, field_extents};
-ghost use Rattle.lift_lower.specs.Loading.{AreBytes};
-ghost use Rattle.lift_lower.specs.Members.{AreInside, members_fields};
-ghost use Rattle.lift_lower.specs.Types.{IsInside};
+ghost use Rattle.values.specs.Bytes.{AreBytes};
+ghost use Rattle.values.specs.Members.{AreInside, members_fields};
+ghost use Rattle.values.specs.Types.{IsInside};
 ghost use Rattle.tables.specs.Closed.{closed_type};
 ghost use Rattle.crossing.specs.Outcome.{Walks, FieldsWalk, EachWalks, Behind, Ends};
 

@@ -17,9 +17,9 @@ use Rattle.canonical_abi.proofs.Frames.{take-same}
 use Rattle.canonical_abi.proofs.Images.{slice_get-drop}
 use Rattle.memory.specs.Space.{SpaceReleases, spaces}
 use Rattle.memory.specs.SpaceLaws.{SpaceIsHonest, SpaceKeepsLimit}
-use Rattle.lift_lower.specs.declared.val.Val.{Val, String as Text, U32, the_lemmas}
-use Rattle.lift_lower.specs.Val.{value_of}
-use Rattle.lift_lower.proofs.Views.{value_of-String}
+use Rattle.values.specs.declared.val.Val.{Val, String as Text, U32, the_lemmas}
+use Rattle.values.specs.Val.{value_of}
+use Rattle.values.proofs.Views.{value_of-String}
 use Rattle.witcall.specs.Session.{typed_answer}
 use Rattle.example_client.specs.Order.{FindsOrder, KeepsLiveRanges, TakesOrder, word}
 

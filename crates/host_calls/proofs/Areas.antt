@@ -16,8 +16,7 @@ use Rattle.tables.specs.declared.tables.Function.{Function}
 use Rattle.tables.specs.declared.tables.FunctionId.{FunctionId}
 use Rattle.tables.specs.declared.tables.Resolve.{Resolve}
 use Rattle.tables.specs.declared.tables.ValType.{ValType}
-use Rattle.lift_lower.specs.Crossing.{fields_of_types}
-use Rattle.lift_lower.specs.Members.{AreAllInside}
+use Rattle.values.specs.Members.{fields_of_types, AreAllInside}
 use Rattle.adapter.proofs.Functions.{same_types}
 use Rattle.adapter.proofs.Signatures.{result-known, result-inside, all-inside, result-small}
 use Rattle.host_calls.specs.Calling.{KeepsArea, area_block}

@@ -2,7 +2,7 @@
 ghost use Rattle.std.specs.Prelude.{◌≡◌, ◌<◌, Some, length, slice_get};
 ghost use Rattle.canonical_abi.specs.Types.{record_fields, result_fields};
 ghost use Rattle.canonical_abi.specs.Layout.{field_extents, field_places};
-ghost use Rattle.lift_lower.specs.Types.{IsInside};
+ghost use Rattle.values.specs.Types.{IsInside};
 ghost use Rattle.tables.specs.Closed.{IsFunction, closed_type, function_type};
 ghost use Rattle.host_calls.specs.Parts.{extent_of_part, PartsDone};
 

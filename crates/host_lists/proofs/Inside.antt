@@ -15,7 +15,7 @@ use Rattle.tables.specs.declared.tables.TypeDefKind.{TypeDefKind}
 use Rattle.tables.specs.declared.tables.TypeDefKind.TheVariants as kind
 use Rattle.tables.specs.declared.tables.ValType.{ValType}
 use Rattle.tables.proofs.Rows.{earlier-at, get-at, option_below-later}
-use Rattle.lift_lower.specs.Types.{IsInside}
+use Rattle.values.specs.Types.{IsInside}
 use Rattle.host_lists.specs.Contents.{members_in, members_of, target_in, target_of}
 use Rattle.host_lists.specs.Rows.{row_type}
 

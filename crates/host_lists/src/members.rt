@@ -1,15 +1,15 @@
 //! What stands in a row: fields, elements, cases, labels or parameters.
 ghost use Rattle.std.specs.Prelude.{◌≡◌, ◌<◌, map, length, slice_get, Some};
 ghost use Rattle.tables.specs.Closed.{closed_type};
-ghost use Rattle.lift_lower.specs.Types.{IsInside};
+ghost use Rattle.values.specs.Types.{IsInside};
 ghost use Rattle.host_lists.specs.Contents.{members_in, members_of};
 ghost use Rattle.host_lists.specs.Members.{member_offset, member_at};
 ghost use Rattle.host_lists.specs.Told.{TellsOfTable};
 
 use crate::rows::{TypeInfo, type_info};
 use host_calls::CallError;
-use lift_lower::Types;
 use tables::{Choice, Definition, Member, TypeDefKind, TypeId, ValType};
+use values::Types;
 
 /// A member of a row. `offset` is a field's or a parameter's place in bytes, and of a case the place of the payload, whichever case it is.
 /// A case without payload has no type, as a label of flags.

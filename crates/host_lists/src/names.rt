@@ -6,8 +6,8 @@ ghost use Rattle.host_lists.specs.Told.{TellsName};
 use crate::bytes::tell_bytes;
 use atoms::Label;
 use host_calls::CallError;
-use lift_lower::Types;
 use tables::{Definition, TypeDefKind};
+use values::Types;
 
 /// The name of a row: no bytes where it has none.
 fn own_name(definition: &Definition) -> &[u8]

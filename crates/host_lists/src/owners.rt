@@ -7,9 +7,9 @@ ghost use Rattle.host_lists.specs.Told.{TellsNewName};
 use crate::bytes::tell_bytes;
 use atoms::Label;
 use host_calls::CallError;
-use lift_lower::Types;
 use std::alloc::{AllocError, Global};
 use tables::{Definition, InterfaceId, Name, Owner, PackageId, Resolve, WorldId};
+use values::Types;
 
 /// Where a row has its name, if it has one.
 pub(crate) fn owner_of(definition: &Definition) -> Option<Owner>

@@ -9,8 +9,8 @@ use crate::kinds::type_number;
 use crate::members::member_count;
 use crate::owners::{owner_numbers, owner_of};
 use host_calls::{CallError, told};
-use lift_lower::Types;
 use tables::{Definition, TypeDefKind, TypeId, ValType};
+use values::Types;
 
 /// A type: its kind, its row if it has one, and its size and alignment in bytes. All are 0 where there is no type.
 #[repr(C)]

@@ -13,12 +13,12 @@ use Rattle.canonical_abi.specs.declared.trap.TrapKind.{TrapKind}
 use Rattle.canonical_abi.proofs.Sizes.{is-alignment}
 use Rattle.lift_lower.specs.NoValue.{ReadsAs}
 use Rattle.lift_lower.specs.Loading.{reading_block, reading_members}
-use Rattle.lift_lower.specs.Val.{value_of}
+use Rattle.values.specs.Val.{value_of}
 use Rattle.lift_lower.specs.declared.no_value.NoValue.{NoValue}
 use Rattle.lift_lower.specs.declared.no_value.NoValue.TheVariants as no_value
-use Rattle.lift_lower.specs.declared.val.Val.{Val}
+use Rattle.values.specs.declared.val.Val.{Val}
 use Rattle.lift_lower.proofs.Denoting.{denotes-flat, denotes-spilled}
-use Rattle.lift_lower.proofs.TypesExtents.{align-pos}
+use Rattle.values.proofs.TypesExtents.{align-pos}
 
 -- ---- extents
 

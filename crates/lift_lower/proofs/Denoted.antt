@@ -14,7 +14,7 @@ use Rattle.canonical_abi.specs.Reading.{number_at, number_of, low_bits, flat_bit
 use Rattle.canonical_abi.specs.Memory.{PrimIs, TextHolds, EachHolds, ListHolds, Holds, FieldsHold, CaseHolds}
 use Rattle.canonical_abi.specs.Flat.{Denotes, Lifts, FieldsLift, CaseLifts}
 use Rattle.canonical_abi.specs.declared.flat.Flat.{Flat}
-use Rattle.lift_lower.specs.Loading.{AreBytes}
+use Rattle.values.specs.Bytes.{AreBytes}
 
 -- ---- numbers
 

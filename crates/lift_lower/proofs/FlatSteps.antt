@@ -10,7 +10,8 @@ use Rattle.canonical_abi.specs.declared.flat.Flat.{Flat}
 use Rattle.canonical_abi.specs.declared.trap.TrapKind.{TrapKind}
 use Rattle.canonical_abi.specs.declared.trap.TrapKind.TheVariants as trap
 use Rattle.layout.proofs.Joins.{length-join}
-use Rattle.lift_lower.proofs.Steps.{with_front, front-push, fields_from, fields-next, fields-last}
+use Rattle.lift_lower.proofs.Steps.{with_front, front-push}
+use Rattle.values.proofs.Fields.{fields_from, fields-next, fields-last}
 
 drop-nil : {A : Type 0} (n : ℕ) → ◌≡◌ {A = List A} (drop n []) []
 drop-nil zero = refl

@@ -5,7 +5,7 @@ use Rattle.canonical_abi.specs.Reading.{number_at, low_bits}
 use Rattle.canonical_abi.specs.Trace.{write}
 use Rattle.canonical_abi.specs.declared.trap.TrapKind.TheVariants as trap
 use Rattle.lift_lower.specs.Heads.{HeadHolds, HeadFaulty, HeadLifts, head_writes}
-use Rattle.lift_lower.specs.declared.scalar.Scalar.TheVariants as scalar
+use Rattle.values.specs.declared.scalar.Scalar.TheVariants as scalar
 use Rattle.lift_lower.specs.declared.heads.Head.TheVariants as head
 
 surrogate : HeadFaulty (prim_type scalar_value) (0 ∷ 0xD8 ∷ 0 ∷ 0 ∷ []) 0 trap.Char

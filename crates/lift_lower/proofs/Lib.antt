@@ -1,16 +1,10 @@
-pub mod ScalarLists
-pub mod TypesShapes
-pub mod TypesExtents
 pub mod Texts
-pub mod Views
 pub mod Steps
 pub mod Loadings
 pub mod FlatSteps
 pub mod Denoting
 pub mod Alone
 pub mod Denoted
-pub mod Known
-pub mod Typings
 pub mod Scripting
 pub mod Scripted
 pub mod Stopping

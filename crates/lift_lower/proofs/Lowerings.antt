@@ -22,8 +22,8 @@ use Rattle.lift_lower.proofs.Scripted.{each-script, stores-script, fields-script
 use Rattle.lift_lower.proofs.Scripting.{begun, begun-then, begun-done, begun-ended, begun-last, ended-last, ended-as, done-as, node-done, node-ended, node-alone}
 use Rattle.canonical_abi.specs.declared.flat.CoreKind.{CoreKind}
 use Rattle.lift_lower.proofs.FlatSteps.{kinds-next}
-use Rattle.lift_lower.proofs.Steps.{fields_from, fields-next, fields-last}
-use Rattle.lift_lower.proofs.Typings.{drop-next, have-rest}
+use Rattle.values.proofs.Fields.{fields_from, fields-next, fields-last}
+use Rattle.values.proofs.Typings.{drop-next, have-rest}
 
 pub lowers-length : (t : ClosedType) (v : Value) (es : List Event) (flats : List Flat) → Lowers t v es flats → length flats ≡ length (flat_kinds t)
 lowers-length t v es flats h = sym (length-map flats kind_of) ∙ ap length (lowers-kinds t v es flats h)

@@ -1,11 +1,11 @@
--- The caller's side of a typed call: a function's row, a return area that was granted, and what stands in it.
-use Rattle.std.proofs.Common.{◌≡◌, inl, inr, ℕ, ◌+◌, ◌%◌, ◌≤◌, false, List, [], ◌∷◌, get_or, length, Some, Err, refl, sym, ap, ◌∙◌, subst, arith}
+-- The caller's side of a typed call: its arguments, a return area that was granted, and what stands in it.
+use Rattle.std.proofs.Common.{◌≡◌, inl, inr, ℕ, ◌+◌, ◌%◌, ◌≤◌, false, List, [], ◌∷◌, length, Some, Err, refl, sym, ap, ◌∙◌, subst, arith}
 use Rattle.std.specs.Int.{next_multiple_of}
 use Rattle.std.specs.Option.{option_map}
 use Rattle.std.proofs.lemmas.Bool.{leb-true}
 use Rattle.std.proofs.lemmas.List.{length-map}
 use Rattle.canonical_abi.specs.Guest.{Memory, Allocation}
-use Rattle.canonical_abi.specs.Types.{ClosedType, Fields, no_field, field, string_type, record_type, record_fields, field_count}
+use Rattle.canonical_abi.specs.Types.{ClosedType, Fields, no_field, field, record_type, record_fields}
 use Rattle.canonical_abi.specs.Values.{Value}
 use Rattle.canonical_abi.specs.Layout.{align, size, field_kinds, fits_flat, max_flat_results}
 use Rattle.canonical_abi.specs.Lowering.{PassesParams}
@@ -19,34 +19,16 @@ use Rattle.canonical_abi.specs.declared.trap.Fault.TheVariants as ended
 use Rattle.canonical_abi.specs.declared.trap.Step.TheVariants as step
 use Rattle.canonical_abi.specs.declared.trap.TrapKind.{TrapKind}
 use Rattle.canonical_abi.proofs.Lifted.{fields-lower-kinds}
-use Rattle.tables.specs.Closed.{closed_types, closed_params, closed_val, function_at, function_type, type_of_function, IsFunction}
-use Rattle.tables.specs.declared.tables.Function.{Function}
-use Rattle.tables.specs.declared.tables.FunctionId.{FunctionId}
-use Rattle.tables.specs.declared.tables.Resolve.{Resolve}
-use Rattle.tables.proofs.Rows.{stands, function-row, function-type}
-use Rattle.tables.proofs.Standards.{fields-count}
 use Rattle.lift_lower.specs.Crossing.{AreLowered, LowerFails}
 use Rattle.lift_lower.specs.NoValue.{AnswerStands}
 use Rattle.lift_lower.specs.Lowered.{PassesParamsBy}
 use Rattle.lift_lower.specs.Placing.{IsAreaIn, IsAreaAsked, AreaFails}
 use Rattle.lift_lower.specs.Scripts.{IsDone, HasEnded, GrantsBlock}
-use Rattle.lift_lower.specs.Val.{value_of}
-use Rattle.lift_lower.specs.declared.val.Val.{Val}
+use Rattle.values.specs.Val.{value_of}
+use Rattle.values.specs.declared.val.Val.{Val}
 use Rattle.lift_lower.proofs.Alone.{alone-align, alone-size, first-place}
 
 -- ---- the arguments
-
--- a function's row is the record of its parameters
-pub closed-row : (r : Resolve) (f : FunctionId) → IsFunction r f → get_or (closed_types r) f.0 string_type ≡ record_type (function_type r f).params
-closed-row r f h = let st = stands r f h in function-row r f st ∙ ap (λ t. record_type t.params) (sym (function-type r f st))
-
-pub count-params : (r : Resolve) (f : FunctionId) (s : Function) → IsFunction r f → function_at r f ≡ Some s
-    → field_count (record_fields (get_or (closed_types r) f.0 string_type)) ≡ length s.params
-count-params r f s h found =
-    ap (λ t. field_count (record_fields t)) (closed-row r f h)
-    ∙ ap (λ o. field_count (type_of_function (closed_types r) o).params) found
-    ∙ fields-count (closed_params (closed_types r) s.params)
-    ∙ length-map s.params (λ p. closed_val (closed_types r) p.ty)
 
 pub is-record : (t : ClosedType) (fs : Fields) → t ≡ record_type fs → t ≡ record_type (record_fields t)
 is-record t fs e = e ∙ ap (λ u. record_type (record_fields u)) (sym e)

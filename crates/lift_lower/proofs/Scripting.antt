@@ -1,5 +1,5 @@
 -- How the parts of a script follow one another.
-use Rattle.std.proofs.Common.{◌≡◌, ℕ, ◌+◌, ◌%◌, ◌≤◌, List, [], ◌∷◌, Some, Result, Ok, Err, IfOk, IfErr, OnOk, inl, ◌++◌, length, refl, sym, ap, ◌∙◌, subst, inr, append_assoc, append-nil, arith}
+use Rattle.std.proofs.Common.{◌≡◌, ℕ, ◌+◌, ◌%◌, ◌≤◌, List, [], ◌∷◌, Some, inl, ◌++◌, length, refl, sym, ap, ◌∙◌, subst, inr, append_assoc, append-nil, arith}
 use Rattle.canonical_abi.specs.Guest.{Memory, Allocation}
 use Rattle.std.specs.Prelude.{slice_range}
 use Rattle.canonical_abi.specs.Trace.{Grant, Event, node, grant, write, EventLeads, LeavesOutWrites, AreWithin, RequestEnds}
@@ -18,20 +18,6 @@ left-front [] done made l = l
 left-front (node ∷ es) done made l = (es ++ made, refl, left-front es done made l)
 left-front (grant g ∷ es) done made l = (es ++ made, refl, left-front es done made l)
 left-front (write a bs ∷ es) done made l = inr (es ++ made, refl, left-front es done made l)
-
--- ---- what was answered
-
-pub if-err-as : {A E : Type 0} (r : Result A E) (P Q : E → Type 0) → ((e : E) → P e → Q e) → IfErr r P → IfErr r Q
-if-err-as (Ok x) P Q h p = tt
-if-err-as (Err e) P Q h p = h e p
-
-pub if-ok-as : {A E : Type 0} (r : Result A E) (P Q : A → Type 0) → ((x : A) → P x → Q x) → IfOk r P → IfOk r Q
-if-ok-as (Ok x) P Q h p = h x p
-if-ok-as (Err e) P Q h p = tt
-
-pub on-ok-as : {A E : Type 0} (r : Result A E) (P Q : Type 0) → (P → Q) → OnOk r P → OnOk r Q
-on-ok-as (Ok x) P Q h p = h p
-on-ok-as (Err e) P Q h p = tt
 
 -- a size that is above all limits may be cut off
 pub saturated-ends : (limit : ℕ) (allocates : Allocation) (old : Memory) (align cut n : ℕ) (k : TrapKind) (new : Memory) → cut ≤ n → (cut ≤ limit → cut ≡ n)

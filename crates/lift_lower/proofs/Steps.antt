@@ -1,14 +1,14 @@
 -- How a reading goes on by one member, one field or one case.
-use Rattle.std.proofs.Common.{◌≡◌, ◌≢◌, ℕ, zero, suc, ◌+◌, ◌-◌, ◌*◌, ◌<◌, ◌≤◌, List, [], ◌∷◌, ◌++◌, Some, None, Result, Ok, Err, refl, sym, ap, ◌∙◌, subst, append_assoc, append-nil, add-one, arith}
+use Rattle.std.proofs.Common.{◌≡◌, ℕ, zero, suc, ◌+◌, ◌-◌, ◌*◌, ◌<◌, List, [], ◌∷◌, ◌++◌, Some, None, Result, Ok, Err, refl, sym, ap, ◌∙◌, append_assoc, append-nil, arith}
 use Rattle.std.specs.Int.{next_multiple_of}
 use Rattle.std.proofs.lemmas.Option.{same_Some}
-use Rattle.canonical_abi.specs.Types.{ClosedType, Fields, no_field, field, Cases, no_case, plain_case, case_with, nth_field, nth_case, field_count, AllPlain}
-use Rattle.canonical_abi.specs.Layout.{size, align, end_from, field_extents}
-use Rattle.canonical_abi.proofs.Sizes.{end-le}
+use Rattle.canonical_abi.specs.Types.{ClosedType, Fields, Cases, no_case, plain_case, case_with, nth_field, nth_case, field_count, AllPlain}
+use Rattle.canonical_abi.specs.Layout.{size, align}
 use Rattle.canonical_abi.specs.Values.{Value, plain_value, payload_value}
 use Rattle.canonical_abi.specs.Reading.{◌>>=◌, each_at, reading, reading_fields, reading_case}
 use Rattle.canonical_abi.specs.declared.trap.TrapKind.{TrapKind}
 use Rattle.canonical_abi.specs.declared.trap.TrapKind.TheVariants as trap
+use Rattle.values.proofs.Fields.{fields_from, fields-next, fields-last}
 
 -- what is read, with values in front
 abbrev pub with_front : List Value → Result (List Value) TrapKind → Result (List Value) TrapKind
@@ -37,35 +37,6 @@ module _ (f : ℕ → Result Value TrapKind) (step a n i : ℕ) (front : List Va
 
 -- ---- fields
 
--- the fields from place i on
-abbrev pub fields_from : ℕ → Fields → Fields
-fields_from zero fs = fs
-fields_from (suc i) no_field = no_field
-fields_from (suc i) (field t fs) = fields_from i fs
-
--- the end of the last field
-abbrev pub fields_end : ℕ → Fields → ℕ
-fields_end from fs = end_from from (field_extents fs)
-
-pub fields-next : (fs : Fields) (i : ℕ) (t : ClosedType) → nth_field fs i ≡ Some t → fields_from i fs ≡ field t (fields_from (i + 1) fs)
-fields-next no_field i t e = absurd (let n : None ≡ Some t = e in cc)
-fields-next (field u fs) zero t e = ap (λ x. field x fs) (same_Some _ _ e)
-fields-next (field u fs) (suc i) t e = rw (fields-next fs i t e, add-one, add-one) refl
-
-pub fields-last : (fs : Fields) (n : ℕ) → field_count fs ≡ n → fields_from n fs ≡ no_field
-fields-last no_field zero e = refl
-fields-last no_field (suc n) e = refl
-fields-last (field t fs) zero e = absurd (omega arith)
-fields-last (field t fs) (suc n) e = fields-last fs n (omega arith)
-
-fields_end-le : (from : ℕ) (fs : Fields) → from ≤ fields_end from fs
-fields_end-le from fs = end-le from (field_extents fs)
-
-pub nth_field-some : (fs : Fields) (i : ℕ) → i < field_count fs → nth_field fs i ≢ None
-nth_field-some no_field i h e = omega (arith, h)
-nth_field-some (field t fs) zero h e = cc
-nth_field-some (field t fs) (suc i) h e = nth_field-some fs i (omega arith) e
-
 module _ (fs : Fields) (m : List ℕ) (a from i : ℕ) (t : ClosedType) (front : List Value) (whole : Result (List Value) TrapKind) where
   pub fields-more : nth_field fs i ≡ Some t → with_front front (reading_fields (fields_from i fs) m a from) ≡ whole → (v : Value) → reading t m (a + next_multiple_of from (align t)) ≡ Ok v
       → with_front (front ++ v ∷ []) (reading_fields (fields_from (i + 1) fs) m a (next_multiple_of from (align t) + size t)) ≡ whole
@@ -80,9 +51,6 @@ module _ (fs : Fields) (m : List ℕ) (a from i : ℕ) (t : ClosedType) (front :
 
   pub fields-done : field_count fs ≡ i → with_front front (reading_fields (fields_from i fs) m a from) ≡ whole → whole ≡ Ok front
   fields-done h w = sym w ∙ ap (λ fs. with_front front (reading_fields fs m a from)) (fields-last fs i h) ∙ ap Ok (append-nil front)
-
-  pub fields-end : nth_field fs i ≡ Some t → fields_end from (fields_from i fs) ≡ fields_end (next_multiple_of from (align t) + size t) (fields_from (i + 1) fs)
-  fields-end h = ap (fields_end from) (fields-next fs i t h)
 
 -- ---- cases
 
@@ -114,7 +82,3 @@ plain-none no_case n t h e = let none : None ≡ Some (Some t) = e in cc
 plain-none (plain_case cs) zero t h e = cc
 plain-none (plain_case cs) (suc n) t h e = plain-none cs n t h e
 plain-none (case_with u cs) n t h e = h
-
-pub fields-inside : (fs : Fields) (i : ℕ) (t : ClosedType) (from whole : ℕ) → nth_field fs i ≡ Some t → fields_end from (fields_from i fs) ≡ whole → next_multiple_of from (align t) + size t ≤ whole
-fields-inside fs i t from whole h w =
-    subst (λ n. next_multiple_of from (align t) + size t ≤ n) (sym (ap (fields_end from) (fields-next fs i t h)) ∙ w) (fields_end-le (next_multiple_of from (align t) + size t) (fields_from (i + 1) fs))

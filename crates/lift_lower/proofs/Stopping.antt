@@ -10,7 +10,7 @@ use Rattle.canonical_abi.specs.Script.{EachStops, ListStops, StoresUntil, Fields
 use Rattle.canonical_abi.specs.Storing.{header, Stores}
 use Rattle.canonical_abi.specs.Trace.{Grant, Event, node, grant, write}
 use Rattle.canonical_abi.specs.declared.trap.TrapKind.{TrapKind}
-use Rattle.lift_lower.specs.Loading.{AreBytes}
+use Rattle.values.specs.Bytes.{AreBytes}
 use Rattle.lift_lower.proofs.Denoted.{holds-typed, lifts-typed}
 use Rattle.lift_lower.proofs.Scripted.{block, stores-script, lowers-script}
 

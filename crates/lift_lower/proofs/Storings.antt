@@ -16,8 +16,8 @@ use Rattle.canonical_abi.specs.declared.trap.TrapKind.{TrapKind}
 use Rattle.lift_lower.specs.Scripts.{IsDone, HasEnded, IsBegun, AsksBlock, GrantsBlock, PutsText, PutsTextAt}
 use Rattle.lift_lower.proofs.Scripted.{each-script, stores-script, fields-script}
 use Rattle.lift_lower.proofs.Scripting.{begun, begun-then, begun-done, begun-ended, begun-event, begun-last, ended-last, wrote, visited}
-use Rattle.lift_lower.proofs.Steps.{fields_from, fields-next, fields-last}
-use Rattle.lift_lower.proofs.Typings.{drop-next, have-rest}
+use Rattle.values.proofs.Fields.{fields_from, fields-next, fields-last}
+use Rattle.values.proofs.Typings.{drop-next, have-rest}
 
 -- ---- cases by their number
 

@@ -1,6 +1,6 @@
 -- What lifting and lowering answer, in the definitions' words.
-use Rattle.std.specs.Prelude.{◌≡◌, ◌⊎◌, ℕ, List, map}
-use Rattle.canonical_abi.specs.Types.{ClosedType, Fields, fields_of}
+use Rattle.std.specs.Prelude.{◌≡◌, ◌⊎◌, ℕ, List}
+use Rattle.canonical_abi.specs.Types.{ClosedType, Fields}
 use Rattle.canonical_abi.specs.Values.{Value}
 use Rattle.canonical_abi.specs.Layout.{size, align, max_flat_params, max_flat_results}
 use Rattle.canonical_abi.specs.Flat.{DenotesFault}
@@ -15,13 +15,6 @@ use Rattle.canonical_abi.specs.declared.trap.Fault.{Fault}
 use Rattle.canonical_abi.specs.declared.trap.Fault.TheVariants.{Trap, NoMemory}
 use Rattle.canonical_abi.specs.declared.trap.TrapKind.{TrapKind}
 use Rattle.canonical_abi.specs.declared.trap.Step.TheVariants as step
-use Rattle.tables.specs.Closed.{closed_type}
-use Rattle.tables.specs.declared.tables.Resolve.{Resolve}
-use Rattle.tables.specs.declared.tables.ValType.{ValType}
-
--- types of a package as the fields of a record
-abbrev pub fields_of_types : Resolve → List ValType → Fields
-fields_of_types r types = fields_of (map (closed_type r) types)
 
 -- a fault of lifting: the flat values' first one, found in `take`, or want of the host's memory
 abbrev pub LiftFails : Fields → List ℕ → List Flat → Fault → Type 0

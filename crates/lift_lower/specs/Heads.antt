@@ -9,8 +9,8 @@ use Rattle.canonical_abi.specs.Storing.{header, number_in}
 use Rattle.canonical_abi.specs.Trace.{Event, write}
 use Rattle.canonical_abi.specs.declared.trap.TrapKind.{TrapKind}
 use Rattle.canonical_abi.specs.declared.trap.TrapKind.TheVariants as trap
-use Rattle.lift_lower.specs.Scalar.{prim_in, value_in}
-use Rattle.lift_lower.specs.declared.scalar.Scalar.{Scalar}
+use Rattle.values.specs.Scalar.{prim_in, value_in}
+use Rattle.values.specs.declared.scalar.Scalar.{Scalar}
 use Rattle.lift_lower.specs.declared.heads.Head.{Head}
 use Rattle.lift_lower.specs.declared.heads.Head.TheVariants as head
 

@@ -2,11 +2,6 @@ pub mod Crossing
 pub mod NoValue
 pub mod Loading
 pub mod Lowered
-pub mod Members
 pub mod Placing
-pub mod Scalar
-pub mod Scalars
 pub mod Scripts
-pub mod Types
-pub mod Val
 pub mod Heads

@@ -1,5 +1,5 @@
 -- What stands in a block.
-use Rattle.std.specs.Prelude.{ℕ, ◌<◌, List, Result, slice_index}
+use Rattle.std.specs.Prelude.{ℕ, List, Result}
 use Rattle.canonical_abi.specs.Types.{ClosedType, Fields, record_type}
 use Rattle.canonical_abi.specs.Values.{Value}
 use Rattle.canonical_abi.specs.Layout.{size, align}
@@ -13,7 +13,3 @@ reading_block t m at = block_at m at (align t) (size t) >>= λ a. reading t m a
 -- the members of a record at an address, once its block is tested
 abbrev pub reading_members : Fields → List ℕ → ℕ → Result (List Value) TrapKind
 reading_members ts m at = block_at m at (align (record_type ts)) (size (record_type ts)) >>= λ a. reading_fields ts m a 0
-
--- every number of the list is a byte
-abbrev pub AreBytes : List ℕ → Type 0
-AreBytes m = (i : ℕ) → slice_index m i < 256

@@ -6,12 +6,12 @@ ghost use Rattle.canonical_abi.specs.Reading.{byte_width};
 ghost use Rattle.canonical_abi.specs.Storing.{header, number_in};
 ghost use Rattle.canonical_abi.specs.Trace.{EventLeads, RequestEnds, write};
 ghost use Rattle.std.specs.Int.{to_le_bytes, byte_len};
-ghost use Rattle.lift_lower.specs.Scalar.{prim_in, value_in};
+ghost use Rattle.values.specs.Scalar.{prim_in, value_in};
 ghost use Rattle.lift_lower.specs.Scripts.{IsDone, HasEnded, GrantsBlock, PutsText, PutsTextAt};
 
-use crate::bytes::test_block;
-use crate::scalar::Scalar;
 use canonical_abi::{Guest, TrapKind};
+use values::Scalar;
+use values::bytes::test_block;
 
 /// Writes bytes at an address.
 pub fn write_bytes<G: Guest>(guest: &mut G, at: usize, bytes: &[u8])

@@ -8,20 +8,19 @@ ghost use Rattle.canonical_abi.specs.Reading.{number_at, number_of, low_bits, fl
 ghost use Rattle.canonical_abi.specs.Trace.{TraceLeads};
 ghost use Rattle.tables.specs.Closed.{prim_of, closed_type};
 ghost use Rattle.lift_lower.specs.Heads.{HeadHolds, HeadFaulty, HeadLifts, HeadLiftFaulty, IsHeadOf, head_flats, head_writes};
-ghost use Rattle.lift_lower.specs.Scalar.{prim_in, value_in};
-ghost use Rattle.lift_lower.specs.Types.{IsInside};
+ghost use Rattle.values.specs.Scalar.{prim_in, value_in};
+ghost use Rattle.values.specs.Types.{IsInside};
 
-use crate::bytes::{
-    discriminant_bytes, flags_bytes, low_flags, number_of_size, test_block, u8_at, u16_at, u32_at,
-    u64_at,
-};
 use crate::guest_blocks::{write_header, write_number, write_scalar};
 use crate::lift_flat::{flags_in, low_word};
-use crate::scalar::{Scalar, lift_scalar};
-use crate::types::Types;
 use canonical_abi::{Flat, Guest, TrapKind};
 use layout::Shape;
 use tables::{Primitive, ValType};
+use values::bytes::{
+    discriminant_bytes, flags_bytes, low_flags, number_of_size, test_block, u8_at, u16_at, u32_at,
+    u64_at,
+};
+use values::{Scalar, Types, lift_scalar};
 
 /// What a node has of its own.
 #[derive(Clone, Copy, Debug, PartialEq, Eq)]

@@ -7,20 +7,17 @@ ghost use Rattle.canonical_abi.specs.Layout.{flat_kinds, field_kinds, payload_ki
 ghost use Rattle.canonical_abi.specs.Reading.{number_of, low_bits, lifting, lifting_fields, lifting_case};
 ghost use Rattle.tables.specs.Closed.{prim_of, closed_type};
 ghost use Rattle.lift_lower.specs.NoValue.{ReadsAs};
-ghost use Rattle.lift_lower.specs.Members.{AreInside, members_fields};
-ghost use Rattle.lift_lower.specs.Types.{IsInside};
-ghost use Rattle.lift_lower.specs.Val.{value_of};
+ghost use Rattle.values.specs.Members.{AreInside, members_fields};
+ghost use Rattle.values.specs.Types.{IsInside};
+ghost use Rattle.values.specs.Val.{value_of};
 
 use crate::loading::{load_list, load_text};
-use crate::members::Members;
 use crate::no_value::NoValue;
-use crate::scalar::lift_scalar;
-use crate::types::Types;
-use crate::val::Val;
 use canonical_abi::{Flat, TrapKind};
 use layout::Shape;
 use std::alloc::Global;
 use tables::{Primitive, ValType};
+use values::{Members, Types, Val, lift_scalar};
 
 /// The low 32 bits of a flat value.
 #[tactic(auto, unfolding(canonical_abi::specs::Reading::low_bits))]

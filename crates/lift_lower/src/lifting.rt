@@ -9,23 +9,22 @@ ghost use Rattle.canonical_abi.specs.Values.{HaveTypes};
 ghost use Rattle.canonical_abi.specs.declared.trap.Step.TheVariants.{Take};
 ghost use Rattle.layout.specs.Layout.{layouts_of};
 ghost use Rattle.tables.specs.Closed.{closed_type};
-ghost use Rattle.lift_lower.specs.Crossing.{fields_of_types, LiftFails};
+ghost use Rattle.values.specs.Members.{fields_of_types, AreAllInside};
+ghost use Rattle.lift_lower.specs.Crossing.{LiftFails};
 ghost use Rattle.lift_lower.specs.NoValue.{ReadsAs, AnswerStands};
-ghost use Rattle.lift_lower.specs.Loading.{reading_members, AreBytes};
-ghost use Rattle.lift_lower.specs.Members.{AreAllInside};
-ghost use Rattle.lift_lower.specs.Types.{IsInside};
-ghost use Rattle.lift_lower.specs.Val.{value_of};
+ghost use Rattle.lift_lower.specs.Loading.{reading_members};
+ghost use Rattle.values.specs.Bytes.{AreBytes};
+ghost use Rattle.values.specs.Types.{IsInside};
+ghost use Rattle.values.specs.Val.{value_of};
 
 use crate::lift_flat::{lift_at, lift_fields, low_word};
 use crate::loading::{check_block, load_block, load_fields};
-use crate::members::Members;
 use crate::no_value::NoValue;
-use crate::types::Types;
-use crate::val::Val;
 use canonical_abi::{CoreKind, Fault, Flat, Guest, Step, TrapKind};
 use layout::{Layouts, are_kinds};
 use std::alloc::Global;
 use tables::{Resolve, ValType};
+use values::{Members, Types, Val};
 
 /// The values that flat values denote over a memory, or the first fault, in step `take`. `NoMemory` where
 /// the host has none for the values.

@@ -11,24 +11,22 @@ ghost use Rattle.canonical_abi.specs.declared.trap.Step.TheVariants.{Take};
 ghost use Rattle.layout.specs.Layout.{layouts_of};
 ghost use Rattle.tables.specs.Closed.{prim_of, closed_type};
 ghost use Rattle.lift_lower.specs.NoValue.{ReadsAs, AnswerStands};
-ghost use Rattle.lift_lower.specs.Loading.{reading_block, AreBytes};
-ghost use Rattle.lift_lower.specs.Members.{AreInside, members_fields};
-ghost use Rattle.lift_lower.specs.Types.{IsInside};
-ghost use Rattle.lift_lower.specs.Val.{value_of};
+ghost use Rattle.lift_lower.specs.Loading.{reading_block};
+ghost use Rattle.values.specs.Bytes.{AreBytes};
+ghost use Rattle.values.specs.Members.{AreInside, members_fields};
+ghost use Rattle.values.specs.Types.{IsInside};
+ghost use Rattle.values.specs.Val.{value_of};
 
-use crate::bytes::{
-    discriminant_bytes, flags_bytes, low_flags, number_of_size, test_block, u8_at, u16_at, u32_at,
-    u64_at,
-};
-use crate::members::Members;
 use crate::no_value::NoValue;
-use crate::text::text_in;
-use crate::types::Types;
-use crate::val::Val;
 use canonical_abi::{Fault, Guest, Step, TrapKind};
 use layout::{Layouts, Shape};
 use std::alloc::Global;
 use tables::{Primitive, Resolve, ValType};
+use values::bytes::{
+    discriminant_bytes, flags_bytes, low_flags, number_of_size, test_block, u8_at, u16_at, u32_at,
+    u64_at,
+};
+use values::{Members, Types, Val, text_in};
 
 /// Tests a block's alignment, then its end.
 pub(crate) fn check_block(

@@ -9,21 +9,17 @@ ghost use Rattle.canonical_abi.specs.Layout.{flat_kinds, field_kinds};
 ghost use Rattle.canonical_abi.specs.Lowering.{zero_of, widened, joined_flats};
 ghost use Rattle.tables.specs.Closed.{closed_type};
 ghost use Rattle.lift_lower.specs.Lowered.{LowersInto, LowersBy, FieldsLowerInto, FieldsLowerBy};
-ghost use Rattle.lift_lower.specs.Members.{AreInside, members_fields};
+ghost use Rattle.values.specs.Members.{AreInside, members_fields};
 ghost use Rattle.lift_lower.specs.Scripts.{IsDone, HasEnded};
-ghost use Rattle.lift_lower.specs.Types.{IsInside};
-ghost use Rattle.lift_lower.specs.Val.{value_of, variant_value};
+ghost use Rattle.values.specs.Types.{IsInside};
+ghost use Rattle.values.specs.Val.{value_of, variant_value};
 
 use crate::guest_blocks::put_text;
-use crate::members::Members;
-use crate::scalar::{Scalar, lower_scalar};
-use crate::scalars::Flats;
 use crate::storing::{ask_elements, store_items};
-use crate::types::Types;
-use crate::val::Val;
 use canonical_abi::{CoreKind, Flat, Guest, TrapKind};
 use layout::Shape;
 use tables::ValType;
+use values::{Flats, Members, Scalar, Types, Val, lower_scalar};
 
 /// Lowers a value.
 #[cycle(lower)]

@@ -5,22 +5,19 @@ ghost use Rattle.canonical_abi.specs.Values.{HaveTypes};
 ghost use Rattle.canonical_abi.specs.Layout.{size};
 ghost use Rattle.canonical_abi.specs.Lowering.{PassesParams, SpilledLower};
 ghost use Rattle.layout.specs.Layout.{layouts_of};
-ghost use Rattle.lift_lower.specs.Crossing.{fields_of_types, AreLowered, LowerFails, AreAnswered, AnswerFails};
+ghost use Rattle.values.specs.Members.{fields_of_types, AreAllInside, AreTypesOf};
+ghost use Rattle.lift_lower.specs.Crossing.{AreLowered, LowerFails, AreAnswered, AnswerFails};
 ghost use Rattle.lift_lower.specs.Lowered.{PassesParamsBy, SpilledLowerBy};
-ghost use Rattle.lift_lower.specs.Members.{AreAllInside, AreTypesOf};
 ghost use Rattle.lift_lower.specs.Scripts.{IsDone, HasEnded};
-ghost use Rattle.lift_lower.specs.Val.{value_of};
+ghost use Rattle.values.specs.Val.{value_of};
 
 use crate::guest_blocks::ask_block;
 use crate::lower_flat::lower_fields;
-use crate::members::Members;
-use crate::scalars::Flats;
 use crate::storing::{MAX_BLOCK, place_fault, store_fields};
-use crate::types::Types;
-use crate::val::Val;
 use canonical_abi::{Fault, Flat, Guest, TrapKind};
 use layout::Layouts;
 use tables::{Resolve, ValType};
+use values::{Flats, Members, Types, Val};
 
 /// The core values that carry values of these types, whose texts and lists are put into the guest's memory.
 /// A trap is in step `place`: the first request that fails. Takes no memory of the host.

@@ -14,22 +14,19 @@ ghost use Rattle.lift_lower.specs.NoValue.{AnswerStands};
 ghost use Rattle.lift_lower.specs.Lowered.{PassesParamsBy, SpilledLowerBy};
 ghost use Rattle.lift_lower.specs.Placing.{area_at, IsAreaIn, IsAreaAsked, AreaFails};
 ghost use Rattle.lift_lower.specs.Scripts.{IsDone, HasEnded};
-ghost use Rattle.lift_lower.specs.Types.{IsInside};
-ghost use Rattle.lift_lower.specs.Val.{value_of};
+ghost use Rattle.values.specs.Types.{IsInside};
+ghost use Rattle.values.specs.Val.{value_of};
 
-use crate::bytes::test_block;
 use crate::guest_blocks::ask_block;
 use crate::lifting::lift_result;
 use crate::loading::load;
 use crate::lower_flat::lower_fields;
-use crate::members::Members;
-use crate::scalars::Flats;
 use crate::storing::{MAX_BLOCK, place_fault, store_fields};
-use crate::types::Types;
-use crate::val::Val;
 use canonical_abi::{Fault, Flat, Guest, TrapKind};
 use std::alloc::Global;
 use tables::{FunctionId, TypeId, ValType};
+use values::bytes::test_block;
+use values::{Flats, Members, Types, Val};
 
 /// Lowers a function's arguments into the caller. A trap is in step `place`: the first request that fails.
 /// Takes no memory of the host.

@@ -13,20 +13,17 @@ ghost use Rattle.layout.specs.Layout.{layouts_of};
 ghost use Rattle.tables.specs.Standard.{IsTypeOf};
 ghost use Rattle.tables.specs.Closed.{closed_type};
 ghost use Rattle.lift_lower.specs.Crossing.{IsStoredAt, StoreFails};
-ghost use Rattle.lift_lower.specs.Members.{AreInside, members_fields};
+ghost use Rattle.values.specs.Members.{AreInside, members_fields};
 ghost use Rattle.lift_lower.specs.Scripts.{IsDone, HasEnded, GrantsBlock, AsksBlock};
-ghost use Rattle.lift_lower.specs.Types.{IsInside};
-ghost use Rattle.lift_lower.specs.Val.{value_of, variant_value};
+ghost use Rattle.values.specs.Types.{IsInside};
+ghost use Rattle.values.specs.Val.{value_of, variant_value};
 
-use crate::bytes::{discriminant_bytes, flags_bytes, test_block};
 use crate::guest_blocks::{ask_block, put_text, write_header, write_number, write_scalar};
-use crate::members::Members;
-use crate::scalar::Scalar;
-use crate::types::Types;
-use crate::val::Val;
 use canonical_abi::{Fault, Guest, Step, Trap, TrapKind};
 use layout::{Layouts, Shape};
 use tables::{Resolve, ValType};
+use values::bytes::{discriminant_bytes, flags_bytes, test_block};
+use values::{Members, Scalar, Types, Val};
 
 /// The most bytes that a text or a list of typed values may need.
 pub(crate) const MAX_BLOCK: u32 = 16_777_216;

@@ -13,7 +13,6 @@ ghost use Rattle.opening.specs.Opening.{IsOpened, IsLast, IsWrittenAs, IsPrinted
 use crate::set::open_set;
 use ctype_bin::BinError;
 use layout::{LayoutError, Layouts};
-use lift_lower::Types;
 use package_adding::{AddError, AttachError};
 use package_form::own_package;
 use package_sets::restricted;
@@ -21,6 +20,7 @@ use std::alloc::{AllocError, Global};
 use table_building::copy_of;
 use tables::{PackageId, Resolve, ResolveError};
 use thiserror::Error;
+use values::Types;
 use wit_text::TextError;
 
 /// The greatest number of bytes that a text or a binary may have.

@@ -2,13 +2,13 @@
 
 ghost use Rattle.std.specs.Prelude.{◌≡◌, ◌↔◌, IsTrue, map};
 ghost use Rattle.canonical_abi.specs.Values.{HasType, HaveTypes};
-ghost use Rattle.lift_lower.specs.Val.{value_of};
+ghost use Rattle.values.specs.Val.{value_of};
 ghost use Rattle.tables.specs.Closed.{IsFunction, closed_type, function_type};
 ghost use Rattle.tables.specs.Standard.{IsTypeOf};
 
 use crate::package::Package;
-use lift_lower::{Val, has_arguments, has_type};
 use tables::{FunctionId, ValType};
+use values::{Val, has_arguments, has_type};
 
 impl Package {
     /// Whether these are arguments of the function, as many as its parameters and each of its type: what

@@ -8,7 +8,7 @@ use Rattle.canonical_abi.specs.Layout.{size, align}
 use Rattle.canonical_abi.proofs.Places.{le-next_multiple_of}
 use Rattle.ranges.specs.Bytewise.{AreBytewise, AreTested, fields_cap, nodes_in}
 use Rattle.ranges.proofs.Capped.{field-before, field-within, field-after, cap-past}
-use Rattle.lift_lower.proofs.Steps.{fields_from, fields-next, fields-last}
+use Rattle.values.proofs.Fields.{fields_from, fields-next, fields-last}
 use Rattle.ranges.specs.Plan.{IsBlank, Fills}
 
 -- the caps of the first k fields, which end at `end`

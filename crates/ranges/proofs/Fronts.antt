@@ -11,7 +11,7 @@ use Rattle.std.specs.Int.{Width, w8, w16, w32, byte_len, from_le_bytes}
 use Rattle.canonical_abi.specs.Reading.{number_at, byte_width}
 use Rattle.canonical_abi.specs.Trace.{TraceLeads}
 use Rattle.canonical_abi.proofs.Bytes.{length-overwrite, overwrite-in, overwrite-before, overwrite-after}
-use Rattle.lift_lower.specs.Loading.{AreBytes}
+use Rattle.values.specs.Bytes.{AreBytes}
 use Rattle.ranges.specs.Bytewise.{capped, each_cap, IsBytewise, IsTested, HasCaps, Blends, Crosses}
 use Rattle.ranges.proofs.Puts.{puts-lead}
 use Rattle.ranges.proofs.Capped.{kept, taken}

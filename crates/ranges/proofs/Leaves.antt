@@ -16,7 +16,7 @@ use Rattle.canonical_abi.specs.Memory.{PrimIs}
 use Rattle.canonical_abi.specs.Guest.{overwrite}
 use Rattle.canonical_abi.specs.Storing.{number_in}
 use Rattle.canonical_abi.proofs.Bytes.{length-le_bytes, length-overwrite, overwrite-in, overwrite-before, overwrite-after}
-use Rattle.lift_lower.specs.Loading.{AreBytes}
+use Rattle.values.specs.Bytes.{AreBytes}
 use Rattle.ranges.specs.Bytewise.{capped, caps, prim_cap, PrimTested, Blends}
 use Rattle.ranges.proofs.Capped.{caps-below, caps-past, kept, taken}
 

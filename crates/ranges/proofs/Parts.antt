@@ -14,7 +14,7 @@ use Rattle.canonical_abi.specs.Storing.{Stores, FieldsStore, CaseStores, EachSto
 use Rattle.canonical_abi.proofs.Bytes.{length-le_bytes}
 use Rattle.canonical_abi.proofs.Places.{le-next_multiple_of}
 use Rattle.canonical_abi.proofs.Sizes.{stepped, end-le, greatest-le}
-use Rattle.lift_lower.specs.Loading.{AreBytes}
+use Rattle.values.specs.Bytes.{AreBytes}
 use Rattle.ranges.specs.Bytewise.{caps, cap_at, fields_cap, case_cap, each_cap, each_nodes, nodes_at, nodes_in, nodes_of_case, IsBytewise, AreBytewise, AreBytewiseCases, IsTested, AreTested, IsTestedCase, Blends}
 use Rattle.canonical_abi.proofs.Visited.{visited-both}
 use Rattle.ranges.proofs.Puts.{Puts, puts-both}

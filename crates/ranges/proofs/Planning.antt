@@ -5,7 +5,7 @@ use Rattle.std.proofs.lemmas.Bool.{cases_lt}
 use Rattle.canonical_abi.specs.Types.{ClosedType, record_type, Fields, field, nth_field, field_count}
 use Rattle.canonical_abi.specs.Layout.{size, align}
 use Rattle.canonical_abi.proofs.Places.{le-next_multiple_of}
-use Rattle.lift_lower.proofs.Steps.{fields_from, fields-next, fields-last}
+use Rattle.values.proofs.Fields.{fields_from, fields-next, fields-last}
 use Rattle.ranges.specs.Bytewise.{IsBytewise, AreBytewise, AreTested, cap_at, fields_cap, nodes_at, nodes_in, HasRows}
 use Rattle.ranges.specs.Plan.{IsBlank, Fills}
 use Rattle.ranges.specs.Columns.{case_in, laid, overlaid, HaveCases, column_nodes, AreBefore, planned_cap, planned_nodes, HasPlain, HasPlan, Plans}

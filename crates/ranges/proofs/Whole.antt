@@ -5,7 +5,7 @@ use Rattle.std.proofs.lemmas.List.{get_or-replicate}
 use Rattle.canonical_abi.specs.Types.{int8, int16, int32, int64, Prim, boolean, unsigned, signed, scalar_value, prim_type}
 use Rattle.canonical_abi.specs.Layout.{size}
 use Rattle.canonical_abi.specs.Guest.{Memory, Allocation, overwrite, with_bytes}
-use Rattle.lift_lower.specs.Loading.{AreBytes}
+use Rattle.values.specs.Bytes.{AreBytes}
 use Rattle.ranges.specs.Bytewise.{IsNumber, prim_cap, IsTested, HasCaps, Crosses}
 use Rattle.ranges.proofs.Capped.{caps-below}
 use Rattle.ranges.proofs.Fronts.{upto, periodic, same-caps, front-crosses, range-front, as-they-are, ones-and-zeros}

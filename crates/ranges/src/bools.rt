@@ -5,7 +5,7 @@ ghost use Rattle.ranges.specs.Bytewise.{Crosses};
 
 use crate::blend::{Caps, cross_bytewise};
 use canonical_abi::Guest;
-use lift_lower::nodes::largest_byte;
+use values::bytes::largest_byte;
 
 /// Bools in lists of more than this many are read from memory, and not from a cache.
 const CACHED: usize = 524_288;

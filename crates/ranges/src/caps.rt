@@ -2,15 +2,14 @@
 ghost use Rattle.std.specs.Prelude.{◌≡◌, ◌≢◌, ℕ, ◌+◌, ◌*◌, ◌<◌, ◌≤◌, List, length, get_or, IsTrue, IfSome};
 ghost use Rattle.canonical_abi.specs.Types.{prim_type, flags_type, record_type, record_fields, field_count, scalar_value};
 ghost use Rattle.canonical_abi.specs.Layout.{size, end_from, field_extents};
-ghost use Rattle.lift_lower.specs.Types.{IsInside};
+ghost use Rattle.values.specs.Types.{IsInside};
 ghost use Rattle.ranges.specs.Bytewise.{caps};
 ghost use Rattle.ranges.specs.Plan.{IsBlank, Fills};
 ghost use Rattle.tables.specs.Closed.{closed_type, prim_of};
 
 use layout::Shape;
-use lift_lower::Types;
-use lift_lower::nodes::Members;
 use tables::{Primitive, ValType};
+use values::{Members, Types};
 
 /// Puts one cap for so many bytes.
 pub(crate) fn put(bytes: &mut [u8; 256], at: usize, width: usize, cap: u8)

@@ -7,7 +7,7 @@ ghost use Rattle.ranges.specs.Bytewise.{Crosses};
 
 use crate::blend::{Caps, cross_range};
 use canonical_abi::Guest;
-use lift_lower::nodes::{flags_bytes, low_flags, number_of_size};
+use values::bytes::{flags_bytes, low_flags, number_of_size};
 
 /// The most flags that are tested before they are written.
 const FLAGS: usize = 4096;

@@ -4,7 +4,7 @@ ghost use Rattle.std.specs.Int.{next_multiple_of};
 ghost use Rattle.canonical_abi.specs.Guest.{IsAlignment};
 ghost use Rattle.canonical_abi.specs.Types.{ClosedType, record_type, record_fields, field_count, variant_type, variant_cases, case_count};
 ghost use Rattle.canonical_abi.specs.Layout.{size, end_from, field_extents};
-ghost use Rattle.lift_lower.specs.Types.{IsInside};
+ghost use Rattle.values.specs.Types.{IsInside};
 ghost use Rattle.ranges.specs.Columns.{AreBefore, HasPlain, HasPlan, IsBounded, Plans};
 ghost use Rattle.ranges.specs.Bytewise.{Crosses, each_nodes};
 ghost use Rattle.ranges.specs.Plan.{IsBlank};
@@ -17,9 +17,8 @@ use crate::rows::rows_of;
 use arrayvec::ArrayVec;
 use canonical_abi::Guest;
 use layout::Shape;
-use lift_lower::Types;
-use lift_lower::nodes::Members;
 use tables::ValType;
+use values::{Members, Types};
 
 /// The most bytes of an element that has a plan.
 const MOST: usize = 64;

@@ -2,14 +2,14 @@
 ghost use Rattle.std.specs.Prelude.{◌≡◌, ℕ, ◌+◌, ◌*◌, ◌<◌, ◌≤◌, List, length, get_or, IfSome};
 ghost use Rattle.canonical_abi.specs.Types.{variant_type, variant_cases, case_count};
 ghost use Rattle.canonical_abi.specs.Layout.{size, align, payload_place};
-ghost use Rattle.lift_lower.specs.Types.{IsInside};
+ghost use Rattle.values.specs.Types.{IsInside};
 ghost use Rattle.ranges.specs.Bytewise.{IsBytewise, HasRows};
 ghost use Rattle.ranges.specs.Plan.{IsBlank, IsRow};
 ghost use Rattle.tables.specs.Closed.{closed_type};
 
 use crate::caps::{fill, put};
-use lift_lower::Types;
 use tables::ValType;
+use values::Types;
 
 /// The most bytes of an element that has rows, and the most cases.
 const MOST: usize = 16;

@@ -13,7 +13,7 @@ use Rattle.tables.specs.Labelled.{labelled_type, labelled_types, labelled_member
 use Rattle.tables.specs.declared.tables.Resolve.{Resolve}
 use Rattle.tables.specs.declared.tables.ValType.{ValType}
 use Rattle.tables.proofs.Erased.{erases}
-use Rattle.lift_lower.specs.Crossing.{fields_of_types}
+use Rattle.values.specs.Members.{fields_of_types}
 use Rattle.value_json.specs.Json.{PrimJson, Json, EachJson, MembersJson, PayloadJson, CasesJson, FieldsJson, FlagsJson}
 
 or_is : (a b : Bool) → cond a true b ≡ true → (a || b) ≡ true

@@ -19,8 +19,8 @@ use Rattle.tables.specs.Labelled.{labelled_val, labelled_members, labelled_field
 use Rattle.value_json.specs.Apart.{AreApart}
 use Rattle.value_json.specs.Json.{Json, EachJson, MembersJson, FieldsJson, FlagsJson}
 use Rattle.value_json.specs.Writing.{HasCase, HasPayload}
-use Rattle.lift_lower.specs.Val.{value_of}
-use Rattle.lift_lower.specs.declared.val.Val.{Val}
+use Rattle.values.specs.Val.{value_of}
+use Rattle.values.specs.declared.val.Val.{Val}
 
 -- ---- cases
 

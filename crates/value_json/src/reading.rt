@@ -8,9 +8,8 @@ ghost use Rattle.canonical_abi.specs.Labelled.{labelled_string, labelled_enum, l
 ghost use Rattle.tables.specs.Closed.{closed_type};
 ghost use Rattle.tables.specs.Standard.{IsTypeOf};
 ghost use Rattle.tables.specs.Tables.{is_type_id, is_type, is_below, kind_all, option_all, is_standard_kind};
-ghost use Rattle.lift_lower.specs.Crossing.{fields_of_types};
-ghost use Rattle.lift_lower.specs.Members.{AreTypesOf};
-ghost use Rattle.lift_lower.specs.Val.{value_of};
+ghost use Rattle.values.specs.Members.{fields_of_types, AreTypesOf};
+ghost use Rattle.values.specs.Val.{value_of};
 ghost use Rattle.tables.specs.Labelled.{labelled_type, labelled_types, labelled_val, labelled_kind, labelled_payload, labelled_members, labelled_fields, labelled_cases};
 ghost use Rattle.value_json.specs.Apart.{AreApart, KindApart, HasApartLabels};
 ghost use Rattle.value_json.specs.Json.{Json as StandsAs, HasNone, EachJson, MembersJson, PayloadJson, CasesJson, HasFields, HasMembers, FlagsJson};
@@ -19,10 +18,10 @@ use crate::error::JsonError;
 use crate::parts::{is_text, only_member};
 use crate::scalars::scalar_of_json;
 use atoms::Label;
-use lift_lower::Val;
 use serde_json::Value as Json;
 use std::alloc::Global;
 use tables::{Case, Definition, Field, Resolve, TypeDefKind, TypeId, ValType};
+use values::Val;
 
 /// The value of a type of the package that stands as this JSON value.
 pub fn value_of_json(

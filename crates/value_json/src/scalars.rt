@@ -3,14 +3,14 @@ ghost use Rattle.std.specs.Prelude.{◌≡◌, ℕ, IfOk, IfSome, IfNone, encode
 ghost use Rattle.std.specs.Char.{IsScalar};
 ghost use Rattle.serde_json.specs.View.{view};
 ghost use Rattle.tables.specs.Closed.{prim_of};
-ghost use Rattle.lift_lower.specs.Val.{value_of};
+ghost use Rattle.values.specs.Val.{value_of};
 ghost use Rattle.value_json.specs.Json.{PrimJson, HasNoneOfPrim};
 ghost use Rattle.value_json.specs.Writing.{IsOfPrim, data_of};
 
-use lift_lower::Val;
 use serde_json::Value as Json;
 use std::alloc::{AllocError, Global};
 use tables::Primitive;
+use values::Val;
 
 /// The value of a scalar type that stands as this JSON value, if one does.
 pub(crate) fn scalar_of_json(primitive: Primitive, json: &Json) -> Option<Val>

@@ -10,7 +10,7 @@ ghost use Rattle.serde_json.specs.Written.{has_float};
 ghost use Rattle.tables.specs.Closed.{prim_of, closed_type};
 ghost use Rattle.tables.specs.Standard.{IsTypeOf};
 ghost use Rattle.tables.specs.Tables.{is_below, is_type, option_all, kind_all, is_standard_kind};
-ghost use Rattle.lift_lower.specs.Val.{value_of};
+ghost use Rattle.values.specs.Val.{value_of};
 ghost use Rattle.value_json.specs.Json.{Json as StandsAs, EachJson, MembersJson, PayloadJson, CasesJson, FieldsJson};
 ghost use Rattle.tables.specs.Labelled.{labelled_type, labelled_types, labelled_kind, labelled_payload, labelled_members, labelled_fields, labelled_cases};
 ghost use Rattle.value_json.specs.Apart.{HasApartLabels, KindApart, AreApart};
@@ -19,10 +19,10 @@ ghost use Rattle.value_json.specs.Writing.{HasCase, HasPayload};
 use crate::reading::kind_of;
 use crate::scalars::json_of_scalar;
 use atoms::Label;
-use lift_lower::Val;
 use serde_json::{Map, Value as Json};
 use std::alloc::{AllocError, Global};
 use tables::{Case, Field, Resolve, TypeDefKind, ValType};
+use values::Val;
 
 /// The JSON value of a value of the type.
 pub fn json_of_value(

@@ -4,7 +4,7 @@
 
 mod links;
 mod sessions;
-mod values;
+mod value_rows;
 
 use serde_json::Value;
 use std::alloc::Global;
@@ -16,7 +16,7 @@ fn told_of(alloc: Global, line: &str) -> anyhow::Result<String> {
         return sessions::told_of(alloc, &row);
     }
     if row.get("lift").is_some() || row.get("lower").is_some() {
-        return values::told_of(alloc, &row);
+        return value_rows::told_of(alloc, &row);
     }
     links::told_of(alloc, &row)
 }

@@ -17,9 +17,8 @@ use Rattle.tables.specs.declared.tables.FunctionId.{FunctionId}
 use Rattle.tables.specs.declared.tables.Parameter.{Parameter}
 use Rattle.tables.specs.declared.tables.Resolve.{Resolve}
 use Rattle.tables.specs.declared.tables.ValType.{ValType}
-use Rattle.lift_lower.specs.Crossing.{fields_of_types}
-use Rattle.lift_lower.specs.Members.{AreTypesOf}
-use Rattle.lift_lower.specs.Scalars.{AreScalar}
+use Rattle.values.specs.Members.{fields_of_types, AreTypesOf}
+use Rattle.values.specs.Scalars.{AreScalar}
 use Rattle.adapter.proofs.Signatures.{params-known, params-small}
 use Rattle.witcall.specs.Signature.{signature_of}
 

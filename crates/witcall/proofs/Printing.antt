@@ -6,8 +6,8 @@ use Rattle.canonical_abi.specs.Call.{Run, PostRun, World, exact}
 use Rattle.canonical_abi.specs.Session.{TypedCall}
 use Rattle.canonical_abi.specs.declared.trap.Fault.{Fault}
 use Rattle.canonical_abi.specs.declared.trap.Fault.TheVariants as fault
-use Rattle.lift_lower.specs.Val.{value_of}
-use Rattle.lift_lower.specs.declared.val.Val.{Val}
+use Rattle.values.specs.Val.{value_of}
+use Rattle.values.specs.declared.val.Val.{Val}
 use Rattle.tables.specs.Closed.{function_at, function_type}
 use Rattle.tables.specs.Names.{IsNamed}
 use Rattle.tables.specs.declared.tables.FunctionId.{FunctionId}

@@ -13,10 +13,11 @@ use Rattle.tables.specs.Standard.{IsTypeOf}
 use Rattle.tables.specs.declared.tables.Resolve.{Resolve}
 use Rattle.tables.specs.declared.tables.ValType.{ValType}
 use Rattle.memory.specs.Space.{SpaceAllocates}
-use Rattle.lift_lower.specs.Crossing.{fields_of_types, AnswerFails}
-use Rattle.lift_lower.specs.Val.{value_of}
-use Rattle.lift_lower.specs.declared.val.Val.{Val}
-use Rattle.lift_lower.specs.Scalars.{AreScalar, fields_in, StandFor, FailAs}
+use Rattle.values.specs.Members.{fields_of_types}
+use Rattle.lift_lower.specs.Crossing.{AnswerFails}
+use Rattle.values.specs.Val.{value_of}
+use Rattle.values.specs.declared.val.Val.{Val}
+use Rattle.values.specs.Scalars.{AreScalar, fields_in, StandFor, FailAs}
 use Rattle.lift_lower.proofs.Alone.{alone-size}
 
 -- what an option lends as a slice

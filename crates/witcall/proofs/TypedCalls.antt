@@ -12,8 +12,8 @@ use Rattle.canonical_abi.specs.declared.trap.Fault.TheVariants as ended
 use Rattle.canonical_abi.specs.declared.trap.Step.{Step}
 use Rattle.canonical_abi.specs.declared.trap.Step.TheVariants as step
 use Rattle.canonical_abi.specs.declared.trap.TrapKind.{TrapKind}
-use Rattle.lift_lower.specs.declared.val.Val.{Val}
-use Rattle.lift_lower.specs.Val.{value_of}
+use Rattle.values.specs.declared.val.Val.{Val}
+use Rattle.values.specs.Val.{value_of}
 use Rattle.lift_lower.specs.NoValue.{AnswerStands}
 use Rattle.lift_lower.specs.Placing.{area_at}
 use Rattle.witcall.specs.Session.{typed_answer, IsReady, IsNotReady}

@@ -9,7 +9,7 @@ use Rattle.canonical_abi.specs.declared.flat.Flat.{Flat}
 use Rattle.canonical_abi.specs.declared.trap.TrapKind.{TrapKind}
 use Rattle.memory.specs.Space.{SpaceAllocates}
 use Rattle.lift_lower.specs.Crossing.{AreAnswered, AnswerFails}
-use Rattle.lift_lower.specs.Val.{value_of}
+use Rattle.values.specs.Val.{value_of}
 use Rattle.tables.specs.Closed.{function_at, function_type, IsScalarFunction}
 use Rattle.tables.specs.Names.{IsNamed}
 use Rattle.tables.specs.Same.{IsSamePackage}

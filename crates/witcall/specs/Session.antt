@@ -9,8 +9,8 @@ use Rattle.canonical_abi.specs.declared.flat.Flat.{Flat}
 use Rattle.canonical_abi.specs.declared.trap.Fault.{Fault}
 use Rattle.canonical_abi.specs.declared.trap.Fault.TheVariants.{Trap, NoMemory}
 use Rattle.canonical_abi.specs.declared.trap.Step.TheVariants as step
-use Rattle.lift_lower.specs.declared.val.Val.{Val}
-use Rattle.lift_lower.specs.Val.{value_of}
+use Rattle.values.specs.declared.val.Val.{Val}
+use Rattle.values.specs.Val.{value_of}
 use Rattle.lift_lower.specs.Placing.{area_at}
 
 -- an answer, with the value that its tree stands for

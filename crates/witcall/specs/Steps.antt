@@ -6,8 +6,8 @@ use Rattle.canonical_abi.specs.Call.{Parties, World, exact}
 use Rattle.canonical_abi.specs.Guest.{Release}
 use Rattle.canonical_abi.specs.Values.{Value, HasType, HaveTypes}
 use Rattle.canonical_abi.specs.declared.trap.Fault.{Fault}
-use Rattle.lift_lower.specs.declared.val.Val.{Val}
-use Rattle.lift_lower.specs.Val.{value_of}
+use Rattle.values.specs.declared.val.Val.{Val}
+use Rattle.values.specs.Val.{value_of}
 use Rattle.tables.specs.Closed.{closed_type, function_type, IsFunction}
 use Rattle.tables.specs.Standard.{IsTypeOf}
 use Rattle.tables.specs.declared.tables.Resolve.{Resolve}

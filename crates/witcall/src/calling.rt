@@ -7,7 +7,7 @@ ghost use Rattle.canonical_abi.specs.Values.{HasType, HaveTypes};
 ghost use Rattle.canonical_abi.specs.Types.{result_fields};
 ghost use Rattle.canonical_abi.specs.Session.{as_list};
 ghost use Rattle.tables.specs.Closed.{IsFunction, function_at, function_type};
-ghost use Rattle.lift_lower.specs.Val.{value_of};
+ghost use Rattle.values.specs.Val.{value_of};
 ghost use Rattle.memory.specs.Growth.{ArePages};
 ghost use Rattle.witcall.specs.Signature.{signature_of};
 ghost use Rattle.witcall.specs.Calling.{IsOutputOf, Prints, RunCallRefuses, CallAnswers, CallRefuses, fresh};

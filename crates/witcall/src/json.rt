@@ -6,9 +6,8 @@ ghost use Rattle.serde_json.specs.View.{view};
 ghost use Rattle.canonical_abi.specs.Values.{HasType, HaveTypes};
 ghost use Rattle.tables.specs.Closed.{IsFunction, closed_type, function_at, function_type};
 ghost use Rattle.tables.specs.Standard.{IsTypeOf};
-ghost use Rattle.lift_lower.specs.Crossing.{fields_of_types};
-ghost use Rattle.lift_lower.specs.Members.{AreTypesOf};
-ghost use Rattle.lift_lower.specs.Val.{value_of};
+ghost use Rattle.values.specs.Members.{fields_of_types, AreTypesOf};
+ghost use Rattle.values.specs.Val.{value_of};
 ghost use Rattle.witcall.specs.Signature.{signature_of};
 ghost use Rattle.witcall.specs.Json.{IsTextOf, IsTextOfNone, IsTextOfOnly, IsCompactTextOf, IsArrayTextOf, RefusesArray};
 

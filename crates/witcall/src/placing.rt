@@ -7,7 +7,7 @@ ghost use Rattle.canonical_abi.specs.Values.{HasType, HaveTypes};
 ghost use Rattle.tables.specs.Closed.{IsFunction, closed_type, function_type};
 ghost use Rattle.tables.specs.Standard.{IsTypeOf};
 ghost use Rattle.lift_lower.specs.Placing.{IsAreaIn};
-ghost use Rattle.lift_lower.specs.Val.{value_of};
+ghost use Rattle.values.specs.Val.{value_of};
 ghost use Rattle.witcall.specs.Session.{IsReady, IsNotReady};
 ghost use Rattle.witcall.specs.Steps.{placed_answer};
 

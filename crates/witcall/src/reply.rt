@@ -5,7 +5,7 @@ ghost use Rattle.canonical_abi.specs.Flat.{Denotes};
 ghost use Rattle.canonical_abi.specs.Layout.{max_flat_params};
 ghost use Rattle.canonical_abi.specs.Types.{result_fields};
 ghost use Rattle.canonical_abi.specs.Values.{HaveTypes, Value};
-ghost use Rattle.lift_lower.specs.Val.{value_of};
+ghost use Rattle.values.specs.Val.{value_of};
 ghost use Rattle.memory.specs.SpaceView.{space_memory};
 ghost use Rattle.tables.specs.Closed.{IsFunction, function_at, function_type};
 ghost use Rattle.witcall.specs.Signature.{signature_of};

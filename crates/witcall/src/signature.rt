@@ -2,8 +2,7 @@
 
 ghost use Rattle.std.specs.Prelude.{◌≡◌, option_to_list, IfOk, IfErr, IfSome, OnErr};
 ghost use Rattle.canonical_abi.specs.Types.{result_fields};
-ghost use Rattle.lift_lower.specs.Crossing.{fields_of_types};
-ghost use Rattle.lift_lower.specs.Members.{AreTypesOf};
+ghost use Rattle.values.specs.Members.{fields_of_types, AreTypesOf};
 ghost use Rattle.tables.specs.Closed.{IsFunction, function_at, function_type};
 ghost use Rattle.tables.specs.Names.{IsNamed};
 ghost use Rattle.tables.specs.Standard.{IsTypeOf};

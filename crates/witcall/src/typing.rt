@@ -3,9 +3,8 @@
 ghost use Rattle.std.specs.Prelude.{◌≡◌, ◌↔◌, IsTrue, map};
 ghost use Rattle.canonical_abi.specs.Values.{HaveTypes};
 ghost use Rattle.layout.specs.Layout.{layouts_of};
-ghost use Rattle.lift_lower.specs.Crossing.{fields_of_types};
-ghost use Rattle.lift_lower.specs.Members.{AreAllInside};
-ghost use Rattle.lift_lower.specs.Val.{value_of};
+ghost use Rattle.values.specs.Members.{fields_of_types, AreAllInside};
+ghost use Rattle.values.specs.Val.{value_of};
 
 use layout::Layouts;
 use lift_lower::{Val, has_type};

@@ -2,8 +2,7 @@ use Rattle.std.proofs.Common.{refl, ◌≡◌, ◌≤◌, sym, ap, ◌∙◌, su
 use Rattle.canonical_abi.specs.Types.{record_type, result_fields}
 use Rattle.canonical_abi.specs.Layout.{size}
 use Rattle.tables.specs.Closed.{function_type}
-use Rattle.lift_lower.specs.Crossing.{fields_of_types}
-use Rattle.lift_lower.specs.Members.{AreAllInside}
+use Rattle.values.specs.Members.{fields_of_types, AreAllInside}
 use Rattle.adapter.proofs.Functions.{same_types}
 use Rattle.adapter.proofs.Signatures.{function-stands, result-known, result-inside, result-is, result-fields, all-inside, result-small}
 use Rattle.adapter.proofs.requests.ask_answer.Goals as goal

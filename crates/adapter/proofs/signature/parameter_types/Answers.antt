@@ -4,9 +4,8 @@ use Rattle.canonical_abi.specs.Types.{record_type}
 use Rattle.canonical_abi.specs.Layout.{size}
 use Rattle.tables.specs.Closed.{function_type}
 use Rattle.tables.specs.declared.tables.ValType.{ValType}
-use Rattle.lift_lower.specs.Crossing.{fields_of_types}
-use Rattle.lift_lower.specs.Members.{AreTypesOf}
-use Rattle.lift_lower.proofs.Scripting.{if-ok-as}
+use Rattle.values.specs.Members.{fields_of_types, AreTypesOf}
+use Rattle.values.proofs.Results.{if-ok-as}
 use Rattle.adapter.proofs.Signatures.{params-are, params-known, params-small}
 use Rattle.adapter.proofs.signature.parameter_types.Goals as goal
 

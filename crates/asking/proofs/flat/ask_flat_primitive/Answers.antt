@@ -4,7 +4,7 @@ use Rattle.canonical_abi.specs.Types.{prim_type}
 use Rattle.canonical_abi.specs.Reading.{number_of, low_bits, flat_bits}
 use Rattle.canonical_abi.proofs.Tells.{lifting-tells}
 use Rattle.tables.specs.Closed.{prim_of}
-use Rattle.lift_lower.specs.Scalar.{value_in}
+use Rattle.values.specs.Scalar.{value_in}
 use Rattle.asking.proofs.Told.{told-none, first-number}
 use Rattle.asking.proofs.flat.ask_flat_primitive.Goals as goal
 

@@ -2,7 +2,7 @@ use Rattle.std.proofs.Common.{◌∙◌, ◌≤◌, ◌++◌, ◌∷◌, [], Som
 use Rattle.adapter.proofs.Signatures.{result-small}
 use Rattle.canonical_abi.specs.Layout.{size}
 use Rattle.canonical_abi.specs.Types.{record_type}
-use Rattle.lift_lower.specs.Crossing.{fields_of_types}
+use Rattle.values.specs.Members.{fields_of_types}
 use Rattle.call_picture.proofs.call.result_types.Goals as goal
 
 pub returns-clause-small : goal.returns-clause-small

@@ -1,6 +1,6 @@
 use Rattle.std.proofs.Common.{[], ◌∷◌, map, refl}
 use Rattle.canonical_abi.specs.Reading.{number_of, low_bits, flat_bits}
-use Rattle.lift_lower.specs.Scalar.{value_in}
+use Rattle.values.specs.Scalar.{value_in}
 use Rattle.lift_lower.proofs.Denoted.{prim-typed, lifted-number}
 use Rattle.tables.specs.Closed.{prim_of}
 use Rattle.crossing.proofs.flat.carry_primitive.Goals as goal

@@ -4,7 +4,7 @@ use Rattle.canonical_abi.specs.Layout.{size, align}
 use Rattle.canonical_abi.specs.Storing.{header}
 use Rattle.canonical_abi.specs.Trace.{write, EventLeads}
 use Rattle.canonical_abi.proofs.Sizes.{is-alignment}
-use Rattle.lift_lower.specs.Loading.{AreBytes}
+use Rattle.values.specs.Bytes.{AreBytes}
 use Rattle.lift_lower.proofs.Unlimited.{request-fails}
 use Rattle.tables.specs.Closed.{prim_of}
 use Rattle.ranges.proofs.Appends.{prims-visited}

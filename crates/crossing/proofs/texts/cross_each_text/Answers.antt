@@ -1,7 +1,7 @@
 use Rattle.std.proofs.Common.{◌+◌, ◌*◌, Ok, Err, arith}
 use Rattle.std.proofs.lemmas.Result.{err_from_is_err_and}
 use Rattle.canonical_abi.specs.Types.{string_type}
-use Rattle.lift_lower.specs.Loading.{AreBytes}
+use Rattle.values.specs.Bytes.{AreBytes}
 use Rattle.crossing.specs.Outcome.{Walks}
 use Rattle.crossing.proofs.Ahead.{none-done, each-ahead}
 use Rattle.crossing.proofs.Nodes.{at-node, each-next, each-stopped, each-done}

@@ -1,5 +1,5 @@
 -- The row stands in the layouts.
-use Rattle.lift_lower.proofs.TypesExtents.{has-row}
+use Rattle.values.proofs.TypesExtents.{has-row}
 use Rattle.host_lists.proofs.members.member_offset.Goals as goal
 
 pub field_offset-requires : goal.field_offset-requires

@@ -1,5 +1,5 @@
 -- The type stands in the layouts.
-use Rattle.lift_lower.proofs.TypesExtents.{has-row}
+use Rattle.values.proofs.TypesExtents.{has-row}
 use Rattle.host_lists.proofs.rows.type_info.Goals as goal
 
 pub size-requires : goal.size-requires

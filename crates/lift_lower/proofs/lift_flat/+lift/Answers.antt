@@ -5,13 +5,14 @@ use Rattle.canonical_abi.specs.Types.{prim_type, boolean, variant_cases, nth_cas
 use Rattle.canonical_abi.specs.Values.{payload_value}
 use Rattle.canonical_abi.specs.Reading.{number_of, lifting, lifting_fields, ◌>>=◌}
 use Rattle.tables.specs.Closed.{closed_type}
-use Rattle.lift_lower.specs.Members.{members_fields}
-use Rattle.lift_lower.specs.Val.{value_of}
-use Rattle.lift_lower.proofs.TypesExtents.{member-depth, case-depth}
+use Rattle.values.specs.Members.{members_fields}
+use Rattle.values.specs.Val.{value_of}
+use Rattle.values.proofs.TypesExtents.{member-depth, case-depth}
 use Rattle.lift_lower.proofs.FlatSteps.{lifting-more, lifting-fault, lifting-done, kinds-next, lifts-none, lifts-plain, lifts-payload, payload-kinds, rest-numbers, rest-length}
 use Rattle.lift_lower.proofs.Loadings.{fails-pass}
-use Rattle.lift_lower.proofs.Steps.{nth_field-some, plain-none}
-use Rattle.lift_lower.proofs.Views.{value_of-None, value_of-Some}
+use Rattle.values.proofs.Fields.{nth_field-some}
+use Rattle.lift_lower.proofs.Steps.{plain-none}
+use Rattle.values.proofs.Views.{value_of-None, value_of-Some}
 use Rattle.lift_lower.proofs.lift_flat.+lift.Goals as goal
 
 pub lift_at-returns-in-Primitive-clause-value : goal.lift_at-returns-in-Primitive-clause-value

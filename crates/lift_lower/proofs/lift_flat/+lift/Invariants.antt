@@ -3,9 +3,10 @@ use Rattle.canonical_abi.specs.Types.{depth, fields_depth}
 use Rattle.canonical_abi.specs.Layout.{field_kinds}
 use Rattle.canonical_abi.specs.Reading.{number_of, lifting_fields}
 use Rattle.tables.specs.Closed.{closed_type}
-use Rattle.lift_lower.specs.Members.{members_fields}
-use Rattle.lift_lower.specs.Val.{value_of}
-use Rattle.lift_lower.proofs.Steps.{with_front, fields_from}
+use Rattle.values.specs.Members.{members_fields}
+use Rattle.values.specs.Val.{value_of}
+use Rattle.lift_lower.proofs.Steps.{with_front}
+use Rattle.values.proofs.Fields.{fields_from}
 use Rattle.lift_lower.proofs.lift_flat.+lift.Given as goal
 
 abbrev pub decreases-lift_at : goal.decreases-lift_at

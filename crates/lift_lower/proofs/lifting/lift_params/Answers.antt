@@ -1,8 +1,8 @@
 use Rattle.std.proofs.Common.{map, ℕ, ◌<◌, ◌^◌, length, get_or}
 use Rattle.canonical_abi.specs.Layout.{max_flat_params}
 use Rattle.canonical_abi.proofs.Tells.{denoting-tells}
-use Rattle.lift_lower.specs.Crossing.{fields_of_types}
-use Rattle.lift_lower.specs.Val.{value_of}
+use Rattle.values.specs.Members.{fields_of_types}
+use Rattle.values.specs.Val.{value_of}
 use Rattle.lift_lower.proofs.Denoting.{lift-fails}
 use Rattle.lift_lower.proofs.lifting.lift_params.Goals as goal
 use Rattle.lift_lower.proofs.Denoted.{denotes-typed}

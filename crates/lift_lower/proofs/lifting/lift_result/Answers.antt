@@ -9,8 +9,8 @@ use Rattle.canonical_abi.proofs.Tells.{denoting-tells}
 use Rattle.std.specs.Option.{option_map}
 use Rattle.tables.specs.Closed.{closed_type}
 use Rattle.lift_lower.specs.NoValue.{AnswerStands}
-use Rattle.lift_lower.specs.Val.{value_of}
-use Rattle.lift_lower.specs.declared.val.Val.{Val}
+use Rattle.values.specs.Val.{value_of}
+use Rattle.values.specs.declared.val.Val.{Val}
 use Rattle.lift_lower.proofs.Denoted.{denotes-typed}
 use Rattle.lift_lower.proofs.Loadings.{fails-stand}
 use Rattle.lift_lower.proofs.lifting.lift_result.Goals as goal

@@ -1,8 +1,8 @@
 use Rattle.std.proofs.Common.{arith}
 use Rattle.canonical_abi.specs.Types.{record_type}
-use Rattle.lift_lower.specs.Crossing.{fields_of_types}
-use Rattle.lift_lower.proofs.Denoting.{count-types}
-use Rattle.lift_lower.proofs.TypesExtents.{align-pos}
+use Rattle.values.specs.Members.{fields_of_types}
+use Rattle.values.proofs.Fields.{count-types}
+use Rattle.values.proofs.TypesExtents.{align-pos}
 use Rattle.lift_lower.proofs.lifting.load_spilled.Goals as goal
 
 pub check_block-requires-clause-aligned : goal.check_block-requires-clause-aligned

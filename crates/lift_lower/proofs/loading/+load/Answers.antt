@@ -1,18 +1,19 @@
-use Rattle.std.proofs.Common.{◌≡◌, ◌+◌, Some, None, Ok, map, option_map, ap, sym, ◌∙◌, arith}
+use Rattle.std.proofs.Common.{◌≡◌, ◌+◌, Some, None, Ok, option_map, ap, sym, ◌∙◌, arith}
 use Rattle.std.proofs.lemmas.Result.{err_from_is_err_and}
 use Rattle.std.proofs.lemmas.List.{map-append}
 use Rattle.std.specs.Int.{next_multiple_of}
 use Rattle.canonical_abi.specs.Types.{prim_type, boolean, variant_cases, nth_case}
 use Rattle.canonical_abi.specs.Values.{payload_value}
 use Rattle.canonical_abi.specs.Layout.{size, align, discriminant_size, payload_place}
-use Rattle.canonical_abi.specs.Reading.{reading, number_at, byte_width, case_number, reading_fields, ◌>>=◌}
+use Rattle.canonical_abi.specs.Reading.{reading, number_at, byte_width, case_number, ◌>>=◌}
 use Rattle.tables.specs.Closed.{closed_type}
-use Rattle.lift_lower.specs.Members.{members_fields}
-use Rattle.lift_lower.specs.Val.{value_of}
-use Rattle.lift_lower.proofs.TypesExtents.{member-depth, case-depth, payload-place, payload-fits}
+use Rattle.values.specs.Members.{members_fields}
+use Rattle.values.specs.Val.{value_of}
+use Rattle.values.proofs.TypesExtents.{member-depth, case-depth, payload-place, payload-fits}
 use Rattle.lift_lower.proofs.Loadings.{fails-pass, listed, list-opened, read-list}
-use Rattle.lift_lower.proofs.Steps.{each-more, each-fault, fields-more, fields-fault, fields-done, fields-end, fields-inside, nth_field-some, case-none, case-plain, case-payload, plain-none}
-use Rattle.lift_lower.proofs.Views.{value_of-List, value_of-None, value_of-Some}
+use Rattle.lift_lower.proofs.Steps.{each-more, each-fault, fields-more, fields-fault, fields-done, case-none, case-plain, case-payload, plain-none}
+use Rattle.values.proofs.Fields.{fields-end, fields-inside, nth_field-some}
+use Rattle.values.proofs.Views.{value_of-List, value_of-None, value_of-Some}
 use Rattle.lift_lower.proofs.loading.+load.Goals as goal
 
 pub load_at-returns-in_err-items-in-List-clause-value : goal.load_at-returns-in_err-items-in-List-clause-value
@@ -90,7 +91,7 @@ load_fields-loop-index-preserved t c =
     let place : c.next_multiple_of-place.result ≡ next_multiple_of c.loop-index.end (align u) = c.next_multiple_of-place.ensures.value ∙ ap (next_multiple_of c.loop-index.end) c.align_of.ensures.value in
     rw (place, c.size_of.ensures.value, c.in_ok-push.ensures.items, map-append) (
       fields-more fs c.args.memory.now c.args.at c.loop-index.end c.loop-index.index u _ _ (sym c.in-Some.ensures.found) c.loop-index.invariant.0 (value_of c.in_ok-field.field) (ap (λ x. reading u c.args.memory.now (c.args.at + x)) (sym place) ∙ c.in_ok-field.ensures.value),
-      sym (fields-end fs c.args.memory.now c.args.at c.loop-index.end c.loop-index.index u (map value_of c.loop-index.fields.items) (reading_fields fs c.args.memory.now c.args.at 0) (sym c.in-Some.ensures.found)) ∙ c.loop-index.invariant.1,
+      sym (fields-end fs c.loop-index.end c.loop-index.index u (sym c.in-Some.ensures.found)) ∙ c.loop-index.invariant.1,
     )
 
 pub load_fields-returns : goal.load_fields-returns

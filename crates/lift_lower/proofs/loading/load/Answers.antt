@@ -4,7 +4,7 @@ use Rattle.canonical_abi.specs.declared.trap.Step.TheVariants.{Take}
 use Rattle.tables.specs.Closed.{closed_type}
 use Rattle.lift_lower.specs.Loading.{reading_block}
 use Rattle.lift_lower.specs.NoValue.{FailsAs}
-use Rattle.lift_lower.specs.Val.{value_of}
+use Rattle.values.specs.Val.{value_of}
 use Rattle.lift_lower.proofs.Loadings.{block-tells, fails-stand}
 use Rattle.lift_lower.proofs.loading.load.Goals as goal
 use Rattle.lift_lower.proofs.Denoted.{holds-typed}

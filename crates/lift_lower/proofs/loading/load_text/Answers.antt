@@ -1,5 +1,5 @@
 use Rattle.canonical_abi.specs.Values.{string_value}
-use Rattle.lift_lower.proofs.Views.{value_of-String}
+use Rattle.values.proofs.Views.{value_of-String}
 use Rattle.lift_lower.proofs.Texts.{text-stands, text-fault}
 use Rattle.lift_lower.proofs.loading.load_text.Goals as goal
 

@@ -3,9 +3,9 @@ use Rattle.canonical_abi.specs.Types.{depth, fields_depth}
 use Rattle.canonical_abi.specs.Values.{HaveTypes}
 use Rattle.canonical_abi.specs.Layout.{field_kinds}
 use Rattle.tables.specs.Closed.{closed_type}
-use Rattle.lift_lower.specs.Members.{members_fields}
-use Rattle.lift_lower.specs.Val.{value_of}
-use Rattle.lift_lower.proofs.Steps.{fields_from}
+use Rattle.values.specs.Members.{members_fields}
+use Rattle.values.specs.Val.{value_of}
+use Rattle.values.proofs.Fields.{fields_from}
 use Rattle.lift_lower.proofs.Lowerings.{AreLowering}
 use Rattle.lift_lower.proofs.lower_flat.+lower.Given as goal
 

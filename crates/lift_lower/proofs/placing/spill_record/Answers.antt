@@ -5,7 +5,7 @@ use Rattle.canonical_abi.specs.Layout.{align, size}
 use Rattle.canonical_abi.specs.declared.flat.Flat.TheVariants.{I32}
 use Rattle.canonical_abi.proofs.Sizes.{is-alignment}
 use Rattle.tables.specs.Closed.{closed_type}
-use Rattle.lift_lower.specs.Val.{value_of}
+use Rattle.values.specs.Val.{value_of}
 use Rattle.lift_lower.proofs.Lowerings.{spilled-refused, spilled-ended, spilled-done}
 use Rattle.lift_lower.proofs.Scripting.{asked}
 use Rattle.lift_lower.proofs.placing.spill_record.Goals as goal

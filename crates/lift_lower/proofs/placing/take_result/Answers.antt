@@ -7,9 +7,9 @@ use Rattle.canonical_abi.specs.declared.trap.Step.TheVariants.{Take}
 use Rattle.tables.specs.Closed.{closed_type}
 use Rattle.lift_lower.specs.NoValue.{AnswerStands}
 use Rattle.lift_lower.specs.Placing.{area_at}
-use Rattle.lift_lower.specs.Val.{value_of}
+use Rattle.values.specs.Val.{value_of}
 use Rattle.tables.specs.declared.tables.ValType.{ValType}
-use Rattle.lift_lower.specs.declared.val.Val.{Val}
+use Rattle.values.specs.declared.val.Val.{Val}
 use Rattle.lift_lower.proofs.Placings.{value-block, value-taken, fault-taken}
 use Rattle.lift_lower.proofs.placing.take_result.Goals as goal
 

@@ -1,4 +1,4 @@
-use Rattle.std.proofs.Common.{◌≡◌, ℕ, suc, ◌+◌, ◌*◌, ◌<◌, ◌≤◌, List, [], length, map, Some, None, option_map, refl, sym, ap, ◌∙◌, subst, arith}
+use Rattle.std.proofs.Common.{◌≡◌, ℕ, suc, ◌+◌, ◌*◌, ◌<◌, ◌≤◌, List, length, map, Some, None, option_map, refl, sym, ap, ◌∙◌, subst, arith}
 use Rattle.std.proofs.lemmas.List.{length-map, get_or-map, drop_all}
 use Rattle.std.proofs.lemmas.Result.{err_from_is_err_and}
 use Rattle.std.specs.Int.{next_multiple_of, byte_len}
@@ -6,18 +6,18 @@ use Rattle.std.specs.List.{AllByRecursion}
 use Rattle.canonical_abi.specs.Types.{ClosedType, IsStandard, list_type, record_type, variant_type, flags_type, record_fields, variant_cases, nth_case, case_count, depth}
 use Rattle.canonical_abi.specs.Values.{Value, HasType, HaveTypes, values_of, list_value, record_value, plain_value, payload_value, flags_value}
 use Rattle.canonical_abi.specs.Layout.{size, align, prim_width, discriminant_size, payload_place}
-use Rattle.canonical_abi.specs.Reading.{reading_fields}
 use Rattle.canonical_abi.specs.Storing.{EachStores, Stores, FieldsStore, CaseStores}
 use Rattle.tables.specs.Closed.{closed_type, closed_types}
-use Rattle.lift_lower.specs.Members.{members_fields}
-use Rattle.lift_lower.specs.Scalar.{prim_in, value_in}
-use Rattle.lift_lower.specs.Val.{value_of}
-use Rattle.lift_lower.proofs.TypesExtents.{member-depth, case-depth, payload-place, payload-fits, fields-fit}
-use Rattle.lift_lower.proofs.Scripting.{begun, begun-as, begun-done, done-as, ended-as, if-err-as, on-ok-as}
-use Rattle.lift_lower.proofs.Steps.{fields-inside, fields-end, nth_field-some}
+use Rattle.values.specs.Members.{members_fields}
+use Rattle.values.specs.Scalar.{prim_in, value_in}
+use Rattle.values.specs.Val.{value_of}
+use Rattle.values.proofs.TypesExtents.{member-depth, case-depth, payload-place, payload-fits, fields-fit}
+use Rattle.lift_lower.proofs.Scripting.{begun, begun-as, begun-done, done-as, ended-as}
+use Rattle.values.proofs.Results.{if-err-as, on-ok-as}
+use Rattle.values.proofs.Fields.{fields-inside, fields-end, nth_field-some}
 use Rattle.lift_lower.proofs.Storings.{ItemsFrom, items-first, items-none, item-inside, item-done, item-ended, FieldsFrom, stored-none, field-done, field-ended, list-done, list-ended, list-refused, record-done, record-ended, plain-stored, payload-stored, case-done, case-ended, plain-done, scalar-done, flags-done}
-use Rattle.lift_lower.proofs.Typings.{not-list, not-flags, is-list, is-record, type-of-scalar, type-of-text, type-of-record, typed-flags, is-plain, is-payload, no-payload, no-case, typed-count, all-at, have-first, have-rest, field-standard, case-standard}
-use Rattle.lift_lower.proofs.Views.{value_of-List, value_of-Record, value_of-String, value_of-Flags}
+use Rattle.values.proofs.Typings.{not-list, not-flags, is-list, is-record, type-of-scalar, type-of-text, type-of-record, typed-flags, is-plain, is-payload, no-payload, no-case, typed-count, all-at, have-first, have-rest, field-standard, case-standard}
+use Rattle.values.proofs.Views.{value_of-List, value_of-Record, value_of-String, value_of-Flags}
 use Rattle.lift_lower.proofs.storing.+store.Goals as goal
 
 pub store_at-store_text-requires-clause-room : goal.store_at-store_text-requires-clause-room
@@ -220,7 +220,7 @@ store_fields-loop-index-preserved g t c =
     let place : c.next_multiple_of-place.result ≡ next_multiple_of c.loop-index.end (align u) = c.next_multiple_of-place.ensures.value ∙ ap (next_multiple_of c.loop-index.end) c.align_of.ensures.value in (
       field-done c.args.limit g.G.Guest.allocates fs c.args.at vs i c.loop-index.end u (value_of v) c.next_multiple_of-place.result c.size_of.result found below here place c.size_of.ensures.value
           (g.G.Guest.memory c.args.guest.now) (g.G.Guest.memory c.loop-index.guest) (g.G.Guest.memory c.store_at.new.guest) c.loop-index.invariant.0 c.in_ok-store_at.ensures.ok,
-      rw (place, c.size_of.ensures.value) (sym (fields-end fs [] c.args.at c.loop-index.end i u [] (reading_fields fs [] c.args.at 0) found) ∙ c.loop-index.invariant.1),
+      rw (place, c.size_of.ensures.value) (sym (fields-end fs c.loop-index.end i u found) ∙ c.loop-index.invariant.1),
       have-rest fs vs i u (value_of v) found below c.loop-index.invariant.2,
     )
 

@@ -4,10 +4,10 @@ use Rattle.canonical_abi.specs.Values.{HaveTypes}
 use Rattle.canonical_abi.specs.Layout.{size}
 use Rattle.canonical_abi.specs.Storing.{Stores, EachStores, FieldsStore}
 use Rattle.tables.specs.Closed.{closed_type}
-use Rattle.lift_lower.specs.Members.{members_fields}
+use Rattle.values.specs.Members.{members_fields}
 use Rattle.lift_lower.specs.Scripts.{IsBegun}
-use Rattle.lift_lower.specs.Val.{value_of}
-use Rattle.lift_lower.proofs.Steps.{fields_from, fields_end}
+use Rattle.values.specs.Val.{value_of}
+use Rattle.values.proofs.Fields.{fields_from, fields_end}
 use Rattle.lift_lower.proofs.Storings.{ItemsFrom, FieldsFrom}
 use Rattle.lift_lower.proofs.storing.+store.Given as goal
 

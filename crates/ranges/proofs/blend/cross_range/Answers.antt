@@ -1,6 +1,6 @@
 use Rattle.std.proofs.Common.{◌≡◌, ◌*◌, ap, arith}
 use Rattle.canonical_abi.specs.Layout.{size}
-use Rattle.lift_lower.specs.Loading.{AreBytes}
+use Rattle.values.specs.Bytes.{AreBytes}
 use Rattle.ranges.proofs.Fronts.{range-front, as-they-are, front-crosses, same-caps}
 use Rattle.ranges.proofs.blend.cross_range.Goals as goal
 

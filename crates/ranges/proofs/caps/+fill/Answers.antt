@@ -1,11 +1,11 @@
-use Rattle.std.proofs.Common.{◌≡◌, ◌+◌, Ok, [], sym, ap, ◌∙◌, subst, arith}
+use Rattle.std.proofs.Common.{◌≡◌, ◌+◌, sym, ap, ◌∙◌, subst, arith}
 use Rattle.std.specs.Int.{next_multiple_of}
 use Rattle.canonical_abi.specs.Types.{record_type, record_fields, depth}
 use Rattle.canonical_abi.specs.Layout.{size, align, end_from, field_extents}
 use Rattle.canonical_abi.proofs.Places.{le-next_multiple_of}
 use Rattle.tables.specs.Closed.{closed_type}
-use Rattle.lift_lower.proofs.TypesExtents.{member-depth}
-use Rattle.lift_lower.proofs.Steps.{nth_field-some, fields-inside, fields-end}
+use Rattle.values.proofs.TypesExtents.{member-depth}
+use Rattle.values.proofs.Fields.{nth_field-some, fields-inside, fields-end}
 use Rattle.ranges.specs.Plan.{Fills}
 use Rattle.ranges.proofs.Filled.{filled-next, filled-record}
 use Rattle.ranges.proofs.caps.+fill.Goals as goal
@@ -70,7 +70,7 @@ fill_fields-loop-index-preserved t c =
     let sum : c.loop-index.nodes + c.in_ok-inner.inner ≡ c.in_ok-nodes.nodes = omega (arith, c.in_ok-nodes.ensures) in
     rw (place, c.size_of.ensures.value, ← sum) (
       filled-next fs c.loop-index.index c.loop-index.end c.args.at c.args.bytes.now c.loop-index.bytes c.fill.new.bytes c.loop-index.nodes c.in_ok-inner.inner u (sym c.in-Some.ensures.found) c.loop-index.invariant.0 (rw place at filled),
-      sym (fields-end fs [] 0 c.loop-index.end c.loop-index.index u [] (Ok []) (sym c.in-Some.ensures.found)) ∙ c.loop-index.invariant.1,
+      sym (fields-end fs c.loop-index.end c.loop-index.index u (sym c.in-Some.ensures.found)) ∙ c.loop-index.invariant.1,
     )
 
 pub fill_fields-returns : goal.fill_fields-returns

@@ -1,12 +1,12 @@
-use Rattle.std.proofs.Common.{◌≡◌, ◌+◌, ◌≤◌, Ok, [], sym, ap, ◌∙◌, subst, arith}
+use Rattle.std.proofs.Common.{◌≡◌, ◌+◌, ◌≤◌, sym, ap, ◌∙◌, subst, arith}
 use Rattle.std.specs.Int.{next_multiple_of}
 use Rattle.canonical_abi.specs.Types.{record_type, record_fields, depth}
 use Rattle.canonical_abi.specs.Layout.{size, align, end_from, field_extents}
 use Rattle.canonical_abi.proofs.Places.{le-next_multiple_of}
 use Rattle.canonical_abi.proofs.Sizes.{is-alignment}
 use Rattle.tables.specs.Closed.{closed_type}
-use Rattle.lift_lower.proofs.TypesExtents.{member-depth}
-use Rattle.lift_lower.proofs.Steps.{fields_end, nth_field-some, fields-inside, fields-end, fields-last}
+use Rattle.values.proofs.TypesExtents.{member-depth}
+use Rattle.values.proofs.Fields.{fields_end, nth_field-some, fields-inside, fields-end, fields-last}
 use Rattle.ranges.specs.Columns.{Plans}
 use Rattle.ranges.proofs.Laid.{before-more}
 use Rattle.ranges.proofs.Planning.{planned-next, planned-record}
@@ -79,7 +79,7 @@ plan_fields-loop-index-preserved t c =
     let planned = c.in_ok-plan_value.ensures in
     rw (place, c.size_of.ensures.value) (
       planned-next fs c.loop-index.index c.loop-index.end c.args.at c.args.plan.now c.loop-index.plan c.plan_value.new.plan u (sym c.in-Some.ensures.found) c.loop-index.invariant.0 (rw place at planned),
-      sym (fields-end fs [] 0 c.loop-index.end c.loop-index.index u [] (Ok []) (sym c.in-Some.ensures.found)) ∙ c.loop-index.invariant.1,
+      sym (fields-end fs c.loop-index.end c.loop-index.index u (sym c.in-Some.ensures.found)) ∙ c.loop-index.invariant.1,
     )
 
 pub plan_fields-returns : goal.plan_fields-returns

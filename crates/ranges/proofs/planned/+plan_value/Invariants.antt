@@ -1,7 +1,7 @@
 use Rattle.std.proofs.Common.{◌≡◌, ◌+◌, ◌*◌}
 use Rattle.canonical_abi.specs.Types.{depth, record_fields}
 use Rattle.tables.specs.Closed.{closed_type}
-use Rattle.lift_lower.proofs.Steps.{fields_from, fields_end}
+use Rattle.values.proofs.Fields.{fields_from, fields_end}
 use Rattle.ranges.proofs.Planning.{FieldsPlanned}
 use Rattle.ranges.proofs.planned.+plan_value.Given as goal
 

@@ -2,7 +2,7 @@ use Rattle.std.proofs.Common.{◌≡◌, ◌+◌, ◌-◌, ◌*◌, ◌≤◌, [
 use Rattle.canonical_abi.specs.Types.{variant_cases, nth_case}
 use Rattle.canonical_abi.specs.Layout.{size, align, payload_place}
 use Rattle.tables.specs.Closed.{closed_type}
-use Rattle.lift_lower.proofs.TypesExtents.{payload-place, payload-fits}
+use Rattle.values.proofs.TypesExtents.{payload-place, payload-fits}
 use Rattle.ranges.specs.Plan.{IsRow}
 use Rattle.ranges.proofs.Capped.{cap-past}
 use Rattle.ranges.proofs.Filling.{plain-row, payload-row, blank-behind}

@@ -6,8 +6,8 @@ use Rattle.std.proofs.lemmas.List.{length-map, map-append}
 use Rattle.canonical_abi.specs.Values.{payload_value}
 use Rattle.serde_json.specs.Data.{array}
 use Rattle.serde_json.specs.View.{view, items_of, members_view}
-use Rattle.lift_lower.specs.Val.{value_of}
-use Rattle.lift_lower.proofs.Views.{value_of-List, value_of-Some}
+use Rattle.values.specs.Val.{value_of}
+use Rattle.values.proofs.Views.{value_of-List, value_of-Some}
 use Rattle.tables.specs.Labelled.{labelled_type, labelled_types, labelled_val, labelled_payload, labelled_members, labelled_fields}
 use Rattle.value_json.specs.Json.{Json, HasNone, EachJson, MembersJson, PayloadJson, HasFields}
 use Rattle.value_json.proofs.Runs.{Continues, ItemStands, MemberStands, starts, more, ends, refuted, more-at, refuted-at, each-of, of-each, members-of, of-members}

@@ -1,6 +1,6 @@
 use Rattle.std.proofs.Common.{◌≡◌, ◌+◌, ◌*◌, map}
 use Rattle.serde_json.specs.View.{view}
-use Rattle.lift_lower.specs.Val.{value_of}
+use Rattle.values.specs.Val.{value_of}
 use Rattle.tables.specs.Labelled.{labelled_type, labelled_types}
 use Rattle.value_json.specs.Json.{Json}
 use Rattle.value_json.proofs.Runs.{Continues, ItemStands, MemberStands}

@@ -1,7 +1,7 @@
 use Rattle.std.proofs.lemmas.Str.{IsUtf8-string_bytes, is_utf8-from_IsUtf8}
 use Rattle.std.proofs.Common.{string_bytes, sym, ap, ◌∙◌}
 use Rattle.serde_json.specs.Data.{string}
-use Rattle.lift_lower.proofs.Views.{value_of-String}
+use Rattle.values.proofs.Views.{value_of-String}
 use Rattle.value_json.proofs.Objects.{text-is}
 use Rattle.value_json.proofs.reading.read_text.Goals as goal
 

@@ -1,5 +1,5 @@
-use Rattle.lift_lower.specs.Val.{value_of}
-use Rattle.lift_lower.proofs.Scripting.{if-ok-as}
+use Rattle.values.specs.Val.{value_of}
+use Rattle.values.proofs.Results.{if-ok-as}
 use Rattle.serde_json.specs.View.{view}
 use Rattle.value_json.proofs.Typed.{value-typed}
 use Rattle.value_json.proofs.reading.value_of_json.Goals as goal

@@ -1,7 +1,7 @@
 use Rattle.std.proofs.Common.{List, map, sym, ap, ◌∙◌, subst, rules}
 use Rattle.std.specs.List.{list_all}
-use Rattle.lift_lower.specs.Val.{value_of}
-use Rattle.lift_lower.proofs.Known.{all-known-inside}
+use Rattle.values.specs.Val.{value_of}
+use Rattle.values.proofs.Known.{all-known-inside}
 use Rattle.serde_json.specs.Data.{array}
 use Rattle.serde_json.specs.View.{view, items_of}
 use Rattle.tables.specs.Labelled.{labelled_types, labelled_members}

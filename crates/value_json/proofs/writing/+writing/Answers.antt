@@ -7,12 +7,12 @@ use Rattle.std.specs.List.{AllByRecursion}
 use Rattle.tables.specs.declared.tables.TypeDefKind.TheVariants as kind
 use Rattle.serde_json.specs.View.{view, members_view}
 use Rattle.serde_json.proofs.Views.{view-Array}
-use Rattle.lift_lower.specs.Val.{value_of}
-use Rattle.lift_lower.specs.declared.val.Val.{Val}
+use Rattle.values.specs.Val.{value_of}
+use Rattle.values.specs.declared.val.Val.{Val}
 use Rattle.tables.specs.declared.tables.ValType.{ValType}
 use Rattle.tables.specs.declared.tables.Field.{Field}
-use Rattle.lift_lower.proofs.Views.{value_of-List, value_of-Record}
-use Rattle.lift_lower.proofs.Typings.{typed-list, typed-record}
+use Rattle.values.proofs.Views.{value_of-List, value_of-Record}
+use Rattle.values.proofs.Typings.{typed-list, typed-record}
 use Rattle.tables.specs.Labelled.{labelled_type, labelled_types, labelled_val, labelled_kind, labelled_payload, labelled_members, labelled_fields, labelled_cases}
 use Rattle.value_json.specs.Json.{Json, EachJson, MembersJson, FieldsJson, PayloadJson, CasesJson}
 use Rattle.value_json.specs.Writing.{HasPayload}

@@ -1,6 +1,6 @@
 use Rattle.std.proofs.Common.{◌+◌, ◌*◌, map, take, drop}
 use Rattle.serde_json.specs.View.{view, members_view}
-use Rattle.lift_lower.specs.Val.{value_of}
+use Rattle.values.specs.Val.{value_of}
 use Rattle.value_json.specs.Json.{Json, EachJson, MembersJson, FieldsJson}
 use Rattle.tables.specs.Labelled.{labelled_type, labelled_types, labelled_members, labelled_fields}
 use Rattle.value_json.proofs.Ranks.{rank}

@@ -1,8 +1,8 @@
 use Rattle.std.proofs.Common.{◌≡◌, ◌≤◌, sym, ap, subst}
 use Rattle.canonical_abi.specs.Types.{depth}
 use Rattle.canonical_abi.specs.Values.{HasType}
-use Rattle.lift_lower.specs.Val.{value_of}
-use Rattle.lift_lower.proofs.Scripting.{if-ok-as}
+use Rattle.values.specs.Val.{value_of}
+use Rattle.values.proofs.Results.{if-ok-as}
 use Rattle.serde_json.specs.Data as json
 use Rattle.serde_json.specs.View.{view}
 use Rattle.tables.proofs.Erased.{erases}

@@ -4,8 +4,8 @@ use Rattle.canonical_abi.specs.Values.{flags_value}
 use Rattle.serde_json.specs.Data.{string}
 use Rattle.serde_json.specs.View.{view}
 use Rattle.serde_json.proofs.Views.{view-Array}
-use Rattle.lift_lower.specs.Val.{value_of}
-use Rattle.lift_lower.proofs.Views.{value_of-Flags}
+use Rattle.values.specs.Val.{value_of}
+use Rattle.values.proofs.Views.{value_of-Flags}
 use Rattle.value_json.specs.Json.{FlagsJson}
 use Rattle.value_json.proofs.Writes.{bits-below, flag-set, flag-unset, no-flag-left}
 use Rattle.value_json.proofs.writing.write_flags.Goals as goal

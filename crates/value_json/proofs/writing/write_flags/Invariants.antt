@@ -2,7 +2,7 @@ use Rattle.std.proofs.Common.{◌≡◌, ℕ, ◌-◌, ◌<◌, ◌^◌, ◌++�
 use Rattle.canonical_abi.specs.Values.{flags_value}
 use Rattle.serde_json.specs.Data.{Data}
 use Rattle.serde_json.specs.View.{view}
-use Rattle.lift_lower.specs.Val.{value_of}
+use Rattle.values.specs.Val.{value_of}
 use Rattle.value_json.specs.Json.{FlagsJson}
 use Rattle.value_json.proofs.writing.write_flags.Given as goal
 

@@ -3,7 +3,7 @@ use Rattle.std.proofs.lemmas.Option.{slice_get_read}
 use Rattle.canonical_abi.specs.Labelled.{labelled_enum, no_payload}
 use Rattle.serde_json.specs.Data.{string}
 use Rattle.serde_json.specs.View.{view}
-use Rattle.lift_lower.specs.Val.{value_of}
+use Rattle.values.specs.Val.{value_of}
 use Rattle.value_json.specs.Json.{Json}
 use Rattle.value_json.proofs.Writes.{label-found, one-case, ok-map}
 use Rattle.value_json.proofs.writing.write_label.Goals as goal

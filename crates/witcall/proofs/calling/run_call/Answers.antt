@@ -1,7 +1,7 @@
 use Rattle.std.proofs.Common.{map, Ok}
 use Rattle.std.proofs.lemmas.Result.{err_from_is_err_and}
 use Rattle.std.specs.Option.{option_map}
-use Rattle.lift_lower.specs.Val.{value_of}
+use Rattle.values.specs.Val.{value_of}
 use Rattle.witcall.proofs.Printing.{asks}
 use Rattle.witcall.proofs.Written.{appended, begun}
 use Rattle.witcall.proofs.calling.run_call.Goals as goal

@@ -1,5 +1,5 @@
 use Rattle.std.proofs.Common.{subst, arith}
-use Rattle.lift_lower.specs.Val.{value_of}
+use Rattle.values.specs.Val.{value_of}
 use Rattle.serde_json.specs.View.{view}
 use Rattle.tables.specs.Labelled.{labelled_type}
 use Rattle.value_json.specs.Json.{Json}

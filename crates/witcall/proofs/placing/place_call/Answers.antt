@@ -3,7 +3,7 @@ use Rattle.std.proofs.lemmas.Result.{err_from_is_err_and}
 use Rattle.canonical_abi.specs.Types.{result_fields}
 use Rattle.tables.specs.Closed.{function_type}
 use Rattle.lift_lower.specs.Placing.{IsAreaIn, IsAreaAsked, AreaFails}
-use Rattle.lift_lower.specs.Val.{value_of}
+use Rattle.values.specs.Val.{value_of}
 use Rattle.adapter.proofs.Signatures.{result-inside, result-is}
 use Rattle.witcall.proofs.Prepared.{ready_flat, ready_with_area, arguments_fail, area_fails}
 use Rattle.witcall.proofs.placing.place_call.Goals as goal

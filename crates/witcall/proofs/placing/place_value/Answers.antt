@@ -5,9 +5,9 @@ use Rattle.canonical_abi.specs.Types.{ClosedType}
 use Rattle.canonical_abi.proofs.Sizes.{is-alignment}
 use Rattle.tables.specs.Closed.{closed_type}
 use Rattle.lift_lower.specs.Crossing.{IsStoredAt, StoreFails}
-use Rattle.lift_lower.specs.Val.{value_of}
-use Rattle.lift_lower.proofs.Known.{known-inside}
-use Rattle.lift_lower.proofs.TypesExtents.{has-row}
+use Rattle.values.specs.Val.{value_of}
+use Rattle.values.proofs.Known.{known-inside}
+use Rattle.values.proofs.TypesExtents.{has-row}
 use Rattle.witcall.proofs.PlacedValues.{is_placed, is_not_granted, is_not_stored}
 use Rattle.adapter.proofs.Within.{type-small}
 use Rattle.witcall.proofs.placing.place_value.Goals as goal

@@ -6,7 +6,7 @@ use Rattle.canonical_abi.specs.Values.{HasType}
 use Rattle.tables.specs.Closed.{closed_types, closed_val}
 use Rattle.tables.specs.declared.tables.Primitive.TheVariants as primitive
 use Rattle.tables.specs.declared.tables.ValType.TheVariants as val
-use Rattle.lift_lower.specs.Val.{value_of}
+use Rattle.values.specs.Val.{value_of}
 use Rattle.witcall.proofs.TypedLists.{rests_more, have_length, have_at}
 use Rattle.witcall.proofs.typing.have_types.Goals as goal
 

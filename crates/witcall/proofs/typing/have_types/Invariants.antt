@@ -1,6 +1,6 @@
 use Rattle.std.proofs.Common.{map}
 use Rattle.tables.specs.Closed.{closed_types}
-use Rattle.lift_lower.specs.Val.{value_of}
+use Rattle.values.specs.Val.{value_of}
 use Rattle.witcall.proofs.TypedLists.{Rests}
 use Rattle.witcall.proofs.typing.have_types.Given as goal
 

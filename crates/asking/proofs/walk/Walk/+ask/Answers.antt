@@ -7,11 +7,12 @@ use Rattle.canonical_abi.specs.Layout.{size, align, discriminant_size, payload_p
 use Rattle.canonical_abi.specs.Reading.{reading, number_at, byte_width, case_number, each_at, reading_fields, reading_case}
 use Rattle.canonical_abi.specs.Requests.{request, requests, each_request, fields_requests, case_requests}
 use Rattle.tables.specs.Closed.{closed_type}
-use Rattle.lift_lower.specs.Members.{members_fields}
-use Rattle.lift_lower.proofs.TypesExtents.{member-depth, case-depth, payload-place, payload-fits}
+use Rattle.values.specs.Members.{members_fields}
+use Rattle.values.proofs.TypesExtents.{member-depth, case-depth, payload-place, payload-fits}
 use Rattle.lift_lower.proofs.Loadings.{listed, list-opened}
 use Rattle.lift_lower.proofs.Texts.{block-stands}
-use Rattle.lift_lower.proofs.Steps.{with_front, each-more, each-fault, each-done, fields-more, fields-fault, fields-done, fields-end, fields-inside, nth_field-some, case-none, case-plain, case-payload}
+use Rattle.lift_lower.proofs.Steps.{with_front, each-more, each-fault, each-done, fields-more, fields-fault, fields-done, case-none, case-plain, case-payload}
+use Rattle.values.proofs.Fields.{fields-end, fields-inside, nth_field-some}
 use Rattle.asking.proofs.Told.{told-none, told-both, told-as, each-asks, fields-ask, fields-ask-none, plain-asks, payload-asks, asks-made, list-told, record-told, front-none, each-start, nothing-asked}
 use Rattle.asking.proofs.walk.Walk.+ask.Goals as goal
 
@@ -85,7 +86,7 @@ ask_fields-loop-index-preserved t c =
       fields-more fs c.args.self.now.source.now c.args.at c.loop-index.end c.loop-index.index u vs _ found w v (ap (λ x. reading u c.args.self.now.source.now (c.args.at + x)) (sym place) ∙ e),
       omega (arith, length-append vs (v ∷ [])),
       told-as _ _ _ _ _ _ (fields-ask fs vs v c.loop-index.index u found l) (told-both _ _ (fields_requests fs vs) (requests u v) _ _ _ _ (omega arith) told more),
-      sym (fields-end fs c.args.self.now.source.now c.args.at c.loop-index.end c.loop-index.index u vs (reading_fields fs c.args.self.now.source.now c.args.at 0) found) ∙ ends,
+      sym (fields-end fs c.loop-index.end c.loop-index.index u found) ∙ ends,
     )
 
 pub ask_fields-returns : goal.ask_fields-returns

@@ -4,8 +4,9 @@ use Rattle.canonical_abi.specs.Values.{Value}
 use Rattle.canonical_abi.specs.Reading.{reading, each_at, reading_fields}
 use Rattle.canonical_abi.specs.Requests.{requests, each_request, fields_requests}
 use Rattle.tables.specs.Closed.{closed_type}
-use Rattle.lift_lower.specs.Members.{members_fields}
-use Rattle.lift_lower.proofs.Steps.{with_front, fields_from, fields_end}
+use Rattle.values.specs.Members.{members_fields}
+use Rattle.lift_lower.proofs.Steps.{with_front}
+use Rattle.values.proofs.Fields.{fields_from, fields_end}
 use Rattle.asking.specs.Asking.{IsTold}
 use Rattle.asking.proofs.walk.Walk.+ask.Given as goal
 

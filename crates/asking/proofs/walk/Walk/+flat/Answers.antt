@@ -5,10 +5,10 @@ use Rattle.canonical_abi.specs.Values.{values_of, record_value, plain_value, pay
 use Rattle.canonical_abi.specs.Reading.{number_of, lifting, lifting_fields, lifting_case}
 use Rattle.canonical_abi.specs.Requests.{requests, fields_requests, case_requests}
 use Rattle.tables.specs.Closed.{closed_type}
-use Rattle.lift_lower.specs.Members.{members_fields}
-use Rattle.lift_lower.proofs.TypesExtents.{member-depth, case-depth}
+use Rattle.values.specs.Members.{members_fields}
+use Rattle.values.proofs.TypesExtents.{member-depth, case-depth}
 use Rattle.lift_lower.proofs.FlatSteps.{lifting-more, lifting-fault, lifting-done, kinds-next, lifts-none, lifts-plain, lifts-payload, payload-kinds, rest-numbers, rest-length}
-use Rattle.lift_lower.proofs.Steps.{nth_field-some}
+use Rattle.values.proofs.Fields.{nth_field-some}
 use Rattle.asking.proofs.Told.{told-none, told-both, told-as, fields-ask, fields-ask-none, plain-asks, payload-asks, asks-made, record-told, front-none}
 use Rattle.asking.proofs.walk.Walk.+flat.Goals as goal
 

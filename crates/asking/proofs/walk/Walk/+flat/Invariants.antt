@@ -5,8 +5,9 @@ use Rattle.canonical_abi.specs.Layout.{field_kinds}
 use Rattle.canonical_abi.specs.Reading.{number_of, lifting_fields}
 use Rattle.canonical_abi.specs.Requests.{fields_requests}
 use Rattle.tables.specs.Closed.{closed_type}
-use Rattle.lift_lower.specs.Members.{members_fields}
-use Rattle.lift_lower.proofs.Steps.{with_front, fields_from}
+use Rattle.values.specs.Members.{members_fields}
+use Rattle.lift_lower.proofs.Steps.{with_front}
+use Rattle.values.proofs.Fields.{fields_from}
 use Rattle.asking.specs.Asking.{IsTold}
 use Rattle.asking.proofs.walk.Walk.+flat.Given as goal
 

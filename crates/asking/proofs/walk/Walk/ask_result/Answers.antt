@@ -4,9 +4,9 @@ use Rattle.canonical_abi.specs.Flat.{Denotes}
 use Rattle.canonical_abi.specs.Layout.{max_flat_results}
 use Rattle.canonical_abi.specs.Requests.{fields_requests}
 use Rattle.canonical_abi.specs.Types.{record_type}
-use Rattle.lift_lower.specs.Crossing.{fields_of_types}
-use Rattle.lift_lower.proofs.Denoting.{count-types}
-use Rattle.lift_lower.proofs.TypesExtents.{align-pos}
+use Rattle.values.specs.Members.{fields_of_types}
+use Rattle.values.proofs.Fields.{count-types}
+use Rattle.values.proofs.TypesExtents.{align-pos}
 use Rattle.asking.proofs.Whole.{flat-denotes, flat-fault, spilled-denotes, spilled-fault, told-ahead}
 use Rattle.asking.proofs.walk.Walk.ask_result.Goals as goal
 

@@ -3,15 +3,15 @@ use Rattle.std.proofs.lemmas.Result.{err_from_is_err_and}
 use Rattle.std.specs.Int.{next_multiple_of}
 use Rattle.canonical_abi.specs.Types.{ClosedType, record_type, variant_type, record_fields, variant_cases, nth_case, case_count}
 use Rattle.canonical_abi.specs.Layout.{size, align, discriminant_size, payload_place}
-use Rattle.canonical_abi.specs.Reading.{number_at, byte_width, case_number, reading_fields}
+use Rattle.canonical_abi.specs.Reading.{number_at, byte_width, case_number}
 use Rattle.canonical_abi.specs.Storing.{header}
 use Rattle.canonical_abi.specs.Trace.{write, EventLeads}
 use Rattle.canonical_abi.proofs.Sizes.{is-alignment}
 use Rattle.tables.specs.Closed.{closed_type}
-use Rattle.lift_lower.specs.Loading.{AreBytes}
-use Rattle.lift_lower.specs.Members.{members_fields}
-use Rattle.lift_lower.proofs.TypesExtents.{member-depth, case-depth, payload-place, payload-fits}
-use Rattle.lift_lower.proofs.Steps.{fields-inside, fields-end, nth_field-some}
+use Rattle.values.specs.Bytes.{AreBytes}
+use Rattle.values.specs.Members.{members_fields}
+use Rattle.values.proofs.TypesExtents.{member-depth, case-depth, payload-place, payload-fits}
+use Rattle.values.proofs.Fields.{fields-inside, fields-end, nth_field-some}
 use Rattle.lift_lower.proofs.Unlimited.{request-fails}
 use Rattle.crossing.specs.Outcome.{Walks, EachWalks, Ends}
 use Rattle.crossing.proofs.Ahead.{each-ahead}
@@ -173,7 +173,7 @@ cross_fields-loop-index-preserved g t c =
     rw (place, c.size_of.ensures.value) (
       field-next g.G.Guest.allocates fs c.args.self.now.source.now c.args.at.from c.args.at.to i c.loop-index.end u found
           (g.G.Guest.memory c.args.guest.now) (g.G.Guest.memory c.loop-index.guest) (g.G.Guest.memory c.cross_at.new.guest) c.args.nodes.now c.loop-index.nodes c.cross_at.new.nodes c.loop-index.invariant.0 here,
-      sym (fields-end fs [] c.args.at.to c.loop-index.end i u [] (reading_fields fs [] c.args.at.to 0) found) ∙ c.loop-index.invariant.1,
+      sym (fields-end fs c.loop-index.end i u found) ∙ c.loop-index.invariant.1,
     )
 
 pub cross_fields-returns : goal.cross_fields-returns

@@ -2,8 +2,8 @@ use Rattle.std.proofs.Common.{◌≡◌, ◌+◌, ◌-◌, ◌*◌}
 use Rattle.canonical_abi.specs.Types.{depth, fields_depth}
 use Rattle.canonical_abi.specs.Layout.{size}
 use Rattle.tables.specs.Closed.{closed_type}
-use Rattle.lift_lower.specs.Members.{members_fields}
-use Rattle.lift_lower.proofs.Steps.{fields_from, fields_end}
+use Rattle.values.specs.Members.{members_fields}
+use Rattle.values.proofs.Fields.{fields_from, fields_end}
 use Rattle.crossing.specs.Outcome.{EachWalks, FieldsWalk}
 use Rattle.crossing.proofs.Parts.{IsBegun}
 use Rattle.crossing.proofs.walk.Walk.+cross.Given as goal

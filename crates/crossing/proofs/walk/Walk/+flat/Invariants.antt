@@ -3,8 +3,8 @@ use Rattle.canonical_abi.specs.Types.{depth, fields_depth}
 use Rattle.canonical_abi.specs.Layout.{field_kinds}
 use Rattle.canonical_abi.specs.Reading.{number_of}
 use Rattle.tables.specs.Closed.{closed_type}
-use Rattle.lift_lower.specs.Members.{members_fields}
-use Rattle.lift_lower.proofs.Steps.{fields_from}
+use Rattle.values.specs.Members.{members_fields}
+use Rattle.values.proofs.Fields.{fields_from}
 use Rattle.crossing.proofs.Flats.{AreCarrying}
 use Rattle.crossing.proofs.walk.Walk.+flat.Given as goal
 

@@ -6,7 +6,7 @@ use Rattle.canonical_abi.specs.Reading.{number_of}
 use Rattle.canonical_abi.specs.declared.flat.Flat.{Flat}
 use Rattle.canonical_abi.proofs.Sizes.{is-alignment}
 use Rattle.tables.specs.Closed.{closed_type}
-use Rattle.lift_lower.specs.Loading.{AreBytes}
+use Rattle.values.specs.Bytes.{AreBytes}
 use Rattle.lift_lower.proofs.Unlimited.{request-fails}
 use Rattle.crossing.specs.Outcome.{EachWalks, Ends, IsDone}
 use Rattle.crossing.proofs.Nodes.{granted-led}

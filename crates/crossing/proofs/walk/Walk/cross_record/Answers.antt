@@ -6,7 +6,7 @@ use Rattle.canonical_abi.specs.Script.{AddressFaulty}
 use Rattle.canonical_abi.specs.declared.flat.Flat.TheVariants.{I32}
 use Rattle.canonical_abi.proofs.Sizes.{is-alignment}
 use Rattle.tables.specs.Closed.{closed_type}
-use Rattle.lift_lower.specs.Loading.{AreBytes}
+use Rattle.values.specs.Bytes.{AreBytes}
 use Rattle.lift_lower.proofs.Unlimited.{request-fails}
 use Rattle.crossing.specs.Outcome.{FieldsWalk, IsDone, HasStopped}
 use Rattle.crossing.proofs.Nodes.{granted-led}

@@ -1,10 +1,10 @@
-use Rattle.std.proofs.Common.{◌≡◌, ◌+◌, [], None, Ok, drop, get_or, drop_of_length-le, refl, sym, ◌∙◌, subst, arith}
+use Rattle.std.proofs.Common.{◌≡◌, ◌+◌, [], None, drop, get_or, drop_of_length-le, refl, sym, ◌∙◌, subst, arith}
 use Rattle.std.proofs.lemmas.Result.{err_from_is_err_and}
 use Rattle.std.specs.Int.{next_multiple_of}
 use Rattle.canonical_abi.specs.Types.{record_fields}
 use Rattle.canonical_abi.specs.Layout.{size, align}
 use Rattle.tables.specs.Closed.{closed_type}
-use Rattle.lift_lower.proofs.Steps.{fields_from, fields-inside, fields-end}
+use Rattle.values.proofs.Fields.{fields_from, fields-inside, fields-end}
 use Rattle.crossing.specs.Outcome.{FieldsWalk}
 use Rattle.crossing.specs.Steps.{leaf_type, AreSteps}
 use Rattle.crossing.proofs.ByShape.{fields-none}
@@ -104,7 +104,7 @@ loop-step-preserved g c =
       next_multiple_of end (align u) + size u,
       field-next g.G.Guest.allocates fs c.args.self.now.source.now c.args.at.from c.args.at.to i end u n.found
           (g.G.Guest.memory c.args.guest.now) (g.G.Guest.memory c.loop-step.guest) (g.G.Guest.memory c.cross_leaf.new.guest) c.args.nodes.now c.loop-step.nodes c.cross_leaf.new.nodes b here,
-      sym (fields-end fs [] 0 end i u [] (Ok []) n.found) ∙ w,
+      sym (fields-end fs end i u n.found) ∙ w,
       rw n.place at n.behind,
     )
 

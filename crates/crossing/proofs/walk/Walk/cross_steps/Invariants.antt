@@ -1,7 +1,7 @@
 use Rattle.std.proofs.Common.{◌≡◌, ℕ, drop}
 use Rattle.canonical_abi.specs.Types.{record_fields}
 use Rattle.tables.specs.Closed.{closed_type}
-use Rattle.lift_lower.proofs.Steps.{fields_from, fields_end}
+use Rattle.values.proofs.Fields.{fields_from, fields_end}
 use Rattle.crossing.specs.Outcome.{FieldsWalk}
 use Rattle.crossing.specs.Steps.{AreSteps}
 use Rattle.crossing.proofs.Parts.{IsBegun}

@@ -1,8 +1,8 @@
 use Rattle.canonical_abi.specs.Types.{record_type}
 use Rattle.canonical_abi.specs.Layout.{max_flat_results}
-use Rattle.lift_lower.specs.Crossing.{fields_of_types}
-use Rattle.lift_lower.proofs.Denoting.{count-types}
-use Rattle.lift_lower.proofs.TypesExtents.{align-pos}
+use Rattle.values.specs.Members.{fields_of_types}
+use Rattle.values.proofs.Fields.{count-types}
+use Rattle.values.proofs.TypesExtents.{align-pos}
 use Rattle.crossing.proofs.Passing.{area-ends}
 use Rattle.crossing.proofs.walk.Walk.cross_to_area.Goals as goal
 

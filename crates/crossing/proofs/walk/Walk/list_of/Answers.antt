@@ -1,11 +1,11 @@
-use Rattle.std.proofs.Common.{◌≡◌, ◌∷◌, [], Ok, length-append, append_assoc, append-nil, refl, sym, ap, ◌∙◌, subst, arith}
+use Rattle.std.proofs.Common.{◌≡◌, ◌∷◌, [], length-append, append_assoc, append-nil, refl, sym, ap, ◌∙◌, subst, arith}
 use Rattle.std.specs.Int.{next_multiple_of}
 use Rattle.canonical_abi.specs.Types.{record_fields}
 use Rattle.canonical_abi.specs.Layout.{size, align}
 use Rattle.canonical_abi.proofs.Sizes.{is-alignment}
 use Rattle.tables.specs.Closed.{closed_type}
-use Rattle.lift_lower.proofs.Steps.{nth_field-some, fields-inside, fields-end}
-use Rattle.lift_lower.proofs.TypesExtents.{fields-fit}
+use Rattle.values.proofs.Fields.{nth_field-some, fields-inside, fields-end}
+use Rattle.values.proofs.TypesExtents.{fields-fit}
 use Rattle.crossing.specs.Steps.{AreSteps}
 use Rattle.crossing.specs.declared.records.Step.{Step}
 use Rattle.crossing.proofs.Stepping.{step-more, step-none}
@@ -47,7 +47,7 @@ loop-index-preserved c =
     rw (c.size_of.ensures.value, c.push.ensures.items) (
       λ ss more. subst (AreSteps fs 0) (sym (append_assoc c.loop-index.steps.items (s ∷ []) ss)) (c.loop-index.invariant.0 (s ∷ ss) (step-more fs i c.loop-index.end u s found leaf.0 leaf.1 place ss more)),
       omega (arith, length-append c.loop-index.steps.items (s ∷ []), c.loop-index.invariant.1),
-      rw place (sym (fields-end fs [] 0 c.loop-index.end i u [] (Ok []) found) ∙ c.loop-index.invariant.2),
+      rw place (sym (fields-end fs c.loop-index.end i u found) ∙ c.loop-index.invariant.2),
     )
 
 pub returns : goal.returns

@@ -3,12 +3,11 @@ use Rattle.std.specs.Prelude.{IsTrue}
 use Rattle.canonical_abi.specs.Flat.{Denotes}
 use Rattle.canonical_abi.specs.Layout.{max_flat_params, size}
 use Rattle.canonical_abi.specs.Types.{record_type}
-use Rattle.lift_lower.specs.Crossing.{fields_of_types}
-use Rattle.lift_lower.specs.Members.{AreAllInside, AreTypesOf}
-use Rattle.lift_lower.specs.Scalar.{value_in}
-use Rattle.lift_lower.specs.Scalars.{AreScalar}
-use Rattle.lift_lower.specs.Val.{value_of}
-use Rattle.lift_lower.proofs.Known.{all-known-inside}
+use Rattle.values.specs.Members.{fields_of_types, AreAllInside, AreTypesOf}
+use Rattle.values.specs.Scalar.{value_in}
+use Rattle.values.specs.Scalars.{AreScalar}
+use Rattle.values.specs.Val.{value_of}
+use Rattle.values.proofs.Known.{all-known-inside}
 use Rattle.memory.specs.SpaceView.{space_memory}
 use Rattle.tables.specs.Closed.{closed_types, function_at, function_type, is_scalar_function}
 use Rattle.witcall.proofs.Functions.{params_are_fields, params_are_known, params_are_scalar, params_are_small}

@@ -3,7 +3,7 @@ use Rattle.std.specs.Prelude.{IfSome, option_to_list}
 use Rattle.canonical_abi.specs.Layout.{size}
 use Rattle.canonical_abi.specs.Types.{record_type, result_fields}
 use Rattle.layout.specs.Layout.{AreWithin}
-use Rattle.lift_lower.specs.Crossing.{fields_of_types}
+use Rattle.values.specs.Members.{fields_of_types}
 use Rattle.tables.specs.Closed.{function_type}
 use Rattle.tables.specs.Standard.{IsTypeOf}
 use Rattle.witcall.proofs.Replied.{lent, no-room, result-small}

@@ -5,8 +5,8 @@ use Rattle.canonical_abi.specs.Types.{result_fields}
 use Rattle.canonical_abi.specs.Values.{HaveTypes}
 use Rattle.tables.specs.Closed.{closed_types, function_at, function_type}
 use Rattle.tables.specs.declared.tables.Function.{Function}
-use Rattle.lift_lower.specs.Crossing.{fields_of_types}
-use Rattle.lift_lower.specs.Val.{value_of}
+use Rattle.values.specs.Members.{fields_of_types}
+use Rattle.values.specs.Val.{value_of}
 use Rattle.witcall.specs.Json.{IsArrayTextOf}
 use Rattle.witcall.specs.Signature.{signature_of}
 use Rattle.witcall.proofs.Functions.{own_params, same_function, same_is_function}

@@ -12,7 +12,7 @@ use Rattle.tables.specs.Closed.{closed_type, function_type, IsFunction}
 use Rattle.tables.specs.declared.tables.ValType.{ValType}
 use Rattle.lift_lower.specs.NoValue.{AnswerStands}
 use Rattle.lift_lower.specs.Placing.{area_at, IsAreaIn}
-use Rattle.lift_lower.specs.Val.{value_of}
+use Rattle.values.specs.Val.{value_of}
 use Rattle.adapter.proofs.Signatures.{result-inside, result-is}
 use Rattle.canonical_abi.specs.Halves.{world}
 use Rattle.witcall.specs.Session.{IsReady, IsNotReady}

@@ -1,5 +1,0 @@
-use Rattle.lift_lower.proofs.Denoting.{have-rows}
-use Rattle.lift_lower.proofs.types.Types.count_within.Goals as goal
-
-pub flat_count-requires : goal.flat_count-requires
-flat_count-requires c = have-rows c.args.self.now c.layouts.result.now c.args.types.now c.layouts.ensures c.requires.inside

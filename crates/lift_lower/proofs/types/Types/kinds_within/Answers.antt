@@ -1,5 +1,0 @@
-use Rattle.lift_lower.proofs.Denoting.{have-rows}
-use Rattle.lift_lower.proofs.types.Types.kinds_within.Goals as goal
-
-pub flat-requires : goal.flat-requires
-flat-requires c = have-rows c.args.self.now c.layouts.result.now c.args.types.now c.layouts.ensures c.requires.inside

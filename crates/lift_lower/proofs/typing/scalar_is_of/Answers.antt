@@ -1,7 +1,0 @@
-use Rattle.lift_lower.specs.Scalar.{prim_in, value_in}
-use Rattle.lift_lower.proofs.Typings.{not-scalar}
-use Rattle.lift_lower.proofs.typing.scalar_is_of.Goals as goal
-
-pub returns-in_default : goal.returns-in_default
-returns-in_default c = λ rows t shaped.
-    (λ no. cc, λ typed. absurd (not-scalar rows t c.args.shape (value_in c.args.scalar) (prim_in c.args.scalar) shaped c.requires c.in_default.not-Primitive typed))

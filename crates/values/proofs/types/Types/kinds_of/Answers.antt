@@ -1,0 +1,6 @@
+use Rattle.std.proofs.Common.{length}
+use Rattle.values.proofs.TypesExtents.{has-row, one-inside}
+use Rattle.values.proofs.types.Types.kinds_of.Goals as goal
+
+pub flat-requires : goal.flat-requires
+flat-requires c = one-inside (length c.layouts.result.now.rows) c.args.ty (has-row c.args.self.now c.layouts.result.now c.args.ty c.layouts.ensures c.requires.inside)
