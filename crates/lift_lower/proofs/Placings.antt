@@ -33,12 +33,12 @@ use Rattle.lift_lower.proofs.Alone.{alone-align, alone-size, first-place}
 pub is-record : (t : ClosedType) (fs : Fields) → t ≡ record_type fs → t ≡ record_type (record_fields t)
 is-record t fs e = e ∙ ap (λ u. record_type (record_fields u)) (sym e)
 
--- at most sixteen core values carry arguments
-pub passes-few : (ts : Fields) (vs : List Value) (es : List Event) (flats : List Flat) → PassesParams 16 ts vs es flats → length flats ≤ 16
-passes-few ts vs es flats (inl (fits, l)) =
+-- at most as many core values carry arguments as go flat
+pub passes-few : (limit : ℕ) (ts : Fields) (vs : List Value) (es : List Event) (flats : List Flat) → 1 ≤ limit → PassesParams limit ts vs es flats → length flats ≤ limit
+passes-few limit ts vs es flats some (inl (fits, l)) =
     let kinds : length flats ≡ length (field_kinds ts) = sym (length-map flats kind_of) ∙ ap length (fields-lower-kinds ts vs es flats l) in
     omega (arith, leb-true _ _ fits, kinds)
-passes-few ts vs es flats (inr s) = let one : length flats ≡ 1 = ap length s.1.5 in omega (arith, one)
+passes-few limit ts vs es flats some (inr s) = let one : length flats ≡ 1 = ap length s.1.5 in omega (arith, one, some)
 
 module _ (allocates : Allocation) (ts us : Fields) (same : ts ≡ us) (vs : List Value) (old new : Memory) where
   pub is-lowered : (flats : List Flat) → IsDone 16777216 allocates (λ es. PassesParams 16 ts vs es flats) old new → AreLowered allocates us vs old flats new

@@ -26,6 +26,6 @@ pub use lowering::{lower, lower_answer};
 pub use placing::{ask_area, is_area, lower_arguments, take_result};
 pub use storing::store;
 pub use values::{
-    Flats, Scalar, Scalars, Types, Val, core_kind, has_arguments, has_type, have_types,
-    lift_scalar, lift_scalars, lower_scalar, str_at,
+    FlatResults, Flats, Scalar, Scalars, Types, Val, core_kind, has_arguments, has_type,
+    have_types, lift_scalar, lift_scalars, lower_scalar, str_at,
 };

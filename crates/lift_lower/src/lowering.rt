@@ -17,7 +17,7 @@ use crate::storing::{MAX_BLOCK, place_fault, store_fields};
 use canonical_abi::{Fault, Flat, Guest, TrapKind};
 use layout::Layouts;
 use tables::{Resolve, ValType};
-use values::{Flats, Members, Types, Val};
+use values::{FlatResults, Flats, Members, Types, Val, flat_results};
 
 /// The core values that carry values of these types, whose texts and lists are put into the guest's memory.
 /// A trap is in step `place`: the first request that fails. Takes no memory of the host.
@@ -51,7 +51,7 @@ pub fn lower_answer<G: Guest>(
     types: &[ValType],
     values: &[Val],
     guest: &mut G,
-) -> Result<Flats, TrapKind>
+) -> Result<FlatResults, TrapKind>
     requires known { AreTypesOf table.now types.now }
     requires small { size (record_type (fields_of_types table.now types.now)) ≤ 16777216 }
     requires typed { HaveTypes (map value_of values.now) (fields_of_types table.now types.now) }
@@ -60,7 +60,8 @@ pub fn lower_answer<G: Guest>(
     ensures fault { IfErr result (λ k. AnswerFails G.allocates (fields_of_types table.now types.now)
         (map value_of values.now) (G.memory guest.old) k (G.memory guest.new)) }
 {
-    lower_params(table, 1, MAX_BLOCK, types, values, guest)
+    let flats = lower_params(table, 1, MAX_BLOCK, types, values, guest)?;
+    Ok(flat_results(flats.as_slice()))
 }
 
 /// Lowers values as parameters: flat, or into a block where more than `flat` core values would carry them.

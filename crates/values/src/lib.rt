@@ -17,7 +17,7 @@ mod val;
 
 pub use members::Members;
 pub use scalar::{Scalar, core_kind, lift_scalar, lower_scalar};
-pub use scalars::{Flats, Scalars, lift_scalars};
+pub use scalars::{FlatResults, Flats, Scalars, flat_results, lift_scalars};
 pub use text::{str_at, text_in};
 pub use types::Types;
 pub use typing::{has_arguments, has_type, have_types};

@@ -1,5 +1,5 @@
 //! Lists of values of primitive types: parameters and results that need no memory.
-ghost use Rattle.std.specs.Prelude.{◌≡◌, ◌↔◌, IsTrue, IfOk, IfErr, map};
+ghost use Rattle.std.specs.Prelude.{◌≡◌, ◌≤◌, ◌↔◌, IsTrue, IfOk, IfErr, length, map};
 ghost use Rattle.tables.specs.Closed.{prim_of, is_scalar};
 ghost use Rattle.tables.specs.declared.tables.ValType.{ValType};
 ghost use Rattle.values.specs.Scalar.{value_in};
@@ -12,6 +12,10 @@ use tables::{Primitive, ValType};
 
 /// The core values of one call: sixteen parameters and a return area at most.
 pub type Flats = ArrayVec<Flat, 17>;
+
+/// What a core function returns: one core value at most where it follows the ABI. There is room for four, so that a core function
+/// of another signature can be told by what it returns (K8).
+pub type FlatResults = ArrayVec<Flat, 4>;
 
 /// The values of one way of a call.
 pub type Scalars = ArrayVec<Scalar, 16>;
@@ -28,6 +32,18 @@ pub fn lift_scalars(types: &[ValType], flats: &[Flat]) -> Result<Scalars, TrapKi
         return Err(TrapKind::CoreSignature);
     }
     lift_each(types, flats)
+}
+
+/// These core values, of which there is one at most, as what a core function returns.
+pub fn flat_results(flats: &[Flat]) -> FlatResults
+    requires { length flats.now ≤ 1 }
+    ensures { result.items ≡ flats.now }
+{
+    let mut results = FlatResults::new();
+    if let Some(flat) = flats.first() {
+        results.push(*flat);
+    }
+    results
 }
 
 /// Whether the core values have the number and the kinds that the types ask for.

@@ -1,4 +1,4 @@
-use Rattle.std.proofs.Common.{map, sym, ap, subst}
+use Rattle.std.proofs.Common.{map, sym, ap, subst, arith}
 use Rattle.canonical_abi.specs.Types.{record_fields, AreStandardFields}
 use Rattle.canonical_abi.specs.Values.{HaveTypes}
 use Rattle.tables.proofs.Standards.{function-standard}
@@ -28,7 +28,7 @@ returns-in-Ok-clause-flats g c =
 pub returns-in-Ok-clause-few : goal.returns-in-Ok-clause-few
 returns-in-Ok-clause-few g c =
     let d = c.in-Ok.ensures.ok in
-    passes-few _ (map value_of c.args.values.now) d.events c.in-Ok.flats.items d.scripted
+    passes-few 16 _ (map value_of c.args.values.now) d.events c.in-Ok.flats.items (omega arith) d.scripted
 
 pub returns-in-Err-clause-fault : goal.returns-in-Err-clause-fault
 returns-in-Err-clause-fault g c =
