@@ -10,7 +10,6 @@ ghost use Rattle.values.specs.Members.{AreInside, members_fields};
 ghost use Rattle.values.specs.Types.{IsInside};
 ghost use Rattle.tables.specs.Closed.{closed_type, prim_of};
 
-use crate::addresses::Elements;
 use crate::stopped::Stopped;
 use crate::walk::{Fields, Walk, are_bytes};
 use canonical_abi::{Flat, Guest, TrapKind};
@@ -20,6 +19,7 @@ use lift_lower::nodes::{
     write_bytes,
 };
 use lift_lower::{Flats, low_word, lower_scalar};
+use ranges::Elements;
 use tables::{Primitive, ValType};
 
 /// Carries on a primitive other than string.

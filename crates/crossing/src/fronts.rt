@@ -9,12 +9,12 @@ ghost use Rattle.crossing.specs.Outcome.{EachWalks, IsDone};
 ghost use Rattle.values.specs.Types.{IsInside};
 ghost use Rattle.tables.specs.Closed.{closed_type, prim_of};
 
-use crate::addresses::Elements;
 use crate::walk::Walk;
 use canonical_abi::Guest;
 use layout::Shape;
 use ranges::{
-    cross_bools, cross_chars, cross_flags, cross_numbers, cross_planned, number_width, plan_of,
+    Elements, cross_bools, cross_chars, cross_flags, cross_numbers, cross_planned, number_width,
+    plan_of,
 };
 use tables::{Primitive, ValType};
 
@@ -78,15 +78,7 @@ impl Walk<'_> {
         let Some(plan) = plan_of(self.types, element) else {
             return 0;
         };
-        cross_planned(
-            &plan,
-            self.source,
-            elements.from,
-            elements.count,
-            guest,
-            elements.to,
-            nodes,
-        )
+        cross_planned(&plan, self.source, elements, guest, nodes)
     }
 }
 
@@ -104,7 +96,7 @@ fn front_of_chars<G: Guest>(
     ensures crossed { IsDone G.allocates (EachWalks (prim_type scalar_value) source.now elements.from elements.to result)
         (G.memory guest.old) nodes.old (G.memory guest.new) nodes.new }
 {
-    let crossed = cross_chars(source, elements.from, elements.count, guest, elements.to);
+    let crossed = cross_chars(source, elements, guest);
     *nodes = nodes.saturating_add(crossed as u64);
     crossed
 }
@@ -123,7 +115,7 @@ fn front_of_bools<G: Guest>(
     ensures crossed { IsDone G.allocates (EachWalks (prim_type boolean) source.now elements.from elements.to result)
         (G.memory guest.old) nodes.old (G.memory guest.new) nodes.new }
 {
-    cross_bools(source, elements.from, elements.count, guest, elements.to);
+    cross_bools(source, elements, guest);
     *nodes = nodes.saturating_add(elements.count as u64);
     elements.count
 }
@@ -143,14 +135,7 @@ fn front_of_flags<G: Guest>(
     ensures crossed { IsDone G.allocates (EachWalks (flags_type labels) source.now elements.from elements.to result)
         (G.memory guest.old) nodes.old (G.memory guest.new) nodes.new }
 {
-    let crossed = cross_flags(
-        labels,
-        source,
-        elements.from,
-        elements.count,
-        guest,
-        elements.to,
-    );
+    let crossed = cross_flags(labels, source, elements, guest);
     *nodes = nodes.saturating_add(crossed as u64);
     crossed
 }
@@ -173,14 +158,7 @@ fn front_of_numbers<G: Guest>(
     let Some(width) = number_width(primitive) else {
         return 0;
     };
-    cross_numbers(
-        width,
-        source,
-        elements.from,
-        elements.count,
-        guest,
-        elements.to,
-    );
+    cross_numbers(width, source, elements, guest);
     *nodes = nodes.saturating_add(elements.count as u64);
     elements.count
 }

@@ -6,13 +6,13 @@ ghost use Rattle.values.specs.Types.{IsInside};
 ghost use Rattle.ranges.specs.Bytewise.{IsNumber};
 ghost use Rattle.tables.specs.Closed.{closed_type, prim_of};
 
-use crate::addresses::{Addresses, Elements};
+use crate::addresses::Addresses;
 use crate::stopped::Stopped;
 use canonical_abi::Guest;
 use layout::Shape;
 use lift_lower::Types;
 use lift_lower::nodes::{ask_block, test_block, u32_at, write_header};
-use ranges::{cross_numbers, number_width};
+use ranges::{Elements, cross_numbers, number_width};
 use tables::{Primitive, ValType};
 
 /// The number that a type is a list of.
@@ -64,7 +64,12 @@ pub(crate) fn cross_listed<G: Guest>(
         Err(kind) => return Err(Stopped::Target(kind)),
     };
     write_header(guest, at.to, place, count);
-    cross_numbers(width, source, start, count, guest, place);
+    let numbers = Elements {
+        from: start,
+        to: place,
+        count,
+    };
+    cross_numbers(width, source, numbers, guest);
     *nodes = nodes.saturating_add(count as u64);
     Ok(())
 }

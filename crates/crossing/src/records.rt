@@ -7,7 +7,7 @@ ghost use Rattle.crossing.specs.Steps.{IsLeaf, leaf_type, AreSteps, AreStepsOf};
 ghost use Rattle.values.specs.Types.{IsInside};
 ghost use Rattle.tables.specs.Closed.{closed_type};
 
-use crate::addresses::{Addresses, Elements};
+use crate::addresses::Addresses;
 use crate::leaves::{cross_flags, cross_primitive, cross_text};
 use crate::lists::{cross_listed, listed_number};
 use crate::stopped::Stopped;
@@ -17,6 +17,7 @@ use canonical_abi::Guest;
 use layout::Shape;
 use lift_lower::Types;
 use lift_lower::nodes::Members;
+use ranges::Elements;
 use tables::{Primitive, ValType};
 
 /// The most members of a record that has steps.

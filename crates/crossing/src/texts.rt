@@ -3,10 +3,11 @@ ghost use Rattle.std.specs.Prelude.{ℕ, ◌+◌, ◌*◌, ◌^◌, ◌<◌, ◌
 ghost use Rattle.canonical_abi.specs.Types.{string_type};
 ghost use Rattle.crossing.specs.Outcome.{EachWalks, Ends};
 
-use crate::addresses::{Addresses, Elements};
+use crate::addresses::Addresses;
 use crate::leaves::cross_text;
 use crate::stopped::Stopped;
 use canonical_abi::Guest;
+use ranges::Elements;
 
 /// Crosses so many texts one after another: a loop by itself, with no look at their type for each.
 #[inline(always)]

@@ -10,7 +10,7 @@ ghost use Rattle.values.specs.Types.{IsInside};
 ghost use Rattle.tables.specs.Closed.{closed_type};
 ghost use Rattle.crossing.specs.Outcome.{Walks, FieldsWalk, EachWalks, Behind, Ends};
 
-use crate::addresses::{Addresses, Elements};
+use crate::addresses::Addresses;
 use crate::fronts::LONG;
 use crate::leaves::{cross_flags, cross_primitive, cross_text};
 use crate::lists::{cross_lists, listed_number};
@@ -23,6 +23,7 @@ use lift_lower::nodes::{
     Members, ask_block, discriminant_bytes, number_of_size, test_block, u32_at, write_header,
     write_number,
 };
+use ranges::Elements;
 use tables::ValType;
 
 /// What values cross from: their types, and the bytes of the memory that holds them.

@@ -4,6 +4,7 @@ ghost use Rattle.canonical_abi.specs.Types.{ClosedType};
 ghost use Rattle.canonical_abi.specs.Layout.{size};
 ghost use Rattle.ranges.specs.Bytewise.{capped, IsBytewise, IsTested, HasCaps, Crosses, each_cap};
 
+use crate::elements::Elements;
 use canonical_abi::Guest;
 
 /// The bytes that are blended at one go.
@@ -47,63 +48,67 @@ fn blend(buffer: &mut [u8; 2048], caps: &[u8; 2048], old: &[u8], new: &[u8])
     }
 }
 
-/// Crosses the elements of one chunk, whose tests all stand, under the caps of its bytes.
+/// Crosses the elements of one chunk, whose tests all stand, under the caps of its bytes, which are counted.
 #[inline(always)]
 pub(crate) fn blend_chunk<G: Guest>(
     caps: &[u8; 2048],
     buffer: &mut [u8; 2048],
     source: &[u8],
-    start: usize,
-    part: usize,
+    bytes: Elements,
     guest: &mut G,
-    place: usize,
 )
-    requires few { part ≤ 2048 }
-    requires inside { start + part ≤ length source.now }
-    requires room { place + part ≤ length (G.memory guest.old).bytes }
-    requires small { place + part < 2 ^ 32 }
-    ensures crosses { (t : ClosedType) (n : ℕ) → IsBytewise t → n * size t ≡ part
-        → ((i : ℕ) → i < part → get_or caps.now i 0 ≡ each_cap t source.now start n i)
-        → ((i : ℕ) → i < n → IsTested t source.now (start + i * size t))
-        → Crosses t source.now start n G.allocates (G.memory guest.old) place (G.memory guest.new) }
+    requires few { bytes.count ≤ 2048 }
+    requires inside { bytes.from + bytes.count ≤ length source.now }
+    requires room { bytes.to + bytes.count ≤ length (G.memory guest.old).bytes }
+    requires small { bytes.to + bytes.count < 2 ^ 32 }
+    ensures crosses { (t : ClosedType) (n : ℕ) → IsBytewise t → n * size t ≡ bytes.count
+        → ((i : ℕ) → i < bytes.count → get_or caps.now i 0 ≡ each_cap t source.now bytes.from n i)
+        → ((i : ℕ) → i < n → IsTested t source.now (bytes.from + i * size t))
+        → Crosses t source.now bytes.from n G.allocates (G.memory guest.old) bytes.to (G.memory guest.new) }
     ensures same_length { length (G.memory guest.new).bytes ≡ length (G.memory guest.old).bytes }
 {
-    let new = &source[start..start + part];
-    let old = &guest.bytes()[place..place + part];
+    let new = &source[bytes.from..bytes.from + bytes.count];
+    let old = &guest.bytes()[bytes.to..bytes.to + bytes.count];
     blend(buffer, caps, old, new);
-    guest.write(place as u32, &buffer[..part]);
+    guest.write(bytes.to as u32, &buffer[..bytes.count]);
 }
 
 /// Crosses elements of a type that crosses byte by byte, whose tests all stand.
 pub(crate) fn cross_bytewise<G: Guest>(
     element: &Caps,
     source: &[u8],
-    from: usize,
-    count: usize,
+    elements: Elements,
     guest: &mut G,
-    to: usize,
 )
     requires some { 0 < element.now.size }
     requires few { element.now.size ≤ 64 }
-    requires inside { from + count * element.now.size ≤ length source.now }
-    requires room { to + count * element.now.size ≤ length (G.memory guest.old).bytes }
-    requires small { to + count * element.now.size < 2 ^ 32 }
+    requires inside { elements.from + elements.count * element.now.size ≤ length source.now }
+    requires room { elements.to + elements.count * element.now.size ≤ length (G.memory guest.old).bytes }
+    requires small { elements.to + elements.count * element.now.size < 2 ^ 32 }
     ensures crosses { (t : ClosedType) → IsBytewise t → HasCaps t element.now.size element.now.bytes
-        → ((i : ℕ) → i < count → IsTested t source.now (from + i * size t))
-        → Crosses t source.now from count G.allocates (G.memory guest.old) to (G.memory guest.new) }
+        → ((i : ℕ) → i < elements.count → IsTested t source.now (elements.from + i * size t))
+        → Crosses t source.now elements.from elements.count G.allocates (G.memory guest.old) elements.to (G.memory guest.new) }
     ensures same_length { length (G.memory guest.new).bytes ≡ length (G.memory guest.old).bytes }
 {
     let step = element.size;
     let mut caps = [0; 2048];
     let mut buffer = [0; 2048];
     let whole = CHUNK / step;
-    repeat(&mut caps, &element.bytes, step, whole.min(count) * step);
+    repeat(
+        &mut caps,
+        &element.bytes,
+        step,
+        whole.min(elements.count) * step,
+    );
     let mut done = 0;
-    while done < count {
-        let part = whole.min(count - done);
-        let start = from + done * step;
-        let place = to + done * step;
-        blend_chunk(&caps, &mut buffer, source, start, part * step, guest, place);
+    while done < elements.count {
+        let part = whole.min(elements.count - done);
+        let bytes = Elements {
+            from: elements.from + done * step,
+            to: elements.to + done * step,
+            count: part * step,
+        };
+        blend_chunk(&caps, &mut buffer, source, bytes, guest);
         done += part;
     }
 }
@@ -112,23 +117,24 @@ pub(crate) fn cross_bytewise<G: Guest>(
 pub(crate) fn cross_range<G: Guest>(
     element: &Caps,
     source: &[u8],
-    from: usize,
-    count: usize,
+    elements: Elements,
     guest: &mut G,
-    to: usize,
 )
     requires some { 0 < element.now.size }
     requires whole { (i : ℕ) → i < element.now.size → get_or element.now.bytes i 0 ≡ 255 }
-    requires inside { from + count * element.now.size ≤ length source.now }
-    requires room { to + count * element.now.size ≤ length (G.memory guest.old).bytes }
-    requires small { to + count * element.now.size < 2 ^ 32 }
+    requires inside { elements.from + elements.count * element.now.size ≤ length source.now }
+    requires room { elements.to + elements.count * element.now.size ≤ length (G.memory guest.old).bytes }
+    requires small { elements.to + elements.count * element.now.size < 2 ^ 32 }
     ensures crosses { (t : ClosedType) → IsBytewise t → HasCaps t element.now.size element.now.bytes
-        → ((i : ℕ) → i < count → IsTested t source.now (from + i * size t))
-        → Crosses t source.now from count G.allocates (G.memory guest.old) to (G.memory guest.new) }
+        → ((i : ℕ) → i < elements.count → IsTested t source.now (elements.from + i * size t))
+        → Crosses t source.now elements.from elements.count G.allocates (G.memory guest.old) elements.to (G.memory guest.new) }
     ensures same_length { length (G.memory guest.new).bytes ≡ length (G.memory guest.old).bytes }
 {
-    let total = count * element.size;
-    guest.write(to as u32, &source[from..from + total]);
+    let total = elements.count * element.size;
+    guest.write(
+        elements.to as u32,
+        &source[elements.from..elements.from + total],
+    );
 }
 
 /// Whether all bytes of an element cross as they are.
@@ -148,24 +154,22 @@ fn is_whole(element: &Caps) -> bool
 pub(crate) fn cross_capped<G: Guest>(
     element: &Caps,
     source: &[u8],
-    from: usize,
-    count: usize,
+    elements: Elements,
     guest: &mut G,
-    to: usize,
 )
     requires some { 0 < element.now.size }
     requires few { element.now.size ≤ 64 }
-    requires inside { from + count * element.now.size ≤ length source.now }
-    requires room { to + count * element.now.size ≤ length (G.memory guest.old).bytes }
-    requires small { to + count * element.now.size < 2 ^ 32 }
+    requires inside { elements.from + elements.count * element.now.size ≤ length source.now }
+    requires room { elements.to + elements.count * element.now.size ≤ length (G.memory guest.old).bytes }
+    requires small { elements.to + elements.count * element.now.size < 2 ^ 32 }
     ensures crosses { (t : ClosedType) → IsBytewise t → HasCaps t element.now.size element.now.bytes
-        → ((i : ℕ) → i < count → IsTested t source.now (from + i * size t))
-        → Crosses t source.now from count G.allocates (G.memory guest.old) to (G.memory guest.new) }
+        → ((i : ℕ) → i < elements.count → IsTested t source.now (elements.from + i * size t))
+        → Crosses t source.now elements.from elements.count G.allocates (G.memory guest.old) elements.to (G.memory guest.new) }
     ensures same_length { length (G.memory guest.new).bytes ≡ length (G.memory guest.old).bytes }
 {
     if is_whole(element) {
-        cross_range(element, source, from, count, guest, to);
+        cross_range(element, source, elements, guest);
     } else {
-        cross_bytewise(element, source, from, count, guest, to);
+        cross_bytewise(element, source, elements, guest);
     }
 }

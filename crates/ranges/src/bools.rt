@@ -4,6 +4,7 @@ ghost use Rattle.canonical_abi.specs.Types.{prim_type, boolean};
 ghost use Rattle.ranges.specs.Bytewise.{Crosses};
 
 use crate::blend::{Caps, cross_bytewise};
+use crate::elements::Elements;
 use canonical_abi::Guest;
 use values::bytes::largest_byte;
 
@@ -19,27 +20,30 @@ fn part_of(count: usize) -> usize
 }
 
 /// Crosses bools that are 0 and 1 alone, as one range.
-fn cross_plain<G: Guest>(source: &[u8], from: usize, count: usize, guest: &mut G, to: usize)
-    requires inside { from + count ≤ length source.now }
-    requires room { to + count ≤ length (G.memory guest.old).bytes }
-    requires small { to + count < 2 ^ 32 }
-    requires plain { (i : ℕ) → i < count → get_or source.now (from + i) 0 ≤ 1 }
-    ensures crosses { Crosses (prim_type boolean) source.now from count G.allocates (G.memory guest.old) to (G.memory guest.new) }
+fn cross_plain<G: Guest>(source: &[u8], elements: Elements, guest: &mut G)
+    requires inside { elements.from + elements.count ≤ length source.now }
+    requires room { elements.to + elements.count ≤ length (G.memory guest.old).bytes }
+    requires small { elements.to + elements.count < 2 ^ 32 }
+    requires plain { (i : ℕ) → i < elements.count → get_or source.now (elements.from + i) 0 ≤ 1 }
+    ensures crosses { Crosses (prim_type boolean) source.now elements.from elements.count G.allocates (G.memory guest.old) elements.to (G.memory guest.new) }
     ensures same_length { length (G.memory guest.new).bytes ≡ length (G.memory guest.old).bytes }
 {
-    guest.write(to as u32, &source[from..from + count]);
+    guest.write(
+        elements.to as u32,
+        &source[elements.from..elements.from + elements.count],
+    );
 }
 
 /// Crosses the bools of a chunk.
-fn cross_part<G: Guest>(source: &[u8], from: usize, count: usize, guest: &mut G, to: usize)
-    requires inside { from + count ≤ length source.now }
-    requires room { to + count ≤ length (G.memory guest.old).bytes }
-    requires small { to + count < 2 ^ 32 }
-    ensures crosses { Crosses (prim_type boolean) source.now from count G.allocates (G.memory guest.old) to (G.memory guest.new) }
+fn cross_part<G: Guest>(source: &[u8], elements: Elements, guest: &mut G)
+    requires inside { elements.from + elements.count ≤ length source.now }
+    requires room { elements.to + elements.count ≤ length (G.memory guest.old).bytes }
+    requires small { elements.to + elements.count < 2 ^ 32 }
+    ensures crosses { Crosses (prim_type boolean) source.now elements.from elements.count G.allocates (G.memory guest.old) elements.to (G.memory guest.new) }
     ensures same_length { length (G.memory guest.new).bytes ≡ length (G.memory guest.old).bytes }
 {
-    if largest_byte(&source[from..from + count]) <= 1 {
-        cross_plain(source, from, count, guest, to);
+    if largest_byte(&source[elements.from..elements.from + elements.count]) <= 1 {
+        cross_plain(source, elements, guest);
         return;
     }
     let bool = Caps {
@@ -47,22 +51,27 @@ fn cross_part<G: Guest>(source: &[u8], from: usize, count: usize, guest: &mut G,
         nodes: 1,
         bytes: [1; 256],
     };
-    cross_bytewise(&bool, source, from, count, guest, to);
+    cross_bytewise(&bool, source, elements, guest);
 }
 
 /// Crosses bools.
-pub fn cross_bools<G: Guest>(source: &[u8], from: usize, count: usize, guest: &mut G, to: usize)
-    requires inside { from + count ≤ length source.now }
-    requires room { to + count ≤ length (G.memory guest.old).bytes }
-    requires small { to + count < 2 ^ 32 }
-    ensures crosses { Crosses (prim_type boolean) source.now from count G.allocates (G.memory guest.old) to (G.memory guest.new) }
+pub fn cross_bools<G: Guest>(source: &[u8], elements: Elements, guest: &mut G)
+    requires inside { elements.from + elements.count ≤ length source.now }
+    requires room { elements.to + elements.count ≤ length (G.memory guest.old).bytes }
+    requires small { elements.to + elements.count < 2 ^ 32 }
+    ensures crosses { Crosses (prim_type boolean) source.now elements.from elements.count G.allocates (G.memory guest.old) elements.to (G.memory guest.new) }
     ensures same_length { length (G.memory guest.new).bytes ≡ length (G.memory guest.old).bytes }
 {
-    let most = part_of(count);
+    let most = part_of(elements.count);
     let mut done = 0;
-    while done < count {
-        let part = most.min(count - done);
-        cross_part(source, from + done, part, guest, to + done);
+    while done < elements.count {
+        let part = most.min(elements.count - done);
+        let chunk = Elements {
+            from: elements.from + done,
+            to: elements.to + done,
+            count: part,
+        };
+        cross_part(source, chunk, guest);
         done += part;
     }
 }

@@ -4,6 +4,7 @@ ghost use Rattle.std.specs.Int.{w64, to_le_bytes};
 ghost use Rattle.ranges.specs.Columns.{case_in, laid, columns_seen};
 
 use crate::columns::Column;
+use crate::elements::Strided;
 
 /// The eight caps at a place, as a number.
 #[inline(always)]
@@ -71,31 +72,29 @@ fn fill_rows(
     column: &Column,
     width: usize,
     source: &[u8],
-    from: usize,
-    step: usize,
-    count: usize,
+    elements: Strided,
 ) -> Option<u64>
     requires wide { column.now.rows.size ≡ width }
     requires some { 0 < width }
     requires short { width ≤ 16 }
     requires few_cases { column.now.rows.cases ≤ 16 }
-    requires within { column.now.at + width ≤ step }
-    requires few { count ≤ 2048 }
-    requires room { count * step ≤ 2048 }
-    requires inside { from + count * step ≤ length source.now }
-    ensures good { IfSome result (λ _. (e : ℕ) → e < count → case_in column.now source.now (from + e * step) < column.now.rows.cases) }
-    ensures caps { IfSome result (λ _. (e j : ℕ) → e < count → j < step → get_or caps.new (e * step + j) 0
-        ≡ laid column.now (case_in column.now source.now (from + e * step)) j (get_or caps.old (e * step + j) 0)) }
-    ensures nodes { IfSome result (λ k. k ≡ columns_seen (column.now ∷ []) step source.now from count) }
+    requires within { column.now.at + width ≤ elements.step }
+    requires few { elements.count ≤ 2048 }
+    requires room { elements.count * elements.step ≤ 2048 }
+    requires inside { elements.from + elements.count * elements.step ≤ length source.now }
+    ensures good { IfSome result (λ _. (e : ℕ) → e < elements.count → case_in column.now source.now (elements.from + e * elements.step) < column.now.rows.cases) }
+    ensures caps { IfSome result (λ _. (e j : ℕ) → e < elements.count → j < elements.step → get_or caps.new (e * elements.step + j) 0
+        ≡ laid column.now (case_in column.now source.now (elements.from + e * elements.step)) j (get_or caps.old (e * elements.step + j) 0)) }
+    ensures nodes { IfSome result (λ k. k ≡ columns_seen (column.now ∷ []) elements.step source.now elements.from elements.count) }
     ensures small { IfSome result (λ k. k ≤ 522240) }
 {
     let start = column.at;
     let cases = column.rows.cases;
     let mut bad: u64 = 0;
     let mut seen: u64 = 0;
-    for i in 0..count {
-        let place = i * step + start;
-        let case = usize::from(source[from + place]);
+    for i in 0..elements.count {
+        let place = i * elements.step + start;
+        let case = usize::from(source[elements.from + place]);
         bad += u64::from(case >= cases);
         seen += u64::from(column.rows.nodes[case % 16]);
         put_row(caps, place, &column.rows.caps, case % 16, width);
@@ -110,22 +109,20 @@ fn fill_two(
     column: &Column,
     width: usize,
     source: &[u8],
-    from: usize,
-    step: usize,
-    count: usize,
+    elements: Strided,
 ) -> Option<u64>
     requires wide { column.now.rows.size ≡ width }
     requires some { 0 < width }
     requires short { width ≤ 8 }
     requires two { column.now.rows.cases ≡ 2 }
-    requires within { column.now.at + width ≤ step }
-    requires few { count ≤ 2048 }
-    requires room { count * step ≤ 2048 }
-    requires inside { from + count * step ≤ length source.now }
-    ensures good { IfSome result (λ _. (e : ℕ) → e < count → case_in column.now source.now (from + e * step) < column.now.rows.cases) }
-    ensures caps { IfSome result (λ _. (e j : ℕ) → e < count → j < step → get_or caps.new (e * step + j) 0
-        ≡ laid column.now (case_in column.now source.now (from + e * step)) j (get_or caps.old (e * step + j) 0)) }
-    ensures nodes { IfSome result (λ k. k ≡ columns_seen (column.now ∷ []) step source.now from count) }
+    requires within { column.now.at + width ≤ elements.step }
+    requires few { elements.count ≤ 2048 }
+    requires room { elements.count * elements.step ≤ 2048 }
+    requires inside { elements.from + elements.count * elements.step ≤ length source.now }
+    ensures good { IfSome result (λ _. (e : ℕ) → e < elements.count → case_in column.now source.now (elements.from + e * elements.step) < column.now.rows.cases) }
+    ensures caps { IfSome result (λ _. (e j : ℕ) → e < elements.count → j < elements.step → get_or caps.new (e * elements.step + j) 0
+        ≡ laid column.now (case_in column.now source.now (elements.from + e * elements.step)) j (get_or caps.old (e * elements.step + j) 0)) }
+    ensures nodes { IfSome result (λ k. k ≡ columns_seen (column.now ∷ []) elements.step source.now elements.from elements.count) }
     ensures small { IfSome result (λ k. k ≤ 522240) }
 {
     let first = word_of(&column.rows.caps, 0);
@@ -133,9 +130,9 @@ fn fill_two(
     let start = column.at;
     let mut bad: u64 = 0;
     let mut seconds: u64 = 0;
-    for i in 0..count {
-        let place = i * step + start;
-        let case = case_at(source, from + place, width);
+    for i in 0..elements.count {
+        let place = i * elements.step + start;
+        let case = case_at(source, elements.from + place, width);
         bad += u64::from(case >= 2);
         seconds += case;
         let word = if case == 0 { first } else { second };
@@ -144,7 +141,7 @@ fn fill_two(
     if bad > 0 {
         return None;
     }
-    let firsts = count as u64 - seconds;
+    let firsts = elements.count as u64 - seconds;
     Some(firsts * u64::from(column.rows.nodes[0]) + seconds * u64::from(column.rows.nodes[1]))
 }
 
@@ -163,7 +160,12 @@ fn fill_part(caps: &mut [u8; 2048], column: &Column, part: &[u8], count: usize) 
     ensures nodes { IfSome result (λ k. k ≡ columns_seen (column.now ∷ []) 8 part.now 0 count) }
     ensures small { IfSome result (λ k. k ≤ 522240) }
 {
-    fill_two(caps, column, 8, part, 0, 8, count)
+    let elements = Strided {
+        from: 0,
+        step: 8,
+        count,
+    };
+    fill_two(caps, column, 8, part, elements)
 }
 
 /// The same of a memory from a place on.
@@ -196,35 +198,39 @@ pub(crate) fn fill_column(
     caps: &mut [u8; 2048],
     column: &Column,
     source: &[u8],
-    from: usize,
-    step: usize,
-    count: usize,
+    elements: Strided,
 ) -> Option<u64>
     requires some { 0 < column.now.rows.size }
     requires short { column.now.rows.size ≤ 16 }
     requires few_cases { column.now.rows.cases ≤ 16 }
-    requires within { column.now.at + column.now.rows.size ≤ step }
-    requires few { count ≤ 2048 }
-    requires room { count * step ≤ 2048 }
-    requires inside { from + count * step ≤ length source.now }
-    ensures good { IfSome result (λ _. (e : ℕ) → e < count → case_in column.now source.now (from + e * step) < column.now.rows.cases) }
-    ensures caps { IfSome result (λ _. (e j : ℕ) → e < count → j < step → get_or caps.new (e * step + j) 0
-        ≡ laid column.now (case_in column.now source.now (from + e * step)) j (get_or caps.old (e * step + j) 0)) }
-    ensures nodes { IfSome result (λ k. k ≡ columns_seen (column.now ∷ []) step source.now from count) }
+    requires within { column.now.at + column.now.rows.size ≤ elements.step }
+    requires few { elements.count ≤ 2048 }
+    requires room { elements.count * elements.step ≤ 2048 }
+    requires inside { elements.from + elements.count * elements.step ≤ length source.now }
+    ensures good { IfSome result (λ _. (e : ℕ) → e < elements.count → case_in column.now source.now (elements.from + e * elements.step) < column.now.rows.cases) }
+    ensures caps { IfSome result (λ _. (e j : ℕ) → e < elements.count → j < elements.step → get_or caps.new (e * elements.step + j) 0
+        ≡ laid column.now (case_in column.now source.now (elements.from + e * elements.step)) j (get_or caps.old (e * elements.step + j) 0)) }
+    ensures nodes { IfSome result (λ k. k ≡ columns_seen (column.now ∷ []) elements.step source.now elements.from elements.count) }
     ensures small { IfSome result (λ k. k ≤ 522240) }
 {
     match (column.rows.cases, column.rows.size) {
-        (2, 8) if step == 8 => fill_pairs(caps, column, source, from, count),
-        (2, 1) => fill_two(caps, column, 1, source, from, step, count),
-        (2, 2) => fill_two(caps, column, 2, source, from, step, count),
-        (2, 4) => fill_two(caps, column, 4, source, from, step, count),
-        (2, 8) => fill_two(caps, column, 8, source, from, step, count),
-        (_, 1) => fill_rows(caps, column, 1, source, from, step, count),
-        (_, 2) => fill_rows(caps, column, 2, source, from, step, count),
-        (_, 4) => fill_rows(caps, column, 4, source, from, step, count),
-        (_, 8) => fill_rows(caps, column, 8, source, from, step, count),
-        (_, 12) => fill_rows(caps, column, 12, source, from, step, count),
-        (_, 16) => fill_rows(caps, column, 16, source, from, step, count),
-        (_, width) => fill_rows(caps, column, width, source, from, step, count),
+        (2, 8) if elements.step == 8 => fill_pairs(
+            caps,
+            column,
+            source,
+            elements.from,
+            elements.count,
+        ),
+        (2, 1) => fill_two(caps, column, 1, source, elements),
+        (2, 2) => fill_two(caps, column, 2, source, elements),
+        (2, 4) => fill_two(caps, column, 4, source, elements),
+        (2, 8) => fill_two(caps, column, 8, source, elements),
+        (_, 1) => fill_rows(caps, column, 1, source, elements),
+        (_, 2) => fill_rows(caps, column, 2, source, elements),
+        (_, 4) => fill_rows(caps, column, 4, source, elements),
+        (_, 8) => fill_rows(caps, column, 8, source, elements),
+        (_, 12) => fill_rows(caps, column, 12, source, elements),
+        (_, 16) => fill_rows(caps, column, 16, source, elements),
+        (_, width) => fill_rows(caps, column, width, source, elements),
     }
 }

@@ -8,6 +8,7 @@ ghost use Rattle.canonical_abi.specs.Values.{is_scalar};
 ghost use Rattle.ranges.specs.Bytewise.{Crosses, IsTested};
 
 use crate::blend::{Caps, cross_range};
+use crate::elements::Elements;
 use canonical_abi::Guest;
 
 /// The most characters that are tested before they are written.
@@ -58,18 +59,12 @@ fn are_chars(memory: &[u8], from: usize, count: usize) -> bool
 }
 
 /// Crosses characters up to the chunk with the first that is none. Answers how many crossed.
-pub fn cross_chars<G: Guest>(
-    source: &[u8],
-    from: usize,
-    count: usize,
-    guest: &mut G,
-    to: usize,
-) -> usize
-    requires inside { from + count * 4 ≤ length source.now }
-    requires room { to + count * 4 ≤ length (G.memory guest.old).bytes }
-    requires small { to + count * 4 < 2 ^ 32 }
-    ensures within { result ≤ count }
-    ensures crosses { Crosses (prim_type scalar_value) source.now from result G.allocates (G.memory guest.old) to (G.memory guest.new) }
+pub fn cross_chars<G: Guest>(source: &[u8], elements: Elements, guest: &mut G) -> usize
+    requires inside { elements.from + elements.count * 4 ≤ length source.now }
+    requires room { elements.to + elements.count * 4 ≤ length (G.memory guest.old).bytes }
+    requires small { elements.to + elements.count * 4 < 2 ^ 32 }
+    ensures within { result ≤ elements.count }
+    ensures crosses { Crosses (prim_type scalar_value) source.now elements.from result G.allocates (G.memory guest.old) elements.to (G.memory guest.new) }
     ensures same_length { length (G.memory guest.new).bytes ≡ length (G.memory guest.old).bytes }
 {
     let char = Caps {
@@ -78,13 +73,18 @@ pub fn cross_chars<G: Guest>(
         bytes: [255; 256],
     };
     let mut done = 0;
-    while done < count {
-        let part = CHARS.min(count - done);
-        let start = from + done * 4;
+    while done < elements.count {
+        let part = CHARS.min(elements.count - done);
+        let start = elements.from + done * 4;
         if !are_chars(source, start, part) {
             return done;
         }
-        cross_range(&char, source, start, part, guest, to + done * 4);
+        let chunk = Elements {
+            from: start,
+            to: elements.to + done * 4,
+            count: part,
+        };
+        cross_range(&char, source, chunk, guest);
         done += part;
     }
     done

@@ -6,6 +6,7 @@ ghost use Rattle.ranges.specs.Columns.{overlaid, HaveCases, columns_seen, AreBef
 
 use crate::blend::{blend_chunk, repeat};
 use crate::cases::fill_column;
+use crate::elements::{Elements, Strided};
 use crate::planned::Plan;
 use crate::rows::Rows;
 use canonical_abi::Guest;
@@ -37,26 +38,24 @@ fn fill_columns(
     caps: &mut [u8; 2048],
     columns: &[Column],
     source: &[u8],
-    from: usize,
-    step: usize,
-    count: usize,
+    elements: Strided,
 ) -> Option<u64>
     requires few_columns { length columns.now ≤ 8 }
-    requires before { AreBefore step columns.now }
-    requires few { count ≤ 2048 }
-    requires room { count * step ≤ 2048 }
-    requires inside { from + count * step ≤ length source.now }
-    ensures good { IfSome result (λ _. (e : ℕ) → e < count → HaveCases columns.now source.now (from + e * step)) }
-    ensures caps { IfSome result (λ _. (e j : ℕ) → e < count → j < step → get_or caps.new (e * step + j) 0
-        ≡ overlaid columns.now source.now (from + e * step) j (get_or caps.old (e * step + j) 0)) }
-    ensures nodes { IfSome result (λ k. k ≡ columns_seen columns.now step source.now from count) }
+    requires before { AreBefore elements.step columns.now }
+    requires few { elements.count ≤ 2048 }
+    requires room { elements.count * elements.step ≤ 2048 }
+    requires inside { elements.from + elements.count * elements.step ≤ length source.now }
+    ensures good { IfSome result (λ _. (e : ℕ) → e < elements.count → HaveCases columns.now source.now (elements.from + e * elements.step)) }
+    ensures caps { IfSome result (λ _. (e j : ℕ) → e < elements.count → j < elements.step → get_or caps.new (e * elements.step + j) 0
+        ≡ overlaid columns.now source.now (elements.from + e * elements.step) j (get_or caps.old (e * elements.step + j) 0)) }
+    ensures nodes { IfSome result (λ k. k ≡ columns_seen columns.now elements.step source.now elements.from elements.count) }
     ensures small { IfSome result (λ k. k ≤ length columns.now * 522240) }
 {
     match columns {
         [] => Some(0),
         [column, rest @ ..] => {
-            let seen = fill_column(caps, column, source, from, step, count)?;
-            let others = fill_columns(caps, rest, source, from, step, count)?;
+            let seen = fill_column(caps, column, source, elements)?;
+            let others = fill_columns(caps, rest, source, elements)?;
             Some(seen + others)
         }
     }
@@ -67,40 +66,52 @@ fn fill_columns(
 pub(crate) fn cross_columns<G: Guest>(
     plan: &Plan,
     source: &[u8],
-    from: usize,
-    count: usize,
+    elements: Elements,
     guest: &mut G,
-    to: usize,
     nodes: &mut u64,
 ) -> usize
     requires some { 0 < plan.now.plain.size }
     requires few { plan.now.plain.size ≤ 64 }
     requires before { AreBefore plan.now.plain.size plan.now.columns.items }
-    requires inside { from + count * plan.now.plain.size ≤ length source.now }
-    requires room { to + count * plan.now.plain.size ≤ length (G.memory guest.old).bytes }
-    requires small { to + count * plan.now.plain.size < 2 ^ 32 }
-    ensures within { result ≤ count }
+    requires inside { elements.from + elements.count * plan.now.plain.size ≤ length source.now }
+    requires room { elements.to + elements.count * plan.now.plain.size ≤ length (G.memory guest.old).bytes }
+    requires small { elements.to + elements.count * plan.now.plain.size < 2 ^ 32 }
+    ensures within { result ≤ elements.count }
     ensures crosses { (t : ClosedType) → HasPlan t plan.now
-        → Crosses t source.now from result G.allocates (G.memory guest.old) to (G.memory guest.new) }
+        → Crosses t source.now elements.from result G.allocates (G.memory guest.old) elements.to (G.memory guest.new) }
     ensures visited { (t : ClosedType) → HasPlan t plan.now
-        → min nodes.new (2 ^ 64 - 1) ≡ min (nodes.old + each_nodes t source.now from result) (2 ^ 64 - 1) }
+        → min nodes.new (2 ^ 64 - 1) ≡ min (nodes.old + each_nodes t source.now elements.from result) (2 ^ 64 - 1) }
     ensures same_length { length (G.memory guest.new).bytes ≡ length (G.memory guest.old).bytes }
 {
     let mut caps = [0; 2048];
     let mut buffer = [0; 2048];
     let step = plan.plain.size;
     let whole = CHUNK / step;
-    repeat(&mut caps, &plan.plain.bytes, step, whole.min(count) * step);
+    repeat(
+        &mut caps,
+        &plan.plain.bytes,
+        step,
+        whole.min(elements.count) * step,
+    );
     let mut done = 0;
-    while done < count {
-        let part = whole.min(count - done);
-        let start = from + done * step;
+    while done < elements.count {
+        let part = whole.min(elements.count - done);
+        let start = elements.from + done * step;
+        let chunk = Strided {
+            from: start,
+            step,
+            count: part,
+        };
         let columns = plan.columns.as_slice();
-        let Some(seen) = fill_columns(&mut caps, columns, source, start, step, part) else {
+        let Some(seen) = fill_columns(&mut caps, columns, source, chunk) else {
             return done;
         };
-        let place = to + done * step;
-        blend_chunk(&caps, &mut buffer, source, start, part * step, guest, place);
+        let bytes = Elements {
+            from: start,
+            to: elements.to + done * step,
+            count: part * step,
+        };
+        blend_chunk(&caps, &mut buffer, source, bytes, guest);
         let own = part as u64 * u64::from(plan.plain.nodes);
         *nodes = nodes.saturating_add(seen + own);
         done += part;

@@ -6,6 +6,7 @@ ghost use Rattle.canonical_abi.specs.Types.{flags_type};
 ghost use Rattle.ranges.specs.Bytewise.{Crosses};
 
 use crate::blend::{Caps, cross_range};
+use crate::elements::Elements;
 use canonical_abi::Guest;
 use values::bytes::{flags_bytes, low_flags, number_of_size};
 
@@ -59,16 +60,14 @@ fn are_flags(labels: usize, memory: &[u8], from: usize, count: usize) -> bool
 pub fn cross_flags<G: Guest>(
     labels: usize,
     source: &[u8],
-    from: usize,
-    count: usize,
+    elements: Elements,
     guest: &mut G,
-    to: usize,
 ) -> usize
-    requires inside { from + count * flags_size labels ≤ length source.now }
-    requires room { to + count * flags_size labels ≤ length (G.memory guest.old).bytes }
-    requires small { to + count * flags_size labels < 2 ^ 32 }
-    ensures within { result ≤ count }
-    ensures crosses { Crosses (flags_type labels) source.now from result G.allocates (G.memory guest.old) to (G.memory guest.new) }
+    requires inside { elements.from + elements.count * flags_size labels ≤ length source.now }
+    requires room { elements.to + elements.count * flags_size labels ≤ length (G.memory guest.old).bytes }
+    requires small { elements.to + elements.count * flags_size labels < 2 ^ 32 }
+    ensures within { result ≤ elements.count }
+    ensures crosses { Crosses (flags_type labels) source.now elements.from result G.allocates (G.memory guest.old) elements.to (G.memory guest.new) }
     ensures same_length { length (G.memory guest.new).bytes ≡ length (G.memory guest.old).bytes }
 {
     let step = flags_bytes(labels);
@@ -78,13 +77,18 @@ pub fn cross_flags<G: Guest>(
         bytes: [255; 256],
     };
     let mut done = 0;
-    while done < count {
-        let part = FLAGS.min(count - done);
-        let start = from + done * step;
+    while done < elements.count {
+        let part = FLAGS.min(elements.count - done);
+        let start = elements.from + done * step;
         if !are_flags(labels, source, start, part) {
             return done;
         }
-        cross_range(&flags, source, start, part, guest, to + done * step);
+        let chunk = Elements {
+            from: start,
+            to: elements.to + done * step,
+            count: part,
+        };
+        cross_range(&flags, source, chunk, guest);
         done += part;
     }
     done

@@ -5,6 +5,7 @@ ghost use Rattle.canonical_abi.specs.Layout.{size};
 ghost use Rattle.ranges.specs.Bytewise.{IsNumber, Crosses};
 ghost use Rattle.tables.specs.Closed.{prim_of};
 
+use crate::elements::Elements;
 use canonical_abi::Guest;
 use tables::Primitive;
 
@@ -22,20 +23,16 @@ pub fn number_width(primitive: Primitive) -> Option<usize>
 }
 
 /// Crosses numbers of so many bytes each, as one range.
-pub fn cross_numbers<G: Guest>(
-    width: usize,
-    source: &[u8],
-    from: usize,
-    count: usize,
-    guest: &mut G,
-    to: usize,
-)
-    requires inside { from + count * width ≤ length source.now }
-    requires room { to + count * width ≤ length (G.memory guest.old).bytes }
-    requires small { to + count * width < 2 ^ 32 }
-    ensures crosses { (p : Prim) → IsNumber p → width ≡ size (prim_type p) → Crosses (prim_type p) source.now from count G.allocates (G.memory guest.old) to (G.memory guest.new) }
+pub fn cross_numbers<G: Guest>(width: usize, source: &[u8], elements: Elements, guest: &mut G)
+    requires inside { elements.from + elements.count * width ≤ length source.now }
+    requires room { elements.to + elements.count * width ≤ length (G.memory guest.old).bytes }
+    requires small { elements.to + elements.count * width < 2 ^ 32 }
+    ensures crosses { (p : Prim) → IsNumber p → width ≡ size (prim_type p) → Crosses (prim_type p) source.now elements.from elements.count G.allocates (G.memory guest.old) elements.to (G.memory guest.new) }
     ensures same_length { length (G.memory guest.new).bytes ≡ length (G.memory guest.old).bytes }
 {
-    let total = count * width;
-    guest.write(to as u32, &source[from..from + total]);
+    let total = elements.count * width;
+    guest.write(
+        elements.to as u32,
+        &source[elements.from..elements.from + total],
+    );
 }

@@ -13,6 +13,7 @@ ghost use Rattle.tables.specs.Closed.{closed_type};
 use crate::blend::{Caps, cross_capped};
 use crate::caps::fill;
 use crate::columns::{Column, cross_columns};
+use crate::elements::Elements;
 use crate::rows::rows_of;
 use arrayvec::ArrayVec;
 use canonical_abi::Guest;
@@ -59,27 +60,25 @@ pub fn plan_of(table: &Types, ty: ValType) -> Option<Plan>
 fn cross_plain<G: Guest>(
     plain: &Caps,
     source: &[u8],
-    from: usize,
-    count: usize,
+    elements: Elements,
     guest: &mut G,
-    to: usize,
     nodes: &mut u64,
 ) -> usize
     requires some { 0 < plain.now.size }
     requires few { plain.now.size ≤ 64 }
-    requires inside { from + count * plain.now.size ≤ length source.now }
-    requires room { to + count * plain.now.size ≤ length (G.memory guest.old).bytes }
-    requires small { to + count * plain.now.size < 2 ^ 32 }
-    ensures all { result ≡ count }
+    requires inside { elements.from + elements.count * plain.now.size ≤ length source.now }
+    requires room { elements.to + elements.count * plain.now.size ≤ length (G.memory guest.old).bytes }
+    requires small { elements.to + elements.count * plain.now.size < 2 ^ 32 }
+    ensures all { result ≡ elements.count }
     ensures crosses { (t : ClosedType) → HasPlain t plain.now
-        → Crosses t source.now from result G.allocates (G.memory guest.old) to (G.memory guest.new) }
+        → Crosses t source.now elements.from result G.allocates (G.memory guest.old) elements.to (G.memory guest.new) }
     ensures visited { (t : ClosedType) → HasPlain t plain.now
-        → min nodes.new (2 ^ 64 - 1) ≡ min (nodes.old + each_nodes t source.now from result) (2 ^ 64 - 1) }
+        → min nodes.new (2 ^ 64 - 1) ≡ min (nodes.old + each_nodes t source.now elements.from result) (2 ^ 64 - 1) }
     ensures same_length { length (G.memory guest.new).bytes ≡ length (G.memory guest.old).bytes }
 {
-    cross_capped(plain, source, from, count, guest, to);
-    *nodes = nodes.saturating_add((count * usize::from(plain.nodes)) as u64);
-    count
+    cross_capped(plain, source, elements, guest);
+    *nodes = nodes.saturating_add((elements.count * usize::from(plain.nodes)) as u64);
+    elements.count
 }
 
 /// Crosses elements up to the chunk with the first fault. Answers how many crossed, and `nodes` grows by their nodes, as far as
@@ -87,27 +86,25 @@ fn cross_plain<G: Guest>(
 pub fn cross_planned<G: Guest>(
     plan: &Plan,
     source: &[u8],
-    from: usize,
-    count: usize,
+    elements: Elements,
     guest: &mut G,
-    to: usize,
     nodes: &mut u64,
 ) -> usize
     requires bounded { IsBounded plan.now }
-    requires inside { from + count * plan.now.plain.size ≤ length source.now }
-    requires room { to + count * plan.now.plain.size ≤ length (G.memory guest.old).bytes }
-    requires small { to + count * plan.now.plain.size < 2 ^ 32 }
-    ensures within { result ≤ count }
+    requires inside { elements.from + elements.count * plan.now.plain.size ≤ length source.now }
+    requires room { elements.to + elements.count * plan.now.plain.size ≤ length (G.memory guest.old).bytes }
+    requires small { elements.to + elements.count * plan.now.plain.size < 2 ^ 32 }
+    ensures within { result ≤ elements.count }
     ensures crosses { (t : ClosedType) → HasPlan t plan.now
-        → Crosses t source.now from result G.allocates (G.memory guest.old) to (G.memory guest.new) }
+        → Crosses t source.now elements.from result G.allocates (G.memory guest.old) elements.to (G.memory guest.new) }
     ensures visited { (t : ClosedType) → HasPlan t plan.now
-        → min nodes.new (2 ^ 64 - 1) ≡ min (nodes.old + each_nodes t source.now from result) (2 ^ 64 - 1) }
+        → min nodes.new (2 ^ 64 - 1) ≡ min (nodes.old + each_nodes t source.now elements.from result) (2 ^ 64 - 1) }
     ensures same_length { length (G.memory guest.new).bytes ≡ length (G.memory guest.old).bytes }
 {
     if plan.columns.is_empty() {
-        cross_plain(&plan.plain, source, from, count, guest, to, nodes)
+        cross_plain(&plan.plain, source, elements, guest, nodes)
     } else {
-        cross_columns(plan, source, from, count, guest, to, nodes)
+        cross_columns(plan, source, elements, guest, nodes)
     }
 }
 

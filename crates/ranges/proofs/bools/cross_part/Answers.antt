@@ -8,7 +8,7 @@ pub cross_plain-requires-clause-plain : goal.cross_plain-requires-clause-plain
 cross_plain-requires-clause-plain g c = λ i h.
     let m = c.args.source.now in
     let low = c.largest_byte.ensures i in
-    let e = part-get m c.args.from c.args.count i h in
+    let e = part-get m c.args.elements.from c.args.elements.count i h in
     let at_most = rw e at low in
     omega (arith, at_most)
 
