@@ -1,11 +1,13 @@
 -- The parts of a call, put together from how its ways ended.
-use Rattle.std.proofs.Common.{◌≡◌, ◌^◌, ◌<◌, inl, inr, ℕ, Bool, true, false, if◌then◌else◌, List, [], ◌∷◌, ◌++◌, length, map, take, Option, Some, None, Result, Ok, Err, refl, sym, ap, ◌∙◌, arith}
+use Rattle.std.proofs.Common.{◌≡◌, ◌^◌, ◌<◌, ◌≤◌, inl, inr, ℕ, Bool, true, false, if◌then◌else◌, List, [], ◌∷◌, ◌++◌, length, map, take, Option, Some, None, Result, Ok, Err, refl, sym, ap, ◌∙◌, arith}
 use Rattle.std.proofs.Math.Seq.{take-append_seam, take-length}
-use Rattle.std.proofs.lemmas.List.{take-map}
+use Rattle.std.proofs.lemmas.Bool.{leb-true}
+use Rattle.std.proofs.lemmas.List.{length-map, take-map}
 use Rattle.canonical_abi.specs.Types.{FunctionType, Fields, result_fields}
-use Rattle.canonical_abi.specs.Layout.{CoreSignature, lifted_signature, max_flat_params, max_flat_results, fits_flat, passed_kinds}
+use Rattle.canonical_abi.specs.Layout.{CoreSignature, lifted_signature, max_flat_params, max_flat_results, field_kinds, fits_flat, passed_kinds}
 use Rattle.canonical_abi.specs.Reading.{low_bits, kind_of, number_of}
 use Rattle.canonical_abi.specs.Guest.{Memory, Allocation}
+use Rattle.canonical_abi.specs.Lowering.{PassesResult}
 use Rattle.canonical_abi.specs.Script.{AddressFaulty}
 use Rattle.canonical_abi.specs.Trace.{Event, grant}
 use Rattle.canonical_abi.specs.Call.{area_of, argument_flats, KindsFit}
@@ -16,6 +18,7 @@ use Rattle.canonical_abi.specs.declared.trap.Fault.{Fault}
 use Rattle.canonical_abi.specs.declared.trap.Fault.TheVariants as ended
 use Rattle.canonical_abi.specs.declared.trap.Step.TheVariants as step
 use Rattle.canonical_abi.specs.declared.trap.TrapKind.{TrapKind}
+use Rattle.canonical_abi.proofs.Lifted.{fields-lower-kinds}
 use Rattle.crossing.specs.Outcome.{Counts, IsDone, MetFault, WasRefused}
 use Rattle.crossing.specs.Ways.{ParamsWalk, ResultWalk, AreaIsBad, IsUnbegun, WayEnds}
 use Rattle.crossing.specs.declared.stopped.Stopped.{Stopped}
@@ -158,3 +161,17 @@ pub return-fails : (allocates : Allocation) (f : FunctionType) (flats : List Fla
     → LeaveFails allocates f flats m answer old fault new c → ReturnFails allocates f flats m answer old fault new c
 return-fails allocates f flats m answer old fault new c kinds (inl (others, is, same, none)) = absurd (others kinds)
 return-fails allocates f flats m answer old fault new c kinds (inr (own, fails)) = fails
+
+-- at most one core value is given back
+pub returned-few : (allocates : Allocation) (f : FunctionType) (flats : List Flat) (m : List ℕ) (answer : List Flat) (old : Memory) (given : List Flat) (new : Memory) (c : ℕ)
+    → HasReturned allocates f flats m answer old given new c → length given ≤ 1
+returned-few allocates f flats m answer old given new c h = by h.2.passes
+  where
+    ts : Fields
+    ts = result_fields f.result
+
+    by : PassesResult max_flat_results ts (area_of f flats) h.0 h.1 given → length given ≤ 1
+    by (inl (fits, lowered)) =
+        let kinds : length given ≡ length (field_kinds ts) = sym (length-map given kind_of) ∙ ap length (fields-lower-kinds ts h.0 h.1 given lowered) in
+        omega (arith, leb-true _ _ fits, kinds)
+    by (inr s) = let none : length given ≡ 0 = ap length s.2 in omega (arith, none)

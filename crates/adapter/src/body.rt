@@ -4,8 +4,8 @@ ghost use Rattle.std.specs.Result.{result_ok};
 ghost use Rattle.canonical_abi.specs.Call.{Run, PostRun, AllowsSameRuns, AllowsSamePosts};
 
 use canonical_abi::Flat;
-use lift_lower::Flats;
 use memory::{Guest, Space};
+use values::FlatResults;
 
 /// A core function's end without an answer.
 #[derive(Clone, Copy, Debug)]
@@ -24,7 +24,7 @@ pub trait Body<G: Guest> {
     ghost posts: { Self → PostRun };
 
     /// Runs the core function on these flat values.
-    fn call(&mut self, memory: &mut G, arguments: &[Flat]) -> Result<Flats, Stopped>
+    fn call(&mut self, memory: &mut G, arguments: &[Flat]) -> Result<FlatResults, Stopped>
         ensures run { runs self.old (state self.old) (G.memory memory.old) arguments.now
             (state self.new) (G.memory memory.new) (option_map (λ flats. flats.items) (result_ok result)) }
         ensures same_runs { AllowsSameRuns (runs self.old) (runs self.new) }
@@ -46,7 +46,7 @@ pub trait Export: Drop {
 
     ghost posts: { Self → PostRun };
 
-    fn call(&mut self, memory: &mut Space, arguments: &[Flat]) -> Result<Flats, Stopped>
+    fn call(&mut self, memory: &mut Space, arguments: &[Flat]) -> Result<FlatResults, Stopped>
         ensures run { runs self.old (state self.old) (⟦<Space as Guest>⟧.memory memory.old) arguments.now
             (state self.new) (⟦<Space as Guest>⟧.memory memory.new) (option_map (λ flats. flats.items) (result_ok result)) }
         ensures same_runs { AllowsSameRuns (runs self.old) (runs self.new) }
@@ -81,7 +81,7 @@ impl Body<Space> for BoxedBody {
 
     ghost posts = { λ b. (Export-box b.export).posts b.export.value };
 
-    fn call(&mut self, memory: &mut Space, arguments: &[Flat]) -> Result<Flats, Stopped> {
+    fn call(&mut self, memory: &mut Space, arguments: &[Flat]) -> Result<FlatResults, Stopped> {
         self.export.call(memory, arguments)
     }
 

@@ -2,7 +2,8 @@
 //!
 //! `Link::call` carries the promise: for any caller, callee and body, honest or not, it is the call relation
 //! of `canonical_abi`. A `Body` is what stands behind a component's functions, and a `BoxedBody` one that is
-//! chosen when the program runs. Stands on `lift_lower` (values), `memory` (guests) and `tables` (types).
+//! chosen when the program runs. Stands on `crossing` (both ways of a call), `values` (lists of core values, types)
+//! and `memory` (guests).
 #![tactic(auto)]
 
 mod arguments;

@@ -27,9 +27,9 @@ use asking::Request;
 use canonical_abi::{Fault, Flat, Guest, Step, TrapKind};
 use crossing::Walk;
 use layout::Layouts;
-use lift_lower::{Flats, Types};
 use std::marker::Model;
 use tables::{FunctionId, Resolve};
+use values::{FlatResults, Flats, Types, flat_results};
 
 /// Calls functions of one component from another, whose package is the same.
 #[derive(Drop)]
@@ -206,7 +206,7 @@ impl<'a> Link<'a> {
         caller: &mut C,
         callee: &mut E,
         body: &mut B,
-    ) -> Result<Flats, Fault>
+    ) -> Result<FlatResults, Fault>
         requires function { IsFunction self.old.resolve func }
         ensures call { (ways : Ways) × Calls
             (record { caller_allocates = C.allocates; callee_allocates = E.allocates; runs = B.runs body.old; posts = B.posts body.old })
@@ -249,6 +249,6 @@ impl<'a> Link<'a> {
         let Ok(()) = body.post_return(callee, answer) else {
             return Err(trap(TrapKind::Body, Step::Post));
         };
-        Ok(given)
+        Ok(flat_results(given.as_slice()))
     }
 }

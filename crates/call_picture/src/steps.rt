@@ -9,7 +9,9 @@ use crate::call::{Call, result_type};
 use crate::course::{Course, copied};
 use adapter::{Invocation, Link};
 use canonical_abi::{Fault, Flat, Step, Trap, TrapKind};
-use lift_lower::{Flats, Val, ask_area, is_area, lower_answer, lower_arguments, take_result};
+use lift_lower::{
+    FlatResults, Flats, Val, ask_area, is_area, lower_answer, lower_arguments, take_result,
+};
 
 fn trap(kind: TrapKind, step: Step) -> Fault {
     Fault::Trap(Trap { kind, step })
@@ -47,14 +49,14 @@ impl Call<'_> {
     }
 
     /// Puts the answer into the callee, in place of a core function.
-    fn run_body(&self, course: &mut Course, answer: &[Val]) -> Result<Flats, Fault>
+    fn run_body(&self, course: &mut Course, answer: &[Val]) -> Result<FlatResults, Fault>
         requires { HaveTypes (map value_of answer.now) (fields_of_types self.now.resolve.now self.now.results.items) }
     {
         let types = self.results.as_slice();
         match lower_answer(&self.table(), types, answer, &mut course.callee) {
-            Ok(flats) => {
-                course.answered = Some(copied(self.alloc, flats.as_slice())?);
-                Ok(flats)
+            Ok(answer) => {
+                course.answered = Some(copied(self.alloc, answer.as_slice())?);
+                Ok(answer)
             }
             Err(_) => Err(trap(TrapKind::Body, Step::Body)),
         }

@@ -1,7 +1,7 @@
 //! The code behind `upper: func(s: string) -> string`.
 
 use std::alloc::Global;
-use witcall::{Body, Flat, Flats, Guest, Stopped, str_at};
+use witcall::{Body, Flat, FlatResults, Guest, Stopped, str_at};
 
 /// A body that answers a text of ASCII with its small letters made capitals, and stops at any other text.
 #[derive(Drop)]
@@ -28,7 +28,7 @@ impl<G: Guest> Body<G> for Upper {
     // Its post-return changes nothing.
     ghost posts = { λ _ s m _ s' m' done. (s' ≡ s) × (m' ≡ m) × (done ≡ Some tt) };
 
-    fn call(&mut self, memory: &mut G, arguments: &[Flat]) -> Result<Flats, Stopped> {
+    fn call(&mut self, memory: &mut G, arguments: &[Flat]) -> Result<FlatResults, Stopped> {
         // A string is given as its address and its length.
         let [Flat::I32(at), Flat::I32(len)] = arguments else {
             return Err(Stopped);
@@ -44,9 +44,9 @@ impl<G: Guest> Body<G> for Upper {
         };
         let pair = u64::from(to) | u64::from(*len) << 32;
         put(memory, area, pair.to_le_bytes().as_slice())?;
-        let mut flats = Flats::new();
-        flats.push(Flat::I32(area));
-        Ok(flats)
+        let mut answer = FlatResults::new();
+        answer.push(Flat::I32(area));
+        Ok(answer)
     }
 
     fn post_return(&mut self, _memory: &mut G, _answer: &[Flat]) -> Result<(), Stopped> {

@@ -5,13 +5,13 @@ ghost use Rattle.example_host_halves.specs.Promise.{RunsOnBytes, PostsOnBytes};
 
 use adapter::Stopped;
 use canonical_abi::{Callee, Flat};
-use lift_lower::Flats;
+use lift_lower::FlatResults;
 
 /// The callee's core function and its post-return, which an engine runs over the bytes of the callee's memory. They may make the runs that
 /// `Callee` tells, whatever is live in the memory, and keep nothing but what they write there.
 pub trait CoreFunction: Callee {
     /// Runs the core function on these flat values.
-    fn run(&self, memory: &mut [u8], arguments: &[Flat]) -> Result<Flats, Stopped>
+    fn run(&self, memory: &mut [u8], arguments: &[Flat]) -> Result<FlatResults, Stopped>
         ensures { RunsOnBytes (Self.runs self.now) memory.old arguments.now memory.new (option_map (λ flats. flats.items) (result_ok result)) };
 
     /// Runs the post-return on what the core function answered.
@@ -35,7 +35,7 @@ impl Callee for Doubling {
 }
 
 impl CoreFunction for Doubling {
-    fn run(&self, memory: &mut [u8], arguments: &[Flat]) -> Result<Flats, Stopped> {
+    fn run(&self, memory: &mut [u8], arguments: &[Flat]) -> Result<FlatResults, Stopped> {
         let [Flat::I32(at), Flat::I32(len)] = arguments else {
             return Err(Stopped);
         };
@@ -49,7 +49,7 @@ impl CoreFunction for Doubling {
         }
         memory[8..12].copy_from_slice(&at.to_le_bytes());
         memory[12..16].copy_from_slice(&len.to_le_bytes());
-        let mut answer = Flats::new();
+        let mut answer = FlatResults::new();
         answer.push(Flat::I32(8));
         Ok(answer)
     }

@@ -5,7 +5,7 @@ ghost use Rattle.std.specs.Prelude.{◌<◌, vec_len};
 use crate::packages::function;
 use adapter::{Body, Link, Stopped};
 use canonical_abi::{Flat, Full, Guest, NotTaken};
-use lift_lower::Flats;
+use lift_lower::FlatResults;
 use std::alloc::Global;
 use std::process::Abort;
 use std::test::Fail;
@@ -62,10 +62,10 @@ impl<G: Guest> Body<G> for Constant {
 
     ghost posts = { λ _ s m f s' m' a. (s' ≡ s) × (m' ≡ m) × (a ≡ Some tt) };
 
-    fn call(&mut self, _memory: &mut G, _arguments: &[Flat]) -> Result<Flats, Stopped> {
-        let mut flats = Flats::new();
-        flats.push(self.0);
-        Ok(flats)
+    fn call(&mut self, _memory: &mut G, _arguments: &[Flat]) -> Result<FlatResults, Stopped> {
+        let mut answer = FlatResults::new();
+        answer.push(self.0);
+        Ok(answer)
     }
 
     fn post_return(&mut self, _memory: &mut G, _answer: &[Flat]) -> Result<(), Stopped> {
@@ -80,7 +80,7 @@ fn memory(alloc: Global) -> Fixed {
 }
 
 /// What a call of `f` answers over two such memories.
-fn called(package: &Package, caller: &mut Fixed, callee: &mut Fixed) -> Result<Flats, Fail> {
+fn called(package: &Package, caller: &mut Fixed, callee: &mut Fixed) -> Result<FlatResults, Fail> {
     let f = function(package)?;
     let mut link = Link::new(package.resolve(), package.layouts());
     let mut body = Constant(Flat::I32(8));

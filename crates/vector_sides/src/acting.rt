@@ -2,7 +2,7 @@
 
 use adapter::{Body, Stopped};
 use canonical_abi::{Flat, Guest};
-use lift_lower::Flats;
+use lift_lower::{FlatResults, Flats};
 
 /// Which of the body's functions stops, if one does.
 #[derive(Clone, Copy, PartialEq, Eq)]
@@ -19,7 +19,7 @@ pub struct Act {
     pub asks: Vec<(u32, u32)>,
     pub at: u32,
     pub writes: Vec<u8>,
-    pub answer: Flats,
+    pub answer: FlatResults,
     pub stop: Stop,
     /// How many bytes its post-return fills with ee, from address 0 on.
     pub fills: u32,
@@ -45,6 +45,17 @@ pub fn copied(flats: &[Flat]) -> Flats {
         }
     }
     all
+}
+
+/// The flat values of an answer, which has room for four.
+pub fn answered(flats: &[Flat]) -> FlatResults {
+    let mut answer = FlatResults::new();
+    for flat in flats {
+        if answer.len() < 4 {
+            answer.push(*flat);
+        }
+    }
+    answer
 }
 
 impl Acting {
@@ -100,21 +111,21 @@ fn write<G: Guest>(memory: &mut G, at: u32, bytes: &[u8]) -> Result<(), Stopped>
 }
 
 /// What a run of an act answers.
-fn acted<G: Guest>(memory: &mut G, act: &Act) -> Result<Flats, Stopped> {
+fn acted<G: Guest>(memory: &mut G, act: &Act) -> Result<FlatResults, Stopped> {
     ask(memory, act.asks.as_slice())?;
     write(memory, act.at, act.writes.as_slice())?;
     if act.stop == Stop::Body {
         return Err(Stopped);
     }
-    Ok(copied(act.answer.as_slice()))
+    Ok(answered(act.answer.as_slice()))
 }
 
 /// Given one flat value the same; given an address and a length a block in which they stand; given more nothing.
-fn echoed<G: Guest>(memory: &mut G, arguments: &[Flat]) -> Result<Flats, Stopped> {
+fn echoed<G: Guest>(memory: &mut G, arguments: &[Flat]) -> Result<FlatResults, Stopped> {
     let [Flat::I32(at), Flat::I32(length)] = arguments else {
         return Ok(match arguments {
-            [flat] => copied(&[*flat]),
-            _ => Flats::new(),
+            [flat] => answered(&[*flat]),
+            _ => FlatResults::new(),
         });
     };
     let Ok(block) = memory.alloc(4, 8) else {
@@ -123,7 +134,7 @@ fn echoed<G: Guest>(memory: &mut G, arguments: &[Flat]) -> Result<Flats, Stopped
     let [a, b, c, d] = at.to_le_bytes();
     let [e, f, g, h] = length.to_le_bytes();
     write(memory, block, &[a, b, c, d, e, f, g, h])?;
-    Ok(copied(&[Flat::I32(block)]))
+    Ok(answered(&[Flat::I32(block)]))
 }
 
 impl<G: Guest> Body<G> for Acting {
@@ -135,7 +146,7 @@ impl<G: Guest> Body<G> for Acting {
 
     ghost posts = { λ _ _ _ _ _ _ _. Unit {0} };
 
-    fn call(&mut self, memory: &mut G, arguments: &[Flat]) -> Result<Flats, Stopped> {
+    fn call(&mut self, memory: &mut G, arguments: &[Flat]) -> Result<FlatResults, Stopped> {
         let number = self.runs.len();
         if self.runs.push(copied(arguments)).is_err() {
             self.whole = false;

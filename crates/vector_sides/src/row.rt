@@ -1,9 +1,9 @@
 //! What a row of JSON says: numbers, texts, core values, memories, and what the body does.
 
-use crate::acting::{Act, Acting, Stop, copied};
+use crate::acting::{Act, Acting, Stop, answered};
 use crate::logged::Logged;
 use canonical_abi::{Flat, Guest};
-use lift_lower::Flats;
+use lift_lower::FlatResults;
 use memory::{Bump, FirstFit, Space};
 use serde_json::Value;
 use std::alloc::Global;
@@ -172,13 +172,13 @@ fn act(alloc: Global, value: &Value) -> anyhow::Result<Act> {
     })
 }
 
-/// The core values that a run answers, of which a call hands on at most seventeen.
-fn answer(alloc: Global, value: &Value) -> anyhow::Result<Flats> {
+/// The core values that a run answers, for which there is room for four.
+fn answer(alloc: Global, value: &Value) -> anyhow::Result<FlatResults> {
     let flats = flats(alloc, list(value.get("answer")))?;
-    if flats.len() > 17 {
-        return Err(anyhow::anyhow!("a body answers at most 17 values"));
+    if flats.len() > 4 {
+        return Err(anyhow::anyhow!("a body answers at most 4 values"));
     }
-    Ok(copied(flats.as_slice()))
+    Ok(answered(flats.as_slice()))
 }
 
 fn stop(value: &Value) -> Stop {

@@ -5,7 +5,7 @@ ghost use Rattle.tables.specs.Closed.{IsFunction};
 
 use adapter::Link;
 use canonical_abi::{Fault, Flat};
-use lift_lower::Flats;
+use lift_lower::FlatResults;
 use serde_json::Value;
 use std::alloc::Global;
 use tables::FunctionId;
@@ -26,13 +26,13 @@ struct Sides {
 /// How the calls ended, and the nodes of both ways of the first.
 #[derive(Drop)]
 struct Ended {
-    first: Result<Flats, Refused>,
+    first: Result<FlatResults, Refused>,
     nodes: (u64, u64),
-    other: Option<Result<Flats, Refused>>,
+    other: Option<Result<FlatResults, Refused>>,
 }
 
 /// How a call ended. Words are those of the program's lines.
-fn outcome_told(alloc: Global, ended: &Result<Flats, Refused>) -> anyhow::Result<String> {
+fn outcome_told(alloc: Global, ended: &Result<FlatResults, Refused>) -> anyhow::Result<String> {
     match ended {
         Ok(flats) => {
             let flats = flats_told(alloc, flats.as_slice())?;
@@ -60,7 +60,7 @@ fn carried(
     f: FunctionId,
     flats: &[Flat],
     sides: &mut Sides,
-) -> Result<Flats, Fault>
+) -> Result<FlatResults, Fault>
     requires { IsFunction link.old.resolve f }
     ensures { link.new.resolve ≡ link.old.resolve }
 {
@@ -112,9 +112,9 @@ fn called(
 
 /// How calls ended that answered this.
 fn made(
-    first: Result<Flats, Fault>,
+    first: Result<FlatResults, Fault>,
     nodes: (u64, u64),
-    other: Option<Result<Flats, Fault>>,
+    other: Option<Result<FlatResults, Fault>>,
 ) -> Ended {
     Ended {
         first: first.map_err(Refused::from),
@@ -154,7 +154,11 @@ fn given_told(alloc: Global, ended: &Ended, body: &Acting) -> anyhow::Result<Str
 }
 
 /// How a call ended, as a member.
-fn ended_told(alloc: Global, key: &str, ended: &Result<Flats, Refused>) -> anyhow::Result<String> {
+fn ended_told(
+    alloc: Global,
+    key: &str,
+    ended: &Result<FlatResults, Refused>,
+) -> anyhow::Result<String> {
     let outcome = outcome_told(alloc, ended)?;
     Ok(format!(in alloc; "\"{key}\":{outcome}")?)
 }

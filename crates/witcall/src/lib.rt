@@ -30,7 +30,7 @@ pub use canonical_abi::{
 };
 pub use json::{JsonError, from_json, to_json};
 pub use layout::Layouts;
-pub use lift_lower::{Flats, Val, str_at};
+pub use lift_lower::{FlatResults, Flats, Val, str_at};
 pub use memory::{Bump, FirstFit, MemoryError, Scripted, Space};
 pub use opening::{MAX_INPUT, OpenError, Package, open, open_set};
 pub use reading::read_all;

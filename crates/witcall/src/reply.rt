@@ -16,7 +16,7 @@ use crate::signature::{function_named, result_type};
 use crate::typing::have_types;
 use adapter::{Export, Stopped, parameter_types};
 use canonical_abi::Flat;
-use lift_lower::{Flats, Val, lift_params, lift_scalars, lower_answer};
+use lift_lower::{FlatResults, Val, lift_params, lift_scalars, lower_answer};
 use memory::Space;
 use opening::Package;
 use std::alloc::Global;
@@ -90,7 +90,7 @@ impl Reply {
     }
 
     /// Lowers its value as the answer.
-    fn lower_value(&self, memory: &mut Space) -> Result<Flats, Stopped>
+    fn lower_value(&self, memory: &mut Space) -> Result<FlatResults, Stopped>
         ensures ok { IfOk result (λ flats. RepliesWith (function_type self.now.«package».resolve self.now.func)
             (map value_of (option_to_list self.now.value)) (space_memory memory.old) flats.items (space_memory memory.new)) }
         ensures err { OnErr result (HasNoRoom (function_type self.now.«package».resolve self.now.func)
@@ -105,7 +105,7 @@ impl Reply {
             unreachable!()
         }
         match lower_answer(&table, types, values, memory) {
-            Ok(flats) => Ok(flats),
+            Ok(answer) => Ok(answer),
             Err(_kind) => Err(Stopped),
         }
     }
@@ -126,7 +126,7 @@ impl Export for Reply {
     // Its post-return changes nothing.
     ghost posts = { λ _ s m _ s' m' done. (s' ≡ s) × (m' ≡ m) × (done ≡ Some tt) };
 
-    fn call(&mut self, memory: &mut Space, arguments: &[Flat]) -> Result<Flats, Stopped> {
+    fn call(&mut self, memory: &mut Space, arguments: &[Flat]) -> Result<FlatResults, Stopped> {
         match self.lift_arguments(memory, arguments) {
             Ok(()) => self.lower_value(memory),
             Err(stopped) => Err(stopped),

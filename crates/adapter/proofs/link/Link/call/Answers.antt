@@ -4,7 +4,7 @@ use Rattle.canonical_abi.specs.Call.{Parties, World}
 use Rattle.canonical_abi.specs.Halves.{world, HasEntered, EntryFails, ReturnFails, RunsBetween, RunsAndReturns, CallsInHalves, body_stopped, ends_at_entry, ends_at_run, ends_at_return, ends_at_post, completes}
 use Rattle.layout.specs.Layout.{AreWithin}
 use Rattle.tables.specs.Closed.{function_type}
-use Rattle.adapter.proofs.Crossings.{return-fails}
+use Rattle.adapter.proofs.Crossings.{return-fails, returned-few}
 use Rattle.adapter.proofs.Promised.{link-promised, link-told}
 use Rattle.adapter.proofs.link.Link.call.Goals as goal
 
@@ -117,8 +117,12 @@ returns-clause-call g c =
     let callee = g.E.Guest.memory c.post_return.new.memory in
     let kept = g.B.Body.state c.post_return.new.self in
     let post = (c.call.ensures.same_posts _ _ _ _ _ _).1 c.in-Ok-post_return.ensures.run in
-    link-told parties r within c.args.func flats old (Ok given) (world caller callee kept) there back c.requires.function
-    (completes there back answer given caller ran body returns callee kept post)
+    rw (c.flat_results.ensures, c.as_slice-2.ensures.value) (link-told parties r within c.args.func flats old (Ok given) (world caller callee kept) there back c.requires.function
+    (completes there back answer given caller ran body returns callee kept post))
+
+pub flat_results-requires : goal.flat_results-requires
+flat_results-requires g c =
+    rw c.as_slice-2.ensures.value (returned-few _ _ _ _ _ _ _ _ _ c.in_ok-leave.ensures.returned)
 
 pub returns-in_err-enter-clause-promise : goal.returns-in_err-enter-clause-promise
 returns-in_err-enter-clause-promise g c =
