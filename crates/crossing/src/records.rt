@@ -9,7 +9,7 @@ ghost use Rattle.tables.specs.Closed.{closed_type};
 
 use crate::addresses::Addresses;
 use crate::leaves::{cross_flags, cross_primitive, cross_text};
-use crate::lists::{cross_listed, listed_number};
+use crate::lists::{cross_list, listed_number};
 use crate::stopped::Stopped;
 use crate::walk::{Walk, aligned, are_bytes};
 use arrayvec::ArrayVec;
@@ -96,7 +96,7 @@ fn cross_leaf<G: Guest>(
         Leaf::Scalar(primitive) => cross_primitive(primitive, source, at, guest),
         Leaf::Flags(labels) => cross_flags(labels, source, at, guest),
         Leaf::Text => cross_text(source, at, guest),
-        Leaf::Numbers(primitive) => cross_listed(primitive, source, at, guest, nodes),
+        Leaf::Numbers(primitive) => cross_list(primitive, source, at, guest, nodes),
     }
 }
 

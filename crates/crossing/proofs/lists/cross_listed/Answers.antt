@@ -14,7 +14,7 @@ use Rattle.crossing.proofs.Nodes.{granted-led, list-refused, list-ends}
 use Rattle.crossing.proofs.lists.cross_listed.Goals as goal
 
 pub ask_block-requires : goal.ask_block-requires
-ask_block-requires g c = record { aligned = rw c.in-Some.ensures.1 (is-alignment (prim_type (prim_of c.args.primitive))) }
+ask_block-requires g c = record { aligned = rw c.requires.width (is-alignment (prim_type (prim_of c.args.primitive))) }
 
 pub returns-in-Err-ask_block : goal.returns-in-Err-ask_block
 returns-in-Err-ask_block g c =
@@ -23,8 +23,8 @@ returns-in-Err-ask_block g c =
     let m = c.args.source.now in
     let bytes : AreBytes m = λ i. (c.type_inv.source i).fits in
     let n = c.u32_at-count.result in
-    let is : c.in-Some.width ≡ size u = c.in-Some.ensures.1 in
-    let stands = rw is at c.in_default-test_block.ensures.ok in
+    let is : c.args.width ≡ size u = c.requires.width in
+    let stands = rw is at c.in_default.ensures.ok in
     let fault = rw is at c.in-Err-ask_block.ensures.fault in
     let old = g.G.Guest.memory c.args.guest.now in
     let new = g.G.Guest.memory c.ask_block.new.guest in
@@ -41,8 +41,8 @@ returns g c =
     let m = c.args.source.now in
     let n = c.u32_at-count.result in
     let start = c.u32_at-start.result in
-    let is : c.in-Some.width ≡ size u = c.in-Some.ensures.1 in
-    let stands = rw is at c.in_default-test_block.ensures.ok in
+    let is : c.args.width ≡ size u = c.requires.width in
+    let stands = rw is at c.in_default.ensures.ok in
     let ok = rw is at c.in-Ok.ensures.ok in
     let old = g.G.Guest.memory c.args.guest.now in
     let mid = g.G.Guest.memory c.ask_block.new.guest in

@@ -19,5 +19,5 @@ returns-in-Text g c =
 
 pub returns-in-Numbers : goal.returns-in-Numbers
 returns-in-Numbers g c =
-    rw c.in-Numbers.is (at-node g.G.Guest.allocates _ (g.G.Guest.memory c.args.guest.now) c.cross_listed.result (g.G.Guest.memory c.cross_listed.new.guest) c.args.nodes.now c.saturating_add.result c.cross_listed.new.nodes
-    (omega (arith, c.saturating_add.ensures)) c.cross_listed.ensures)
+    rw c.in-Numbers.is (at-node g.G.Guest.allocates _ (g.G.Guest.memory c.args.guest.now) c.cross_list.result (g.G.Guest.memory c.cross_list.new.guest) c.args.nodes.now c.saturating_add.result c.cross_list.new.nodes
+    (omega (arith, c.saturating_add.ensures)) c.cross_list.ensures)

@@ -1,9 +1,8 @@
-use Rattle.std.proofs.Common.{◌≡◌, ◌+◌, ◌*◌, ◌≤◌, Ok, Err, sym, ap, subst, arith}
+use Rattle.std.proofs.Common.{◌+◌, ◌*◌, Ok, Err, sym, subst, arith}
 use Rattle.std.proofs.lemmas.Result.{err_from_is_err_and}
 use Rattle.canonical_abi.specs.Types.{record_fields}
 use Rattle.canonical_abi.specs.Layout.{size}
 use Rattle.tables.specs.Closed.{closed_type}
-use Rattle.values.proofs.TypesExtents.{fields-fit}
 use Rattle.crossing.specs.Outcome.{Walks, Ends}
 use Rattle.crossing.proofs.Ahead.{none-done, each-ahead}
 use Rattle.crossing.proofs.Nodes.{at-record, each-next, each-stopped, each-done}

@@ -6,7 +6,7 @@ use Rattle.canonical_abi.specs.Layout.{size, align}
 use Rattle.tables.specs.Closed.{closed_type}
 use Rattle.values.proofs.Fields.{fields_from, fields-inside, fields-end}
 use Rattle.crossing.specs.Outcome.{FieldsWalk}
-use Rattle.crossing.specs.Steps.{leaf_type, AreSteps}
+use Rattle.crossing.specs.Steps.{leaf_type}
 use Rattle.crossing.proofs.ByShape.{fields-none}
 use Rattle.crossing.proofs.Nodes.{field-next, field-stopped}
 use Rattle.crossing.proofs.Parts.{begun, begun-done}
