@@ -17,7 +17,7 @@ def main():
     rows = [line.split("#")[0].split(":") for line in (ROOT / "crates.txt").read_text().splitlines() if ":" in line]
     uses = {name.strip(): words.split() for name, words in rows}
     libraries = {name for name in uses if (ROOT / "crates" / name / "src" / "lib.rt").exists()}
-    libraries = {name for name in libraries if not name.startswith("suite_") and not name.startswith("example_")}
+    libraries = {name for name in libraries if not name.startswith(("example_", "row_", "vector_", "tests_"))}
     for name in (it for it in uses if it in libraries):
         deps = (f"{sys.argv[1]}/crates/{it}" if it in libraries else it for it in uses[name])
         print(f"{sys.argv[1]}/crates/{name}: {' '.join(deps)}".rstrip())
