@@ -1,10 +1,7 @@
-//! Tests of what no row can say: a host that brings its own memory and body, calls in halves, calls for hosts that count in numbers, tables and
-//! components that are made of parts, readers and writers that fail, keys of names, and refusals that come of the host's side. It has no code of
-//! its own.
+//! Tests of what no row can say: a host that brings its own memory and body, calls in halves, calls for hosts that count in numbers, tables
+//! that are made of parts, and refusals that come of the host's side. It has no code of its own.
 #![tactic(auto)]
 
-#[cfg(test)]
-mod components;
 #[cfg(test)]
 mod halves;
 #[cfg(test)]
@@ -13,10 +10,6 @@ mod host_halves;
 mod host_numbers;
 #[cfg(test)]
 mod hosts;
-#[cfg(test)]
-mod interrupted;
-#[cfg(test)]
-mod names;
 #[cfg(test)]
 mod packages;
 #[cfg(test)]

@@ -2,7 +2,6 @@
 
 ghost use Rattle.std.specs.Prelude.{◌≡◌, IfOk};
 
-use crate::components::SMALLEST;
 use crate::packages::function;
 use adapter::BoxedBody;
 use canonical_abi::{Fault, Full, Guest, Step, Trap, TrapKind};
@@ -18,6 +17,7 @@ use table_building::from_parts;
 use tables::{
     Definition, Primitive, Resolve, ResolveError, Sequence, TypeDef, TypeDefKind, TypeId, ValType,
 };
+use tests_of_formats::SMALLEST;
 use wit_component::to_raw;
 use witcall::{Package, Reply, Session, open};
 

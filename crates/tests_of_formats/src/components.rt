@@ -1,5 +1,6 @@
 //! Components that are made of their parts: written as the bytes that decode to them, or refused with the first fault.
 
+use crate::SMALLEST;
 use atoms::{FullName, Label};
 use ctype_bin::{
     ExternName, Primitive, RawAlias, RawComponent, RawDecl, RawDefinedType, RawDescription,
@@ -8,10 +9,6 @@ use ctype_bin::{
 use std::alloc::Global;
 use std::process::Abort;
 use std::test::Fail;
-
-/// `package a:b; interface c { f: func(x: u32) -> u32; }`
-pub const SMALLEST: &[u8; 55] =
-    b"\0asm\x0d\0\x01\0\x07\x1e\x01\x41\x02\x01\x42\x02\x01\x40\x01\x01\x78\x79\0\x79\x04\0\x01\x66\x01\0\x04\0\x05a:b/c\x05\0\x0b\x0d\x01\0\x07package\x03\0\0";
 
 const U32: RawValType = RawValType::Primitive(Primitive::U32);
 
