@@ -1,7 +1,7 @@
 //! Inputs that are cut after each byte, and binaries with each byte changed to every other, alone or behind the packages that they use.
 
-use crate::opened::opened;
 use ctype_bin::{BinError, Fault, RawComponent, decode};
+use row_calls::opened::opened;
 use row_inputs::Set;
 use std::alloc::{AllocError, Global};
 use witcall::{OpenError, Package, open};

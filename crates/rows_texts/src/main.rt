@@ -4,10 +4,7 @@
 #![tactic(auto)]
 
 mod answers;
-mod calls;
 mod changes;
-mod json;
-mod opened;
 mod rows;
 
 use rows::{Rows, read};
