@@ -1,13 +1,9 @@
-//! Tests of what no row can say: a host that brings its own memory and body, calls in halves, calls for hosts that count in numbers, tables
-//! that are made of parts, and refusals that come of the host's side. It has no code of its own.
+//! Tests of what no row can say: a host that brings its own memory and body, calls in halves, tables that are made of parts, and refusals
+//! that come of the host's side. It has no code of its own.
 #![tactic(auto)]
 
 #[cfg(test)]
 mod halves;
-#[cfg(test)]
-mod host_halves;
-#[cfg(test)]
-mod host_numbers;
 #[cfg(test)]
 mod hosts;
 #[cfg(test)]
