@@ -1,10 +1,12 @@
 -- The places of interfaces, put one after the other under their packages and names.
 use Rattle.std.proofs.Common.{◌≡◌, ◌<◌, ◌≢◌, ℕ, zero, suc, ◌+◌, Bool, true, false, cond, ◌&&◌, List, [], ◌∷◌, ◌++◌, map, replicate, Option, None, Some, length, take, get_or, set, slice_get, is_some, refl, ap, sym, subst, ◌∙◌, arith}
-use Rattle.std.specs.Global.{Vec}
+use Rattle.std.specs.declared.alloc.Global.{Global}
+use Rattle.std.specs.declared.string.String.{String}
 use Rattle.std.specs.List.{position}
 use Rattle.std.specs.Map.{lookup}
 use Rattle.std.specs.Option.{option_or}
 use Rattle.std.specs.Str.{bytes_eq}
+use Rattle.std.specs.String.{string_bytes}
 use Rattle.std.proofs.lemmas.List.{length-take}
 use Rattle.std.proofs.lemmas.List.Quantifiers.{position-Some}
 use Rattle.std.proofs.lemmas.Slice.Eq.{bytes_eq-Decides}
@@ -21,9 +23,9 @@ use Rattle.package_form.proofs.Positions.{or-none, position-end, position-none}
 
 -- ---- places by names
 
-pub looked-up : (n : List ℕ) (es : List (Vec ℕ × ℕ)) → lookup (bytes_eq n) (map place_entry es) ≡ lookup (λ v. bytes_eq n v.items) es
+pub looked-up : (n : List ℕ) (es : List (String Global × ℕ)) → lookup (bytes_eq n) (map place_entry es) ≡ lookup (λ s. bytes_eq n (string_bytes s)) es
 looked-up n [] = refl
-looked-up n (e ∷ es) = ap (λ (o : Option ℕ). cond (bytes_eq n e.0.items) (Some e.1) o) (looked-up n es)
+looked-up n (e ∷ es) = ap (λ (o : Option ℕ). cond (bytes_eq n (string_bytes e.0)) (Some e.1) o) (looked-up n es)
 
 pub lookup-end : (n : List ℕ) (es : List (List ℕ × ℕ)) (m : List ℕ) (place : ℕ) → lookup (bytes_eq n) (es ++ (m, place) ∷ []) ≡ option_or (lookup (bytes_eq n) es) (cond (bytes_eq n m) (Some place) None)
 lookup-end n [] m place = refl

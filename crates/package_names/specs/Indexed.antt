@@ -1,7 +1,8 @@
 -- Interfaces that are looked for by their package and their name.
 use Rattle.std.specs.Prelude.{◌≡◌, ◌&&◌, ℕ, Bool, false, List, length, Option, None, Some, slice_get}
 use Rattle.std.specs.List.{position}
-use Rattle.std.specs.Global.{Vec}
+use Rattle.std.specs.declared.alloc.Global.{Global}
+use Rattle.std.specs.declared.string.String.{String}
 use Rattle.std.specs.Map.{lookup}
 use Rattle.std.specs.Option.{option_map}
 use Rattle.std.specs.Str.{bytes_eq}
@@ -32,8 +33,8 @@ interface_place r q n = position (is_interface_named r.packages q n) r.interface
 -- ---- places by the first package of a name, and a name
 
 -- a name with its place, as a map keeps them
-abbrev pub place_entry : Vec ℕ × ℕ → List ℕ × ℕ
-place_entry e = (e.0.items, e.1)
+abbrev pub place_entry : String Global × ℕ → List ℕ × ℕ
+place_entry e = (string_bytes e.0, e.1)
 
 -- the place under a name in one package
 abbrev pub placed : Option (List (List ℕ × ℕ)) → List ℕ → Option ℕ

@@ -48,7 +48,7 @@ impl<'a> PackageKey<'a> {
 /// Places by names: of each name the place that was put first.
 #[derive(Drop)]
 struct NamePlaces {
-    places: IndexMap<Vec<u8>, usize, KeyedState>,
+    places: IndexMap<String, usize, KeyedState>,
 }
 
 impl Model for NamePlaces {
@@ -74,9 +74,9 @@ impl NamePlaces {
     fn put(&mut self, alloc: Global, name: &Label, place: usize) -> Result<(), AllocError>
         ensures { OnOk result ((n : List ℕ) → lookup (bytes_eq n) self.new ≡ option_or (lookup (bytes_eq n) self.old) (if bytes_eq n name.now then Some place else None)) }
     {
-        if !self.places.contains_key(name.as_bytes()) {
+        if !self.places.contains_key(name.as_str()) {
             self.places
-                .insert(Vec::from_slice(alloc, name.as_bytes())?, place)?;
+                .insert(String::from_str(alloc, name.as_str())?, place)?;
         }
         Ok(())
     }
@@ -85,7 +85,7 @@ impl NamePlaces {
     fn get(&self, name: &Label) -> Option<usize>
         ensures { result ≡ lookup (bytes_eq name.now) self.now }
     {
-        self.places.get(name.as_bytes()).copied()
+        self.places.get(name.as_str()).copied()
     }
 }
 

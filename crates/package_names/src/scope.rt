@@ -1,29 +1,40 @@
 //! The names of one scope, which must differ in more than the case of their letters.
 ghost use Rattle.std.specs.Prelude.{◌≡◌, ◌++◌, ◌∷◌, [], ◌⊎◌, true, false, map, OnOk, IfOk, IfErr, Contains};
+ghost use Rattle.std.specs.String.{string_bytes};
 ghost use Rattle.package_form.specs.Scope.{lowered, lowered_name};
 
 use arrayvec::ArrayVec;
 use atoms::{KeyedState, Label};
 use indexmap::IndexSet;
-use std::alloc::Global;
+use std::alloc::{AllocError, Global};
 use std::marker::Model;
 use tables::{Name, ResolveError};
 
 /// How many names of a scope are compared one by one; those behind them stand in a table.
 pub const FEW: usize = 16;
 
+/// A name in lower case.
+fn lower_case(alloc: Global, name: &str) -> Result<String, AllocError>
+    ensures { IfOk result (λ s. string_bytes s ≡ lowered name.now) }
+{
+    let mut lower = String::from_str(alloc, name)?;
+    lower.make_ascii_lowercase();
+    Ok(lower)
+}
+
 /// Names that were met, in lower case, in a table.
 #[derive(Drop)]
 pub struct NameTable {
-    met: IndexSet<Vec<u8>, KeyedState>,
+    met: IndexSet<String, KeyedState>,
 }
 
 impl Model for NameTable {
     ghost use Rattle.std.specs.Prelude.{List, ℕ, map};
+    ghost use Rattle.std.specs.String.{string_bytes};
 
     ghost Value = { List (List ℕ) };
 
-    ghost view = { λ n. map (λ v. v.items) n.met.keys };
+    ghost view = { λ n. map string_bytes n.met.keys };
 }
 
 impl NameTable {
@@ -42,7 +53,7 @@ impl NameTable {
         ensures ok { OnOk result (self.new ≡ self.old ++ lowered name ∷ []) }
         ensures err { IfErr result (λ e. (e ≡ ResolveError.NoMemory) ⊎ ((e ≡ ResolveError.Duplicate name) × Contains self.old (lowered name))) }
     {
-        if self.insert(name.as_str().as_bytes().to_ascii_lowercase(alloc)?)? {
+        if self.insert(lower_case(alloc, name.as_str())?)? {
             Ok(())
         } else {
             Err(ResolveError::Duplicate(name))
@@ -56,10 +67,10 @@ impl NameTable {
     }
 
     /// Whether a name in lower case is new; it is met now.
-    fn insert(&mut self, name: Vec<u8>) -> Result<bool, ResolveError>
-        ensures new { IfOk result (λ is_new. is_new ≡ true → ¬ Contains self.old name.items) }
-        ensures met_before { IfOk result (λ is_new. is_new ≡ false → Contains self.old name.items) }
-        ensures after { IfOk result (λ is_new. is_new ≡ true → self.new ≡ self.old ++ name.items ∷ []) }
+    fn insert(&mut self, name: String) -> Result<bool, ResolveError>
+        ensures new { IfOk result (λ is_new. is_new ≡ true → ¬ Contains self.old (string_bytes name)) }
+        ensures met_before { IfOk result (λ is_new. is_new ≡ false → Contains self.old (string_bytes name)) }
+        ensures after { IfOk result (λ is_new. is_new ≡ true → self.new ≡ self.old ++ string_bytes name ∷ []) }
         ensures err { IfErr result (λ e. e ≡ ResolveError.NoMemory) }
     {
         Ok(self.met.insert(name)?)
@@ -67,7 +78,7 @@ impl NameTable {
 }
 
 /// Whether a name is one of these but for the case of its letters.
-fn is_among(names: &[&[u8]], name: &[u8]) -> bool
+fn is_among(names: &[&str], name: &str) -> bool
     ensures yes { result ≡ true → Contains (map lowered_name names.now) (lowered name.now) }
     ensures no { result ≡ false → ¬ Contains (map lowered_name names.now) (lowered name.now) }
 {
@@ -82,7 +93,7 @@ fn is_among(names: &[&[u8]], name: &[u8]) -> bool
 /// The names that were met in a scope: the first few as they stand, those behind them in a table.
 #[derive(Drop)]
 pub struct Scope<'a> {
-    few: ArrayVec<&'a [u8], FEW>,
+    few: ArrayVec<&'a str, FEW>,
     many: NameTable,
 }
 
@@ -112,7 +123,7 @@ impl<'a> Scope<'a> {
         ensures ok { OnOk result (self.new ≡ self.old ++ lowered name.now ∷ []) }
         ensures err { IfErr result (λ e. (e ≡ ResolveError.NoMemory) ⊎ ((e ≡ ResolveError.Duplicate name.now) × Contains self.old (lowered name.now))) }
     {
-        if self.insert(alloc, name.as_bytes())? {
+        if self.insert(alloc, name.as_str())? {
             Ok(())
         } else {
             Err(ResolveError::Duplicate(Name::of(alloc, name)?))
@@ -120,7 +131,7 @@ impl<'a> Scope<'a> {
     }
 
     /// Whether a name is new; it is met now.
-    fn insert(&mut self, alloc: Global, name: &'a [u8]) -> Result<bool, ResolveError>
+    fn insert(&mut self, alloc: Global, name: &'a str) -> Result<bool, ResolveError>
         ensures new { IfOk result (λ is_new. is_new ≡ true → ¬ Contains self.old (lowered name.now)) }
         ensures met_before { IfOk result (λ is_new. is_new ≡ false → Contains self.old (lowered name.now)) }
         ensures after { IfOk result (λ is_new. is_new ≡ true → self.new ≡ self.old ++ lowered name.now ∷ []) }
@@ -133,6 +144,6 @@ impl<'a> Scope<'a> {
             self.few.push(name);
             return Ok(true);
         }
-        self.many.insert(name.to_ascii_lowercase(alloc)?)
+        self.many.insert(lower_case(alloc, name)?)
     }
 }
