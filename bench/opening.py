@@ -1,12 +1,12 @@
 #!/usr/bin/env python3
-"""Times the opening of texts and binaries before names got keys of their own and after, and prints the table of docs/BENCHMARKS.md.
+"""Times the opening of texts and binaries beside wit-parser, and prints the tables of docs/BENCHMARKS.md.
 
-usage: bench/opening.py FOLDER [BEFORE]
+usage: bench/opening.py FOLDER [EARLIER]
 
-FOLDER, outside the repository, keeps the texts, and the program of the commit before for the next run: where it isn't there yet,
-that commit is checked out in FOLDER, and all of it proved and built. BEFORE is a program of that commit that was built elsewhere. The
-program after is crates/program/out/program, as `rt run` in crates/program leaves it. Processor time, the least of many runs, the two
-programs in turn. Memory is the most that a run had, as the program `time` (Debian's package) tells it.
+FOLDER, outside the repository, keeps the texts. The program is crates/program/out/program, as `rt run` in crates/program leaves it; with
+EARLIER, another build of it, both are measured in turn. wit-parser is the one in `wasm-component-ld` of the Rust toolchain, which reads the
+text as a component's type (--component-type) and writes a component without code; a stub stands for the linker that it calls. Processor time,
+the least of many runs, all programs in turn, without what each takes for an empty text. Memory is the most that a run had.
 """
 import datetime
 import os
@@ -17,12 +17,36 @@ import sys
 
 import run
 
-COMMIT = "ac4faa2"
 RUNS = 30
-# how many runs a short text gets
-SHORT_RUNS = 300
-LONG, SHORT = 1000000, 10000
+LENGTHS = {"10 KB": 10000, "100 KB": 100000, "1 MB": 1000000}
+MEMBERS = 10
 CALL = ["a:b/none", "none", "[]", "[]"]
+# a module without anything, and a linker that writes it
+MODULE = b"\0asm\x01\0\0\0"
+LINKER = """#!/bin/sh
+while [ "$1" != -o ]; do shift; done
+cp "$(dirname "$0")/empty.module" "$2"
+"""
+# starts a program, and prints the most memory that it had: a child of Python is told to have had at least what Python has
+PEAK = """
+#include <fcntl.h>
+#include <stdio.h>
+#include <sys/resource.h>
+#include <sys/wait.h>
+#include <unistd.h>
+int main(int count, char **words) {
+  if (count > 1 && fork() == 0) {
+    dup2(open("/dev/null", O_WRONLY), 1);
+    dup2(1, 2);
+    execv(words[1], words + 1);
+    _exit(127);
+  }
+  struct rusage used;
+  int status;
+  wait4(-1, &status, 0, &used);
+  printf("%ld\\n", used.ru_maxrss);
+}
+"""
 
 WORDS = """account address amount answer article balance basket branch budget cache carrier category channel charge city client
 clock comment company contact content count country coupon currency customer date delivery detail device discount document
@@ -107,10 +131,10 @@ class Writer:
         return f"interface part-n{self.interfaces} {{\n{text}}}\n\n"
 
 
-def text_of(length):
+def text_of(length, package="a:b"):
     """A package's text of about this length, and no more."""
     writer = Writer()
-    text = "package a:b;\n\n"
+    text = f"package {package};\n\n"
     misses = 0
     while misses < 50:
         more = writer.interface()
@@ -122,73 +146,94 @@ def text_of(length):
 
 
 def measure(words):
-    """The processor time of one run."""
+    """The processor time of one run, in milliseconds."""
     with open(os.devnull, "wb") as nothing:
         child = subprocess.Popen([str(word) for word in words], stdout=nothing, stderr=nothing)
         _, _, usage = os.wait4(child.pid, 0)
         child.returncode = 0
-    return usage.ru_utime + usage.ru_stime
+    return (usage.ru_utime + usage.ru_stime) * 1000
 
 
-def peak(words):
-    """The most memory, in bytes, that one run had. A child of Python is told to have had at least what Python has, so another starts it."""
-    told = subprocess.run(["time", "-f", "%M", *words], stdout=subprocess.DEVNULL, stderr=subprocess.PIPE, text=True, check=False)
-    return int(told.stderr.splitlines()[-1]) * 1024
-
-
-def least(commands, runs=RUNS):
+def least(commands):
     """The least time of each command, taken in turn."""
-    best = [float("inf")] * len(commands)
-    for _ in range(runs):
-        for place, words in enumerate(commands):
-            best[place] = min(best[place], measure(words))
+    best = dict.fromkeys(commands, float("inf"))
+    for _ in range(RUNS):
+        for told, words in commands.items():
+            best[told] = min(best[told], measure(words))
     return best
 
 
-def build_before(folder):
-    """The program of the commit before."""
-    top = folder / "before"
-    program = top / "crates/program/out/program"
-    if not program.exists():
-        top.mkdir(parents=True, exist_ok=True)
-        archive = subprocess.run(["git", "archive", COMMIT], cwd=run.TOP, check=True, capture_output=True).stdout
-        subprocess.run(["tar", "-x", "-C", top], input=archive, check=True)
-        subprocess.run(["rt", "all", "check"], cwd=top, check=True, stdout=sys.stderr)
-        subprocess.run(["rt", "run", "--", "call", "data/c.wit", "a:b/c", "f", "[7]", "[8]"], cwd=top / "crates/program", check=True, stdout=sys.stderr)
-    return program
+def component_ld():
+    """The linker of components that the Rust toolchain has."""
+    root = pathlib.Path(run.answer_of("rustc", "--print", "sysroot"))
+    found = sorted(root.glob("lib/rustlib/*/bin/wasm-component-ld"))
+    if not found:
+        sys.exit("bench/opening.py: the Rust toolchain has no wasm-component-ld")
+    return found[0]
 
 
-def row(told, before, after, wanted):
-    print(f"| {told} | {before * 1000:.2f} | {after * 1000:.2f} | {after / before:.2f} | {wanted} |")
+def write_texts(folder):
+    """Writes all texts, those with a world for wit-parser, and the linker's stub."""
+    (folder / "empty.wit").write_text("package a:b;\n")
+    for told, length in LENGTHS.items():
+        (folder / f"{told}.wit").write_text(text_of(length))
+    for told in ["empty", *LENGTHS]:
+        (folder / f"{told} in a world.wit").write_text((folder / f"{told}.wit").read_text() + "world w {\n}\n")
+    for member in range(MEMBERS):
+        (folder / f"member {member}.wit").write_text(text_of(LENGTHS["100 KB"], f"a:p{member}"))
+    (folder / "empty.module").write_bytes(MODULE)
+    (folder / "linker").write_text(LINKER)
+    (folder / "linker").chmod(0o755)
+    (folder / "peak.c").write_text(PEAK)
+    subprocess.run(["cc", "-o", folder / "peak", folder / "peak.c"], check=True)
 
 
-def table(before, after, folder):
-    """Prints the table."""
-    empty, short, long = folder / "empty.wit", folder / "short.wit", folder / "long.wit"
-    empty.write_text("")
-    short.write_text(text_of(SHORT))
-    long.write_text(text_of(LONG))
-    binary = folder / "long.wasm"
-    with open(binary, "wb") as file:
-        subprocess.run([after, "bin", long], stdout=file, check=True)
-    opening = [[program, "call", path] + CALL for path in (empty, long, binary) for program in (before, after)]
-    writing = [[program, "bin", long] for program in (before, after)]
-    start_before, start_after, *rest, bin_before, bin_after = least(opening + writing)
-    text_before, text_after, binary_before, binary_after = (time - start for time, start in zip(rest, [start_before, start_after] * 2))
-    shorts = [[program, "call", path] + CALL for path in (empty, short) for program in (before, after)]
-    none_before, none_after, short_before, short_after = least(shorts, SHORT_RUNS)
-    size, bytes_of = long.stat().st_size, binary.stat().st_size
-    print(f"{size:,} and {short.stat().st_size:,} bytes of text, {bytes_of:,} of binary; milliseconds, without those of an empty text:")
-    print()
-    print("| | before | after | after / before | wanted |")
+def by_wit_parser(folder, told):
+    """The command that has wit-parser read a text."""
+    words = [component_ld(), "--wasm-ld-path", folder / "linker", "--wasi-adapter", "none", "-o", folder / "out.wasm"]
+    return [*words, "--component-type", folder / f"{told} in a world.wit", folder / "empty.module"]
+
+
+def of_program(program, folder):
+    """What is measured of a program, by what it is."""
+    members = [folder / f"member {member}.wit" for member in range(MEMBERS)]
+    earlier = [word for member in members[:-1] for word in ("--with", member)]
+    commands = {told: [program, "call", folder / f"{told}.wit", *CALL] for told in ["empty", *LENGTHS]}
+    commands["bin"] = [program, "bin", folder / "1 MB.wit"]
+    commands["binary"] = [program, "call", folder / "1 MB.wasm", *CALL]
+    commands["set"] = [program, "call", *earlier, members[-1], *CALL]
+    return commands
+
+
+def peak(folder, words):
+    """The most memory that a run had, in KiB."""
+    return int(run.answer_of(folder / "peak", *words))
+
+
+def row(told, time, beside, wanted):
+    print(f"| {told} | {time:.2f} | {beside:.2f} | {time / beside:.2f} | {wanted} |")
+
+
+def table(program, folder):
+    """Prints the table of a program."""
+    with open(folder / "1 MB.wasm", "wb") as file:
+        subprocess.run([program, "bin", folder / "1 MB.wit"], stdout=file, check=True)
+    ours = of_program(program, folder)
+    theirs = {f"wit-parser {told}": by_wit_parser(folder, told) for told in ["empty", *LENGTHS]}
+    best = least({**ours, **theirs})
+    mine = {told: best[told] - best["empty"] for told in ours}
+    parser = {told: best[f"wit-parser {told}"] - best["wit-parser empty"] for told in LENGTHS}
+    print("| | witcall | beside it | ratio | target |")
     print("|---|---|---|---|---|")
-    row("the long text, opened", text_before, text_after, "0.65")
-    row("the short text, opened", short_before - none_before, short_after - none_after, "0.65")
-    row("`bin` of the long text", bin_before - start_before, bin_after - start_after, "0.5")
-    row("its binary, opened", binary_before, binary_after, "")
-    print(f"| its binary against its text | {binary_before / text_before:.2f} | {binary_after / text_after:.2f} | | 0.6 |")
-    memory = [peak([program, "call", long] + CALL) / size for program in (before, after)]
-    print(f"| memory against the text | {memory[0]:.1f} | {memory[1]:.1f} | | 16 |")
+    for told in LENGTHS:
+        row(f"a text of {told}, beside wit-parser", mine[told], parser[told], "0.5")
+    row("`bin` of 1 MB, beside wit-parser's reading", mine["bin"], parser["1 MB"], "0.7")
+    row("the binary of 1 MB, beside its text", mine["binary"], mine["1 MB"], "0.6")
+    row("ten packages of 100 KB, beside one text of 1 MB", mine["set"], mine["1 MB"], "1.2")
+    size = (folder / "1 MB.wit").stat().st_size
+    for told in ("1 MB", "binary"):
+        most = peak(folder, ours[told])
+        print(f"| the most memory for {told}, in KiB, beside the text | {most:,} | {size // 1024} | {most * 1024 / size:.1f} | 6 |")
 
 
 def main():
@@ -198,12 +243,13 @@ def main():
     if folder == run.TOP or run.TOP in folder.parents:
         sys.exit("bench/opening.py: the folder has to be outside the repository")
     folder.mkdir(parents=True, exist_ok=True)
-    before = pathlib.Path(sys.argv[2]).resolve() if len(sys.argv) == 3 else build_before(folder)
-    after = run.TOP / "crates/program/out/program"
+    write_texts(folder)
     load = os.getloadavg()[0]
-    print(f"{datetime.date.today()}, {run.processor()}, {os.cpu_count()} cores, load {load:.1f}; {run.answer_of('rt', 'version')}.")
-    print()
-    table(before, after, folder)
+    print(f"{datetime.date.today()}, {run.processor()}, {os.cpu_count()} cores, load {load:.1f}; {run.answer_of('rt', 'version')},")
+    print(f"{run.answer_of(component_ld(), '--version')}; milliseconds, without those of an empty text:")
+    for program in [*sys.argv[2:], run.TOP / "crates/program/out/program"]:
+        print()
+        table(pathlib.Path(program).resolve(), folder)
 
 
 if __name__ == "__main__":

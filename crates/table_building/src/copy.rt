@@ -23,8 +23,9 @@ fn copied_all<T: Copied + Drop>(
 ) -> Result<Sequence<T>, AllocError>
     ensures { IfOk result (λ xs. xs ≡ items.now) }
 {
-    let mut copy = Vec::new(alloc);
-    for item in items.as_slice() {
+    let items = items.as_slice();
+    let mut copy = Vec::with_capacity(alloc, items.len())?;
+    for item in items {
         copy.push(item.copied(alloc)?)?;
     }
     Ok(Sequence::new(copy))
