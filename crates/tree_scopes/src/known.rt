@@ -10,16 +10,17 @@ use tables::{InterfaceId, TypeId};
 /// Types by their names, in the order in which they were defined.
 #[derive(Drop)]
 pub struct TypeIds {
-    ids: IndexMap<Vec<u8>, TypeId, KeyedState>,
+    ids: IndexMap<String, TypeId, KeyedState>,
 }
 
 impl Model for TypeIds {
     ghost use Rattle.std.specs.Prelude.{List, map};
+    ghost use Rattle.std.specs.String.{string_bytes};
     ghost use Rattle.package_form.specs.Scoped.{Entry, entry_of};
 
     ghost Value = { List Entry };
 
-    ghost view = { λ t. map (entry_of (λ v. v.items)) t.ids.entries };
+    ghost view = { λ t. map (entry_of string_bytes) t.ids.entries };
 }
 
 impl TypeIds {
@@ -39,7 +40,7 @@ impl TypeIds {
     {
         match self
             .ids
-            .insert(Vec::from_slice(alloc, name.as_bytes())?, id)?
+            .insert(String::from_str(alloc, name.as_str())?, id)?
         {
             None => Ok(()),
             Some(_) => Err(AllocError),
@@ -50,7 +51,7 @@ impl TypeIds {
     pub fn has(&self, name: &Label) -> bool
         ensures { IsTrue result ↔ Contains (map (λ e. e.name) self.now) name.now }
     {
-        match self.ids.get(name.as_bytes()) {
+        match self.ids.get(name.as_str()) {
             Some(_) => true,
             None => false,
         }
@@ -61,7 +62,7 @@ impl TypeIds {
         requires { Contains (map (λ e. e.name) self.now) name.now }
         ensures { Contains self.now (record { name = name.now; id = result }) }
     {
-        match self.ids.get(name.as_bytes()) {
+        match self.ids.get(name.as_str()) {
             Some(id) => *id,
             None => unreachable!(),
         }

@@ -15,7 +15,7 @@ use std::marker::Model;
 #[derive(Drop)]
 pub struct Names<'a> {
     names: Vec<&'a Label>,
-    places: IndexMap<Vec<u8>, usize, KeyedState>,
+    places: IndexMap<&'a str, usize, KeyedState>,
 }
 
 impl<'a> Model for Names<'a> {
@@ -27,7 +27,7 @@ impl<'a> Model for Names<'a> {
 
     ghost view = { λ n. lent n.names.items };
 
-    ghost invariant = { λ n. 16 < length n.names.items → TellsPlaces (λ v. v.items) n.places.entries (lent n.names.items) };
+    ghost invariant = { λ n. 16 < length n.names.items → TellsPlaces (λ s. s.now) n.places.entries (lent n.names.items) };
 }
 
 /// The first place of a name among these.
@@ -43,17 +43,18 @@ fn first_place(names: &[&Label], name: &Label) -> Option<usize>
 }
 
 /// The names as a table, with the first place of each.
-fn places_of(
+fn places_of<'a>(
     alloc: Global,
     keyed: KeyedState,
-    names: &[&Label],
-) -> Result<IndexMap<Vec<u8>, usize, KeyedState>, AllocError>
-    ensures { IfOk result (λ m. TellsPlaces (λ v. v.items) m.entries (lent names.now)) }
+    names: &[&'a Label],
+) -> Result<IndexMap<&'a str, usize, KeyedState>, AllocError>
+    ensures { IfOk result (λ m. TellsPlaces (λ s. s.now) m.entries (lent names.now)) }
 {
     let mut places = IndexMap::with_capacity_and_hasher(alloc, names.len(), keyed)?;
     for (place, name) in names.iter().enumerate() {
-        if !places.contains_key(name.as_bytes()) {
-            places.insert(Vec::from_slice(alloc, name.as_bytes())?, place)?;
+        let name = name.as_str();
+        if !places.contains_key(name) {
+            places.insert(name, place)?;
         }
     }
     Ok(places)
@@ -94,6 +95,6 @@ impl<'a> Names<'a> {
         if self.names.len() <= FEW {
             return first_place(&self.names, name);
         }
-        self.places.get(name.as_bytes()).copied()
+        self.places.get(name.as_str()).copied()
     }
 }

@@ -4,4 +4,4 @@ use Rattle.tree_meaning.specs.Knowing.{TellsPlaces}
 use Rattle.tree_scopes.proofs.names.places_of.Given as goal
 
 abbrev pub invariant-loop-place : goal.invariant-loop-place
-invariant-loop-place l = TellsPlaces (λ v. v.items) l.places.entries (lent (take l.place l.names))
+invariant-loop-place l = TellsPlaces (λ s. s.now) l.places.entries (lent (take l.place l.names))
