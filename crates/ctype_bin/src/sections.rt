@@ -9,7 +9,7 @@ ghost use Rattle.ctype_format.specs.View.{type_view, export_view, file_of};
 ghost use Rattle.ctype_bin.specs.FileView.{file_view};
 
 use crate::component::RawComponent;
-use crate::types::type_of;
+use crate::types::Nesting;
 use ctype_format::{
     Fault, ItemError, RawExport, RawType, Scope, Stuck, at, byte_of, extern_name_of, index_of,
     new_scope, u32_of, utf8_of, with_entries, zero_of,
@@ -186,7 +186,12 @@ fn entry_of(alloc: Global, scope: Scope, bytes: &[u8]) -> Result<(RawType, Scope
     ensures reads { AnswersRead (λ x. ((type_view x.0, x.1), x.2.now)) result ((entry scope).read bytes.now) }
     ensures within { IfOk result (λ x. IsWithin x.1) }
 {
-    let (ty, entries, rest) = type_of(alloc, MAX_DEPTH, &[], scope, bytes)?;
+    let outermost = Nesting {
+        alloc,
+        depth: MAX_DEPTH,
+        around: &[],
+    };
+    let (ty, entries, rest) = outermost.type_of(scope, bytes)?;
     Ok((ty, with_entries(scope, entries), rest))
 }
 

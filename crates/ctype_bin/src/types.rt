@@ -14,6 +14,16 @@ use ctype_format::{
 };
 use std::alloc::Global;
 
+/// The scopes that a type is read in.
+#[derive(Clone, Copy)]
+pub(crate) struct Nesting<'a> {
+    pub alloc: Global,
+    /// How many more may nest in one another.
+    pub depth: u32,
+    /// Their type entries, the innermost last.
+    pub around: &'a [u32],
+}
+
 /// What is wrong with a byte that begins no type.
 fn left_out(byte: u8) -> Fault
     ensures { result ≡ left_out byte }
@@ -173,68 +183,6 @@ fn is_decl(component: bool, byte: u8) -> bool
     matches!(byte, 1 | 2 | 4) || (component && byte == 3)
 }
 
-/// A declaration, and the scope with it.
-#[cycle(types)]
-#[tactic(auto, unfolding(ctype_format::specs::Grammar::decl, ctype_format::specs::View::decl_view))]
-fn decl_of<'a>(
-    alloc: Global,
-    depth: u32,
-    component: bool,
-    around: &[u32],
-    scope: Scope,
-    bytes: &'a [u8],
-) -> Result<(RawDecl, Scope, &'a [u8]), ItemError>
-    requires within { IsWithin scope }
-    requires instances { scope.instances < 4294967295 }
-    ensures reads { AnswersRead (λ x. ((decl_view x.0, x.1), x.2.now)) result ((decl (type depth) component around.now scope).read bytes.now) }
-    ensures within { IfOk result (λ x. IsWithin x.1) }
-    ensures more { IfOk result (λ x. scope.entries ≤ x.1.entries) }
-    ensures instances { IfOk result (λ x. x.1.instances ≤ scope.instances + 1) }
-{
-    let (sort, rest) = byte_of(bytes)?;
-    if !is_decl(component, sort) {
-        return Err(at(Fault::UnknownOpcode(sort), bytes));
-    }
-    match sort {
-        1 => {
-            let (ty, entries, rest) = type_of(alloc, depth, around, scope, rest)?;
-            Ok((RawDecl::Type(ty), with_entries(scope, entries), rest))
-        }
-        2 => {
-            let (alias, after, rest) = alias_of(alloc, around, scope, rest)?;
-            Ok((RawDecl::Alias(alias), after, rest))
-        }
-        _ => external_of(alloc, scope, sort, rest),
-    }
-}
-
-/// The declarations of a new scope, and what it has then.
-#[cycle(types)]
-fn decls_of<'a>(
-    alloc: Global,
-    depth: u32,
-    component: bool,
-    around: &[u32],
-    count: u32,
-    entries: u32,
-    bytes: &'a [u8],
-) -> Result<(Vec<RawDecl>, Scope, &'a [u8]), ItemError>
-    requires { entries ≤ 65535 }
-    ensures reads { AnswersRead (λ x. ((map decl_view x.0.items, x.1), x.2.now)) result ((run (decl (type depth) component around.now) count (new_scope entries)).read bytes.now) }
-    ensures within { IfOk result (λ x. (entries ≤ x.1.entries) × (x.1.entries ≤ 65535)) }
-{
-    let mut decls = Vec::new(alloc);
-    let mut scope = new_scope(entries);
-    let mut rest = bytes;
-    for _ in 0..count {
-        let (decl, after, behind) = decl_of(alloc, depth, component, around, scope, rest)?;
-        decls.push(decl)?;
-        scope = after;
-        rest = behind;
-    }
-    Ok((decls, scope, rest))
-}
-
 /// A component type, or an instance type.
 #[tactic(auto, using(ctype_format::proofs::Views::views))]
 fn nested(opcode: Opcode, decls: Vec<RawDecl>) -> RawType
@@ -246,54 +194,107 @@ fn nested(opcode: Opcode, decls: Vec<RawDecl>) -> RawType
     }
 }
 
-/// A component type or an instance type behind its opcode, and the type entries after it.
-#[cycle(types)]
-#[tactic(auto, unfolding(ctype_format::specs::Grammar::scope_of))]
-fn scope_of<'a>(
-    alloc: Global,
-    depth: u32,
-    opcode: Opcode,
-    around: &[u32],
-    entries: u32,
-    bytes: &'a [u8],
-) -> Result<(RawType, u32, &'a [u8]), ItemError>
-    requires { entries ≤ 65535 }
-    ensures reads { AnswersRead (λ x. ((type_view x.0, x.1), x.2.now)) result ((scope_of (type depth) opcode around.now entries).read bytes.now) }
-    ensures within { IfOk result (λ x. (entries ≤ x.1) × (x.1 ≤ 65535)) }
-{
-    let component = matches!(opcode, Opcode::Component);
-    let (count, rest) = u32_of(bytes)?;
-    let (decls, scope, rest) = decls_of(alloc, depth, component, around, count, entries, rest)?;
-    Ok((nested(opcode, decls), scope.entries, rest))
-}
-
-/// A type, and the type entries after it, where so many scopes may stand within one another. `around` has the type
-/// entries of the scopes around, the innermost last.
-#[cycle(types)]
-pub(crate) fn type_of<'a>(
-    alloc: Global,
-    depth: u32,
-    around: &[u32],
-    scope: Scope,
-    bytes: &'a [u8],
-) -> Result<(RawType, u32, &'a [u8]), ItemError>
-    requires { IsWithin scope }
-    ensures reads { AnswersRead (λ x. ((type_view x.0, x.1), x.2.now)) result ((type depth around.now scope).read bytes.now) }
-    ensures within { IfOk result (λ x. (scope.entries < x.1) × (x.1 ≤ 65535)) }
-{
-    let (opcode, rest) = type_opcode_of(depth, scope.entries, bytes)?;
-    if is_nested(opcode) {
-        let mut inner = Vec::from_slice(alloc, around)?;
-        inner.push(scope.types)?;
-        return scope_of(
-            alloc,
-            depth - 1,
-            opcode,
-            inner.as_slice(),
-            scope.entries + 1,
-            rest,
-        );
+impl Nesting<'_> {
+    /// A declaration, and the scope with it.
+    #[cycle(types)]
+    #[tactic(auto, unfolding(ctype_format::specs::Grammar::decl, ctype_format::specs::View::decl_view))]
+    fn decl_of<'a>(
+        &self,
+        component: bool,
+        scope: Scope,
+        bytes: &'a [u8],
+    ) -> Result<(RawDecl, Scope, &'a [u8]), ItemError>
+        requires within { IsWithin scope }
+        requires instances { scope.instances < 4294967295 }
+        ensures reads { AnswersRead (λ x. ((decl_view x.0, x.1), x.2.now)) result ((decl (type self.now.depth) component self.now.around.now scope).read bytes.now) }
+        ensures within { IfOk result (λ x. IsWithin x.1) }
+        ensures more { IfOk result (λ x. scope.entries ≤ x.1.entries) }
+        ensures instances { IfOk result (λ x. x.1.instances ≤ scope.instances + 1) }
+    {
+        let (sort, rest) = byte_of(bytes)?;
+        if !is_decl(component, sort) {
+            return Err(at(Fault::UnknownOpcode(sort), bytes));
+        }
+        match sort {
+            1 => {
+                let (ty, entries, rest) = self.type_of(scope, rest)?;
+                Ok((RawDecl::Type(ty), with_entries(scope, entries), rest))
+            }
+            2 => {
+                let (alias, after, rest) = alias_of(self.alloc, self.around, scope, rest)?;
+                Ok((RawDecl::Alias(alias), after, rest))
+            }
+            _ => external_of(self.alloc, scope, sort, rest),
+        }
     }
-    let (ty, rest) = plain_of(alloc, scope.types, opcode, rest)?;
-    Ok((ty, scope.entries + 1, rest))
+
+    /// The declarations of a new scope, and what it has then.
+    #[cycle(types)]
+    fn decls_of<'a>(
+        &self,
+        component: bool,
+        count: u32,
+        entries: u32,
+        bytes: &'a [u8],
+    ) -> Result<(Vec<RawDecl>, Scope, &'a [u8]), ItemError>
+        requires { entries ≤ 65535 }
+        ensures reads { AnswersRead (λ x. ((map decl_view x.0.items, x.1), x.2.now)) result ((run (decl (type self.now.depth) component self.now.around.now) count (new_scope entries)).read bytes.now) }
+        ensures within { IfOk result (λ x. (entries ≤ x.1.entries) × (x.1.entries ≤ 65535)) }
+    {
+        let mut decls = Vec::new(self.alloc);
+        let mut scope = new_scope(entries);
+        let mut rest = bytes;
+        for _ in 0..count {
+            let (decl, after, behind) = self.decl_of(component, scope, rest)?;
+            decls.push(decl)?;
+            scope = after;
+            rest = behind;
+        }
+        Ok((decls, scope, rest))
+    }
+
+    /// A component type or an instance type behind its opcode, and the type entries after it.
+    #[cycle(types)]
+    #[tactic(auto, unfolding(ctype_format::specs::Grammar::scope_of))]
+    fn scope_of<'a>(
+        &self,
+        opcode: Opcode,
+        entries: u32,
+        bytes: &'a [u8],
+    ) -> Result<(RawType, u32, &'a [u8]), ItemError>
+        requires { entries ≤ 65535 }
+        ensures reads { AnswersRead (λ x. ((type_view x.0, x.1), x.2.now)) result ((scope_of (type self.now.depth) opcode self.now.around.now entries).read bytes.now) }
+        ensures within { IfOk result (λ x. (entries ≤ x.1) × (x.1 ≤ 65535)) }
+    {
+        let component = matches!(opcode, Opcode::Component);
+        let (count, rest) = u32_of(bytes)?;
+        let (decls, scope, rest) = self.decls_of(component, count, entries, rest)?;
+        Ok((nested(opcode, decls), scope.entries, rest))
+    }
+
+    /// A type, and the type entries after it.
+    #[cycle(types)]
+    pub(crate) fn type_of<'a>(
+        &self,
+        scope: Scope,
+        bytes: &'a [u8],
+    ) -> Result<(RawType, u32, &'a [u8]), ItemError>
+        requires { IsWithin scope }
+        ensures reads { AnswersRead (λ x. ((type_view x.0, x.1), x.2.now)) result ((type self.now.depth self.now.around.now scope).read bytes.now) }
+        ensures within { IfOk result (λ x. (scope.entries < x.1) × (x.1 ≤ 65535)) }
+    {
+        let (opcode, rest) = type_opcode_of(self.depth, scope.entries, bytes)?;
+        if is_nested(opcode) {
+            let mut around = Vec::from_slice(self.alloc, self.around)?;
+            around.push(scope.types)?;
+            let inner = Nesting {
+                alloc: self.alloc,
+                depth: self.depth - 1,
+                around: around.as_slice(),
+            };
+            return inner.scope_of(opcode, scope.entries + 1, rest);
+        }
+        let (ty, rest) = plain_of(self.alloc, scope.types, opcode, rest)?;
+        Ok((ty, scope.entries + 1, rest))
+    }
 }
