@@ -197,30 +197,18 @@ impl InstanceReader {
         Ok(())
     }
 
-    /// Appends a function under its name.
+    /// Appends a function.
     pub fn push_function(
         &mut self,
-        alloc: Global,
         rows: &mut Vec<Definition>,
-        owner: Owner,
-        name: &[u8],
-        params: Sequence<Parameter>,
-        returned: Option<ValType>,
+        function: Function,
     ) -> Result<FunctionId, AllocError>
-        requires awaited { self.old.awaited ≡ Awaited.Nothing }
-        requires label { IsLabel name.now }
-        ensures row { OnOk result (read_with rows.new.items self.new
-            ≡ with_row (Definition.Function (record { owner = owner; name = name.now; params = params; result = returned })) (read_with rows.old.items self.old)) }
+        requires { self.old.awaited ≡ Awaited.Nothing }
+        ensures row { OnOk result (read_with rows.new.items self.new ≡ with_row (Definition.Function function) (read_with rows.old.items self.old)) }
         ensures id { IfOk result (λ id. id.0 ≡ length rows.old.items) }
     {
         let id = FunctionId(next_place(rows)?);
-        let name = Label::from_bytes(alloc, name)?;
-        rows.push(Definition::Function(Function {
-            owner,
-            name,
-            params,
-            result: returned,
-        }))?;
+        rows.push(Definition::Function(function))?;
         self.indices.push(None)?;
         Ok(id)
     }
@@ -240,8 +228,13 @@ impl InstanceReader {
         let Awaited::Function(params, result) = awaited else {
             return Err(Unread::NotThisShape);
         };
-        let owner = Owner::Interface(place);
-        let id = self.push_function(alloc, rows, owner, name, params, result)?;
+        let function = Function {
+            owner: Owner::Interface(place),
+            name: Label::from_bytes(alloc, name)?,
+            params,
+            result,
+        };
+        let id = self.push_function(rows, function)?;
         self.functions.push(id)?;
         Ok(())
     }

@@ -16,8 +16,8 @@ use atoms::{KeyedState, Label};
 use ctype_bin::{ExternName, RawAlias, RawDecl, RawDescription, RawType};
 use std::alloc::Global;
 use tables::{
-    Definition, Direction, InterfaceId, Owner, PackageId, Sequence, World, WorldId, WorldItem,
-    WorldItemKind,
+    Definition, Direction, Function, InterfaceId, Owner, PackageId, Sequence, World, WorldId,
+    WorldItem, WorldItemKind,
 };
 
 /// What was read of a world's component type, without its rows.
@@ -28,6 +28,14 @@ pub struct WorldReader {
     items: Vec<WorldItem>,
     /// An interface that is imported or exported next.
     interface: Option<InterfaceId>,
+}
+
+/// An import or an export.
+#[derive(Clone, Copy)]
+struct External<'a> {
+    direction: Direction,
+    name: &'a ExternName,
+    description: &'a RawDescription,
 }
 
 /// The interface that an alias stands for, where these are around it.
@@ -68,13 +76,16 @@ impl WorldReader {
         ensures { Becomes (function_named world.0 direction name.now (world_with rows.old.items self.old) (awaited_view self.old.inside.awaited)) (world_with rows.new.items self.new) result }
     {
         let awaited = std::mem::replace(&mut self.inside.awaited, Awaited::Nothing);
-        let Awaited::Function(params, returned) = awaited else {
+        let Awaited::Function(params, result) = awaited else {
             return Err(Unread::NotThisShape);
         };
-        let owner = Owner::World(world);
-        let id = self
-            .inside
-            .push_function(alloc, rows, owner, name, params, returned)?;
+        let function = Function {
+            owner: Owner::World(world),
+            name: Label::from_bytes(alloc, name)?,
+            params,
+            result,
+        };
+        let id = self.inside.push_function(rows, function)?;
         let kind = WorldItemKind::Function(id);
         self.items.push(WorldItem { direction, kind })?;
         Ok(())
@@ -97,18 +108,16 @@ impl WorldReader {
         alloc: Global,
         rows: &mut Vec<Definition>,
         world: WorldId,
-        direction: Direction,
-        name: &ExternName,
-        description: &RawDescription,
+        external: &External<'_>,
     ) -> Result<(), Unread>
-        ensures { Becomes (named_read world.0 direction (name_view name.now) description.now (world_with rows.old.items self.old)) (world_with rows.new.items self.new) result }
+        ensures { Becomes (named_read world.0 external.now.direction (name_view external.now.name.now) external.now.description.now (world_with rows.old.items self.old)) (world_with rows.new.items self.new) result }
     {
-        match (name_parts(name), description) {
+        match (name_parts(external.name), external.description) {
             (NameParts::Label(name), RawDescription::Function(_)) => {
-                self.name_function(alloc, rows, world, direction, name)
+                self.name_function(alloc, rows, world, external.direction, name)
             }
             (NameParts::FullName(_), RawDescription::Instance(_)) => {
-                self.name_interface(direction)
+                self.name_interface(external.direction)
             }
             _ => Err(Unread::NotThisShape),
         }
@@ -159,10 +168,20 @@ impl WorldReader {
             RawDecl::Type(ty) => self.define(alloc, rows, ty),
             RawDecl::Alias(alias) => self.alias(rows, instances, alias),
             RawDecl::Import(name, description) => {
-                self.name(alloc, rows, world, Direction::Import, name, description)
+                let external = External {
+                    direction: Direction::Import,
+                    name,
+                    description,
+                };
+                self.name(alloc, rows, world, &external)
             }
             RawDecl::Export(name, description) => {
-                self.name(alloc, rows, world, Direction::Export, name, description)
+                let external = External {
+                    direction: Direction::Export,
+                    name,
+                    description,
+                };
+                self.name(alloc, rows, world, &external)
             }
         }
     }

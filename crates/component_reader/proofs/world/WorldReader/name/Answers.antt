@@ -11,7 +11,7 @@ returns-in-FullName-Instance c =
     let rows = c.args.rows.now.items in
     let s = world_with rows c.args.self.now in
     let new = world_with rows c.name_interface.new.self in
-    let read = named_read c.args.world.0 c.args.direction (name_view c.args.name.now) in
+    let read = named_read c.args.world.0 c.args.external.now.direction (name_view c.args.external.now.name.now) in
     let full = c.in-FullName-Instance.ensures in
     subst (λ (d : RawDescription). Becomes (read d s) new c.name_interface.result) (sym c.in-FullName-Instance.is-1)
-    (subst (λ (b : Bool). Becomes (cond b None (interface_named c.args.direction s)) new c.name_interface.result) (sym full.0) (c.name_interface.ensures rows))
+    (subst (λ (b : Bool). Becomes (cond b None (interface_named c.args.external.now.direction s)) new c.name_interface.result) (sym full.0) (c.name_interface.ensures rows))
