@@ -12,8 +12,8 @@ loop-item-preserved c =
     let told = c.in_ok-start.ensures in
     let start = c.loop-item.start in
     let around : Surroundings = record { rows = r.definitions; names = interface_names r; instances = c.args.instances.now } in
-    let passed = item-passed around (length r.interfaces) c.args.items.now c.loop-item.item-index _ c.loop-item-test.true (map decl_view c.loop-item.decls.items) (map decl_view c.push_item.new.decls.items)
-    c.loop-item.place c.push_item.new.place start c.in_ok-start.start told.declarations told.place told.end in
+    let passed = item-passed around (length r.interfaces) c.args.items.now c.loop-item.item-index _ c.loop-item-test.true (map decl_view c.loop-item.declared.decls.items) (map decl_view c.push_item.new.self.decls.items)
+    c.loop-item.declared.place c.push_item.new.self.place start c.in_ok-start.start told.declarations told.place told.end in
     record {
       declarations = passed.declarations ∙ inv.declarations;
       place = passed.place_is ∙ inv.place;

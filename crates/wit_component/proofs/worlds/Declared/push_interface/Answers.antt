@@ -1,7 +1,7 @@
 use Rattle.std.proofs.Common.{List, length, get_or, ap, sym, ◌∙◌}
 use Rattle.tables.proofs.Earlier.{grouped-at}
 use Rattle.tables.specs.declared.tables.Interface.{Interface}
-use Rattle.wit_component.proofs.worlds.push_interface.Goals as goal
+use Rattle.wit_component.proofs.worlds.Declared.push_interface.Goals as goal
 
 pub full_name-requires-clause-placed : goal.full_name-requires-clause-placed
 full_name-requires-clause-placed c =
