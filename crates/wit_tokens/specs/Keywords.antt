@@ -1,5 +1,5 @@
 -- The keywords of WIT texts.
-use Rattle.std.specs.Prelude.{ℕ, List, [], ◌∷◌, Option, Some, None, if◌then◌else◌, codes}
+use Rattle.std.specs.Prelude.{ℕ, ◌+◌, ◌*◌, ◌%◌, ◌==◌, length, List, [], ◌∷◌, Option, Some, None, if◌then◌else◌, codes}
 use Rattle.std.specs.Str.{bytes_eq}
 use Rattle.wit_tokens.specs.declared.token.Keyword.{Keyword}
 use Rattle.wit_tokens.specs.declared.token.Keyword.TheVariants as kw
@@ -62,3 +62,20 @@ keyword_in (k ∷ ks) word = if bytes_eq word (spelling k) then Some k else keyw
 -- the keyword that is spelled so
 abbrev pub keyword_of : List ℕ → Option Keyword
 keyword_of word = keyword_in keywords word
+
+abbrev pub last_from : ℕ → List ℕ → ℕ
+last_from c [] = c
+last_from c (d ∷ ds) = last_from d ds
+
+-- A word's place, by its first and last byte and its length. No two keywords have the same.
+abbrev pub place_of : List ℕ → ℕ
+place_of [] = 0
+place_of (c ∷ cs) = (23 * c + 29 * last_from c cs + length (c ∷ cs)) % 128
+
+abbrev pub placed_in : List Keyword → ℕ → Option Keyword
+placed_in [] place = None
+placed_in (k ∷ ks) place = if place_of (spelling k) == place then Some k else placed_in ks place
+
+-- the keyword that has this place
+abbrev pub keyword_at : ℕ → Option Keyword
+keyword_at place = placed_in keywords place

@@ -56,6 +56,9 @@ abbrev pub word_run : List ℕ → ℕ
 word_run [] = 0
 word_run (c ∷ cs) = if is_letter c || is_digit c || (c == 45 && not (begins_with 62 cs)) then suc (word_run cs) else 0
 
+abbrev pub blank_run : List ℕ → ℕ
+blank_run cs = length (take_while is_blank cs)
+
 abbrev pub digit_run : List ℕ → ℕ
 digit_run cs = length (take_while is_digit cs)
 

@@ -1,55 +1,10 @@
 //! How keywords are spelled.
-ghost use Rattle.std.specs.Prelude.{◌≡◌, ◌∷◌, List, ℕ};
-ghost use Rattle.wit_tokens.specs.Keywords.{spelling, keywords, keyword_in, keyword_of};
+ghost use Rattle.std.specs.Prelude.{◌≡◌, Some};
+ghost use Rattle.wit_tokens.specs.Keywords.{spelling, keyword_at, keyword_of};
+ghost use Rattle.wit_tokens.specs.declared.token.Keyword.{Keyword};
 
 use crate::token::Keyword;
 use std::fmt;
-
-static KEYWORDS: [Keyword; 43] = [
-    Keyword::As,
-    Keyword::Async,
-    Keyword::Bool,
-    Keyword::Borrow,
-    Keyword::Char,
-    Keyword::Constructor,
-    Keyword::Enum,
-    Keyword::ErrorContext,
-    Keyword::Export,
-    Keyword::F32,
-    Keyword::F64,
-    Keyword::Flags,
-    Keyword::From,
-    Keyword::Func,
-    Keyword::Future,
-    Keyword::Import,
-    Keyword::Include,
-    Keyword::Interface,
-    Keyword::List,
-    Keyword::Map,
-    Keyword::Option,
-    Keyword::Own,
-    Keyword::Package,
-    Keyword::Record,
-    Keyword::Resource,
-    Keyword::Result,
-    Keyword::S16,
-    Keyword::S32,
-    Keyword::S64,
-    Keyword::S8,
-    Keyword::Static,
-    Keyword::Stream,
-    Keyword::String,
-    Keyword::Tuple,
-    Keyword::Type,
-    Keyword::U16,
-    Keyword::U32,
-    Keyword::U64,
-    Keyword::U8,
-    Keyword::Use,
-    Keyword::Variant,
-    Keyword::With,
-    Keyword::World,
-];
 
 /// The keyword's word.
 pub fn spelling(keyword: Keyword) -> &'static str
@@ -108,53 +63,76 @@ impl fmt::Display for Keyword {
     }
 }
 
+/// The keyword with this place. Each keyword has a place of its own, from 0 to 127.
 #[tactic(auto, unfolding(crate::specs::Keywords::keywords))]
-fn keywords() -> &'static [Keyword]
-    ensures { result.now ≡ keywords }
+fn keyword_at(place: usize) -> Option<Keyword>
+    ensures { result ≡ keyword_at place }
 {
-    &KEYWORDS
+    match place {
+        64 => Some(Keyword::As),
+        115 => Some(Keyword::Async),
+        14 => Some(Keyword::Bool),
+        79 => Some(Keyword::Borrow),
+        83 => Some(Keyword::Char),
+        90 => Some(Keyword::Constructor),
+        112 => Some(Keyword::Enum),
+        68 => Some(Keyword::ErrorContext),
+        61 => Some(Keyword::Export),
+        87 => Some(Keyword::F32),
+        17 => Some(Keyword::F64),
+        54 => Some(Keyword::Flags),
+        7 => Some(Keyword::From),
+        101 => Some(Keyword::Func),
+        33 => Some(Keyword::Future),
+        25 => Some(Keyword::Import),
+        103 => Some(Keyword::Include),
+        105 => Some(Keyword::Interface),
+        92 => Some(Keyword::List),
+        126 => Some(Keyword::Map),
+        117 => Some(Keyword::Option),
+        114 => Some(Keyword::Own),
+        8 => Some(Keyword::Package),
+        24 => Some(Keyword::Record),
+        55 => Some(Keyword::Resource),
+        104 => Some(Keyword::Result),
+        118 => Some(Keyword::S16),
+        2 => Some(Keyword::S32),
+        60 => Some(Keyword::S64),
+        47 => Some(Keyword::S8),
+        18 => Some(Keyword::Static),
+        52 => Some(Keyword::Stream),
+        6 => Some(Keyword::String),
+        98 => Some(Keyword::Tuple),
+        97 => Some(Keyword::Type),
+        36 => Some(Keyword::U16),
+        48 => Some(Keyword::U32),
+        106 => Some(Keyword::U64),
+        93 => Some(Keyword::U8),
+        119 => Some(Keyword::Use),
+        69 => Some(Keyword::Variant),
+        125 => Some(Keyword::With),
+        10 => Some(Keyword::World),
+        _ => None,
+    }
 }
 
-/// The keywords among which one stands that begins with this letter.
-#[tactic(auto, unfolding(crate::specs::Keywords::keywords))]
-fn keywords_by(first: u8) -> &'static [Keyword]
-    ensures { (rest : List ℕ) → keyword_in result.now (first ∷ rest) ≡ keyword_of (first ∷ rest) }
+/// The one keyword that the word can be, by its first byte, its last byte and its length.
+fn candidate(word: &[u8]) -> Option<Keyword>
+    ensures { (k : Keyword) → word.now ≡ spelling k → result ≡ Some k }
 {
-    let all = keywords();
-    match first {
-        b'a' => &all[..2],
-        b'b' => &all[2..4],
-        b'c' => &all[4..6],
-        b'e' => &all[6..9],
-        b'f' => &all[9..15],
-        b'i' => &all[15..18],
-        b'l' => &all[18..19],
-        b'm' => &all[19..20],
-        b'o' => &all[20..22],
-        b'p' => &all[22..23],
-        b'r' => &all[23..26],
-        b's' => &all[26..33],
-        b't' => &all[33..35],
-        b'u' => &all[35..40],
-        b'v' => &all[40..41],
-        b'w' => &all[41..],
-        b'd' | b'g' | b'h' | b'j' | b'k' | b'n' | b'q' | b'x' | b'y' | b'z' => &[],
-        _ => all,
-    }
+    let [first, .., last] = word else {
+        return None;
+    };
+    let place = 23 * usize::from(*first) + 29 * usize::from(*last) + word.len();
+    keyword_at(place % 128)
 }
 
 /// The keyword that is spelled so.
 pub fn keyword_of(word: &[u8]) -> Option<Keyword>
     ensures { result ≡ keyword_of word.now }
 {
-    let [first, ..] = word else {
-        return None;
-    };
-    let all = keywords_by(*first);
-    for keyword in all {
-        if word == spelling(*keyword).as_bytes() {
-            return Some(*keyword);
-        }
+    match candidate(word) {
+        Some(keyword) if word == spelling(keyword).as_bytes() => Some(keyword),
+        _ => None,
     }
-    None
 }

@@ -1,6 +1,7 @@
 //! From text to tokens.
-ghost use Rattle.std.specs.Prelude.{◌≡◌, ◌<◌, ◌≤◌, ◌+◌, ◌^◌, ℕ, IsTrue, length, drop, IfOk, IfErr, IfSome, IfNone, None};
-ghost use Rattle.wit_tokens.specs.Lexing.{is_letter, is_blank, is_in_version, word_run, digit_run, version_run, line_run, comment_run, plus, begins_with, begins_pair, begins_letter, begins_digit, mark_of, char_len, slash_front, word_kind, word_front, escape_front, at_front, punctuation_front, front_of, Takes, limit, Lexes, LexFault};
+ghost use Rattle.std.specs.Prelude.{◌≡◌, ◌<◌, ◌≤◌, ◌+◌, ◌^◌, ℕ, IsTrue, false, length, take, drop, IfOk, IfErr, IfSome, IfNone, None};
+ghost use Rattle.atoms.specs.Label.{are_words};
+ghost use Rattle.wit_tokens.specs.Lexing.{is_letter, is_blank, is_in_version, blank_run, word_run, digit_run, version_run, line_run, comment_run, plus, begins_with, begins_pair, begins_letter, begins_digit, mark_of, char_len, slash_front, word_kind, word_front, escape_front, at_front, punctuation_front, front_of, Takes, limit, Lexes, LexFault};
 
 use crate::error::TextError;
 use crate::keyword::keyword_of;
@@ -72,6 +73,48 @@ fn begins_pair(text: &[u8], first: u8, second: u8) -> bool
         [one, two, ..] => *one == first && *two == second,
         _ => false,
     }
+}
+
+fn blank_len(text: &[u8]) -> usize
+    ensures is { result ≡ blank_run text.now }
+    ensures within { result ≤ length text.now }
+{
+    let mut len = 0;
+    for byte in text {
+        if !is_blank(*byte) {
+            return len;
+        }
+        len += 1;
+    }
+    len
+}
+
+/// The length of the word at the front, if it is a label of lower-case letters and digits, of any length. Most words are
+/// such, and one way over their bytes finds them. `None` says nothing.
+fn lower_word_len(text: &[u8]) -> Option<usize>
+    ensures is { IfSome result (λ n. n ≡ word_run text.now) }
+    ensures words { IfSome result (λ n. IsTrue (are_words (take n text.now))) }
+    ensures within { IfSome result (λ n. (0 < n) × (n ≤ length text.now)) }
+{
+    let mut len = 0;
+    let mut begun = false;
+    for byte in text {
+        if byte.is_ascii_lowercase() {
+            begun = true;
+        } else if !begun {
+            return None;
+        } else if *byte == b'-' {
+            begun = false;
+        } else if !byte.is_ascii_digit() {
+            return if byte.is_ascii_uppercase() {
+                None
+            } else {
+                Some(len)
+            };
+        }
+        len += 1;
+    }
+    if begun { Some(len) } else { None }
 }
 
 /// The length of the longest word at the front.
@@ -236,8 +279,10 @@ fn word_kind(word: &[u8]) -> TokenKind
     }
 }
 
+/// The word at the front, whatever its letters.
+#[cold]
 #[tactic(auto, unfolding(crate::specs::Lexing::word_front))]
-fn word_front(text: &[u8]) -> Front
+fn any_word_front(text: &[u8]) -> Front
     requires { IsTrue (begins_letter text.now) }
     ensures is { result ≡ word_front text.now }
     ensures within { Takes result (length text.now) }
@@ -248,6 +293,17 @@ fn word_front(text: &[u8]) -> Front
         Front::Token(word_kind(word), len)
     } else {
         Front::Bad(len)
+    }
+}
+
+fn word_front(text: &[u8]) -> Front
+    requires { IsTrue (begins_letter text.now) }
+    ensures is { result ≡ word_front text.now }
+    ensures within { Takes result (length text.now) }
+{
+    match lower_word_len(text) {
+        Some(len) if len <= 255 => Front::Token(word_kind(&text[..len]), len),
+        _ => any_word_front(text),
     }
 }
 
@@ -302,10 +358,11 @@ fn punctuation_front(first: u8, rest: &[u8]) -> Front
     }
 }
 
-/// What stands at the front of the text.
+/// What stands at the front of a text that begins with no letter.
 #[tactic(auto, unfolding(crate::specs::Lexing::front_of))]
-fn front_of(text: &[u8]) -> Front
-    requires { length text.now < 2 ^ 60 }
+fn front_without_letter(text: &[u8]) -> Front
+    requires small { length text.now < 2 ^ 60 }
+    requires letter { begins_letter text.now ≡ false }
     ensures is { result ≡ front_of text.now }
     ensures within { 0 < length text.now → Takes result (length text.now) }
 {
@@ -316,9 +373,6 @@ fn front_of(text: &[u8]) -> Front
     if is_blank(first) {
         return Front::Blank(1);
     }
-    if letter(first) {
-        return word_front(text);
-    }
     if first.is_ascii_digit() {
         return Front::Token(TokenKind::Integer, digit_len(text));
     }
@@ -327,6 +381,28 @@ fn front_of(text: &[u8]) -> Front
         b'%' => escape_front(rest),
         b'@' => at_front(rest),
         _ => punctuation_front(first, rest),
+    }
+}
+
+/// What stands at the front of the text: first what is there most often.
+#[tactic(auto, unfolding(crate::specs::Lexing::front_of))]
+fn front_of(text: &[u8]) -> Front
+    requires { length text.now < 2 ^ 60 }
+    ensures is { result ≡ front_of text.now }
+    ensures within { 0 < length text.now → Takes result (length text.now) }
+{
+    let [first, ..] = text else {
+        return Front::Blank(0);
+    };
+    if is_blank(*first) {
+        return Front::Blank(1);
+    }
+    if letter(*first) {
+        return word_front(text);
+    }
+    match mark_of(*first) {
+        Some(mark) => Front::Token(TokenKind::Punctuation(mark), 1),
+        None => front_without_letter(text),
     }
 }
 
@@ -347,7 +423,10 @@ pub fn lex(alloc: Global, text: &str) -> Result<Vec<Token>, TextError>
     let mut at = 0;
     while at < bytes.len() {
         match front_of(&bytes[at..]) {
-            Front::Blank(len) => at += len,
+            Front::Blank(len) => {
+                let end = at + len;
+                at = end + blank_len(&bytes[end..]);
+            }
             Front::Token(kind, len) => {
                 let end = at + len;
                 let span = Span { start: at, end };

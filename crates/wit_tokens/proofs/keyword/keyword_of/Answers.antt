@@ -1,11 +1,21 @@
-use Rattle.std.proofs.Common.{◌≡◌, ◌<◌, List, ℕ, [], ◌∷◌, length, None, refl, arith}
-use Rattle.wit_tokens.specs.Keywords.{keywords, keyword_in}
+use Rattle.std.proofs.Common.{◌≡◌, ap, sym, ◌∙◌}
+use Rattle.std.proofs.lemmas.Bool.Decides.{Decides-eqb}
+use Rattle.std.proofs.lemmas.Slice.Eq.{slice_eq-Decides}
+use Rattle.wit_tokens.specs.Keywords.{spelling}
+use Rattle.wit_tokens.proofs.Spelled.{spelled, no_keyword}
 use Rattle.wit_tokens.proofs.keyword.keyword_of.Goals as goal
 
-none-empty : (word : List ℕ) → length word < 1 → None ≡ keyword_in keywords word
-unfolding keywords
-none-empty [] h = refl
-none-empty (c ∷ cs) h = absurd (omega arith)
+pub returns-in-Some : goal.returns-in-Some
+returns-in-Some c =
+    let same = (slice_eq-Decides Decides-eqb _ _ _ c.eq.ensures).0 c.if-eq.true in
+    sym (spelled c.args.word.now c.in-Some.keyword (same ∙ c.as_bytes.ensures.value ∙ c.spelling.ensures))
 
 pub returns-in_default : goal.returns-in_default
-returns-in_default c = none-empty c.args.word.now c.in_default.len_below
+returns-in_default c = no_keyword c.args.word.now c.candidate.result c.candidate.ensures (λ k found word.
+    let same : c.in-Some.keyword ≡ k = cc in
+    let spelled = word ∙ ap spelling (sym same) ∙ sym c.spelling.ensures ∙ sym c.as_bytes.ensures.value in
+    let equal = (slice_eq-Decides Decides-eqb _ _ _ c.eq.ensures).1 spelled in
+    cc)
+
+pub returns-in_default-2 : goal.returns-in_default-2
+returns-in_default-2 c = no_keyword c.args.word.now c.candidate.result c.candidate.ensures (λ k found word. cc)
