@@ -43,7 +43,7 @@ fn first_version(lexed: &Lexed<'_>, package: PackageRef<'_>) -> Option<Span> {
     let version = first_index(lexed, package)?.checked_add(5)?;
     let token = lexed.tokens.get(version)?;
     if token.kind == TokenKind::Version {
-        return Some(token.span);
+        return Some(token.span());
     }
     None
 }

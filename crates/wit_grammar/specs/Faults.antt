@@ -6,12 +6,12 @@ use Rattle.wit_tokens.specs.declared.error.Expected.{Expected}
 use Rattle.wit_tokens.specs.declared.error.Feature.{Feature}
 use Rattle.wit_tokens.specs.declared.error.TextError.{TextError}
 use Rattle.wit_tokens.specs.declared.error.TextError.TheVariants as error
-use Rattle.wit_tokens.specs.Tokens.{Lexeme, same_kind}
+use Rattle.wit_tokens.specs.Tokens.{Lexeme, same_kind, span_of}
 
 -- the span of the token met, and an empty one at the end
 abbrev pub met : ℕ → List Lexeme → Span
 met end [] = record { start = end; end = end }
-met end (t ∷ ts) = t.token.span
+met end (t ∷ ts) = span_of t.token
 
 abbrev pub wanted : ℕ → Expected → List Lexeme → TextError
 wanted end e ts = error.Expected e (met end ts)

@@ -26,7 +26,7 @@ use Rattle.wit_syntax.specs.declared.ast.Primitive.TheVariants as primitive
 use Rattle.wit_syntax.specs.declared.ast.Direction.{Direction}
 use Rattle.wit_syntax.specs.declared.ast.Direction.TheVariants as direction
 use Rattle.wit_tokens.specs.Lexing.{limit}
-use Rattle.wit_tokens.specs.Tokens.{Lexeme}
+use Rattle.wit_tokens.specs.Tokens.{Lexeme, span_of}
 use Rattle.wit_grammar.specs.Faults.{wanted, is, feature_or, unless_feature}
 use Rattle.wit_grammar.specs.Lookahead.{Phrase}
 use Rattle.wit_syntax.specs.Syntax.{Ty, Prim, Named, ListOf, OptionOf, TupleOf, ResultOf, Absent, Present, tys_of, Member, CaseOf, UsedAs, Definition, Alias, Record, Variant, Enumeration, FlagSet, Function, PathTo, Local, Foreign, Entry, Uses, Defines, Declares, WorldEntry, Whole, Single, FileEntry, AnInterface, AWorld, File}
@@ -132,7 +132,7 @@ version_or (Some v) p t = want.Punctuation p
 
 unfoldable pub header_fault : ℕ → Option (List ℕ) → List Lexeme → TextError
 header_fault end v [] = wanted end (want.Punctuation mark.Semicolon) []
-header_fault end v (t ∷ ts) = feature_or (feature_at open_brace feature.NestedPackage t) (version_or v mark.Semicolon t) t.token.span
+header_fault end v (t ∷ ts) = feature_or (feature_at open_brace feature.NestedPackage t) (version_or v mark.Semicolon t) (span_of t.token)
 
 unfoldable pub package_word : ℕ → Phrase Lexeme
 package_word end = one (is (kind.Keyword kw.Package)) (first_fault end)
@@ -206,7 +206,7 @@ start_fault start.Tuple at = error.Depth at
 start_fault start.Result at = error.Depth at
 
 abbrev pub fault_at : Lexeme → TextError
-fault_at t = if is_name t then error.Depth t.token.span else start_fault (kind_start t.token.kind) t.token.span
+fault_at t = if is_name t then error.Depth (span_of t.token) else start_fault (kind_start t.token.kind) (span_of t.token)
 
 -- where a type is wanted, or no deeper nesting is allowed
 unfoldable pub type_fault : ℕ → List Lexeme → TextError
@@ -345,7 +345,7 @@ parameters end n = do
 -- behind `->`, where named results would begin with `(`
 unfoldable pub result_fault : ℕ → List Lexeme → TextError
 result_fault end [] = wanted end want.Identifier []
-result_fault end (t ∷ ts) = if is open_parenthesis t then error.Unsupported feature.NamedResults t.token.span else fault_at t
+result_fault end (t ∷ ts) = if is open_parenthesis t then error.Unsupported feature.NamedResults (span_of t.token) else fault_at t
 
 unfoldable pub function_result : ℕ → ℕ → Phrase Ty
 function_result end zero = never (result_fault end)
@@ -606,7 +606,7 @@ keyword_entry end n begin.Nothing at = never (entry_fault end)
 
 -- an item behind its first token
 unfoldable pub entry_behind : ℕ → ℕ → Lexeme → Phrase Entry
-entry_behind end n t = when (is_name t) (declared end n t.token.span t.text) (keyword_entry end n (item_kind t.token.kind) t.token.span)
+entry_behind end n t = when (is_name t) (declared end n (span_of t.token) t.text) (keyword_entry end n (item_kind t.token.kind) (span_of t.token))
 
 unfoldable pub entry : ℕ → ℕ → Phrase Entry
 entry end n = do
@@ -714,7 +714,7 @@ directed end n None at = never (world_fault end)
 unfoldable pub world_entry : ℕ → ℕ → Phrase WorldEntry
 world_entry end n = do
   t ← one begins_world_entry (world_fault end)
-  directed end n (direction_of t.token.kind) t.token.span
+  directed end n (direction_of t.token.kind) (span_of t.token)
 
 abbrev pub world_list : ℕ → ℕ → ℕ → Phrase (List WorldEntry)
 world_list end n = many (is close_brace) (wanted end (want.Keyword kw.Export)) (world_entry end n)
@@ -750,7 +750,7 @@ begins_item t = is_interface t || is (kind.Keyword kw.World) t
 
 -- an item behind its first token
 unfoldable pub item : ℕ → ℕ → Lexeme → Phrase FileEntry
-item end n t = when (is_interface t) (interface end n) (world end n t.token.span)
+item end n t = when (is_interface t) (interface end n) (world end n (span_of t.token))
 
 unfoldable pub optional_item : ℕ → ℕ → Phrase (Option FileEntry)
 optional_item end n = optional begins_item (item end n)

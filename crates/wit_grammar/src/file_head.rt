@@ -2,7 +2,6 @@
 ghost use Rattle.std.specs.Prelude.{◌≡◌, ◌<◌, ◌≤◌, ℕ, List, length, is_some, IfOk, IfSome};
 ghost use Rattle.std.specs.String.{string_bytes};
 ghost use Rattle.wit_tokens.specs.Tokens.{lexeme, lexemes};
-ghost use Rattle.wit_tokens.specs.declared.token.Span.{Span};
 ghost use Rattle.wit_syntax.specs.View.{version_view};
 ghost use Rattle.wit_grammar.specs.Faults.{AnswersRead};
 ghost use Rattle.wit_grammar.specs.Grammar.{is_version_text, is_version_token, version, is_lower_name, lower_id, gate, first_feature, first_fault, package_word, version_or, header_fault, header_end, header};
@@ -108,7 +107,7 @@ pub fn version<'a>(
 
 /// What is wanted behind a version that may be left out, before this mark, where a token of this kind stands.
 pub fn version_or(version: &Option<String>, mark: Punctuation, kind: TokenKind) -> Expected
-    ensures { (span : Span) → (text : List ℕ) → result ≡ version_or (version_view version.now) mark (record { token = record { kind = kind; span = span }; text = text }) }
+    ensures { (start end : ℕ) → (text : List ℕ) → result ≡ version_or (version_view version.now) mark (record { token = record { kind = kind; start = start; end = end }; text = text }) }
 {
     if version.is_none() && same(kind, TokenKind::Version) {
         Expected::Version
@@ -125,11 +124,11 @@ fn header_fault(source: &[u8], version: &Option<String>, tokens: &[Token]) -> Te
     let brace = TokenKind::Punctuation(Punctuation::OpenBrace);
     match tokens {
         [first, ..] if same(first.kind, brace) => {
-            TextError::Unsupported(Feature::NestedPackage, first.span)
+            TextError::Unsupported(Feature::NestedPackage, first.span())
         }
         [first, ..] => {
             let wanted = version_or(version, Punctuation::Semicolon, first.kind);
-            TextError::Expected(wanted, first.span)
+            TextError::Expected(wanted, first.span())
         }
         [] => {
             let semicolon = Expected::Punctuation(Punctuation::Semicolon);

@@ -28,7 +28,7 @@ pub fn same(kind: TokenKind, other: TokenKind) -> bool
 fn bytes_of<'a>(source: &'a [u8], token: Token) -> &'a [u8]
     ensures { result.now ≡ bytes_of source.now token }
 {
-    let Span { start, end } = token.span;
+    let (start, end) = (token.start as usize, token.end as usize);
     if start <= end && end <= source.len() {
         &source[start..end]
     } else {
@@ -57,7 +57,7 @@ pub fn met(source: &[u8], tokens: &[Token]) -> Span
     ensures { result ≡ met (length source.now) (lexemes source.now tokens.now) }
 {
     match tokens {
-        [first, ..] => first.span,
+        [first, ..] => first.span(),
         [] => Span {
             start: source.len(),
             end: source.len(),

@@ -82,7 +82,7 @@ fn path_fault(source: &[u8], path: &Path, mark: Punctuation, tokens: &[Token]) -
         }
         Path::Foreign { package, .. } => match tokens {
             [first, ..] => {
-                TextError::Expected(version_or(&package.version, mark, first.kind), first.span)
+                TextError::Expected(version_or(&package.version, mark, first.kind), first.span())
             }
             [] => TextError::Expected(Expected::Punctuation(mark), met(source, tokens)),
         },

@@ -87,12 +87,12 @@ pub fn type_fault(source: &[u8], tokens: &[Token]) -> TextError
         return TextError::Expected(Expected::Identifier, met(source, tokens));
     };
     if is_name(source, *first) {
-        return TextError::Depth(first.span);
+        return TextError::Depth(first.span());
     }
     match kind_start(first.kind) {
-        Start::Nothing => TextError::Expected(Expected::Identifier, first.span),
-        Start::LeftOut(feature) => TextError::Unsupported(feature, first.span),
-        _ => TextError::Depth(first.span),
+        Start::Nothing => TextError::Expected(Expected::Identifier, first.span()),
+        Start::LeftOut(feature) => TextError::Unsupported(feature, first.span()),
+        _ => TextError::Depth(first.span()),
     }
 }
 
@@ -142,7 +142,7 @@ fn close_list<'a>(
         [first, rest @ ..] if same(first.kind, greater) => Ok((*first, rest)),
         [first, ..] if same(first.kind, comma) => {
             let feature = Feature::FixedLengthList;
-            Err(TextError::Unsupported(feature, first.span))
+            Err(TextError::Unsupported(feature, first.span()))
         }
         _ => Err(TextError::Expected(greater_wanted(ty), met(source, tokens))),
     }

@@ -172,7 +172,7 @@ fn twin_line(alloc: Global, text: &str, at: usize, name: &str) -> Option<usize> 
     let index = lexed
         .tokens
         .iter()
-        .position(|token| token.span.start == at)?;
+        .position(|token| token.span().start == at)?;
     let twin = twin_of(&lexed, index, name)?;
     Some(place_at(text, lexed.span_at(twin)?.start)?.line)
 }

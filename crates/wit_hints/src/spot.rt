@@ -136,7 +136,7 @@ pub struct Spot<'a> {
 impl<'a> Spot<'a> {
     /// The token at a span, or the end of the text.
     pub fn of(lexed: &'a Lexed<'a>, span: Span) -> Spot<'a> {
-        let place = lexed.tokens.iter().position(|token| token.span == span);
+        let place = lexed.tokens.iter().position(|token| token.span() == span);
         let index = place.unwrap_or(lexed.tokens.len());
         Spot {
             lexed,

@@ -267,7 +267,7 @@ impl<'a> Declarations<'a> {
                 && self.place_of(scope, name).is_none()
                 && !others.contains(&scope)
             {
-                return Some(token.span);
+                return Some(token.span());
             }
         }
         None

@@ -108,14 +108,14 @@ impl<'a> Lexed<'a> {
 
     pub fn span_at(&self, index: usize) -> Option<Span> {
         match self.tokens.get(index) {
-            Some(token) => Some(token.span),
+            Some(token) => Some(token.span()),
             None => None,
         }
     }
 
     /// The token at a span, by its number.
     fn index_of(&self, span: Span) -> Option<usize> {
-        self.tokens.iter().position(|token| token.span == span)
+        self.tokens.iter().position(|token| token.span() == span)
     }
 
     /// What the token at a span is.
@@ -158,7 +158,7 @@ impl<'a> Lexed<'a> {
     pub fn name_at(&self, index: usize) -> Option<&'a str> {
         match self.tokens.get(index) {
             Some(token) if token.kind == TokenKind::Identifier => {
-                let word = self.at(token.span);
+                let word = self.at(token.span());
                 Some(word.strip_prefix("%").unwrap_or(word))
             }
             _ => None,
@@ -193,7 +193,7 @@ impl<'a> Lexed<'a> {
     fn version_at(&self, index: usize) -> Option<&'a str> {
         match self.tokens.get(index) {
             Some(token) if token.kind == TokenKind::Version => {
-                self.at(token.span).strip_prefix("@")
+                self.at(token.span()).strip_prefix("@")
             }
             _ => None,
         }

@@ -10,7 +10,7 @@ use Rattle.wit_tokens.specs.declared.token.Punctuation.TheVariants as mark
 use Rattle.wit_tokens.specs.declared.token.TokenKind.TheVariants as kind
 use Rattle.wit_tokens.specs.declared.token.Span.{Span}
 use Rattle.wit_tokens.specs.declared.error.TextError.{TextError}
-use Rattle.wit_tokens.specs.Tokens.{Lexeme}
+use Rattle.wit_tokens.specs.Tokens.{Lexeme, span_of}
 use Rattle.wit_tokens.specs.Lexing.{limit}
 use Rattle.wit_syntax.specs.declared.ast.Direction.{Direction}
 use Rattle.wit_syntax.specs.declared.ast.Direction.TheVariants as direction
@@ -101,7 +101,7 @@ keyword-writes end k s ws Q begins starts behind =
     then_writes begins_entry (keyword_word item_line k) ws Q
     (λ l e. or_right (is_name l) (is_item_start (item_kind l.token.kind)) (ap (λ w. is_item_start (item_kind w.kind)) e ∙ (ap is_item_start begins ∙ starts)))
     (λ l e. else_writes _ _ (is_name l) ws Q (no-name item_line k l e)
-    (subst (λ t. Writes (keyword_entry end nesting t l.token.span).spells ws Q) (sym (ap (λ w. item_kind w.kind) e ∙ begins)) (behind l.token.span)))
+    (subst (λ t. Writes (keyword_entry end nesting t (span_of l.token)).spells ws Q) (sym (ap (λ w. item_kind w.kind) e ∙ begins)) (behind (span_of l.token))))
 
 declared-writes : (end : ℕ) (n : List ℕ) (f : Function) → IsLabel n → IsPrintableFunction f → Writes (entry end nesting).spells (name_word item_line n ∷ function_words f) (λ e. unplaced_entry e ≡ Declares nowhere n f)
 unfolding entry begins_entry entry_behind declared func_word punctuation
@@ -112,7 +112,7 @@ declared-writes end n f l h =
     (λ t e. when_writes _ _ (is_name t) (function_words f) Q (is-the-name item_line n l t e)
     (mark-then [] mark.Colon _ Q
     (λ a. keyword-then blank kw.Func (function_behind f) Q
-    (λ b. made_writes (λ g. Declares t.token.span t.text g) (function_behind f) (λ g. g ≡ f) Q (function-writes end f h) (λ g eg. rw (name-text item_line n t l e, eg) refl)))))
+    (λ b. made_writes (λ g. Declares (span_of t.token) t.text g) (function_behind f) (λ g. g ≡ f) Q (function-writes end f h) (λ g eg. rw (name-text item_line n t l e, eg) refl)))))
 
 pub entry-writes : (end : ℕ) (e : Entry) → IsPrintableEntry e → Writes (entry end nesting).spells (entry_words e) (λ x. unplaced_entry x ≡ unplaced_entry e)
 unfolding keyword_entry
@@ -208,7 +208,7 @@ directed-writes : (end : ℕ) (d : Direction) (ws : List Word) (Q : WorldEntry �
 unfolding world_entry
 directed-writes end d ws Q behind =
     then_writes begins_world_entry (keyword_word item_line (direction_keyword d)) ws Q (λ l e. ap is_some (begins l e))
-    (λ l e. subst (λ o. Writes (directed end nesting o l.token.span).spells ws Q) (sym (begins l e)) (behind l.token.span))
+    (λ l e. subst (λ o. Writes (directed end nesting o (span_of l.token)).spells ws Q) (sym (begins l e)) (behind (span_of l.token)))
   where
     keyword-directs : (d : Direction) → direction_of (kind.Keyword (direction_keyword d)) ≡ Some d
     keyword-directs direction.Import = refl

@@ -8,7 +8,7 @@ use Rattle.wit_tokens.specs.declared.token.Punctuation.TheVariants as mark
 use Rattle.wit_tokens.specs.declared.token.TokenKind.TheVariants as kind
 use Rattle.wit_tokens.specs.declared.token.Span.{Span}
 use Rattle.wit_tokens.specs.declared.error.Expected.TheVariants as want
-use Rattle.wit_tokens.specs.Tokens.{Lexeme, lexemes, same_kind}
+use Rattle.wit_tokens.specs.Tokens.{Lexeme, lexemes, same_kind, span_of}
 use Rattle.wit_tokens.specs.Lexing.{limit}
 use Rattle.wit_syntax.specs.Syntax.{Entry, WorldEntry, FileEntry, AnInterface, AWorld, File}
 use Rattle.wit_grammar.specs.Faults.{is, wanted}
@@ -70,7 +70,7 @@ items-writes end (suc n) (AWorld at m xs ∷ es) few h =
     loosen (λ ys r. rw (r.2, r.3, r.4) refl)
     (next_writes begins_item (file_fault end) (item end nesting) n (keyword_word empty_line kw.World) _ (items_words es) P (AreAlike unplaced_file_entry es)
     (λ l e. or_right (is_interface l) (is (kind.Keyword kw.World) l) (is-keyword empty_line kw.World l e))
-    (λ l e. else_writes _ _ (is_interface l) _ P (no-interface l e) (world-writes end at l.token.span m xs h.0))
+    (λ l e. else_writes _ _ (is_interface l) _ P (no-interface l e) (world-writes end at (span_of l.token) m xs h.0))
     (items-writes end n es (omega (arith, few)) h.1))
 
 entry-of-file-stands : (e : FileEntry) → IsPrintableFileEntry e → (rest : List ℕ) → AllStand (file_entry_words e) rest

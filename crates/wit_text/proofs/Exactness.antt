@@ -18,7 +18,7 @@ use Rattle.wit_grammar.specs.declared.starts.ItemStart.{ItemStart}
 use Rattle.wit_grammar.specs.declared.starts.ItemStart.TheVariants as begin
 use Rattle.wit_syntax.specs.declared.ast.Direction.{Direction}
 use Rattle.wit_tokens.specs.Lexing.{limit}
-use Rattle.wit_tokens.specs.Tokens.{Lexeme}
+use Rattle.wit_tokens.specs.Tokens.{Lexeme, span_of}
 use Rattle.wit_syntax.specs.Syntax.{Ty, Member, PathTo, Local, Foreign}
 use Rattle.wit_grammar.specs.Faults.{wanted, is, StandsAt}
 use Rattle.wit_grammar.specs.Lookahead.{lookahead, Phrase}
@@ -35,7 +35,7 @@ weak : {X : Type 0} (end : ℕ) (stops : X → Option Lexeme → Type 0) (p : Ph
 weak end stops p ep = record { sound = ep.sound; complete = λ text rest x s more. ep.complete text rest x s tt; taken = ep.taken; faulty = ep.faulty; met = ep.met; stays = ep.stays }
 
 -- what a token of one kind is not
-apart : (a b : TokenKind) (t : Lexeme) → (is a t ≡ true) → is b t ≡ is b (record { token = record { kind = a; span = t.token.span }; text = t.text })
+apart : (a b : TokenKind) (t : Lexeme) → (is a t ≡ true) → is b t ≡ is b (record { token = record { kind = a; start = t.token.start; end = t.token.end }; text = t.text })
 apart a b t h = rw (same_true t.token.kind a h) refl
 
 either : (a b : Bool) → (a || b) ≡ true → (C : Type 0) → (a ≡ true → C) → (b ≡ true → C) → C
@@ -75,7 +75,7 @@ name_kind t h = first (is kind.Identifier t) _ h
 not_name : (p : Punctuation) (t : Lexeme) → g.is_name t ≡ true → is (kind.Punctuation p) t ≡ false
 not_name p t h = apart kind.Identifier (kind.Punctuation p) t (name_kind t h)
 
-no_name : (k : TokenKind) (t : Lexeme) → is kind.Identifier (record { token = record { kind = k; span = t.token.span }; text = t.text }) ≡ false → t.token.kind ≡ k → g.is_name t ≡ false
+no_name : (k : TokenKind) (t : Lexeme) → is kind.Identifier (record { token = record { kind = k; start = t.token.start; end = t.token.end }; text = t.text }) ≡ false → t.token.kind ≡ k → g.is_name t ≡ false
 unfolding g.is_name
 no_name k t other same = let e : is kind.Identifier t ≡ false = rw same other in rw e refl
 
@@ -151,7 +151,7 @@ next-type : (end : ℕ) → ByNext end (g.type_fault end)
 unfolding g.type_fault
 next-type end = next-first end (g.type_fault end) (λ t ts us. refl) placed
   where
-    at_start : (s : Start) (t : Lexeme) (ts : List Lexeme) → StandsAt end (t ∷ ts) (g.start_fault s t.token.span)
+    at_start : (s : Start) (t : Lexeme) (ts : List Lexeme) → StandsAt end (t ∷ ts) (g.start_fault s (span_of t.token))
     at_start (start.Plain p) t ts = refl
     at_start start.List t ts = refl
     at_start start.Option t ts = refl
@@ -492,7 +492,7 @@ exact-keyword_entry end n begin.Nothing at = exact-fault end (g.entry_fault end)
 
 exact-entry_behind : (end n : ℕ) (t : Lexeme) → look end (g.entry_behind end n t)
 unfolding g.entry_behind
-exact-entry_behind end n t = exact-when (lookahead end) (g.is_name t) _ _ (exact-declared end n t.token.span t.text) (exact-keyword_entry end n (g.item_kind t.token.kind) t.token.span)
+exact-entry_behind end n t = exact-when (lookahead end) (g.is_name t) _ _ (exact-declared end n (span_of t.token) t.text) (exact-keyword_entry end n (g.item_kind t.token.kind) (span_of t.token))
 
 exact-entry : (end n : ℕ) → look end (g.entry end n)
 unfolding g.entry
@@ -556,11 +556,11 @@ exact-directed end n None at = exact-fault end (g.world_fault end) (next-world e
 
 exact-world_entry : (end n : ℕ) → look end (g.world_entry end n)
 unfolding g.world_entry
-exact-world_entry end n = exact-then (lookahead end) (one g.begins_world_entry (g.world_fault end)) _ (exact-token end _ (next-world end) _) (λ t. exact-directed end n (g.direction_of t.token.kind) t.token.span)
+exact-world_entry end n = exact-then (lookahead end) (one g.begins_world_entry (g.world_fault end)) _ (exact-token end _ (next-world end) _) (λ t. exact-directed end n (g.direction_of t.token.kind) (span_of t.token))
 
 opens-world_entry : (end n : ℕ) → Opens (lookahead end) (is g.close_brace) (g.world_entry end n)
 unfolding g.world_entry
-opens-world_entry end n = opens-bind (lookahead end) (is g.close_brace) (one g.begins_world_entry (g.world_fault end)) (λ t. g.directed end n (g.direction_of t.token.kind) t.token.span) (opens-one (lookahead end) (is g.close_brace) g.begins_world_entry (g.world_fault end) (by_kind g.close_brace g.begins_world_entry (λ t e. rw e refl)))
+opens-world_entry end n = opens-bind (lookahead end) (is g.close_brace) (one g.begins_world_entry (g.world_fault end)) (λ t. g.directed end n (g.direction_of t.token.kind) (span_of t.token)) (opens-one (lookahead end) (is g.close_brace) g.begins_world_entry (g.world_fault end) (by_kind g.close_brace g.begins_world_entry (λ t e. rw e refl)))
 
 exact-world_list : (end n k : ℕ) → look end (g.world_list end n k)
 exact-world_list end n k = exact-many (lookahead end) (g.world_entry end n) (exact-world_entry end n) (is g.close_brace) (opens-world_entry end n) _ (owed end _ (next-wanted end _) _) (λ x m. tt) k
@@ -578,7 +578,7 @@ next-file end = next-feature end _ _
 
 exact-item : (end n : ℕ) (t : Lexeme) → look end (g.item end n t)
 unfolding g.item
-exact-item end n t = exact-when (lookahead end) (g.is_interface t) _ _ (exact-interface end n) (exact-world end n t.token.span)
+exact-item end n t = exact-when (lookahead end) (g.is_interface t) _ _ (exact-interface end n) (exact-world end n (span_of t.token))
 
 exact-items : (end n k : ℕ) → Exact (lookahead end) AtEnd (g.items end n k)
 exact-items end n k = exact-all (lookahead end) g.begins_item _ (g.item end n) (exact-item end n) (owed-end end _ (next-file end)) k

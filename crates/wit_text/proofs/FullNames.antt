@@ -6,7 +6,7 @@ use Rattle.atoms.specs.Label.{is_label}
 use Rattle.atoms.specs.FullName.{is_package_label, is_version, is_version_or_none}
 use Rattle.atoms.proofs.FullNames.{first, second}
 use Rattle.wit_tokens.specs.declared.token.TokenKind.TheVariants as kind
-use Rattle.wit_tokens.specs.Tokens.{Lexeme, lexemes}
+use Rattle.wit_tokens.specs.Tokens.{Lexeme, lexemes, span_of}
 use Rattle.productions.specs.Production.{give, ◌>>=◌, when, all, at_end, by_option}
 use Rattle.wit_tokens.specs.declared.token.Span.{Span}
 use Rattle.wit_tokens.specs.Lexing.{limit}
@@ -64,9 +64,9 @@ item-label : (end n : ℕ) (t : Lexeme) (ts : List Lexeme) (x : FileEntry) → (
 unfolding g.item
 item-label end n t ts x h = by (g.is_interface t) h
   where
-    by : (b : Bool) → (when b (g.interface end n) (g.world end n t.token.span)).spells ts x → has_label x ≡ true
+    by : (b : Bool) → (when b (g.interface end n) (g.world end n (span_of t.token))).spells ts x → has_label x ≡ true
     by true h = interface-label end n ts x h
-    by false h = world-label end n t.token.span ts x h
+    by false h = world-label end n (span_of t.token) ts x h
 
 items-labels : (end n m : ℕ) (ts : List Lexeme) (xs : List FileEntry) → (g.items end n m).spells ts xs → list_all has_label xs ≡ true
 unfolding all g.optional_item

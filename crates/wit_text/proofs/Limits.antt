@@ -15,7 +15,7 @@ use Rattle.wit_grammar.specs.declared.starts.ItemStart.{ItemStart}
 use Rattle.wit_grammar.specs.declared.starts.ItemStart.TheVariants as begin
 use Rattle.wit_syntax.specs.declared.ast.Direction.{Direction}
 use Rattle.wit_tokens.specs.Lexing.{limit}
-use Rattle.wit_tokens.specs.Tokens.{Lexeme}
+use Rattle.wit_tokens.specs.Tokens.{Lexeme, span_of}
 use Rattle.wit_syntax.specs.Syntax.{Ty, File}
 use Rattle.wit_grammar.specs.Faults.{is}
 use Rattle.wit_grammar.specs.Lookahead.{Phrase, NoneBegins}
@@ -83,13 +83,13 @@ start_depth start.Result at h = refl
 start_depth (start.LeftOut f) at h = absurd cc
 start_depth start.Nothing at h = absurd cc
 
-fault_depth : (t : Lexeme) → g.begins_type t ≡ true → g.fault_at t ≡ error.Depth t.token.span
+fault_depth : (t : Lexeme) → g.begins_type t ≡ true → g.fault_at t ≡ error.Depth (span_of t.token)
 unfolding g.begins_type
 fault_depth t h = by (g.is_name t) refl
   where
-    by : (b : Bool) → g.is_name t ≡ b → g.fault_at t ≡ error.Depth t.token.span
+    by : (b : Bool) → g.is_name t ≡ b → g.fault_at t ≡ error.Depth (span_of t.token)
     by true e = rw e refl
-    by false e = let s : g.is_start (g.kind_start t.token.kind) ≡ true = rw e at h in rw e (start_depth (g.kind_start t.token.kind) t.token.span s)
+    by false e = let s : g.is_start (g.kind_start t.token.kind) ≡ true = rw e at h in rw e (start_depth (g.kind_start t.token.kind) (span_of t.token) s)
 
 agrees-base : (end m : ℕ) → Alike (g.ty end 0) (g.ty end m)
 unfolding g.type_fault
@@ -100,7 +100,7 @@ agrees-base end m = record { at = both }
     both (t ∷ ts) = by (g.begins_type t) refl
       where
         by : (b : Bool) → g.begins_type t ≡ b → ((f : TextError) × ((g.ty end 0).read (t ∷ ts) ≡ Err f) × IsDepth f) ⊎ ((g.ty end 0).read (t ∷ ts) ≡ (g.ty end m).read (t ∷ ts))
-        by true h = inl (g.type_fault end (t ∷ ts), type_stops end (t ∷ ts), (t.token.span, fault_depth t h))
+        by true h = inl (g.type_fault end (t ∷ ts), type_stops end (t ∷ ts), (span_of t.token, fault_depth t h))
         by false h = inr (type_fails end 0 t ts h ∙ sym (type_fails end m t ts h))
 
 agrees-ty : (end n k : ℕ) → Alike (g.ty end n) (g.ty end (n + k))
@@ -187,7 +187,7 @@ module _ (end n m : ℕ) (nm : Alike (g.ty end n) (g.ty end m)) where
 
   agrees-entry_behind : (t : Lexeme) → Alike (g.entry_behind end (suc n) t) (g.entry_behind end (suc m) t)
   unfolding g.entry_behind
-  agrees-entry_behind t = agrees-when IsDepth (g.is_name t) _ _ _ _ (agrees-declared t.token.span t.text) (agrees-keyword_entry (g.item_kind t.token.kind) t.token.span)
+  agrees-entry_behind t = agrees-when IsDepth (g.is_name t) _ _ _ _ (agrees-declared (span_of t.token) t.text) (agrees-keyword_entry (g.item_kind t.token.kind) (span_of t.token))
 
   agrees-entry : Alike (g.entry end (suc n)) (g.entry end (suc m))
   unfolding g.entry
@@ -220,7 +220,7 @@ module _ (end n m : ℕ) (nm : Alike (g.ty end n) (g.ty end m)) where
 
   agrees-world_entry : Alike (g.world_entry end (suc n)) (g.world_entry end (suc m))
   unfolding g.world_entry
-  agrees-world_entry = agrees-bind IsDepth (one g.begins_world_entry (g.world_fault end)) (one g.begins_world_entry (g.world_fault end)) _ _ (same _) (λ t. agrees-directed (g.direction_of t.token.kind) t.token.span)
+  agrees-world_entry = agrees-bind IsDepth (one g.begins_world_entry (g.world_fault end)) (one g.begins_world_entry (g.world_fault end)) _ _ (same _) (λ t. agrees-directed (g.direction_of t.token.kind) (span_of t.token))
 
   agrees-world : (at : Span) → Alike (g.world end (suc n) at) (g.world end (suc m) at)
   unfolding g.world
@@ -229,7 +229,7 @@ module _ (end n m : ℕ) (nm : Alike (g.ty end n) (g.ty end m)) where
 
   agrees-item : (t : Lexeme) → Alike (g.item end (suc n) t) (g.item end (suc m) t)
   unfolding g.item
-  agrees-item t = agrees-when IsDepth (g.is_interface t) _ _ _ _ agrees-interface (agrees-world t.token.span)
+  agrees-item t = agrees-when IsDepth (g.is_interface t) _ _ _ _ agrees-interface (agrees-world (span_of t.token))
 
   agrees-both : Alike (g.file end (suc n)) (g.file end (suc m))
   unfolding g.file

@@ -78,7 +78,7 @@ fn item<'a>(
     if same(first.kind, TokenKind::Keyword(Keyword::Interface)) {
         interface(alloc, source, tokens)
     } else {
-        world(alloc, source, first.span, tokens)
+        world(alloc, source, first.span(), tokens)
     }
 }
 

@@ -94,7 +94,7 @@ fn result_fault(source: &[u8], tokens: &[Token]) -> TextError
     let open = TokenKind::Punctuation(Punctuation::OpenParenthesis);
     match tokens {
         [first, ..] if same(first.kind, open) => {
-            TextError::Unsupported(Feature::NamedResults, first.span)
+            TextError::Unsupported(Feature::NamedResults, first.span())
         }
         _ => type_fault(source, tokens),
     }

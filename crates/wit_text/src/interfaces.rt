@@ -145,9 +145,9 @@ fn entry_behind<'a>(
 {
     if is_name(source, first) {
         let name = label_of(alloc, source, first)?;
-        return declared(alloc, source, first.span, name, tokens);
+        return declared(alloc, source, first.span(), name, tokens);
     }
-    keyword_entry(alloc, source, item_kind(first.kind), first.span, tokens)
+    keyword_entry(alloc, source, item_kind(first.kind), first.span(), tokens)
 }
 
 /// An item of an interface.

@@ -232,7 +232,7 @@ fn world_entry<'a>(
         return Err(world_fault(source, tokens));
     };
     match direction_of(first.kind) {
-        Some(direction) => world_entry_behind(alloc, source, direction, first.span, rest),
+        Some(direction) => world_entry_behind(alloc, source, direction, first.span(), rest),
         None => Err(world_fault(source, tokens)),
     }
 }

@@ -150,7 +150,7 @@ Takes (front.Bad n) len = n ≤ len + 4
 Takes front.OpenComment len = Unit {0}
 
 abbrev pub token_from : TokenKind → ℕ → ℕ → Token
-token_from k at n = record { kind = k; span = record { start = at; end = at + n } }
+token_from k at n = record { kind = k; start = at; end = at + n }
 
 -- Up to this place the text is these tokens, and blanks between them.
 pub data Upto (text : List ℕ) : ℕ → List Token → Type 0 where

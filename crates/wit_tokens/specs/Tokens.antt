@@ -6,6 +6,7 @@ use Rattle.wit_tokens.specs.declared.token.Punctuation.{Punctuation}
 use Rattle.wit_tokens.specs.declared.token.Punctuation.TheVariants as mark
 use Rattle.wit_tokens.specs.declared.token.TokenKind.{TokenKind}
 use Rattle.wit_tokens.specs.declared.token.TokenKind.TheVariants as kind
+use Rattle.wit_tokens.specs.declared.token.Span.{Span}
 use Rattle.wit_tokens.specs.declared.token.Token.{Token}
 
 -- a token with the word that it spells
@@ -13,9 +14,13 @@ pub record Lexeme : Type 0 where
   pub token : Token
   pub text : List ℕ
 
+-- where a token stands
+abbrev pub span_of : Token → Span
+span_of t = record { start = t.start; end = t.end }
+
 -- the bytes of a token
 abbrev pub bytes_of : List ℕ → Token → List ℕ
-bytes_of text t = if nat_le t.span.start t.span.end && nat_le t.span.end (length text) then slice_range text t.span.start t.span.end else []
+bytes_of text t = if nat_le t.start t.end && nat_le t.end (length text) then slice_range text t.start t.end else []
 
 -- without the `%` of an escaped word and the `@` of a version
 abbrev pub word_of : List ℕ → List ℕ

@@ -418,8 +418,8 @@ pub fn lex(alloc: Global, text: &str) -> Result<Vec<Token>, TextError>
     if bytes.len() > LIMIT {
         return Err(TextError::Limit);
     }
-    // In most texts a token takes four bytes or more, with the blanks around it.
-    let mut tokens = Vec::with_capacity(alloc, bytes.len() / 4)?;
+    // In most texts a token takes five bytes or more, with the blanks around it.
+    let mut tokens = Vec::with_capacity(alloc, bytes.len() / 5)?;
     let mut at = 0;
     while at < bytes.len() {
         match front_of(&bytes[at..]) {
@@ -429,8 +429,11 @@ pub fn lex(alloc: Global, text: &str) -> Result<Vec<Token>, TextError>
             }
             Front::Token(kind, len) => {
                 let end = at + len;
-                let span = Span { start: at, end };
-                tokens.push(Token { kind, span })?;
+                tokens.push(Token {
+                    kind,
+                    start: at as u32,
+                    end: end as u32,
+                })?;
                 at = end;
             }
             Front::Bad(len) => {

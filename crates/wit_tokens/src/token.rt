@@ -1,4 +1,7 @@
 //! Tokens: what they are, and where they stand.
+ghost use Rattle.std.specs.Prelude.{◌≡◌};
+ghost use Rattle.wit_tokens.specs.Tokens.{span_of};
+
 use std::fmt;
 
 /// A word with a meaning of its own, in the order of the list of keywords.
@@ -96,8 +99,22 @@ impl fmt::Display for Span {
     }
 }
 
+/// A token with its place, as a span has it. A text has at most 1,048,576 bytes, so a place needs four bytes.
 #[derive(Clone, Copy, Debug, PartialEq, Eq)]
 pub struct Token {
     pub kind: TokenKind,
-    pub span: Span,
+    pub start: u32,
+    pub end: u32,
+}
+
+impl Token {
+    /// Where the token stands.
+    pub fn span(self) -> Span
+        ensures { result ≡ span_of self }
+    {
+        Span {
+            start: self.start as usize,
+            end: self.end as usize,
+        }
+    }
 }
