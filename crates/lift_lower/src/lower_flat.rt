@@ -15,7 +15,7 @@ ghost use Rattle.values.specs.Types.{IsInside};
 ghost use Rattle.values.specs.Val.{value_of, variant_value};
 
 use crate::guest_blocks::put_text;
-use crate::storing::{ask_elements, store_items};
+use crate::storing::{Chosen, ask_elements, store_items};
 use canonical_abi::{CoreKind, Flat, Guest, TrapKind};
 use layout::Shape;
 use tables::ValType;
@@ -55,7 +55,11 @@ fn lower_at<G: Guest>(
             lower_fields(table, limit, &members, fields, guest, flats)
         }
         Val::Variant(case, payload) => {
-            lower_variant(table, limit, ty, *case, payload, guest, flats)
+            let chosen = Chosen {
+                case: *case,
+                payload,
+            };
+            lower_variant(table, limit, ty, &chosen, guest, flats)
         }
         Val::Flags(bits) => {
             flats.push(Flat::I32(*bits));
@@ -162,28 +166,27 @@ fn lower_variant<G: Guest>(
     table: &Types,
     limit: u32,
     ty: ValType,
-    case: u32,
-    payload: &Option<Box<Val>>,
+    chosen: &Chosen<'_>,
     guest: &mut G,
     flats: &mut Flats,
 ) -> Result<(), TrapKind>
     requires inside { IsInside table.now ty }
     requires variant { variant_type (variant_cases (closed_type table.now ty)) ≡ closed_type table.now ty }
     requires standard { IsStandard (closed_type table.now ty) }
-    requires typed { HasType (variant_value case payload.now) (closed_type table.now ty) }
+    requires typed { HasType (variant_value chosen.now.case chosen.now.payload.now) (closed_type table.now ty) }
     requires room { length flats.old.items + length (flat_kinds (closed_type table.now ty)) ≤ 16 }
-    ensures ok { OnOk result (IsDone limit G.allocates (LowersInto (closed_type table.now ty) (variant_value case payload.now) flats.old.items flats.new.items)
+    ensures ok { OnOk result (IsDone limit G.allocates (LowersInto (closed_type table.now ty) (variant_value chosen.now.case chosen.now.payload.now) flats.old.items flats.new.items)
         (G.memory guest.old) (G.memory guest.new)) }
-    ensures fault { IfErr result (λ k. HasEnded limit G.allocates (LowersBy (closed_type table.now ty) (variant_value case payload.now))
+    ensures fault { IfErr result (λ k. HasEnded limit G.allocates (LowersBy (closed_type table.now ty) (variant_value chosen.now.case chosen.now.payload.now))
         (G.memory guest.old) k (G.memory guest.new)) }
 {
     let kinds = table.kinds_of(ty);
-    flats.push(Flat::I32(case));
-    let Some(value) = payload else {
+    flats.push(Flat::I32(chosen.case));
+    let Some(value) = chosen.payload else {
         push_joined(&kinds.as_slice()[1..], &[], flats);
         return Ok(());
     };
-    let Some(known) = table.case_payload(ty, case as usize) else {
+    let Some(known) = table.case_payload(ty, chosen.case as usize) else {
         unreachable!()
     };
     let Some(member) = known else { unreachable!() };

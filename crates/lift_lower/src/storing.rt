@@ -28,6 +28,13 @@ use values::{Members, Scalar, Types, Val};
 /// The most bytes that a text or a list of typed values may need.
 pub(crate) const MAX_BLOCK: u32 = 16_777_216;
 
+/// The case of a variant that a value is of.
+#[derive(Clone, Copy)]
+pub(crate) struct Chosen<'a> {
+    pub case: u32,
+    pub payload: &'a Option<Box<Val>>,
+}
+
 /// Stores a value at an address of a guest's memory. A trap is in step `place`: the address's own fault,
 /// `Align` or `Bounds`, with nothing changed, or the first request that fails. Takes no memory of the host.
 pub fn store<G: Guest>(
@@ -104,7 +111,11 @@ pub(crate) fn store_at<G: Guest>(
             store_fields(table, limit, &members, fields, guest, at)
         }
         Val::Variant(case, payload) => {
-            store_variant(table, limit, ty, *case, payload, guest, at)
+            let chosen = Chosen {
+                case: *case,
+                payload,
+            };
+            store_variant(table, limit, ty, &chosen, guest, at)
         }
         Val::Flags(bits) => {
             let Shape::Flags(labels) = table.shape_of(ty) else {
@@ -257,29 +268,28 @@ fn store_variant<G: Guest>(
     table: &Types,
     limit: u32,
     ty: ValType,
-    case: u32,
-    payload: &Option<Box<Val>>,
+    chosen: &Chosen<'_>,
     guest: &mut G,
     at: usize,
 ) -> Result<(), TrapKind>
     requires inside { IsInside table.now ty }
     requires standard { IsStandard (closed_type table.now ty) }
-    requires typed { HasType (variant_value case payload.now) (closed_type table.now ty) }
+    requires typed { HasType (variant_value chosen.now.case chosen.now.payload.now) (closed_type table.now ty) }
     requires room { at + size (closed_type table.now ty) ≤ length (G.memory guest.old).bytes }
     requires small { at + size (closed_type table.now ty) < 2 ^ 32 }
-    ensures ok { OnOk result (IsDone limit G.allocates (Stores (closed_type table.now ty) at (variant_value case payload.now))
+    ensures ok { OnOk result (IsDone limit G.allocates (Stores (closed_type table.now ty) at (variant_value chosen.now.case chosen.now.payload.now))
         (G.memory guest.old) (G.memory guest.new)) }
-    ensures fault { IfErr result (λ k. HasEnded limit G.allocates (Stores (closed_type table.now ty) at (variant_value case payload.now))
+    ensures fault { IfErr result (λ k. HasEnded limit G.allocates (Stores (closed_type table.now ty) at (variant_value chosen.now.case chosen.now.payload.now))
         (G.memory guest.old) k (G.memory guest.new)) }
 {
     let Shape::Variant(count) = table.shape_of(ty) else {
         unreachable!()
     };
-    write_number(guest, at, discriminant_bytes(count), case);
-    let Some(value) = payload else {
+    write_number(guest, at, discriminant_bytes(count), chosen.case);
+    let Some(value) = chosen.payload else {
         return Ok(());
     };
-    let Some(known) = table.case_payload(ty, case as usize) else {
+    let Some(known) = table.case_payload(ty, chosen.case as usize) else {
         unreachable!()
     };
     let Some(member) = known else { unreachable!() };

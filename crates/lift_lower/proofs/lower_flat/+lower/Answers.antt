@@ -193,7 +193,7 @@ pub lower_variant-returns-in_default-clause-ok : goal.lower_variant-returns-in_d
 lower_variant-returns-in_default-clause-ok g t c =
     let T = closed_type c.args.table.now c.args.ty in
     let cs = variant_cases T in
-    let i = c.args.case in
+    let i = c.args.chosen.now.case in
     let found = is-plain T i c.requires.variant (rw c.in_default.is at c.requires.typed) in
     let kinds = behind-first c.as_slice.result.now I32 (payload_kinds cs) (c.as_slice.ensures.value ∙ c.kinds_of-kinds.ensures ∙ ap flat_kinds (sym c.requires.variant)) in
     let told = joined-told c.args.flats.now.items c.push.new.self.items c.push_joined.new.flats.items i (take (length c.as_slice.result.now - 1) (drop 1 c.as_slice.result.now)) (payload_kinds cs) [] c.push.ensures.items c.push_joined.ensures kinds in
@@ -202,21 +202,21 @@ lower_variant-returns-in_default-clause-ok g t c =
 pub lower_variant-unreachable-requires : goal.lower_variant-unreachable-requires
 lower_variant-unreachable-requires g t c =
     let T = closed_type c.args.table.now c.args.ty in
-    no-case T c.args.case c.requires.variant c.args.payload.now (sym c.in_default-case_payload.ensures.found) c.requires.typed
+    no-case T c.args.chosen.now.case c.requires.variant c.args.chosen.now.payload.now (sym c.in_default-case_payload.ensures.found) c.requires.typed
 
 pub lower_variant-unreachable-requires-in_default-known : goal.lower_variant-unreachable-requires-in_default-known
 lower_variant-unreachable-requires-in_default-known g t c =
     let r = c.args.table.now in
     let T = closed_type r c.args.ty in
-    let found : nth_case (variant_cases T) c.args.case ≡ Some None = sym c.in-Some-case_payload.ensures.found ∙ ap (λ o. Some (option_map (closed_type r) o)) c.in_default-known.is in
-    no-payload T c.args.case c.requires.variant (value_of c.in-Some.value.value) found (rw c.in-Some.is at c.requires.typed)
+    let found : nth_case (variant_cases T) c.args.chosen.now.case ≡ Some None = sym c.in-Some-case_payload.ensures.found ∙ ap (λ o. Some (option_map (closed_type r) o)) c.in_default-known.is in
+    no-payload T c.args.chosen.now.case c.requires.variant (value_of c.in-Some.value.value) found (rw c.in-Some.is at c.requires.typed)
 
 pub lower_variant-lower_at-requires : goal.lower_variant-lower_at-requires
 lower_variant-lower_at-requires g t c κs within =
     let r = c.args.table.now in
     let T = closed_type r c.args.ty in
     let cs = variant_cases T in
-    let i = c.args.case in
+    let i = c.args.chosen.now.case in
     let u = closed_type r c.in-Some-known.member in
     let found : nth_case cs i ≡ Some (Some u) = sym c.in-Some-case_payload.ensures.found ∙ ap (λ o. Some (option_map (closed_type r) o)) c.in-Some-known.is in
     let P : Value → Type 0 = λ x. HasType x u in
@@ -233,7 +233,7 @@ lower_variant-returns-in_err-lower_at-clause-fault g t c =
     let r = c.args.table.now in
     let T = closed_type r c.args.ty in
     let cs = variant_cases T in
-    let i = c.args.case in
+    let i = c.args.chosen.now.case in
     let u = closed_type r c.in-Some-known.member in
     let found : nth_case cs i ≡ Some (Some u) = sym c.in-Some-case_payload.ensures.found ∙ ap (λ o. Some (option_map (closed_type r) o)) c.in-Some-known.is in
     let ended = rw (ap value_of c.deref.ensures) at c.in_err-lower_at.ensures.fault in
@@ -245,7 +245,7 @@ lower_variant-returns-clause-ok g t c =
     let r = c.args.table.now in
     let T = closed_type r c.args.ty in
     let cs = variant_cases T in
-    let i = c.args.case in
+    let i = c.args.chosen.now.case in
     let u = closed_type r c.in-Some-known.member in
     let found : nth_case cs i ≡ Some (Some u) = sym c.in-Some-case_payload.ensures.found ∙ ap (λ o. Some (option_map (closed_type r) o)) c.in-Some-known.is in
     let carried = c.lower_at.new.flats.items in

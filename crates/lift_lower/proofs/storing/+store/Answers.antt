@@ -327,23 +327,23 @@ store_variant-returns-in_default-payload-clause-ok g t c =
     let variant : variant_type cs ≡ T = ap (λ x. variant_type (variant_cases x)) shaped.1 ∙ sym shaped.1 in
     let count : c.discriminant_bytes.result ≡ discriminant_size (case_count cs) = c.discriminant_bytes.ensures.value ∙ ap discriminant_size (sym shaped.2 ∙ ap case_count (ap variant_cases (sym shaped.1))) in
     let led = rw count at c.write_number.ensures.led in
-    let found = is-plain T c.args.case variant (rw c.in_default-payload.is at c.requires.typed) in
-    rw (c.in_default-payload.is, ← variant) (plain-done c.args.limit g.G.Guest.allocates cs c.args.at c.args.case (plain_value c.args.case) (g.G.Guest.memory c.args.guest.now) (g.G.Guest.memory c.write_number.new.guest) led c.write_number.ensures.same_length
-    (plain-stored cs (c.args.at + payload_place cs) c.args.case c.args.case found))
+    let found = is-plain T c.args.chosen.now.case variant (rw c.in_default-payload.is at c.requires.typed) in
+    rw (c.in_default-payload.is, ← variant) (plain-done c.args.limit g.G.Guest.allocates cs c.args.at c.args.chosen.now.case (plain_value c.args.chosen.now.case) (g.G.Guest.memory c.args.guest.now) (g.G.Guest.memory c.write_number.new.guest) led c.write_number.ensures.same_length
+    (plain-stored cs (c.args.at + payload_place cs) c.args.chosen.now.case c.args.chosen.now.case found))
 
 pub store_variant-unreachable-requires-in_default-case_payload : goal.store_variant-unreachable-requires-in_default-case_payload
 store_variant-unreachable-requires-in_default-case_payload g t c =
     let T = closed_type c.args.table.now c.args.ty in
     let shaped = c.in-Variant.ensures.shape.0 in
     let variant : variant_type (variant_cases T) ≡ T = ap (λ x. variant_type (variant_cases x)) shaped.1 ∙ sym shaped.1 in
-    no-case T c.args.case variant c.args.payload.now (sym c.in_default-case_payload.ensures.found) c.requires.typed
+    no-case T c.args.chosen.now.case variant c.args.chosen.now.payload.now (sym c.in_default-case_payload.ensures.found) c.requires.typed
 
 pub store_variant-unreachable-requires-in_default-known : goal.store_variant-unreachable-requires-in_default-known
 store_variant-unreachable-requires-in_default-known g t c =
     let r = c.args.table.now in
     let T = closed_type r c.args.ty in
     let cs = variant_cases T in
-    let i = c.args.case in
+    let i = c.args.chosen.now.case in
     let shaped = c.in-Variant.ensures.shape.0 in
     let variant : variant_type cs ≡ T = ap (λ x. variant_type (variant_cases x)) shaped.1 ∙ sym shaped.1 in
     let found : nth_case cs i ≡ Some None = sym c.in-Some-case_payload.ensures.found ∙ ap (λ o. Some (option_map (closed_type r) o)) c.in_default-known.is in
@@ -354,7 +354,7 @@ store_variant-store_at-requires g t c κs within =
     let r = c.args.table.now in
     let T = closed_type r c.args.ty in
     let cs = variant_cases T in
-    let i = c.args.case in
+    let i = c.args.chosen.now.case in
     let shaped = c.in-Variant.ensures.shape.0 in
     let variant : variant_type cs ≡ T = ap (λ x. variant_type (variant_cases x)) shaped.1 ∙ sym shaped.1 in
     let u = closed_type r c.in-Some-known.member in
@@ -374,7 +374,7 @@ store_variant-returns-clause-ok g t c =
     let r = c.args.table.now in
     let T = closed_type r c.args.ty in
     let cs = variant_cases T in
-    let i = c.args.case in
+    let i = c.args.chosen.now.case in
     let shaped = c.in-Variant.ensures.shape.0 in
     let variant : variant_type cs ≡ T = ap (λ x. variant_type (variant_cases x)) shaped.1 ∙ sym shaped.1 in
     let u = closed_type r c.in-Some-known.member in
@@ -398,7 +398,7 @@ store_variant-returns-clause-fault g t c =
     let r = c.args.table.now in
     let T = closed_type r c.args.ty in
     let cs = variant_cases T in
-    let i = c.args.case in
+    let i = c.args.chosen.now.case in
     let shaped = c.in-Variant.ensures.shape.0 in
     let variant : variant_type cs ≡ T = ap (λ x. variant_type (variant_cases x)) shaped.1 ∙ sym shaped.1 in
     let u = closed_type r c.in-Some-known.member in
