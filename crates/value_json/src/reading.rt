@@ -23,6 +23,13 @@ use std::alloc::Global;
 use tables::{Case, Definition, Field, Resolve, TypeDefKind, TypeId, ValType};
 use values::Val;
 
+/// Reads values of types of a package.
+#[derive(Clone, Copy)]
+struct Reader<'a> {
+    alloc: Global,
+    resolve: &'a Resolve,
+}
+
 /// The value of a type of the package that stands as this JSON value.
 pub fn value_of_json(
     alloc: Global,
@@ -36,7 +43,8 @@ pub fn value_of_json(
     ensures typed { IfOk result (λ v. HasType (value_of v) (closed_type resolve.now ty)) }
     ensures other { IsErrOf result JsonError.NotThisType → HasNone (labelled_type resolve.now ty) (view json.now) }
 {
-    read_value(alloc, resolve, ty, json)
+    let reader = Reader { alloc, resolve };
+    reader.read_value(ty, json)
 }
 
 /// The values of types of the package that stand as the items of an array: each of its type, and as many as the types.
@@ -57,7 +65,8 @@ pub fn values_of_json(
         return Err(JsonError::NotThisType);
     };
     let place = resolve.definitions.len();
-    match read_members(alloc, resolve, place, types, items.as_slice()) {
+    let reader = Reader { alloc, resolve };
+    match reader.read_members(place, types, items.as_slice()) {
         Ok(values) => Ok(values),
         Err(error) => Err(error),
     }
@@ -89,251 +98,220 @@ fn read_text(alloc: Global, json: &Json) -> Result<Val, JsonError>
     }
 }
 
-#[cycle(reading)]
-fn read_value(alloc: Global, resolve: &Resolve, ty: ValType, json: &Json) -> Result<Val, JsonError>
-    requires inside { IsTypeOf resolve.now ty }
-    requires labels { HasApartLabels resolve.now }
-    ensures ok { IfOk result (λ v. StandsAs (labelled_type resolve.now ty) (value_of v) (view json.now)) }
-    ensures other { IsErrOf result JsonError.NotThisType → HasNone (labelled_type resolve.now ty) (view json.now) }
-{
-    match ty {
-        ValType::Primitive(primitive) => match scalar_of_json(primitive, json) {
-            Some(value) => Ok(value),
-            None => Err(JsonError::NotThisType),
-        },
-        ValType::String => read_text(alloc, json),
-        ValType::Id(id) => {
-            let kind = kind_of(resolve, id);
-            read_kind(alloc, resolve, id.0, kind, json)
-        }
-    }
-}
-
-/// The value of what stands at a place of the table.
-#[cycle(reading)]
-fn read_kind(
-    alloc: Global,
-    resolve: &Resolve,
-    place: u32,
-    kind: &TypeDefKind,
-    json: &Json,
-) -> Result<Val, JsonError>
-    requires below { IsTrue (kind_all (is_below place) kind.now) }
-    requires typed { IsTrue (kind_all (is_type resolve.now.definitions) kind.now) }
-    requires labels { HasApartLabels resolve.now }
-    requires standard { IsTrue (is_standard_kind kind.now) }
-    requires apart { KindApart kind.now }
-    ensures ok { IfOk result (λ v. StandsAs (labelled_kind (labelled_types resolve.now) kind.now) (value_of v) (view json.now)) }
-    ensures other { IsErrOf result JsonError.NotThisType → HasNone (labelled_kind (labelled_types resolve.now) kind.now) (view json.now) }
-{
-    match kind {
-        TypeDefKind::Use(target) => read_value(alloc, resolve, ValType::Id(*target), json),
-        TypeDefKind::Alias(ty) => read_value(alloc, resolve, *ty, json),
-        TypeDefKind::List(element) => {
-            let Some(items) = json.as_array() else {
-                return Err(JsonError::NotThisType);
-            };
-            match read_items(alloc, resolve, *element, items.as_slice()) {
-                Ok(values) => Ok(Val::List(values)),
-                Err(error) => Err(error),
+impl Reader<'_> {
+    #[cycle(reading)]
+    fn read_value(&self, ty: ValType, json: &Json) -> Result<Val, JsonError>
+        requires inside { IsTypeOf self.now.resolve.now ty }
+        requires labels { HasApartLabels self.now.resolve.now }
+        ensures ok { IfOk result (λ v. StandsAs (labelled_type self.now.resolve.now ty) (value_of v) (view json.now)) }
+        ensures other { IsErrOf result JsonError.NotThisType → HasNone (labelled_type self.now.resolve.now ty) (view json.now) }
+    {
+        match ty {
+            ValType::Primitive(primitive) => match scalar_of_json(primitive, json) {
+                Some(value) => Ok(value),
+                None => Err(JsonError::NotThisType),
+            },
+            ValType::String => read_text(self.alloc, json),
+            ValType::Id(id) => {
+                let kind = kind_of(self.resolve, id);
+                self.read_kind(id.0, kind, json)
             }
         }
-        TypeDefKind::Option(ty) => {
-            match read_case(alloc, resolve, place, 0, "none", None, json) {
-                Err(JsonError::NotThisType) => {
-                    read_case(alloc, resolve, place, 1, "some", Some(*ty), json)
+    }
+
+    /// The value of what stands at a place of the table.
+    #[cycle(reading)]
+    fn read_kind(&self, place: u32, kind: &TypeDefKind, json: &Json) -> Result<Val, JsonError>
+        requires below { IsTrue (kind_all (is_below place) kind.now) }
+        requires typed { IsTrue (kind_all (is_type self.now.resolve.now.definitions) kind.now) }
+        requires labels { HasApartLabels self.now.resolve.now }
+        requires standard { IsTrue (is_standard_kind kind.now) }
+        requires apart { KindApart kind.now }
+        ensures ok { IfOk result (λ v. StandsAs (labelled_kind (labelled_types self.now.resolve.now) kind.now) (value_of v) (view json.now)) }
+        ensures other { IsErrOf result JsonError.NotThisType → HasNone (labelled_kind (labelled_types self.now.resolve.now) kind.now) (view json.now) }
+    {
+        match kind {
+            TypeDefKind::Use(target) => self.read_value(ValType::Id(*target), json),
+            TypeDefKind::Alias(ty) => self.read_value(*ty, json),
+            TypeDefKind::List(element) => {
+                let Some(items) = json.as_array() else {
+                    return Err(JsonError::NotThisType);
+                };
+                match self.read_items(*element, items.as_slice()) {
+                    Ok(values) => Ok(Val::List(values)),
+                    Err(error) => Err(error),
                 }
-                other => other,
             }
-        }
-        TypeDefKind::Result(ok, error) => {
-            match read_case(alloc, resolve, place, 0, "ok", *ok, json) {
-                Err(JsonError::NotThisType) => {
-                    read_case(alloc, resolve, place, 1, "error", *error, json)
+            TypeDefKind::Option(ty) => {
+                match self.read_case(place, 0, "none", None, json) {
+                    Err(JsonError::NotThisType) => {
+                        self.read_case(place, 1, "some", Some(*ty), json)
+                    }
+                    other => other,
                 }
-                other => other,
+            }
+            TypeDefKind::Result(ok, error) => {
+                match self.read_case(place, 0, "ok", *ok, json) {
+                    Err(JsonError::NotThisType) => {
+                        self.read_case(place, 1, "error", *error, json)
+                    }
+                    other => other,
+                }
+            }
+            TypeDefKind::Tuple(types) => {
+                let Some(items) = json.as_array() else {
+                    return Err(JsonError::NotThisType);
+                };
+                let place = place as usize;
+                match self.read_members(place, types.as_slice(), items.as_slice()) {
+                    Ok(values) => Ok(Val::Record(values)),
+                    Err(error) => Err(error),
+                }
+            }
+            TypeDefKind::Record(fields) => {
+                match self.read_fields(place, fields.as_slice(), json) {
+                    Ok(values) => Ok(Val::Record(values)),
+                    Err(error) => Err(error),
+                }
+            }
+            TypeDefKind::Variant(cases) => self.read_cases(place, cases.as_slice(), json),
+            TypeDefKind::Enum(labels) => read_label(labels.as_slice(), json),
+            TypeDefKind::Flags(labels) => read_flags(labels.as_slice(), json),
+        }
+    }
+
+    /// The values, each of one type.
+    #[cycle(reading)]
+    fn read_items(&self, element: ValType, items: &[Json]) -> Result<Vec<Val>, JsonError>
+        requires inside { IsTypeOf self.now.resolve.now element }
+        requires labels { HasApartLabels self.now.resolve.now }
+        ensures ok { IfOk result (λ vs. EachJson (StandsAs (labelled_type self.now.resolve.now element)) (map value_of vs.items) (map view items.now)) }
+        ensures other { IsErrOf result JsonError.NotThisType
+            → (vs : List Value) → EachJson (StandsAs (labelled_type self.now.resolve.now element)) vs (map view items.now) → ⊥ }
+    {
+        let mut values = Vec::new(self.alloc);
+        for (i, item) in items.iter().enumerate() {
+            match self.read_value(element, item) {
+                Ok(value) => values.push(value)?,
+                Err(error) => return Err(error),
             }
         }
-        TypeDefKind::Tuple(types) => {
-            let Some(items) = json.as_array() else {
-                return Err(JsonError::NotThisType);
-            };
-            let place = place as usize;
-            match read_members(alloc, resolve, place, types.as_slice(), items.as_slice()) {
-                Ok(values) => Ok(Val::Record(values)),
-                Err(error) => Err(error),
+        Ok(values)
+    }
+
+    /// The values, each of its member's type.
+    #[cycle(reading)]
+    fn read_members(
+        &self,
+        _place: usize,
+        types: &[ValType],
+        items: &[Json],
+    ) -> Result<Vec<Val>, JsonError>
+        requires below { IsTrue (list_all (is_below _place) types.now) }
+        requires typed { IsTrue (list_all (is_type self.now.resolve.now.definitions) types.now) }
+        requires labels { HasApartLabels self.now.resolve.now }
+        ensures ok { IfOk result (λ vs. MembersJson (labelled_members (labelled_types self.now.resolve.now) types.now) (map value_of vs.items) (map view items.now)) }
+        ensures other { IsErrOf result JsonError.NotThisType
+            → (vs : List Value) → MembersJson (labelled_members (labelled_types self.now.resolve.now) types.now) vs (map view items.now) → ⊥ }
+    {
+        if items.len() != types.len() {
+            return Err(JsonError::NotThisType);
+        }
+        let mut values = Vec::new(self.alloc);
+        for (i, item) in items.iter().enumerate() {
+            match self.read_value(types[i], item) {
+                Ok(value) => values.push(value)?,
+                Err(error) => return Err(error),
             }
         }
-        TypeDefKind::Record(fields) => {
-            match read_fields(alloc, resolve, place, fields.as_slice(), json) {
-                Ok(values) => Ok(Val::Record(values)),
-                Err(error) => Err(error),
-            }
-        }
-        TypeDefKind::Variant(cases) => read_cases(alloc, resolve, place, cases.as_slice(), json),
-        TypeDefKind::Enum(labels) => read_label(labels.as_slice(), json),
-        TypeDefKind::Flags(labels) => read_flags(labels.as_slice(), json),
+        Ok(values)
     }
-}
 
-/// The values, each of one type.
-#[cycle(reading)]
-fn read_items(
-    alloc: Global,
-    resolve: &Resolve,
-    element: ValType,
-    items: &[Json],
-) -> Result<Vec<Val>, JsonError>
-    requires inside { IsTypeOf resolve.now element }
-    requires labels { HasApartLabels resolve.now }
-    ensures ok { IfOk result (λ vs. EachJson (StandsAs (labelled_type resolve.now element)) (map value_of vs.items) (map view items.now)) }
-    ensures other { IsErrOf result JsonError.NotThisType
-        → (vs : List Value) → EachJson (StandsAs (labelled_type resolve.now element)) vs (map view items.now) → ⊥ }
-{
-    let mut values = Vec::new(alloc);
-    for (i, item) in items.iter().enumerate() {
-        match read_value(alloc, resolve, element, item) {
-            Ok(value) => values.push(value)?,
-            Err(error) => return Err(error),
-        }
-    }
-    Ok(values)
-}
-
-/// The values, each of its member's type.
-#[cycle(reading)]
-fn read_members(
-    alloc: Global,
-    resolve: &Resolve,
-    _place: usize,
-    types: &[ValType],
-    items: &[Json],
-) -> Result<Vec<Val>, JsonError>
-    requires below { IsTrue (list_all (is_below _place) types.now) }
-    requires typed { IsTrue (list_all (is_type resolve.now.definitions) types.now) }
-    requires labels { HasApartLabels resolve.now }
-    ensures ok { IfOk result (λ vs. MembersJson (labelled_members (labelled_types resolve.now) types.now) (map value_of vs.items) (map view items.now)) }
-    ensures other { IsErrOf result JsonError.NotThisType
-        → (vs : List Value) → MembersJson (labelled_members (labelled_types resolve.now) types.now) vs (map view items.now) → ⊥ }
-{
-    if items.len() != types.len() {
-        return Err(JsonError::NotThisType);
-    }
-    let mut values = Vec::new(alloc);
-    for (i, item) in items.iter().enumerate() {
-        match read_value(alloc, resolve, types[i], item) {
-            Ok(value) => values.push(value)?,
-            Err(error) => return Err(error),
-        }
-    }
-    Ok(values)
-}
-
-/// The values, each of the member of its field's label.
-#[cycle(reading)]
-fn read_fields(
-    alloc: Global,
-    resolve: &Resolve,
-    _place: u32,
-    fields: &[Field],
-    json: &Json,
-) -> Result<Vec<Val>, JsonError>
-    requires below { IsTrue (list_all (λ f. is_below _place f.ty) fields.now) }
-    requires typed { IsTrue (list_all (λ f. is_type resolve.now.definitions f.ty) fields.now) }
-    requires labels { HasApartLabels resolve.now }
-    requires apart { AreApart fields.now }
-    ensures ok { IfOk result (λ vs. HasFields (labelled_fields (labelled_types resolve.now) fields.now) (map value_of vs.items) (view json.now)) }
-    ensures other { IsErrOf result JsonError.NotThisType
-        → (vs : List Value) → HasFields (labelled_fields (labelled_types resolve.now) fields.now) vs (view json.now) → ⊥ }
-{
-    let Some(object) = json.as_object() else {
-        return Err(JsonError::NotThisType);
-    };
-    if object.len() != fields.len() {
-        return Err(JsonError::NotThisType);
-    }
-    let mut values = Vec::new(alloc);
-    for (i, field) in fields.iter().enumerate() {
-        let Some(member) = json.get(field.name.as_str()) else {
+    /// The values, each of the member of its field's label.
+    #[cycle(reading)]
+    fn read_fields(&self, _place: u32, fields: &[Field], json: &Json) -> Result<Vec<Val>, JsonError>
+        requires below { IsTrue (list_all (λ f. is_below _place f.ty) fields.now) }
+        requires typed { IsTrue (list_all (λ f. is_type self.now.resolve.now.definitions f.ty) fields.now) }
+        requires labels { HasApartLabels self.now.resolve.now }
+        requires apart { AreApart fields.now }
+        ensures ok { IfOk result (λ vs. HasFields (labelled_fields (labelled_types self.now.resolve.now) fields.now) (map value_of vs.items) (view json.now)) }
+        ensures other { IsErrOf result JsonError.NotThisType
+            → (vs : List Value) → HasFields (labelled_fields (labelled_types self.now.resolve.now) fields.now) vs (view json.now) → ⊥ }
+    {
+        let Some(object) = json.as_object() else {
             return Err(JsonError::NotThisType);
         };
-        match read_value(alloc, resolve, field.ty, member) {
-            Ok(value) => values.push(value)?,
-            Err(error) => return Err(error),
+        if object.len() != fields.len() {
+            return Err(JsonError::NotThisType);
         }
-    }
-    Ok(values)
-}
-
-/// The value of a case of this label and payload.
-#[cycle(reading)]
-fn read_case(
-    alloc: Global,
-    resolve: &Resolve,
-    _place: u32,
-    case: u32,
-    label: &str,
-    payload: Option<ValType>,
-    json: &Json,
-) -> Result<Val, JsonError>
-    requires below { IsTrue (option_all (is_below _place) payload) }
-    requires typed { IsTrue (option_all (is_type resolve.now.definitions) payload) }
-    requires labels { HasApartLabels resolve.now }
-    ensures ok { IfOk result (λ v. PayloadJson (labelled_payload (labelled_types resolve.now) payload) label.now case (value_of v) (view json.now)) }
-    ensures other { IsErrOf result JsonError.NotThisType
-        → (v : Value) → PayloadJson (labelled_payload (labelled_types resolve.now) payload) label.now case v (view json.now) → ⊥ }
-{
-    match payload {
-        None => {
-            if is_text(json, label) {
-                Ok(Val::Variant(case, None))
-            } else {
-                Err(JsonError::NotThisType)
+        let mut values = Vec::new(self.alloc);
+        for (i, field) in fields.iter().enumerate() {
+            let Some(member) = json.get(field.name.as_str()) else {
+                return Err(JsonError::NotThisType);
+            };
+            match self.read_value(field.ty, member) {
+                Ok(value) => values.push(value)?,
+                Err(error) => return Err(error),
             }
         }
-        Some(ty) => match only_member(json, label) {
-            Some(member) => match read_value(alloc, resolve, ty, member) {
-                Ok(value) => Ok(Val::Variant(case, Some(Box::new(alloc, value)?))),
-                Err(error) => Err(error),
-            },
-            None => Err(JsonError::NotThisType),
-        },
+        Ok(values)
     }
-}
 
-/// The value of one of these cases.
-#[cycle(reading)]
-fn read_cases(
-    alloc: Global,
-    resolve: &Resolve,
-    place: u32,
-    cases: &[Case],
-    json: &Json,
-) -> Result<Val, JsonError>
-    requires below { IsTrue (list_all (λ c. option_all (is_below place) c.ty) cases.now) }
-    requires typed { IsTrue (list_all (λ c. option_all (is_type resolve.now.definitions) c.ty) cases.now) }
-    requires labels { HasApartLabels resolve.now }
-    requires few { length cases.now ≤ 100000 }
-    ensures ok { IfOk result (λ v. CasesJson (labelled_cases (labelled_types resolve.now) cases.now) 0 (value_of v) (view json.now)) }
-    ensures other { IsErrOf result JsonError.NotThisType
-        → (v : Value) → CasesJson (labelled_cases (labelled_types resolve.now) cases.now) 0 v (view json.now) → ⊥ }
-{
-    for (i, case) in cases.iter().enumerate() {
-        match read_case(
-            alloc,
-            resolve,
-            place,
-            i as u32,
-            case.name.as_str(),
-            case.ty,
-            json,
-        ) {
-            Ok(value) => return Ok(value),
-            Err(JsonError::NotThisType) => {}
-            Err(JsonError::NoMemory) => return Err(JsonError::NoMemory),
+    /// The value of a case of this label and payload.
+    #[cycle(reading)]
+    fn read_case(
+        &self,
+        _place: u32,
+        case: u32,
+        label: &str,
+        payload: Option<ValType>,
+        json: &Json,
+    ) -> Result<Val, JsonError>
+        requires below { IsTrue (option_all (is_below _place) payload) }
+        requires typed { IsTrue (option_all (is_type self.now.resolve.now.definitions) payload) }
+        requires labels { HasApartLabels self.now.resolve.now }
+        ensures ok { IfOk result (λ v. PayloadJson (labelled_payload (labelled_types self.now.resolve.now) payload) label.now case (value_of v) (view json.now)) }
+        ensures other { IsErrOf result JsonError.NotThisType
+            → (v : Value) → PayloadJson (labelled_payload (labelled_types self.now.resolve.now) payload) label.now case v (view json.now) → ⊥ }
+    {
+        match payload {
+            None => {
+                if is_text(json, label) {
+                    Ok(Val::Variant(case, None))
+                } else {
+                    Err(JsonError::NotThisType)
+                }
+            }
+            Some(ty) => match only_member(json, label) {
+                Some(member) => match self.read_value(ty, member) {
+                    Ok(value) => Ok(Val::Variant(case, Some(Box::new(self.alloc, value)?))),
+                    Err(error) => Err(error),
+                },
+                None => Err(JsonError::NotThisType),
+            },
         }
     }
-    Err(JsonError::NotThisType)
+
+    /// The value of one of these cases.
+    #[cycle(reading)]
+    fn read_cases(&self, place: u32, cases: &[Case], json: &Json) -> Result<Val, JsonError>
+        requires below { IsTrue (list_all (λ c. option_all (is_below place) c.ty) cases.now) }
+        requires typed { IsTrue (list_all (λ c. option_all (is_type self.now.resolve.now.definitions) c.ty) cases.now) }
+        requires labels { HasApartLabels self.now.resolve.now }
+        requires few { length cases.now ≤ 100000 }
+        ensures ok { IfOk result (λ v. CasesJson (labelled_cases (labelled_types self.now.resolve.now) cases.now) 0 (value_of v) (view json.now)) }
+        ensures other { IsErrOf result JsonError.NotThisType
+            → (v : Value) → CasesJson (labelled_cases (labelled_types self.now.resolve.now) cases.now) 0 v (view json.now) → ⊥ }
+    {
+        for (i, case) in cases.iter().enumerate() {
+            match self.read_case(place, i as u32, case.name.as_str(), case.ty, json) {
+                Ok(value) => return Ok(value),
+                Err(JsonError::NotThisType) => {}
+                Err(JsonError::NoMemory) => return Err(JsonError::NoMemory),
+            }
+        }
+        Err(JsonError::NotThisType)
+    }
 }
 
 /// The case of this label.

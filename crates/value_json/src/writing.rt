@@ -24,6 +24,13 @@ use std::alloc::{AllocError, Global};
 use tables::{Case, Field, Resolve, TypeDefKind, ValType};
 use values::Val;
 
+/// Writes values of types of a package.
+#[derive(Clone, Copy)]
+struct Writer<'a> {
+    alloc: Global,
+    resolve: &'a Resolve,
+}
+
 /// The JSON value of a value of the type.
 pub fn json_of_value(
     alloc: Global,
@@ -38,7 +45,8 @@ pub fn json_of_value(
     ensures whole { IfOk result (λ json. has_float (view json) ≡ false) }
     ensures nests { IfOk result (λ json. json_depth (view json) ≤ depth (closed_type resolve.now ty)) }
 {
-    write_value(alloc, resolve, ty, value)
+    let writer = Writer { alloc, resolve };
+    writer.write_value(ty, value)
 }
 
 /// A text.
@@ -72,28 +80,6 @@ fn case_of(value: &Val) -> u32
     *case
 }
 
-#[cycle(writing)]
-fn write_value(
-    alloc: Global,
-    resolve: &Resolve,
-    ty: ValType,
-    value: &Val,
-) -> Result<Json, AllocError>
-    requires inside { IsTypeOf resolve.now ty }
-    requires labels { HasApartLabels resolve.now }
-    requires typed { HasType (value_of value.now) (closed (labelled_type resolve.now ty)) }
-    ensures { IfOk result (λ json. StandsAs (labelled_type resolve.now ty) (value_of value.now) (view json)) }
-{
-    match ty {
-        ValType::Primitive(_primitive) => json_of_scalar(alloc, value),
-        ValType::String => write_text(alloc, value),
-        ValType::Id(id) => {
-            let kind = kind_of(resolve, id);
-            write_kind(alloc, resolve, id.0, kind, value)
-        }
-    }
-}
-
 fn write_text(alloc: Global, value: &Val) -> Result<Json, AllocError>
     requires typed { HasType (value_of value.now) (closed labelled_string) }
     ensures { IfOk result (λ json. StandsAs labelled_string (value_of value.now) (view json)) }
@@ -104,200 +90,177 @@ fn write_text(alloc: Global, value: &Val) -> Result<Json, AllocError>
     text_of(alloc, text.as_str())
 }
 
-/// The JSON value of a value of what stands at a place of the table.
-#[cycle(writing)]
-fn write_kind(
-    alloc: Global,
-    resolve: &Resolve,
-    place: u32,
-    kind: &TypeDefKind,
-    value: &Val,
-) -> Result<Json, AllocError>
-    requires below { IsTrue (kind_all (is_below place) kind.now) }
-    requires types { IsTrue (kind_all (is_type resolve.now.definitions) kind.now) }
-    requires labels { HasApartLabels resolve.now }
-    requires standard { IsTrue (is_standard_kind kind.now) }
-    requires apart { KindApart kind.now }
-    requires typed { HasType (value_of value.now) (closed (labelled_kind (labelled_types resolve.now) kind.now)) }
-    ensures { IfOk result (λ json. StandsAs (labelled_kind (labelled_types resolve.now) kind.now) (value_of value.now) (view json)) }
-{
-    match kind {
-        TypeDefKind::Use(target) => write_value(alloc, resolve, ValType::Id(*target), value),
-        TypeDefKind::Alias(ty) => write_value(alloc, resolve, *ty, value),
-        TypeDefKind::List(element) => {
-            let Val::List(values) = value else {
-                unreachable!()
-            };
-            Ok(Json::Array(write_items(alloc, resolve, *element, values.as_slice())?))
-        }
-        TypeDefKind::Option(ty) => {
-            if case_of(value) == 0 {
-                write_case(alloc, resolve, place, 0, "none", None, value)
-            } else {
-                write_case(alloc, resolve, place, 1, "some", Some(*ty), value)
+impl Writer<'_> {
+    #[cycle(writing)]
+    fn write_value(&self, ty: ValType, value: &Val) -> Result<Json, AllocError>
+        requires inside { IsTypeOf self.now.resolve.now ty }
+        requires labels { HasApartLabels self.now.resolve.now }
+        requires typed { HasType (value_of value.now) (closed (labelled_type self.now.resolve.now ty)) }
+        ensures { IfOk result (λ json. StandsAs (labelled_type self.now.resolve.now ty) (value_of value.now) (view json)) }
+    {
+        match ty {
+            ValType::Primitive(_primitive) => json_of_scalar(self.alloc, value),
+            ValType::String => write_text(self.alloc, value),
+            ValType::Id(id) => {
+                let kind = kind_of(self.resolve, id);
+                self.write_kind(id.0, kind, value)
             }
         }
-        TypeDefKind::Result(ok, error) => {
-            if case_of(value) == 0 {
-                write_case(alloc, resolve, place, 0, "ok", *ok, value)
-            } else {
-                write_case(alloc, resolve, place, 1, "error", *error, value)
+    }
+
+    /// The JSON value of a value of what stands at a place of the table.
+    #[cycle(writing)]
+    fn write_kind(&self, place: u32, kind: &TypeDefKind, value: &Val) -> Result<Json, AllocError>
+        requires below { IsTrue (kind_all (is_below place) kind.now) }
+        requires types { IsTrue (kind_all (is_type self.now.resolve.now.definitions) kind.now) }
+        requires labels { HasApartLabels self.now.resolve.now }
+        requires standard { IsTrue (is_standard_kind kind.now) }
+        requires apart { KindApart kind.now }
+        requires typed { HasType (value_of value.now) (closed (labelled_kind (labelled_types self.now.resolve.now) kind.now)) }
+        ensures { IfOk result (λ json. StandsAs (labelled_kind (labelled_types self.now.resolve.now) kind.now) (value_of value.now) (view json)) }
+    {
+        match kind {
+            TypeDefKind::Use(target) => self.write_value(ValType::Id(*target), value),
+            TypeDefKind::Alias(ty) => self.write_value(*ty, value),
+            TypeDefKind::List(element) => {
+                let Val::List(values) = value else {
+                    unreachable!()
+                };
+                Ok(Json::Array(self.write_items(*element, values.as_slice())?))
             }
+            TypeDefKind::Option(ty) => {
+                if case_of(value) == 0 {
+                    self.write_case(place, 0, "none", None, value)
+                } else {
+                    self.write_case(place, 1, "some", Some(*ty), value)
+                }
+            }
+            TypeDefKind::Result(ok, error) => {
+                if case_of(value) == 0 {
+                    self.write_case(place, 0, "ok", *ok, value)
+                } else {
+                    self.write_case(place, 1, "error", *error, value)
+                }
+            }
+            TypeDefKind::Tuple(types) => {
+                let Val::Record(values) = value else {
+                    unreachable!()
+                };
+                Ok(Json::Array(self.write_members(place, types.as_slice(), values.as_slice())?))
+            }
+            TypeDefKind::Record(fields) => {
+                let Val::Record(values) = value else {
+                    unreachable!()
+                };
+                Ok(Json::Object(self.write_fields(place, fields.as_slice(), values.as_slice())?))
+            }
+            TypeDefKind::Variant(cases) => self.write_variant(place, cases.as_slice(), value),
+            TypeDefKind::Enum(labels) => write_label(self.alloc, labels.as_slice(), value),
+            TypeDefKind::Flags(labels) => write_flags(self.alloc, labels.as_slice(), value),
         }
-        TypeDefKind::Tuple(types) => {
-            let Val::Record(values) = value else {
-                unreachable!()
-            };
-            Ok(Json::Array(write_members(
-                alloc,
-                resolve,
-                place,
-                types.as_slice(),
-                values.as_slice(),
-            )?))
+    }
+
+    /// The JSON values of values of one type.
+    #[cycle(writing)]
+    fn write_items(&self, element: ValType, values: &[Val]) -> Result<Vec<Json>, AllocError>
+        requires inside { IsTypeOf self.now.resolve.now element }
+        requires labels { HasApartLabels self.now.resolve.now }
+        requires typed { AllByRecursion (λ v. HasType v (closed (labelled_type self.now.resolve.now element))) (map value_of values.now) }
+        ensures { IfOk result (λ items. EachJson (StandsAs (labelled_type self.now.resolve.now element)) (map value_of values.now) (map view items.items)) }
+    {
+        let mut items = Vec::new(self.alloc);
+        for value in values {
+            items.push(self.write_value(element, value)?)?;
         }
-        TypeDefKind::Record(fields) => {
-            let Val::Record(values) = value else {
-                unreachable!()
-            };
-            Ok(Json::Object(write_fields(
-                alloc,
-                resolve,
-                place,
-                fields.as_slice(),
-                values.as_slice(),
-            )?))
+        Ok(items)
+    }
+
+    /// The JSON values of values, each of its member's type.
+    #[cycle(writing)]
+    fn write_members(
+        &self,
+        _place: u32,
+        types: &[ValType],
+        values: &[Val],
+    ) -> Result<Vec<Json>, AllocError>
+        requires below { IsTrue (list_all (is_below _place) types.now) }
+        requires types { IsTrue (list_all (is_type self.now.resolve.now.definitions) types.now) }
+        requires labels { HasApartLabels self.now.resolve.now }
+        requires typed { HaveTypes (map value_of values.now) (closed_members (labelled_members (labelled_types self.now.resolve.now) types.now)) }
+        ensures { IfOk result (λ items. MembersJson (labelled_members (labelled_types self.now.resolve.now) types.now) (map value_of values.now) (map view items.items)) }
+    {
+        let mut items = Vec::new(self.alloc);
+        for (i, value) in values.iter().enumerate() {
+            items.push(self.write_value(types[i], value)?)?;
         }
-        TypeDefKind::Variant(cases) => {
-            write_variant(alloc, resolve, place, cases.as_slice(), value)
+        Ok(items)
+    }
+
+    /// The members of the object of a record's values.
+    #[cycle(writing)]
+    fn write_fields(
+        &self,
+        _place: u32,
+        fields: &[Field],
+        values: &[Val],
+    ) -> Result<Map<String, Json>, AllocError>
+        requires below { IsTrue (list_all (λ f. is_below _place f.ty) fields.now) }
+        requires types { IsTrue (list_all (λ f. is_type self.now.resolve.now.definitions f.ty) fields.now) }
+        requires labels { HasApartLabels self.now.resolve.now }
+        requires apart { AreApart fields.now }
+        requires typed { HaveTypes (map value_of values.now) (closed_fields (labelled_fields (labelled_types self.now.resolve.now) fields.now)) }
+        ensures { IfOk result (λ members. FieldsJson (labelled_fields (labelled_types self.now.resolve.now) fields.now) (map value_of values.now) (members_view members.entries)) }
+    {
+        let mut members = Map::new(self.alloc);
+        for i in (0..fields.len()).rev() {
+            let field = &fields[i];
+            let member = self.write_value(field.ty, &values[i])?;
+            put_member(self.alloc, &mut members, field.name.as_str(), member)?;
         }
-        TypeDefKind::Enum(labels) => write_label(alloc, labels.as_slice(), value),
-        TypeDefKind::Flags(labels) => write_flags(alloc, labels.as_slice(), value),
+        Ok(members)
     }
-}
 
-/// The JSON values of values of one type.
-#[cycle(writing)]
-fn write_items(
-    alloc: Global,
-    resolve: &Resolve,
-    element: ValType,
-    values: &[Val],
-) -> Result<Vec<Json>, AllocError>
-    requires inside { IsTypeOf resolve.now element }
-    requires labels { HasApartLabels resolve.now }
-    requires typed { AllByRecursion (λ v. HasType v (closed (labelled_type resolve.now element))) (map value_of values.now) }
-    ensures { IfOk result (λ items. EachJson (StandsAs (labelled_type resolve.now element)) (map value_of values.now) (map view items.items)) }
-{
-    let mut items = Vec::new(alloc);
-    for value in values {
-        items.push(write_value(alloc, resolve, element, value)?)?;
+    /// The JSON value of a value of a case of this label and payload.
+    #[cycle(writing)]
+    fn write_case(
+        &self,
+        _place: u32,
+        _case: u32,
+        label: &str,
+        payload: Option<ValType>,
+        value: &Val,
+    ) -> Result<Json, AllocError>
+        requires below { IsTrue (option_all (is_below _place) payload) }
+        requires types { IsTrue (option_all (is_type self.now.resolve.now.definitions) payload) }
+        requires labels { HasApartLabels self.now.resolve.now }
+        requires typed { HasPayload (labelled_payload (labelled_types self.now.resolve.now) payload) _case (value_of value.now) }
+        ensures { IfOk result (λ json. PayloadJson (labelled_payload (labelled_types self.now.resolve.now) payload) label.now _case (value_of value.now) (view json)) }
+    {
+        let Some(ty) = payload else {
+            return text_of(self.alloc, label);
+        };
+        let Val::Variant(_, Some(inner)) = value else {
+            unreachable!()
+        };
+        let member = self.write_value(ty, inner)?;
+        let mut members = Map::new(self.alloc);
+        put_member(self.alloc, &mut members, label, member)?;
+        Ok(Json::Object(members))
     }
-    Ok(items)
-}
 
-/// The JSON values of values, each of its member's type.
-#[cycle(writing)]
-fn write_members(
-    alloc: Global,
-    resolve: &Resolve,
-    _place: u32,
-    types: &[ValType],
-    values: &[Val],
-) -> Result<Vec<Json>, AllocError>
-    requires below { IsTrue (list_all (is_below _place) types.now) }
-    requires types { IsTrue (list_all (is_type resolve.now.definitions) types.now) }
-    requires labels { HasApartLabels resolve.now }
-    requires typed { HaveTypes (map value_of values.now) (closed_members (labelled_members (labelled_types resolve.now) types.now)) }
-    ensures { IfOk result (λ items. MembersJson (labelled_members (labelled_types resolve.now) types.now) (map value_of values.now) (map view items.items)) }
-{
-    let mut items = Vec::new(alloc);
-    for (i, value) in values.iter().enumerate() {
-        items.push(write_value(alloc, resolve, types[i], value)?)?;
+    /// The JSON value of a value of one of these cases.
+    #[cycle(writing)]
+    fn write_variant(&self, place: u32, cases: &[Case], value: &Val) -> Result<Json, AllocError>
+        requires below { IsTrue (list_all (λ c. option_all (is_below place) c.ty) cases.now) }
+        requires types { IsTrue (list_all (λ c. option_all (is_type self.now.resolve.now.definitions) c.ty) cases.now) }
+        requires labels { HasApartLabels self.now.resolve.now }
+        requires typed { HasType (value_of value.now) (variant_type (closed_cases (labelled_cases (labelled_types self.now.resolve.now) cases.now))) }
+        ensures { IfOk result (λ json. CasesJson (labelled_cases (labelled_types self.now.resolve.now) cases.now) 0 (value_of value.now) (view json)) }
+    {
+        let number = case_of(value);
+        let case = &cases[number as usize];
+        self.write_case(place, number, case.name.as_str(), case.ty, value)
     }
-    Ok(items)
-}
-
-/// The members of the object of a record's values.
-#[cycle(writing)]
-fn write_fields(
-    alloc: Global,
-    resolve: &Resolve,
-    _place: u32,
-    fields: &[Field],
-    values: &[Val],
-) -> Result<Map<String, Json>, AllocError>
-    requires below { IsTrue (list_all (λ f. is_below _place f.ty) fields.now) }
-    requires types { IsTrue (list_all (λ f. is_type resolve.now.definitions f.ty) fields.now) }
-    requires labels { HasApartLabels resolve.now }
-    requires apart { AreApart fields.now }
-    requires typed { HaveTypes (map value_of values.now) (closed_fields (labelled_fields (labelled_types resolve.now) fields.now)) }
-    ensures { IfOk result (λ members. FieldsJson (labelled_fields (labelled_types resolve.now) fields.now) (map value_of values.now) (members_view members.entries)) }
-{
-    let mut members = Map::new(alloc);
-    for i in (0..fields.len()).rev() {
-        let field = &fields[i];
-        let member = write_value(alloc, resolve, field.ty, &values[i])?;
-        put_member(alloc, &mut members, field.name.as_str(), member)?;
-    }
-    Ok(members)
-}
-
-/// The JSON value of a value of a case of this label and payload.
-#[cycle(writing)]
-fn write_case(
-    alloc: Global,
-    resolve: &Resolve,
-    _place: u32,
-    _case: u32,
-    label: &str,
-    payload: Option<ValType>,
-    value: &Val,
-) -> Result<Json, AllocError>
-    requires below { IsTrue (option_all (is_below _place) payload) }
-    requires types { IsTrue (option_all (is_type resolve.now.definitions) payload) }
-    requires labels { HasApartLabels resolve.now }
-    requires typed { HasPayload (labelled_payload (labelled_types resolve.now) payload) _case (value_of value.now) }
-    ensures { IfOk result (λ json. PayloadJson (labelled_payload (labelled_types resolve.now) payload) label.now _case (value_of value.now) (view json)) }
-{
-    let Some(ty) = payload else {
-        return text_of(alloc, label);
-    };
-    let Val::Variant(_, Some(inner)) = value else {
-        unreachable!()
-    };
-    let member = write_value(alloc, resolve, ty, inner)?;
-    let mut members = Map::new(alloc);
-    put_member(alloc, &mut members, label, member)?;
-    Ok(Json::Object(members))
-}
-
-/// The JSON value of a value of one of these cases.
-#[cycle(writing)]
-fn write_variant(
-    alloc: Global,
-    resolve: &Resolve,
-    place: u32,
-    cases: &[Case],
-    value: &Val,
-) -> Result<Json, AllocError>
-    requires below { IsTrue (list_all (λ c. option_all (is_below place) c.ty) cases.now) }
-    requires types { IsTrue (list_all (λ c. option_all (is_type resolve.now.definitions) c.ty) cases.now) }
-    requires labels { HasApartLabels resolve.now }
-    requires typed { HasType (value_of value.now) (variant_type (closed_cases (labelled_cases (labelled_types resolve.now) cases.now))) }
-    ensures { IfOk result (λ json. CasesJson (labelled_cases (labelled_types resolve.now) cases.now) 0 (value_of value.now) (view json)) }
-{
-    let number = case_of(value);
-    let case = &cases[number as usize];
-    write_case(
-        alloc,
-        resolve,
-        place,
-        number,
-        case.name.as_str(),
-        case.ty,
-        value,
-    )
 }
 
 /// The label of an enum's case.

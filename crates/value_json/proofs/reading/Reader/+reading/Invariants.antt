@@ -8,7 +8,7 @@ use Rattle.value_json.proofs.Fields.{FieldStands}
 use Rattle.serde_json.specs.Data.{Members, object}
 use Rattle.value_json.proofs.Cases.{LeavesRest}
 use Rattle.value_json.proofs.Ranks.{rank}
-use Rattle.value_json.proofs.reading.+reading.Given as goal
+use Rattle.value_json.proofs.reading.Reader.+reading.Given as goal
 
 abbrev pub decreases-read_case : goal.decreases-read_case
 decreases-read_case l = 4 * l._place + 1
@@ -29,17 +29,17 @@ abbrev pub decreases-read_value : goal.decreases-read_value
 decreases-read_value l = 4 * rank l.ty
 
 abbrev pub invariant-read_cases-loop-i : goal.invariant-read_cases-loop-i
-invariant-read_cases-loop-i l = LeavesRest (labelled_types l.resolve) l.cases l.i (view l.json)
+invariant-read_cases-loop-i l = LeavesRest (labelled_types l.self.resolve.now) l.cases l.i (view l.json)
 
 abbrev pub invariant-read_items-loop-i : goal.invariant-read_items-loop-i
-invariant-read_items-loop-i l = Continues (ItemStands (Json (labelled_type l.resolve l.element))) l.items l.i (map value_of l.values.items)
+invariant-read_items-loop-i l = Continues (ItemStands (Json (labelled_type l.self.resolve.now l.element))) l.items l.i (map value_of l.values.items)
 
 abbrev pub invariant-read_members-loop-i : goal.invariant-read_members-loop-i
-invariant-read_members-loop-i l = Continues (MemberStands (labelled_types l.resolve) (map view l.items)) l.types l.i (map value_of l.values.items)
+invariant-read_members-loop-i l = Continues (MemberStands (labelled_types l.self.resolve.now) (map view l.items)) l.types l.i (map value_of l.values.items)
 
 abbrev pub decreases-read_fields : goal.decreases-read_fields
 decreases-read_fields l = 4 * l._place + 1
 
 abbrev pub invariant-read_fields-loop-i : goal.invariant-read_fields-loop-i
 invariant-read_fields-loop-i l =
-    (ms : Members) → view l.json ≡ object ms → Continues (FieldStands (labelled_types l.resolve) ms) l.fields l.i (map value_of l.values.items)
+    (ms : Members) → view l.json ≡ object ms → Continues (FieldStands (labelled_types l.self.resolve.now) ms) l.fields l.i (map value_of l.values.items)

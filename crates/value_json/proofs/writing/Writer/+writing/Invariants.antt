@@ -4,7 +4,7 @@ use Rattle.values.specs.Val.{value_of}
 use Rattle.value_json.specs.Json.{Json, EachJson, MembersJson, FieldsJson}
 use Rattle.tables.specs.Labelled.{labelled_type, labelled_types, labelled_members, labelled_fields}
 use Rattle.value_json.proofs.Ranks.{rank}
-use Rattle.value_json.proofs.writing.+writing.Given as goal
+use Rattle.value_json.proofs.writing.Writer.+writing.Given as goal
 
 abbrev pub decreases-write_case : goal.decreases-write_case
 decreases-write_case l = 4 * l._place + 1
@@ -29,12 +29,12 @@ decreases-write_variant l = 4 * l.place + 2
 
 abbrev pub invariant-write_fields-loop-i : goal.invariant-write_fields-loop-i
 invariant-write_fields-loop-i l =
-    FieldsJson (labelled_fields (labelled_types l.resolve) (drop l.i l.fields)) (map value_of (drop l.i l.values)) (members_view l.members.entries)
+    FieldsJson (labelled_fields (labelled_types l.self.resolve.now) (drop l.i l.fields)) (map value_of (drop l.i l.values)) (members_view l.members.entries)
 
 abbrev pub invariant-write_items-loop-value : goal.invariant-write_items-loop-value
 invariant-write_items-loop-value l =
-    EachJson (Json (labelled_type l.resolve l.element)) (map value_of (take l.value-index l.values)) (map view l.items.items)
+    EachJson (Json (labelled_type l.self.resolve.now l.element)) (map value_of (take l.value-index l.values)) (map view l.items.items)
 
 abbrev pub invariant-write_members-loop-i : goal.invariant-write_members-loop-i
 invariant-write_members-loop-i l =
-    MembersJson (labelled_members (labelled_types l.resolve) (take l.i l.types)) (map value_of (take l.i l.values)) (map view l.items.items)
+    MembersJson (labelled_members (labelled_types l.self.resolve.now) (take l.i l.types)) (map value_of (take l.i l.values)) (map view l.items.items)

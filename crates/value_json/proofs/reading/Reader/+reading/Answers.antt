@@ -17,7 +17,7 @@ use Rattle.serde_json.specs.Events.{members_len}
 use Rattle.serde_json.specs.Find.{get, get_member}
 use Rattle.serde_json.proofs.Views.{members_len-members_view}
 use Rattle.value_json.proofs.Cases.{found}
-use Rattle.value_json.proofs.reading.+reading.Goals as goal
+use Rattle.value_json.proofs.reading.Reader.+reading.Goals as goal
 
 either-none : {A B : Type 0} → (A → ⊥) → (B → ⊥) → A ⊎ B → ⊥
 either-none f g (inl a) = f a
@@ -34,7 +34,7 @@ read_case-returns-in_ok-new-in-Ok-clause-ok t c =
 
 pub read_cases-returns-in-Ok-clause-ok : goal.read_cases-returns-in-Ok-clause-ok
 read_cases-returns-in-Ok-clause-ok t c =
-    let rows = labelled_types c.args.resolve.now in
+    let rows = labelled_types c.args.self.now.resolve.now in
     let x = c.index-cases-i.result in
     let here : PayloadJson (labelled_payload rows x.ty) x.name c.loop-i.i (value_of c.in-Ok.value) (view c.args.json.now) =
     subst (λ n. PayloadJson (labelled_payload rows x.ty) n c.loop-i.i (value_of c.in-Ok.value) (view c.args.json.now)) c.as_str.ensures.is c.in-Ok.ensures.ok in
@@ -42,13 +42,13 @@ read_cases-returns-in-Ok-clause-ok t c =
 
 pub read_items-returns-in-Err-clause-other : goal.read_items-returns-in-Err-clause-other
 read_items-returns-in-Err-clause-other t c = λ e vs each.
-    let P = Json (labelled_type c.args.resolve.now c.args.element) in
+    let P = Json (labelled_type c.args.self.now.resolve.now c.args.element) in
     refuted (ItemStands P) c.args.items.now vs c.loop-i.i c.index-items-i.result c.loop-i-test.true c.index-items-i.is
     (c.in-Err.ensures.other (search (rules, e))) (of-each P c.args.items.now vs each)
 
 pub read_items-loop-i-preserved : goal.read_items-loop-i-preserved
 read_items-loop-i-preserved t c =
-    let P = ItemStands (Json (labelled_type c.args.resolve.now c.args.element)) in
+    let P = ItemStands (Json (labelled_type c.args.self.now.resolve.now c.args.element)) in
     let pushed : map value_of c.push.new.self.items ≡ map value_of c.loop-i.values.items ++ value_of c.in-Ok.value ∷ [] =
     ap (map value_of) c.in_ok-push-in-Ok.ensures.items ∙ map-append value_of c.loop-i.values.items (c.in-Ok.value ∷ []) in
     subst (Continues P c.args.items.now (c.loop-i.i + 1)) (sym pushed)
@@ -56,7 +56,7 @@ read_items-loop-i-preserved t c =
 
 pub read_items-returns-clause-ok : goal.read_items-returns-clause-ok
 read_items-returns-clause-ok t c =
-    let P = Json (labelled_type c.args.resolve.now c.args.element) in
+    let P = Json (labelled_type c.args.self.now.resolve.now c.args.element) in
     each-of P c.args.items.now _ (ends (ItemStands P) c.args.items.now c.loop-i.i _ (omega (arith, c.loop-i-test.false)) c.loop-i.invariant)
 
 pub read_kind-returns-in-Ok-clause-ok : goal.read_kind-returns-in-Ok-clause-ok
@@ -71,7 +71,7 @@ read_kind-returns-in-Ok-clause-ok t c =
 
 pub read_kind-returns-in-Err-clause-other : goal.read_kind-returns-in-Err-clause-other
 read_kind-returns-in-Err-clause-other t c = λ e.
-    let P = Json (labelled_type c.args.resolve.now c.in-List.element) in
+    let P = Json (labelled_type c.args.self.now.resolve.now c.in-List.element) in
     let is_array = array-is _ _ c.in-Some.ensures ∙ ap (λ xs. array (items_of (map view xs))) (sym c.as_slice.ensures.value) in
     rw c.in-List.is (λ v. λ (vs, js, each, is_v, is_j).
     c.in-Err.ensures.other (search (rules, e)) vs (subst (EachJson P vs) (only_items js (map view c.as_slice.result.now) (sym is_j ∙ is_array)) each))
@@ -82,7 +82,7 @@ read_kind-returns-in-Err-NotThisType-clause-other t c = λ e.
 
 pub read_kind-returns-in-Err-read_members-clause-other : goal.read_kind-returns-in-Err-read_members-clause-other
 read_kind-returns-in-Err-read_members-clause-other t c = λ e.
-    let rows = labelled_types c.args.resolve.now in
+    let rows = labelled_types c.args.self.now.resolve.now in
     let js1 = map view c.as_slice-in-Tuple-2.result.now in
     let is_array = array-is _ _ c.in-Some-as_array.ensures ∙ ap (λ xs. array (items_of (map view xs))) (sym c.as_slice-in-Tuple-2.ensures.value) in
     rw c.in-Tuple.is (λ v. λ (vs, js, each, is_v, is_j).
@@ -100,7 +100,7 @@ read_members-returns-then-items-types-clause-other t c = λ e vs each.
 
 pub read_members-loop-i-init : goal.read_members-loop-i-init
 read_members-loop-i-init t c =
-    let P = MemberStands (labelled_types c.args.resolve.now) (map view c.args.items.now) in
+    let P = MemberStands (labelled_types c.args.self.now.resolve.now) (map view c.args.items.now) in
     subst (λ xs. Continues P c.args.types.now 0 (map value_of xs)) (sym c.new-values.ensures.items) (starts P c.args.types.now)
 
 item-at : (xs : List _) (i : ℕ) (x : JsonValue) → i < length xs → x ≡ get_or xs i x → slice_get (map view xs) i ≡ Some (view x)
@@ -108,7 +108,7 @@ item-at xs i x h is = slice_get-map view xs i ∙ ap (option_map view) (slice_ge
 
 pub read_members-returns-in-Err-clause-other : goal.read_members-returns-in-Err-clause-other
 read_members-returns-in-Err-clause-other t c = λ e vs each.
-    let rows = labelled_types c.args.resolve.now in
+    let rows = labelled_types c.args.self.now.resolve.now in
     let js = map view c.args.items.now in
     let x = c.index-items-i.result in
     let in_items : c.loop-i.i < length c.args.items.now = c.loop-i-test.true in
@@ -120,7 +120,7 @@ read_members-returns-in-Err-clause-other t c = λ e vs each.
 
 pub read_members-loop-i-preserved : goal.read_members-loop-i-preserved
 read_members-loop-i-preserved t c =
-    let P = MemberStands (labelled_types c.args.resolve.now) (map view c.args.items.now) in
+    let P = MemberStands (labelled_types c.args.self.now.resolve.now) (map view c.args.items.now) in
     let in_items : c.loop-i.i < length c.args.items.now = c.loop-i-test.true in
     let in_types : c.loop-i.i < length c.args.types.now = omega (arith, c.if-items-types.false, in_items) in
     let here = item-at c.args.items.now c.loop-i.i c.index-items-i.result in_items c.index-items-i.is in
@@ -131,7 +131,7 @@ read_members-loop-i-preserved t c =
 
 pub read_members-returns-clause-ok : goal.read_members-returns-clause-ok
 read_members-returns-clause-ok t c =
-    let rows = labelled_types c.args.resolve.now in
+    let rows = labelled_types c.args.self.now.resolve.now in
     let js = map view c.args.items.now in
     members-of rows c.args.types.now js _ (length-map c.args.items.now view ∙ c.if-items-types.false)
     (ends (MemberStands rows js) c.args.types.now c.loop-i.i _ (omega (arith, c.if-items-types.false, c.loop-i-test.false)) c.loop-i.invariant)
@@ -144,11 +144,11 @@ read_fields-returns-then-len-fields-clause-other t c = λ e vs. λ (ms, each, is
     let es = c.in-Some.object.now.entries in
     let same : members_view es ≡ ms = same-members _ _ (sym (object-is _ _ c.in-Some.ensures) ∙ is_obj) in
     c.if-len-fields.true
-    (c.len.ensures.len ∙ sym (members_len-members_view es) ∙ ap members_len same ∙ (of-fields (labelled_types c.args.resolve.now) c.args.fields.now ms vs each).0)
+    (c.len.ensures.len ∙ sym (members_len-members_view es) ∙ ap members_len same ∙ (of-fields (labelled_types c.args.self.now.resolve.now) c.args.fields.now ms vs each).0)
 
 pub read_fields-returns-in_default-get-clause-other : goal.read_fields-returns-in_default-get-clause-other
 read_fields-returns-in_default-get-clause-other t c = λ e vs. λ (ms, each, is_obj).
-    let rows = labelled_types c.args.resolve.now in
+    let rows = labelled_types c.args.self.now.resolve.now in
     let f = c.index-fields-i.result in
     let missing : None ≡ get_member f.name ms = c.in_default-get.ensures ∙ ap (get _) is_obj ∙ ap (λ q. get_member q ms) c.as_str.ensures.is in
     refuted (FieldStands rows ms) c.args.fields.now vs c.loop-i.i f c.loop-i-test.true c.index-fields-i.is
@@ -156,7 +156,7 @@ read_fields-returns-in_default-get-clause-other t c = λ e vs. λ (ms, each, is_
 
 pub read_fields-returns-in-Err-clause-other : goal.read_fields-returns-in-Err-clause-other
 read_fields-returns-in-Err-clause-other t c = λ e vs. λ (ms, each, is_obj).
-    let rows = labelled_types c.args.resolve.now in
+    let rows = labelled_types c.args.self.now.resolve.now in
     let f = c.index-fields-i.result in
     let x = view c.in-Some-get.member.now in
     let here : Some x ≡ get_member f.name ms = c.in-Some-get.ensures ∙ ap (get _) is_obj ∙ ap (λ q. get_member q ms) c.as_str.ensures.is in
@@ -166,7 +166,7 @@ read_fields-returns-in-Err-clause-other t c = λ e vs. λ (ms, each, is_obj).
 
 pub read_fields-loop-i-preserved : goal.read_fields-loop-i-preserved
 read_fields-loop-i-preserved t c = λ ms is_obj.
-    let P = FieldStands (labelled_types c.args.resolve.now) ms in
+    let P = FieldStands (labelled_types c.args.self.now.resolve.now) ms in
     let f = c.index-fields-i.result in
     let x = view c.in-Some-get.member.now in
     let here : Some x ≡ get_member f.name ms = c.in-Some-get.ensures ∙ ap (get _) is_obj ∙ ap (λ q. get_member q ms) c.as_str.ensures.is in
@@ -177,7 +177,7 @@ read_fields-loop-i-preserved t c = λ ms is_obj.
 
 pub read_fields-returns-clause-ok : goal.read_fields-returns-clause-ok
 read_fields-returns-clause-ok t c =
-    let rows = labelled_types c.args.resolve.now in
+    let rows = labelled_types c.args.self.now.resolve.now in
     let es = c.in-Some.object.now.entries in
     let is_obj = object-is _ _ c.in-Some.ensures in
     let len : members_len (members_view es) ≡ length c.args.fields.now = members_len-members_view es ∙ sym c.len.ensures.len ∙ c.if-len-fields.false in (
@@ -189,7 +189,7 @@ read_fields-returns-clause-ok t c =
 
 pub read_kind-returns-in-Err-read_fields-clause-other : goal.read_kind-returns-in-Err-read_fields-clause-other
 read_kind-returns-in-Err-read_fields-clause-other t c = λ e.
-    let rows = labelled_types c.args.resolve.now in
+    let rows = labelled_types c.args.self.now.resolve.now in
     rw c.in-Record.is (λ v. λ (vs, ms, each, is_v, is_j).
     c.in-Err-read_fields.ensures.other (search (rules, e)) vs
     (subst (λ fs. HasFields (labelled_fields rows fs) vs (view c.args.json.now)) (sym c.as_slice-in-Record.ensures) (ms, each, is_j)))
