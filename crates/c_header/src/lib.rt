@@ -2,16 +2,17 @@
 //! the core values of a call and one that reads its result.
 //!
 //! `header_of` writes the header of a table of packages. It asserts sizes, alignments and offsets, so that a compiler with other
-//! layouts refuses it. It stands on `c_types`, which has the numbers, and on `c_names` and `tables`.
+//! layouts refuses it. It stands on `c_declarations`, which writes the types, on `c_types`, which has the numbers, and on `c_names`
+//! and `tables`.
 #![tactic(auto)]
 
-mod accessors;
 mod calls;
+mod comments;
 mod common;
-mod declarations;
-mod header;
+mod fills;
 mod packages;
-mod unnamed;
+mod prefixes;
+mod reads;
 
 pub use c_types::Laid;
 pub use packages::header_of;

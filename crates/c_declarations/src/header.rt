@@ -36,28 +36,18 @@ impl<'a> Header<'a> {
         replace(&mut self.text, before)
     }
 
-    /// Writes a text that takes effect once, though several headers have it.
-    pub fn put_guarded(&mut self, guard: String, text: &str) -> Result<(), AllocError> {
-        let guard = self.names.take(guard)?;
+    /// Takes a name in upper case.
+    pub fn take_upper(&mut self, name: &str) -> Result<String, AllocError> {
+        let upper = name.to_ascii_uppercase(self.alloc)?;
+        self.names.take(upper)
+    }
+
+    /// Writes a text that takes effect once, though several headers have it. It is guarded by this name in upper case.
+    pub fn put_guarded(&mut self, name: &str, text: &str) -> Result<(), AllocError> {
+        let guard = self.take_upper(name)?;
         let guard = guard.as_str();
         write!(self.text, "#ifndef {guard}\n#define {guard}\n{text}")?;
         writeln!(self.text, "#endif /* {guard} */")?;
         Ok(())
-    }
-
-    /// Writes a comment, in lines of about 110 letters.
-    pub fn put_comment(&mut self, comment: &str) -> Result<(), AllocError> {
-        self.text.push_str("\n/*")?;
-        let mut width: usize = 2;
-        for word in comment.split(' ') {
-            if width.saturating_add(word.len()) > 110 {
-                self.text.push_str("\n *")?;
-                width = 2;
-            }
-            self.text.push(' ')?;
-            self.text.push_str(word)?;
-            width = width.saturating_add(word.len()).saturating_add(1);
-        }
-        self.text.push_str(" */\n")
     }
 }

@@ -3,7 +3,7 @@
 use crate::header::Header;
 use atoms::Label;
 use c_names::{c_label, c_word};
-use c_types::{Form, Part, Row, has_held, tag_bits};
+use c_types::{Form, Part, Row, tag_bits};
 use std::alloc::{AllocError, Global};
 use std::fmt::Write;
 use tables::{Case, Field, TypeDefKind, TypeId, ValType};
@@ -18,7 +18,7 @@ pub struct Scope {
 
 /// The type that is written.
 #[derive(Drop)]
-pub struct Entry<'a> {
+pub(crate) struct Entry<'a> {
     pub scope: &'a Scope,
     pub id: TypeId,
     pub label: &'a str,
@@ -60,80 +60,6 @@ fn flag_bits(labels: usize) -> u32 {
 }
 
 impl<'a> Header<'a> {
-    /// Writes the assertion of the size and the alignment of a type.
-    pub fn put_extent(&mut self, c: &str, ty: ValType) -> Result<(), AllocError> {
-        let (size, align) = (self.types.laid.size(ty), self.types.laid.align(ty));
-        writeln!(
-            self.text,
-            "static_assert(sizeof({c}) == {size} && alignof({c}) == {align}, \"layout\");"
-        )?;
-        Ok(())
-    }
-
-    fn put_offset(&mut self, c: &str, label: &str, offset: Option<u32>) -> Result<(), AllocError> {
-        if let Some(offset) = offset {
-            writeln!(
-                self.text,
-                "static_assert(offsetof({c}, {label}) == {offset}, \"layout\");"
-            )?;
-        }
-        Ok(())
-    }
-
-    /// Writes the assertions of the offsets of a record or a variant.
-    fn put_offsets(&mut self, ty: ValType, row: &Row) -> Result<(), AllocError> {
-        let c = row.c.as_str();
-        if row.form == Form::Variant {
-            if has_held(row.parts.as_slice()) {
-                let offset = self.types.laid.payload_offset(ty);
-                self.put_offset(c, "as", offset)?;
-            }
-            return Ok(());
-        }
-        for (index, part) in row.parts.iter().enumerate() {
-            let offset = self.types.laid.offset(ty, index);
-            self.put_offset(c, part.label.as_str(), offset)?;
-        }
-        Ok(())
-    }
-
-    /// Writes the fields of the parts that hold something.
-    fn put_fields(&mut self, indent: &str, parts: &[Part]) -> Result<(), AllocError> {
-        for part in parts {
-            if let Some(ty) = part.ty {
-                let (c, label) = (self.types.c(ty), part.label.as_str());
-                writeln!(self.text, "{indent}{c} {label};")?;
-            }
-        }
-        Ok(())
-    }
-
-    /// Writes the tag of a variant, and the union of its payloads.
-    fn put_union(&mut self, row: &Row) -> Result<(), AllocError> {
-        let bits = tag_bits(row.parts.len());
-        writeln!(self.text, "    uint{bits}_t tag;")?;
-        if has_held(row.parts.as_slice()) {
-            self.text.push_str("    union {\n")?;
-            self.put_fields("        ", row.parts.as_slice())?;
-            self.text.push_str("    } as;\n")?;
-        }
-        Ok(())
-    }
-
-    /// Writes a record or a variant, with its assertions.
-    pub fn put_struct(&mut self, ty: ValType, row: &Row) -> Result<(), AllocError> {
-        let c = row.c.as_str();
-        self.text.push_str("typedef struct {\n")?;
-        if row.form == Form::Variant {
-            self.put_union(row)?;
-        } else {
-            self.put_fields("    ", row.parts.as_slice())?;
-        }
-        writeln!(self.text, "}} {c};")?;
-        self.put_extent(c, ty)?;
-        self.put_offsets(ty, row)
-    }
-
     /// Writes another name of a type.
     fn put_alias(
         &mut self,
@@ -152,7 +78,7 @@ impl<'a> Header<'a> {
     }
 
     /// Writes another name of a type that is spelled so.
-    pub fn put_type_alias(
+    pub(crate) fn put_type_alias(
         &mut self,
         entry: &Entry<'_>,
         target: ValType,
@@ -162,6 +88,29 @@ impl<'a> Header<'a> {
         let (full_name, label) = (entry.scope.full_name.as_str(), entry.label);
         let comment = format!(in alloc; "type {full_name} {label} = {spelling}")?;
         self.put_alias(entry, target, comment.as_str())
+    }
+
+    /// Appends the full name of the interface of a type, and its name there.
+    fn push_path(&self, text: &mut String, id: TypeId) -> Result<(), AllocError> {
+        let resolve = self.types.laid.resolve;
+        let Some(definition) = self.types.laid.definition(id) else {
+            return Ok(());
+        };
+        let Some(name) = &definition.name else {
+            return Ok(());
+        };
+        let Some(interface) = resolve.interfaces.as_slice().get(name.interface.0 as usize) else {
+            return Ok(());
+        };
+        if let Some(package) = resolve
+            .packages
+            .as_slice()
+            .get(interface.package.0 as usize)
+        {
+            let full_name = package.full_name(self.alloc, &interface.name)?;
+            write!(text, "{} {}", full_name.as_str(), name.name.as_str())?;
+        }
+        Ok(())
     }
 
     /// Writes a used name.
@@ -200,14 +149,19 @@ impl<'a> Header<'a> {
         })
     }
 
+    /// Writes a record or a variant with a name.
+    fn put_named_struct(&mut self, id: TypeId, row: Row) -> Result<(), AllocError> {
+        self.put_struct(ValType::Id(id), &row)?;
+        self.put_access(row.c.as_str())?;
+        self.types.set(id, row);
+        Ok(())
+    }
+
     fn put_record(&mut self, entry: &Entry<'_>, fields: &[Field]) -> Result<(), AllocError> {
         let c = self.put_heading("record", entry)?;
         let parts = field_parts(self.alloc, fields)?;
         let row = self.named_row(entry, c, Form::Record, parts)?;
-        self.put_struct(ValType::Id(entry.id), &row)?;
-        self.put_access(row.c.as_str())?;
-        self.types.set(entry.id, row);
-        Ok(())
+        self.put_named_struct(entry.id, row)
     }
 
     /// A case or a flag of a type of this name.
@@ -218,7 +172,7 @@ impl<'a> Header<'a> {
         Ok(Part {
             label: c_label(alloc, label)?,
             ty,
-            constant: self.names.take(name.as_str().to_ascii_uppercase(alloc)?)?,
+            constant: self.take_upper(name.as_str())?,
         })
     }
 
@@ -253,10 +207,7 @@ impl<'a> Header<'a> {
         let parts = self.case_parts(c.as_str(), cases)?;
         self.put_constants(parts.as_slice())?;
         let row = self.named_row(entry, c, Form::Variant, parts)?;
-        self.put_struct(ValType::Id(entry.id), &row)?;
-        self.put_access(row.c.as_str())?;
-        self.types.set(entry.id, row);
-        Ok(())
+        self.put_named_struct(entry.id, row)
     }
 
     /// Writes a type that is a number of so many bits.
@@ -290,7 +241,7 @@ impl<'a> Header<'a> {
     }
 
     /// Writes a type with a name.
-    pub fn put_named(&mut self, entry: &Entry<'_>, kind: &TypeDefKind) -> Result<(), AllocError> {
+    fn put_named(&mut self, entry: &Entry<'_>, kind: &TypeDefKind) -> Result<(), AllocError> {
         match kind {
             TypeDefKind::Use(target) => self.put_use(entry, *target),
             TypeDefKind::Alias(target) => {
@@ -303,5 +254,23 @@ impl<'a> Header<'a> {
             TypeDefKind::Flags(labels) => self.put_flags(entry, labels.as_slice()),
             _ => self.put_named_inner(entry, kind),
         }
+    }
+
+    /// Writes these types, and what they are made of.
+    pub fn put_types(&mut self, scope: &Scope, ids: &[TypeId]) -> Result<(), AllocError> {
+        for id in ids {
+            self.put_inners(id.0)?;
+            if let Some(definition) = self.types.laid.definition(*id)
+                && let Some(name) = &definition.name
+            {
+                let entry = Entry {
+                    scope,
+                    id: *id,
+                    label: name.name.as_str(),
+                };
+                self.put_named(&entry, &definition.kind)?;
+            }
+        }
+        Ok(())
     }
 }

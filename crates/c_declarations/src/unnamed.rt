@@ -32,28 +32,38 @@ impl<'a> Header<'a> {
         self.put_access(row.c.as_str())
     }
 
-    /// Writes the first type without a name that has this key.
-    fn put_first(&mut self, id: TypeId, inner: &Inner, key: String) -> Result<(), AllocError> {
-        let (alloc, end) = (self.alloc, ValType::Id(id));
-        self.types.add_unnamed(key.as_str(), end)?;
-        let c = self.names.take(format!(in alloc; "wit_{}", key.as_str())?)?;
-        let upper = c.as_str().to_ascii_uppercase(alloc)?;
-        let guard = format!(in alloc; "{}_DEFINED", upper.as_str())?;
+    /// What a type without a name is in C, under a name that is taken now.
+    fn unnamed_row(&mut self, end: ValType, inner: &Inner, key: String) -> Result<Row, AllocError> {
+        let alloc = self.alloc;
         let (form, parts) = made_of(alloc, inner)?;
-        let row = Row {
+        Ok(Row {
             end,
             spelling: String::new(alloc),
-            c,
+            c: self.names.take(format!(in alloc; "wit_{}", key.as_str())?)?,
             key,
             form,
             parts,
-        };
+        })
+    }
+
+    /// Writes a type without a name, which takes effect once.
+    fn put_shared(&mut self, ty: ValType, row: &Row, inner: &Inner) -> Result<(), AllocError> {
         let before = self.begin();
-        self.put_made(end, &row, inner)?;
+        self.put_made(ty, row, inner)?;
         let own = self.end(before);
-        self.types.set(id, row);
         self.text.push('\n')?;
-        self.put_guarded(guard, own.as_str())
+        let guard = format!(in self.alloc; "{}_defined", row.c.as_str())?;
+        self.put_guarded(guard.as_str(), own.as_str())
+    }
+
+    /// Writes the first type without a name that has this key.
+    fn put_first(&mut self, id: TypeId, inner: &Inner, key: String) -> Result<(), AllocError> {
+        let end = ValType::Id(id);
+        self.types.add_unnamed(key.as_str(), end)?;
+        let row = self.unnamed_row(end, inner, key)?;
+        self.put_shared(end, &row, inner)?;
+        self.types.set(id, row);
+        Ok(())
     }
 
     /// Writes a type without a name if there is none like it yet. What it is in the end.
@@ -87,7 +97,7 @@ impl<'a> Header<'a> {
     }
 
     /// Writes another name of a type without a name.
-    pub fn put_named_inner(
+    pub(crate) fn put_named_inner(
         &mut self,
         entry: &Entry<'_>,
         kind: &TypeDefKind,

@@ -1,0 +1,16 @@
+//! The types of packages as C declares them, with assertions of how they lie in a linear memory, and with functions that load and store
+//! them.
+//!
+//! `Header` is what is written so far, with the names that are taken. `Header::put_types` writes types of an interface, and
+//! `Header::put_inners` those without a name that come first. It writes nothing of functions or of packages. It stands on `c_types`,
+//! which has the numbers, and on `c_names` and `tables`.
+#![tactic(auto)]
+
+mod accessors;
+mod declarations;
+mod header;
+mod structs;
+mod unnamed;
+
+pub use declarations::Scope;
+pub use header::Header;
