@@ -5,7 +5,7 @@ usage: tools/changed_inputs.py [PROGRAM [ROWS]]
 
 PROGRAM is crates/program/out/program, ROWS is crates/rows_texts/out/rows_texts, as `rt run` in these crates leaves them. Each text is
 cut after each byte; its binary too, and each of its bytes is changed to each of the 256 values. Two processes share the work, which takes
-some minutes. The exit status is 1 where an answer isn't as crates/rows_texts/src/changes.rt says.
+some minutes. The exit status is 1 where an answer isn't as crates/row_sets/src/changes.rt says.
 """
 import concurrent.futures
 import json

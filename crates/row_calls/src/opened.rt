@@ -1,36 +1,14 @@
 //! Sets that are opened, and the lines of their refusals.
 
-ghost use Rattle.std.specs.Prelude.{◌<◌, IfOk, length};
-
 use atoms::Watched;
 use row_inputs::Set;
-use std::alloc::{AllocError, Global};
-use witcall::{OpenError, Package, Refused, open_set, report};
-
-fn inputs<'a>(
-    alloc: Global,
-    earlier: &'a [Vec<u8>],
-    last: &'a [u8],
-) -> Result<Vec<&'a [u8]>, AllocError>
-    ensures { IfOk result (λ inputs. 0 < length inputs.items) }
-{
-    let mut inputs = Vec::new(alloc);
-    for input in earlier {
-        inputs.push(input.as_slice())?;
-    }
-    inputs.push(last)?;
-    Ok(inputs)
-}
-
-/// The package that the last input is, with those that it uses.
-pub fn opened(alloc: Global, earlier: &[Vec<u8>], last: &[u8]) -> Result<Package, OpenError> {
-    let inputs = inputs(alloc, earlier, last)?;
-    open_set(alloc, inputs.as_slice())
-}
+use row_sets::opened_behind;
+use std::alloc::Global;
+use witcall::{Package, Refused, report};
 
 /// The package of a set.
 pub fn package(alloc: Global, set: &Set) -> Result<Package, Refused> {
-    Ok(opened(alloc, set.earlier.as_slice(), set.last.as_slice())?)
+    Ok(opened_behind(alloc, set.earlier.as_slice(), set.last.as_slice())?)
 }
 
 /// The program's line for a refusal, and its status.

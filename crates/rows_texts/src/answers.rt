@@ -1,6 +1,5 @@
 //! What a row is answered.
 
-use crate::changes::{changes, cuts, fronts, is_opened_alone};
 use atoms::Watched;
 use row_bytes::done;
 use row_calls::calls::{called, job_of, short_call, streamed};
@@ -8,33 +7,10 @@ use row_calls::json;
 use row_calls::opened::{line_of, package, told};
 use row_inputs::{Inputs, Set, inputs_in};
 use row_layouts::laid_out;
+use row_sets::{Wanted, changes, cuts, fronts, is_opened_alone, parsed, told_of};
 use std::alloc::Global;
-use wit_text::parse;
-use witcall::{Package, Refused, run_set};
+use witcall::{Refused, run_set};
 use words::asked::Job;
-
-/// What is asked of an opened package.
-#[derive(Clone, Copy)]
-enum Wanted {
-    Opened,
-    Copy,
-    /// How many steps its layouts took.
-    Work,
-}
-
-/// The text of a copy of the package.
-fn copied(alloc: Global, package: &Package) -> anyhow::Result<String> {
-    let copy = package.copy(alloc)?;
-    Ok(copy.to_text(alloc)?)
-}
-
-fn told_of(alloc: Global, wanted: Wanted, package: &Package) -> anyhow::Result<String> {
-    match wanted {
-        Wanted::Opened => Ok(String::from_str(alloc, "opened")?),
-        Wanted::Copy => copied(alloc, package),
-        Wanted::Work => Ok(format!(in alloc; "{}", package.layouts().work())?),
-    }
-}
 
 /// What is wanted of the package of a set, or the line of its refusal.
 fn of_package(alloc: Global, wanted: Wanted, set: &Set) -> anyhow::Result<String> {
@@ -51,14 +27,6 @@ fn opened(alloc: Global, set: &Set) -> anyhow::Result<String> {
         return Err(anyhow::anyhow!("alone something else than {answer}"));
     }
     Ok(answer)
-}
-
-/// Whether the last input is a text of the grammar.
-fn parsed(alloc: Global, set: &Set) -> anyhow::Result<String> {
-    match parse(alloc, std::str::from_utf8(set.last.as_slice())?) {
-        Ok(_tree) => Ok(String::from_str(alloc, "read")?),
-        Err(error) => Ok(format!(in alloc; "{error}")?),
-    }
 }
 
 /// What a job makes of a set.

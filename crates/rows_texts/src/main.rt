@@ -4,7 +4,6 @@
 #![tactic(auto)]
 
 mod answers;
-mod changes;
 mod rows;
 
 use rows::{Rows, read};

@@ -2,12 +2,32 @@
 //! lowered. docs/FORMATS.md has the form. It shows implementers of other runtimes the answers of calls that carry the promise.
 #![tactic(auto)]
 
-mod links;
 mod sessions;
-mod value_rows;
 
 use serde_json::Value;
 use std::alloc::Global;
+use vector_calls::{Calls, conversion_told};
+use vector_sides::package_bytes;
+use witcall::laws::has_labels_apart;
+use witcall::open;
+
+/// What is told of the calls of a row.
+fn calls_told(alloc: Global, row: &Value) -> anyhow::Result<String> {
+    let calls = Calls::of(alloc, row)?;
+    let bytes = package_bytes(alloc, row)?;
+    match open(alloc, bytes.as_slice()) {
+        Ok(package) => calls.told(alloc, &package.types()),
+        Err(error) => calls.refused(alloc, format!(in alloc; "{error}")?.as_str()),
+    }
+}
+
+/// What is told of a value of a row that is lifted or lowered.
+fn value_told(alloc: Global, row: &Value) -> anyhow::Result<String> {
+    let bytes = package_bytes(alloc, row)?;
+    let package = open(alloc, bytes.as_slice())?;
+    has_labels_apart(&package);
+    conversion_told(alloc, row, &package.types())
+}
 
 /// What is told of a row.
 fn told_of(alloc: Global, line: &str) -> anyhow::Result<String> {
@@ -16,9 +36,9 @@ fn told_of(alloc: Global, line: &str) -> anyhow::Result<String> {
         return sessions::told_of(alloc, &row);
     }
     if row.get("lift").is_some() || row.get("lower").is_some() {
-        return value_rows::told_of(alloc, &row);
+        return value_told(alloc, &row);
     }
-    links::told_of(alloc, &row)
+    calls_told(alloc, &row)
 }
 
 /// The line that tells of a row, or of why it is none.

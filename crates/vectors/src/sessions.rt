@@ -4,12 +4,12 @@ ghost use Rattle.std.specs.Prelude.{◌≡◌, IfOk};
 ghost use Rattle.tables.specs.Closed.{IsFunction};
 ghost use Rattle.tables.specs.Standard.{IsTypeOf};
 
-use crate::links::function;
 use canonical_abi::Fault;
 use lift_lower::Val;
 use serde_json::Value;
 use std::alloc::Global;
 use tables::{FunctionId, ValType};
+use vector_calls::{fault_told, function, parameter};
 use vector_sides::{
     Acting, Logged, body, field, guest, list, list_of, number, object_of, package_bytes,
     push_memories, text,
@@ -17,12 +17,7 @@ use vector_sides::{
 use witcall::{Answer, Package, Session, Step, from_json, open, takes_steps, to_json};
 
 /// The value of a type that a row says.
-pub fn value_of(
-    alloc: Global,
-    package: &Package,
-    ty: ValType,
-    json: &Value,
-) -> anyhow::Result<Val> {
+fn value_of(alloc: Global, package: &Package, ty: ValType, json: &Value) -> anyhow::Result<Val> {
     if !package.is_type(ty) {
         return Err(anyhow::anyhow!("no type"));
     }
@@ -31,7 +26,7 @@ pub fn value_of(
 }
 
 /// The text of a value.
-pub fn value_told(
+fn value_told(
     alloc: Global,
     package: &Package,
     ty: ValType,
@@ -41,16 +36,6 @@ pub fn value_told(
         return Err(anyhow::anyhow!("no value of its type"));
     }
     Ok(to_json(alloc, package, ty, value)?)
-}
-
-/// The type of the first parameter of a function.
-pub fn parameter(package: &Package, f: FunctionId) -> anyhow::Result<ValType>
-    requires { IsFunction «package».now.resolve f }
-{
-    match package.resolve().signature(f).params.as_slice().first() {
-        Some(parameter) => Ok(parameter.ty),
-        None => Err(anyhow::anyhow!("no parameter")),
-    }
 }
 
 /// The arguments of a function.
@@ -77,12 +62,12 @@ fn step_of_function(
     words: &[Value],
     is_call: bool,
 ) -> anyhow::Result<Step> {
-    let f = function(package, "a:b/c", text(words.get(1))?)?;
+    let f = function(package.resolve(), "a:b/c", text(words.get(1))?)?;
     if is_call {
         let given = arguments(alloc, package, f, list(words.get(2)))?;
         return Ok(Step::Call(f, given));
     }
-    let ty = parameter(package, f)?;
+    let ty = parameter(package.resolve(), f)?;
     match words.get(2) {
         Some(json) => Ok(Step::Place(ty, value_of(alloc, package, ty, json)?)),
         None => Err(anyhow::anyhow!("no value")),
@@ -121,14 +106,6 @@ fn steps_of(
         }
     }
     Ok(steps)
-}
-
-/// Why something ended.
-pub fn fault_told(alloc: Global, fault: Fault) -> anyhow::Result<String> {
-    match fault {
-        Fault::NoMemory => Err(anyhow::anyhow!("no memory")),
-        Fault::Trap(trap) => Ok(format!(in alloc; "{{\"trap\":\"{trap}\"}}")?),
-    }
 }
 
 /// What a call of a function answered.

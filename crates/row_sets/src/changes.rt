@@ -1,10 +1,10 @@
 //! Inputs that are cut after each byte, and binaries with each byte changed to every other, alone or behind the packages that they use.
 
+use crate::opened::opened_behind;
 use ctype_bin::{BinError, Fault, RawComponent, decode};
-use row_calls::opened::opened;
+use opening::{OpenError, Package, open};
 use row_inputs::Set;
 use std::alloc::{AllocError, Global};
-use witcall::{OpenError, Package, open};
 
 /// The line of opening.
 fn line_of(alloc: Global, answer: &Result<Package, OpenError>) -> Result<String, AllocError> {
@@ -37,12 +37,12 @@ fn is_opened_as_cut(answer: &Result<Package, OpenError>, length: usize) -> bool 
 fn is_told_as_cut(alloc: Global, set: &Set, length: usize) -> bool {
     let front = set.last.as_slice().get(..length).unwrap_or(&[]);
     is_cut(&decode(alloc, front), length)
-        && is_opened_as_cut(&opened(alloc, set.earlier.as_slice(), front), length)
+        && is_opened_as_cut(&opened_behind(alloc, set.earlier.as_slice(), front), length)
 }
 
 /// What is written of the package of a set with this last input.
 fn written(alloc: Global, earlier: &[Vec<u8>], last: &[u8]) -> anyhow::Result<Vec<u8>> {
-    let package = opened(alloc, earlier, last)?;
+    let package = opened_behind(alloc, earlier, last)?;
     Ok(package.to_binary(alloc)?)
 }
 
@@ -68,7 +68,7 @@ fn is_refused(error: &OpenError) -> anyhow::Result<bool> {
 
 /// Whether the last input of a set is a package.
 fn is_package(alloc: Global, set: &Set) -> anyhow::Result<bool> {
-    match opened(alloc, set.earlier.as_slice(), set.last.as_slice()) {
+    match opened_behind(alloc, set.earlier.as_slice(), set.last.as_slice()) {
         Ok(package) => is_kept(alloc, set.earlier.as_slice(), &package),
         Err(error) => is_refused(&error),
     }
@@ -107,7 +107,7 @@ pub fn changes(alloc: Global, set: &mut Set) -> anyhow::Result<String> {
 /// What the front of a set's last input answers.
 fn front_line(alloc: Global, set: &Set, length: usize) -> Result<String, AllocError> {
     let front = set.last.as_slice().get(..length).unwrap_or(&[]);
-    line_of(alloc, &opened(alloc, set.earlier.as_slice(), front))
+    line_of(alloc, &opened_behind(alloc, set.earlier.as_slice(), front))
 }
 
 /// What each front answers, a line each behind its length.
@@ -135,7 +135,7 @@ fn counts(alloc: Global, set: &Set) -> anyhow::Result<[usize; 3]> {
     let mut counts = [0; 3];
     for length in 0..set.last.len() {
         let front = set.last.as_slice().get(..length).unwrap_or(&[]);
-        let kind = kind_of(&opened(alloc, set.earlier.as_slice(), front))?;
+        let kind = kind_of(&opened_behind(alloc, set.earlier.as_slice(), front))?;
         if let Some(count) = counts.get_mut(kind) {
             *count = usize::saturating_add(*count, 1);
         }

@@ -1,0 +1,9 @@
+//! Rows of sets of inputs: packages that are opened behind those that they use, and inputs that are cut or changed in one byte. docs/FORMATS.md
+//! has the language of rows.
+#![tactic(auto)]
+
+mod changes;
+mod opened;
+
+pub use changes::{changes, cuts, fronts, is_opened_alone};
+pub use opened::{Wanted, opened_behind, parsed, told_of};

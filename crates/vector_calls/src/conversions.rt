@@ -1,0 +1,157 @@
+//! Values that are lifted from core values or lowered to them, over the caller's memory.
+
+ghost use Rattle.std.specs.Prelude.{◌≤◌, [], ◌∷◌, IfOk};
+ghost use Rattle.canonical_abi.specs.Layout.{size};
+ghost use Rattle.canonical_abi.specs.Types.{record_type};
+ghost use Rattle.tables.specs.Standard.{IsTypeOf};
+ghost use Rattle.value_json.specs.Apart.{HasApartLabels};
+ghost use Rattle.values.specs.Members.{fields_of_types};
+
+use crate::functions::{fault_told, function, parameter};
+use canonical_abi::{Fault, Flat};
+use lift_lower::{Flats, Types, Val, has_type, lift, lower};
+use serde_json::Value;
+use std::alloc::Global;
+use tables::ValType;
+use value_json::{JsonError, json_of_value, value_of_json};
+use vector_sides::{Logged, field, flats, flats_told, guest, list, object_of, push_memories, text};
+
+/// The type of the first parameter of the row's function, which is small.
+fn type_of(types: &Types<'_>, row: &Value) -> anyhow::Result<ValType>
+    ensures known { IfOk result (IsTypeOf «types».now) }
+    ensures small { IfOk result (λ ty. size (record_type (fields_of_types «types».now (ty ∷ []))) ≤ 16777216) }
+{
+    let resolve = types.resolve();
+    let f = function(resolve, "a:b/c", text(row.get("func"))?)?;
+    let ty = parameter(resolve, f)?;
+    if resolve.is_type(ty) && types.fits_record(&[ty]) {
+        return Ok(ty);
+    }
+    Err(anyhow::anyhow!("no small type"))
+}
+
+/// The value of a type that a row says.
+fn value_of(alloc: Global, types: &Types<'_>, ty: ValType, json: &Value) -> anyhow::Result<Val>
+    requires known { IsTypeOf «types».now ty }
+    requires labels { HasApartLabels «types».now }
+{
+    match value_of_json(alloc, types.resolve(), ty, json) {
+        Ok(value) => Ok(value),
+        Err(JsonError::NotThisType) => Err(anyhow::anyhow!("error 62 not this type")),
+        Err(JsonError::NoMemory) => Err(anyhow::anyhow!("error 66 no memory")),
+    }
+}
+
+/// The text of a value.
+fn value_told(alloc: Global, types: &Types<'_>, ty: ValType, value: &Val) -> anyhow::Result<String>
+    requires known { IsTypeOf «types».now ty }
+    requires labels { HasApartLabels «types».now }
+{
+    if !has_type(types.resolve(), types.layouts(), ty, value) {
+        return Err(anyhow::anyhow!("no value of its type"));
+    }
+    let json = json_of_value(alloc, types.resolve(), ty, value)?;
+    Ok(json.to_string(alloc)?)
+}
+
+/// The values that core values denote.
+fn lifted(
+    alloc: Global,
+    types: &Types<'_>,
+    ty: ValType,
+    flats: &[Flat],
+    guest: &Logged,
+) -> Result<Vec<Val>, Fault>
+    requires known { IsTypeOf «types».now ty }
+    requires small { size (record_type (fields_of_types «types».now (ty ∷ []))) ≤ 16777216 }
+{
+    lift(alloc, types.resolve(), types.layouts(), &[ty], flats, guest)
+}
+
+/// The core values of a value.
+fn lowered(
+    types: &Types<'_>,
+    ty: ValType,
+    value: Val,
+    guest: &mut Logged,
+) -> anyhow::Result<Result<Flats, Fault>>
+    requires known { IsTypeOf «types».now ty }
+    requires small { size (record_type (fields_of_types «types».now (ty ∷ []))) ≤ 16777216 }
+{
+    let (resolve, layouts) = (types.resolve(), types.layouts());
+    if !has_type(resolve, layouts, ty, &value) {
+        return Err(anyhow::anyhow!("no value of its type"));
+    }
+    Ok(lower(resolve, layouts, &[ty], &[value], guest))
+}
+
+/// What is told of core values that are lifted.
+fn lifted_told(
+    alloc: Global,
+    row: &Value,
+    types: &Types<'_>,
+    guest: &Logged,
+) -> anyhow::Result<String>
+    requires { HasApartLabels «types».now }
+{
+    let ty = type_of(types, row)?;
+    let flats = flats(alloc, list(row.get("lift")))?;
+    match lifted(alloc, types, ty, flats.as_slice(), guest) {
+        Err(fault) => fault_told(alloc, fault),
+        Ok(values) => match values.as_slice() {
+            [value] => Ok(format!(in alloc;
+                "{{\"lifted\":{}}}",
+                value_told(alloc, types, ty, value)?
+            )?),
+            _ => Err(anyhow::anyhow!("not one value")),
+        },
+    }
+}
+
+/// What is told of a value that is lowered.
+fn lowered_told(
+    alloc: Global,
+    json: &Value,
+    row: &Value,
+    types: &Types<'_>,
+    guest: &mut Logged,
+) -> anyhow::Result<String>
+    requires { HasApartLabels «types».now }
+{
+    let ty = type_of(types, row)?;
+    let value = value_of(alloc, types, ty, json)?;
+    match lowered(types, ty, value, guest)? {
+        Ok(flats) => Ok(format!(in alloc;
+            "{{\"lowered\":{}}}",
+            flats_told(alloc, flats.as_slice())?
+        )?),
+        Err(fault) => fault_told(alloc, fault),
+    }
+}
+
+/// What is told of a value that is converted over the caller's memory.
+fn converted(
+    alloc: Global,
+    row: &Value,
+    types: &Types<'_>,
+    caller: &mut Logged,
+) -> anyhow::Result<String>
+    requires { HasApartLabels «types».now }
+{
+    match field(row, "lower") {
+        None => lifted_told(alloc, row, types, caller),
+        Some(json) => lowered_told(alloc, json, row, types, caller),
+    }
+}
+
+/// What is told of a row that lifts or lowers, and of the memories.
+pub fn conversion_told(alloc: Global, row: &Value, types: &Types<'_>) -> anyhow::Result<String>
+    requires { HasApartLabels «types».now }
+{
+    let (mut caller, callee) = (guest(alloc, row, 0)?, guest(alloc, row, 1)?);
+    let told = converted(alloc, row, types, &mut caller)?;
+    let mut members = Vec::new(alloc);
+    members.push(format!(in alloc; "\"answers\":[{told}]")?)?;
+    push_memories(alloc, &mut members, &caller, &callee, true)?;
+    Ok(object_of(alloc, members.as_slice())?)
+}

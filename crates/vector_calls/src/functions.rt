@@ -1,0 +1,39 @@
+//! Functions of a package by their names, and why their calls ended.
+
+ghost use Rattle.std.specs.Prelude.{◌≡◌, IfOk};
+ghost use Rattle.tables.specs.Closed.{IsFunction};
+
+use canonical_abi::Fault;
+use std::alloc::Global;
+use tables::{FunctionId, Resolve, ValType};
+
+/// What is told of a function that is not there, as `witcall` says it.
+pub(crate) const NO_FUNCTION: &str = "error 63 no function";
+
+/// A function of an interface.
+pub fn function(resolve: &Resolve, interface: &str, name: &str) -> anyhow::Result<FunctionId>
+    ensures { IfOk result (IsFunction resolve.now) }
+{
+    match resolve.function(interface, name) {
+        Some(f) => Ok(f),
+        None => Err(anyhow::anyhow!("{NO_FUNCTION}")),
+    }
+}
+
+/// The type of the first parameter of a function.
+pub fn parameter(resolve: &Resolve, f: FunctionId) -> anyhow::Result<ValType>
+    requires { IsFunction resolve.now f }
+{
+    match resolve.signature(f).params.as_slice().first() {
+        Some(parameter) => Ok(parameter.ty),
+        None => Err(anyhow::anyhow!("no parameter")),
+    }
+}
+
+/// Why something ended.
+pub fn fault_told(alloc: Global, fault: Fault) -> anyhow::Result<String> {
+    match fault {
+        Fault::NoMemory => Err(anyhow::anyhow!("no memory")),
+        Fault::Trap(trap) => Ok(format!(in alloc; "{{\"trap\":\"{trap}\"}}")?),
+    }
+}
