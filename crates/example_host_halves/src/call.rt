@@ -6,13 +6,13 @@ ghost use Rattle.example_host_halves.specs.Promise.{MakesCall};
 
 use crate::core_function::CoreFunction;
 use crate::halves::{enter, leave};
+use adapter::Invocation;
 use canonical_abi::laws::halves_keep_promise;
-use canonical_abi::{Fault, Flat, Step, Trap, TrapKind};
+use canonical_abi::{Fault, Step, Trap, TrapKind};
 use host_calls::HalfError;
 use lift_lower::{Flats, Types};
 use memory::Lent;
 use std::alloc::Global;
-use tables::FunctionId;
 use tables::laws::types_are_standard;
 
 /// The trap of a core function, or of a post-return, that stopped.
@@ -25,8 +25,7 @@ fn stopped(step: Step) -> HalfError
     }))
 }
 
-/// Calls a function of the package, whose core function the host runs itself. `flats` are the caller's flat values: the arguments, and
-/// behind them the address of the return area.
+/// Calls a function of the package, whose core function the host runs itself.
 ///
 /// If it answers, the core function made one run, on flat values that denote exactly the caller's arguments in the callee's memory. Post-return
 /// made one run after it, and the caller holds exactly what the core function answered. Otherwise the call ended at the step of the
@@ -37,29 +36,28 @@ fn stopped(step: Step) -> HalfError
 pub fn call<F: CoreFunction>(
     alloc: Global,
     types: &Types,
-    func: FunctionId,
-    flats: &[Flat],
+    invocation: &Invocation<'_>,
     caller: &mut [u8],
     callee: &mut [u8],
     core: &F,
 ) -> Result<Flats, HalfError>
     requires within { ∥ AreWithin types.now ∥₁ }
-    requires function { IsFunction types.now func }
+    requires function { IsFunction types.now invocation.now.func }
     requires short { length caller.old < 4294967296 }
     requires limited { length callee.old < 4294967296 }
-    ensures promise { MakesCall (F.runs core.now) (F.posts core.now) (function_type types.now func) flats.now
+    ensures promise { MakesCall (F.runs core.now) (F.posts core.now) (function_type types.now invocation.now.func) invocation.now.flats.now
         caller.old callee.old result caller.new callee.new }
 {
     // The laws that the promise rests on.
     types_are_standard(types.resolve());
     halves_keep_promise::<Lent, Lent, F>(core);
-    let handed = enter(alloc, types, func, flats, caller, callee)?;
+    let handed = enter(alloc, types, invocation, caller, callee)?;
     let arguments = handed.as_slice();
     let Ok(answer) = core.run(callee, arguments) else {
         return Err(stopped(Step::Body));
     };
     let answer = answer.as_slice();
-    let given = leave(alloc, types, func, flats, answer, callee, caller)?;
+    let given = leave(alloc, types, invocation, answer, callee, caller)?;
     let Ok(()) = core.post_return(callee, answer) else {
         return Err(stopped(Step::Post));
     };

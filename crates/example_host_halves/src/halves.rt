@@ -6,12 +6,11 @@ ghost use Rattle.example_host_halves.specs.Promise.{Enters, Leaves};
 
 use crate::grants::{grant, lendable};
 use crate::requests::{request_answer, request_arguments};
-use adapter::Request;
+use adapter::{Invocation, Request};
 use canonical_abi::Flat;
 use host_calls::{Half, HalfError, NOWHERE, return_area};
 use lift_lower::{Flats, Types};
 use std::alloc::Global;
-use tables::FunctionId;
 
 /// The most blocks that a half asks for here.
 const MOST: usize = 8;
@@ -23,31 +22,30 @@ const NOTHING: Request = Request { align: 1, size: 0 };
 pub fn enter(
     alloc: Global,
     types: &Types,
-    func: FunctionId,
-    flats: &[Flat],
+    invocation: &Invocation<'_>,
     caller: &mut [u8],
     callee: &mut [u8],
 ) -> Result<Flats, HalfError>
     requires within { ∥ AreWithin types.now ∥₁ }
-    requires function { IsFunction types.now func }
+    requires function { IsFunction types.now invocation.now.func }
     requires short { length caller.old < 4294967296 }
     requires limited { length callee.old < 4294967296 }
-    ensures entered { Enters (function_type types.now func) flats.now caller.old callee.old result callee.new }
+    ensures entered { Enters (function_type types.now invocation.now.func) invocation.now.flats.now caller.old callee.old result callee.new }
     ensures same_caller { caller.new ≡ caller.old }
 {
     let mut slots = [NOTHING; MOST];
     // After a fault nothing is granted: the half finds it again.
-    let count = request_arguments(types, func, flats, caller, &mut slots).unwrap_or(0);
+    let count = request_arguments(types, invocation, caller, &mut slots).unwrap_or(0);
     let granted = grant(alloc, callee, &slots[..count.min(MOST)]);
     let blocks = lendable(alloc, callee.len(), &NOWHERE, granted.as_slice());
     let half = Half {
         alloc,
         types,
-        func,
+        func: invocation.func,
         blocks,
     };
     let mut handed = Flats::new();
-    half.enter_flats(flats, caller, callee, &mut handed)?;
+    half.enter_flats(invocation.flats, caller, callee, &mut handed)?;
     Ok(handed)
 }
 
@@ -56,31 +54,30 @@ pub fn enter(
 pub fn leave(
     alloc: Global,
     types: &Types,
-    func: FunctionId,
-    flats: &[Flat],
+    invocation: &Invocation<'_>,
     answer: &[Flat],
     callee: &mut [u8],
     caller: &mut [u8],
 ) -> Result<Flats, HalfError>
     requires within { ∥ AreWithin types.now ∥₁ }
-    requires function { IsFunction types.now func }
+    requires function { IsFunction types.now invocation.now.func }
     requires short { length callee.old < 4294967296 }
     requires limited { length caller.old < 4294967296 }
-    ensures left { Leaves (function_type types.now func) flats.now callee.old answer.now caller.old result caller.new }
+    ensures left { Leaves (function_type types.now invocation.now.func) invocation.now.flats.now callee.old answer.now caller.old result caller.new }
     ensures same_callee { callee.new ≡ callee.old }
 {
     let mut slots = [NOTHING; MOST];
-    let count = request_answer(types, func, answer, callee, &mut slots).unwrap_or(0);
+    let count = request_answer(types, invocation.func, answer, callee, &mut slots).unwrap_or(0);
     let granted = grant(alloc, caller, &slots[..count.min(MOST)]);
-    let area = return_area(types, func, flats);
+    let area = return_area(types, invocation.func, invocation.flats);
     let blocks = lendable(alloc, caller.len(), &area, granted.as_slice());
     let half = Half {
         alloc,
         types,
-        func,
+        func: invocation.func,
         blocks,
     };
     let mut given = Flats::new();
-    half.leave_flats(flats, answer, callee, caller, &mut given)?;
+    half.leave_flats(invocation.flats, answer, callee, caller, &mut given)?;
     Ok(given)
 }

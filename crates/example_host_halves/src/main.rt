@@ -14,6 +14,7 @@ mod requests;
 
 use crate::call::call;
 use crate::core_function::Doubling;
+use adapter::Invocation;
 use canonical_abi::Flat;
 use opening::{Package, open};
 use std::alloc::Global;
@@ -56,5 +57,9 @@ fn is_doubled(alloc: Global, package: &Package, caller: &mut [u8; 64]) -> bool {
     };
     let mut callee = [0; 64];
     callee[..4].copy_from_slice(&CALLEE);
-    call(alloc, &types, func, &FLATS, caller, &mut callee, &Doubling).is_ok()
+    let invocation = Invocation {
+        func,
+        flats: &FLATS,
+    };
+    call(alloc, &types, &invocation, caller, &mut callee, &Doubling).is_ok()
 }

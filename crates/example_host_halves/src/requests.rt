@@ -12,7 +12,7 @@ ghost use Rattle.adapter.specs.Asked.{IsTrapIn};
 ghost use Rattle.layout.specs.Layout.{AreWithin};
 ghost use Rattle.tables.specs.Closed.{IsFunction, function_type};
 
-use adapter::{Link, Request};
+use adapter::{Invocation, Link, Request};
 use canonical_abi::{Fault, Flat};
 use lift_lower::Types;
 use memory::Lent;
@@ -22,22 +22,21 @@ use tables::FunctionId;
 /// there are in all. If the flat values denote no arguments, it answers the fault.
 pub fn request_arguments(
     types: &Types,
-    func: FunctionId,
-    flats: &[Flat],
+    invocation: &Invocation<'_>,
     caller: &mut [u8],
     slots: &mut [Request],
 ) -> Result<usize, Fault>
     requires within { ∥ AreWithin types.now ∥₁ }
-    requires function { IsFunction types.now func }
+    requires function { IsFunction types.now invocation.now.func }
     requires short { length caller.old < 4294967296 }
-    ensures told { let f = function_type types.now func in
-        IfOk result (IsToldAhead (AreArguments f flats.now (source caller.old)) (params_requests max_flat_params f.params) slots.old slots.new) }
-    ensures fault { IfErr result (IsTrapIn LiftArgs (IsArgumentFault (function_type types.now func) flats.now (source caller.old))) }
+    ensures told { let f = function_type types.now invocation.now.func in
+        IfOk result (IsToldAhead (AreArguments f invocation.now.flats.now (source caller.old)) (params_requests max_flat_params f.params) slots.old slots.new) }
+    ensures fault { IfErr result (IsTrapIn LiftArgs (IsArgumentFault (function_type types.now invocation.now.func) invocation.now.flats.now (source caller.old))) }
     ensures same_caller { caller.new ≡ caller.old }
 {
     let lent = Lent::new(caller, &[]);
     let link = Link::new(types.resolve(), types.layouts());
-    link.enter_requests(func, flats, &lent, slots)
+    link.enter_requests(invocation.func, invocation.flats, &lent, slots)
 }
 
 /// The same of the second half, which asks the caller for what the core function's answer needs.

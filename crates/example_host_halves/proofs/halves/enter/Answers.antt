@@ -9,7 +9,7 @@ pub returns-in_err-enter_flats-clause-entered : goal.returns-in_err-enter_flats-
 returns-in_err-enter_flats-clause-entered c =
     let granted = c.grant-granted.new.memory in
     let blocks = c.lendable-blocks.result.now in
-    let P : List ℕ → Type 0 = λ m. (name : ℕ) × EntryOfLentFails name (function_type c.args.types.now c.args.func) c.args.flats.now m granted blocks c.in_err-enter_flats.field-0.0 c.enter_flats.new.callee in
+    let P : List ℕ → Type 0 = λ m. (name : ℕ) × EntryOfLentFails name (function_type c.args.types.now c.args.invocation.now.func) c.args.invocation.now.flats.now m granted blocks c.in_err-enter_flats.field-0.0 c.enter_flats.new.callee in
     let failed = subst P c.request_arguments.ensures.same_caller c.in_err-enter_flats.ensures.error in
     let p = err_from_is_err_and c.from_residual.result c.from_residual.ensures.1 in
     rw (p.1, p.2) (granted, blocks, c.grant-granted.ensures.kept, failed)
@@ -18,6 +18,6 @@ pub returns-clause-entered : goal.returns-clause-entered
 returns-clause-entered c =
     let granted = c.grant-granted.new.memory in
     let blocks = c.lendable-blocks.result.now in
-    let P : List ℕ → Type 0 = λ m. (name : ℕ) × EntersLent name (function_type c.args.types.now c.args.func) c.args.flats.now m granted blocks c.enter_flats.new.handed.items c.enter_flats.new.callee in
+    let P : List ℕ → Type 0 = λ m. (name : ℕ) × EntersLent name (function_type c.args.types.now c.args.invocation.now.func) c.args.invocation.now.flats.now m granted blocks c.enter_flats.new.handed.items c.enter_flats.new.callee in
     let entered = subst P c.request_arguments.ensures.same_caller c.in_ok-enter_flats.ensures.entered in
     (granted, blocks, c.grant-granted.ensures.kept, entered)
