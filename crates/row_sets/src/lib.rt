@@ -2,8 +2,7 @@
 //! has the language of rows.
 #![tactic(auto)]
 
-mod changes;
+pub mod changes;
 mod opened;
 
-pub use changes::{changes, cuts, fronts, is_opened_alone};
 pub use opened::{Wanted, opened_behind, parsed, told_of};
