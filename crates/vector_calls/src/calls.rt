@@ -176,7 +176,7 @@ impl<'a> Calls<'a> {
     }
 
     /// Makes the calls, and tells what they did.
-    pub fn told(mut self, alloc: Global, types: &Types<'_>) -> anyhow::Result<String>
+    pub fn told(&mut self, alloc: Global, types: &Types<'_>) -> anyhow::Result<String>
         requires { ∥ AreWithin «types».now ∥₁ }
     {
         match called(types, &self.first, self.other.as_ref(), &mut self.sides) {

@@ -13,7 +13,7 @@ use witcall::open;
 
 /// What is told of the calls of a row.
 fn calls_told(alloc: Global, row: &Value) -> anyhow::Result<String> {
-    let calls = Calls::of(alloc, row)?;
+    let mut calls = Calls::of(alloc, row)?;
     let bytes = package_bytes(alloc, row)?;
     match open(alloc, bytes.as_slice()) {
         Ok(package) => calls.told(alloc, &package.types()),
