@@ -18,6 +18,8 @@ import sys
 import run
 
 RUNS = 30
+# how many runs what takes less than ten milliseconds gets
+SHORT_RUNS = 300
 LENGTHS = {"10 KB": 10000, "100 KB": 100000, "1 MB": 1000000}
 MEMBERS = 10
 CALL = ["a:b/none", "none", "[]", "[]"]
@@ -155,11 +157,12 @@ def measure(words):
 
 
 def least(commands):
-    """The least time of each command, taken in turn."""
+    """The least time of each command, taken in turn; the short ones are taken more often."""
     best = dict.fromkeys(commands, float("inf"))
-    for _ in range(RUNS):
+    for turn in range(SHORT_RUNS):
         for told, words in commands.items():
-            best[told] = min(best[told], measure(words))
+            if turn < RUNS or told.endswith(("empty", "10 KB")):
+                best[told] = min(best[told], measure(words))
     return best
 
 
