@@ -5,4 +5,4 @@ use Rattle.atoms.specs.declared.label.Bytes.TheVariants.{Inline, Heap}
 
 abbrev pub bytes_of : Bytes → List ℕ
 bytes_of (Inline i) = take i.len i.bytes
-bytes_of (Heap v) = v.items
+bytes_of (Heap b) = b.value.items

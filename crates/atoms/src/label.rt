@@ -44,20 +44,20 @@ pub fn is_label(text: &[u8]) -> bool
 }
 
 /// The bytes that a label holds in itself.
-const MOST_INLINE: usize = 23;
+const MOST_INLINE: usize = 22;
 
-/// At most 23 bytes.
+/// At most 22 bytes.
 #[derive(Clone, Copy, Debug)]
 struct InlineBytes {
     bytes: [u8; MOST_INLINE],
     len: u8,
-    ghost fits: { len ≤ 23 },
+    ghost fits: { len ≤ 22 },
 }
 
 impl InlineBytes {
     /// These bytes.
     fn of(bytes: &[u8]) -> InlineBytes
-        requires { length bytes.now ≤ 23 }
+        requires { length bytes.now ≤ 22 }
         ensures { take result.len result.bytes ≡ bytes.now }
     {
         let mut room = [0; MOST_INLINE];
@@ -75,11 +75,11 @@ impl InlineBytes {
     }
 }
 
-/// The bytes of a label. Most are short: these need no memory of their own.
+/// The bytes of a label. Most are short: these need no memory of their own, and 24 bytes in all.
 #[derive(Debug, Drop)]
 enum Bytes {
     Inline(InlineBytes),
-    Heap(Vec<u8>),
+    Heap(Box<Vec<u8>>),
 }
 
 /// A name: 1 to 255 bytes, words joined by single hyphens, each a letter followed by letters of the same case
@@ -125,7 +125,7 @@ impl Label {
                 bytes: Bytes::Inline(inline),
             });
         }
-        let bytes = Vec::from_slice(alloc, bytes)?;
+        let bytes = Box::new(alloc, Vec::from_slice(alloc, bytes)?)?;
         Ok(Label {
             bytes: Bytes::Heap(bytes),
         })

@@ -4,7 +4,7 @@ ghost use Rattle.canonical_abi.specs.Layout.{join_kind, join};
 ghost use Rattle.layout.specs.Kinds.{kinds_of, count_of, passed, append_kinds, join_kinds};
 ghost use Rattle.arrayvec.specs.ArrayVec.{array_vec_len};
 
-use arrayvec::ArrayVec;
+use crate::kind_list::KindList;
 use canonical_abi::CoreKind;
 
 /// How many flat kinds stand side by side at most; beyond it the values stand in memory.
@@ -13,7 +13,7 @@ pub const MAX_FLAT: usize = 16;
 /// The flat kinds of a type or of types side by side, where they are at most sixteen.
 #[derive(Debug, Drop)]
 pub enum Kinds {
-    Flat(ArrayVec<CoreKind, 17>),
+    Flat(KindList),
     Spilled,
 }
 
@@ -26,21 +26,8 @@ fn joined_kind(left: CoreKind, right: CoreKind) -> CoreKind
     }
 }
 
-pub(crate) fn copied(kinds: &ArrayVec<CoreKind, 17>) -> ArrayVec<CoreKind, 17>
-    ensures { result.items ≡ kinds.now.items }
-{
-    let mut copy = ArrayVec::new();
-    for kind in kinds.as_slice() {
-        copy.push(*kind);
-    }
-    copy
-}
-
 /// The kinds of `left` and then those of `right`.
-fn appended(
-    mut left: ArrayVec<CoreKind, 17>,
-    right: &ArrayVec<CoreKind, 17>,
-) -> ArrayVec<CoreKind, 17>
+fn appended(mut left: KindList, right: &KindList) -> KindList
     requires { array_vec_len left + array_vec_len right.now ≤ 17 }
     ensures { result.items ≡ left.items ++ right.now.items }
 {
@@ -51,15 +38,12 @@ fn appended(
 }
 
 /// The place-wise join of two lists of kinds.
-fn joined(
-    mut left: ArrayVec<CoreKind, 17>,
-    right: &ArrayVec<CoreKind, 17>,
-) -> ArrayVec<CoreKind, 17>
+fn joined(mut left: KindList, right: &KindList) -> KindList
     ensures { result.items ≡ join left.items right.now.items }
 {
     for (i, kind) in right.as_slice().iter().enumerate() {
         if i < left.len() {
-            left[i] = joined_kind(left[i], *kind);
+            left.set(i, joined_kind(left.as_slice()[i], *kind));
         } else {
             left.push(*kind);
         }
@@ -72,13 +56,13 @@ impl Kinds {
     pub(crate) fn none() -> Kinds
         ensures { result ≡ kinds_of [] }
     {
-        Kinds::Flat(ArrayVec::new())
+        Kinds::Flat(KindList::new())
     }
 
     pub(crate) fn one(kind: CoreKind) -> Kinds
         ensures { result ≡ kinds_of (kind ∷ []) }
     {
-        let mut kinds = ArrayVec::new();
+        let mut kinds = KindList::new();
         kinds.push(kind);
         Kinds::Flat(kinds)
     }
@@ -87,7 +71,7 @@ impl Kinds {
         ensures { result ≡ self.now }
     {
         match self {
-            Kinds::Flat(kinds) => Kinds::Flat(copied(kinds)),
+            Kinds::Flat(kinds) => Kinds::Flat(kinds.copy()),
             Kinds::Spilled => Kinds::Spilled,
         }
     }

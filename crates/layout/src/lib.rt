@@ -7,6 +7,7 @@
 #![tactic(auto)]
 
 mod error;
+mod kind_list;
 mod kinds;
 mod layouts;
 mod parts;
@@ -16,6 +17,7 @@ mod signature;
 mod work;
 
 pub use error::LayoutError;
+pub use kind_list::KindList;
 pub use kinds::{Kinds, MAX_FLAT};
 pub use layouts::Layouts;
 pub use parts::Parts;

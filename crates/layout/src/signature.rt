@@ -5,7 +5,8 @@ ghost use Rattle.layout.specs.Kinds.{passed};
 ghost use Rattle.layout.specs.Layout.{results_of, signature_of};
 ghost use Rattle.layout.specs.Signature.{is_one, single, lifted_by, lowered_by};
 
-use crate::kinds::{Kinds, copied};
+use crate::kind_list::KindList;
+use crate::kinds::Kinds;
 use arrayvec::ArrayVec;
 use canonical_abi::{CoreKind, Flat};
 
@@ -14,6 +15,16 @@ use canonical_abi::{CoreKind, Flat};
 pub struct CoreSignature {
     pub params: ArrayVec<CoreKind, 17>,
     pub result: Option<CoreKind>,
+}
+
+fn copied(kinds: &KindList) -> ArrayVec<CoreKind, 17>
+    ensures { result.items ≡ kinds.now.items }
+{
+    let mut copy = ArrayVec::new();
+    for kind in kinds.as_slice() {
+        copy.push(*kind);
+    }
+    copy
 }
 
 /// How parameters of these kinds are passed.

@@ -117,11 +117,12 @@ fn use_entry(
     ensures { IfOk result (λ e. entry_view e ≡ use_entry (name_path resolve.now (name_at resolve.now.definitions (Some target))) (read_val (own_trees resolve.now) (val.Id target)) local.now) }
 {
     let name = used_name(resolve, target);
-    Ok(InterfaceItem::Use(Use {
+    let item = Use {
         span: nowhere(),
         interface: path_to(alloc, resolve, name.interface)?,
         names: used_as(alloc, &name.name, local)?,
-    }))
+    };
+    Ok(InterfaceItem::Use(Box::new(alloc, item)?))
 }
 
 fn type_entry(

@@ -9,9 +9,7 @@ ghost use Rattle.values.specs.Members.{fields_of_types, AreAllInside, AreInside,
 ghost use Rattle.values.specs.Types.{HasShape, HasFewFlags, IsInside};
 
 use crate::members::{Members, type_at};
-use arrayvec::ArrayVec;
-use canonical_abi::CoreKind;
-use layout::{Kinds, Layouts, Shape};
+use layout::{KindList, Kinds, Layouts, Shape};
 use std::marker::Model;
 use tables::{Resolve, ValType};
 
@@ -131,7 +129,7 @@ impl<'a> Types<'a> {
     }
 
     /// The core values' kinds that carry a type, where they are at most sixteen.
-    pub fn kinds_of(&self, ty: ValType) -> ArrayVec<CoreKind, 17>
+    pub fn kinds_of(&self, ty: ValType) -> KindList
         requires inside { IsInside self.now ty }
         requires flat { length (flat_kinds (closed_type self.now ty)) ≤ 16 }
         ensures { result.items ≡ flat_kinds (closed_type self.now ty) }
@@ -143,7 +141,7 @@ impl<'a> Types<'a> {
     }
 
     /// The flat kinds of types side by side, where at most `limit` carry them.
-    pub fn kinds_within(&self, types: &[ValType], limit: usize) -> Option<ArrayVec<CoreKind, 17>>
+    pub fn kinds_within(&self, types: &[ValType], limit: usize) -> Option<KindList>
         requires inside { AreAllInside self.now types.now }
         requires limit { limit ≤ 16 }
         ensures kinds { IfSome result (λ ks. ks.items ≡ field_kinds (fields_of_types self.now types.now)) }

@@ -1,5 +1,6 @@
 //! Items of interfaces and of worlds.
 ghost use Rattle.std.specs.Prelude.{◌≡◌, [], ◌++◌, map, OnOk};
+ghost use Rattle.wit_syntax.specs.Syntax.{Uses};
 ghost use Rattle.wit_syntax.specs.View.{used_view, version_view, path_view, entry_view, world_entry_view};
 ghost use Rattle.wit_print.specs.Canonical.{local_words, used_words, uses_words, version_words, path_words, direction_keyword, entry_words, world_entry_words, braced_words};
 ghost use Rattle.wit_print.specs.Adding.{Adds};
@@ -72,7 +73,7 @@ fn write_path(out: &mut String, space: &str, path: &Path) -> Result<(), AllocErr
 }
 
 fn write_use(out: &mut String, item: &Use) -> Result<(), AllocError>
-    ensures { OnOk result (Adds (entry_words (entry_view (InterfaceItem.Use item.now))) out.old out.new) }
+    ensures { OnOk result (Adds (entry_words (Uses item.now.span (path_view item.now.interface) (map used_view item.now.names.items))) out.old out.new) }
 {
     write_keyword(out, ITEM_LINE, Keyword::Use)?;
     write_path(out, " ", &item.interface)?;

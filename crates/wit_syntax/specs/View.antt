@@ -78,7 +78,7 @@ abbrev pub function_view : FuncType → Function
 function_view f = record { params = map field_view f.params.items; result = optional_view f.result }
 
 abbrev pub entry_view : InterfaceItem → Entry
-entry_view (entry.Use u) = Uses u.span (path_view u.interface) (map used_view u.names.items)
+entry_view (entry.Use u) = Uses u.value.span (path_view u.value.interface) (map used_view u.value.names.items)
 entry_view (entry.TypeDef t) = Defines t.span t.name (definition_view t.kind)
 entry_view (entry.Func f) = Declares f.span f.name (function_view f.ty)
 

@@ -31,7 +31,8 @@ pub struct Interface {
 
 #[derive(Debug, Drop)]
 pub enum InterfaceItem {
-    Use(Use),
+    /// In a box, since it is twice as large as the others, and rarer.
+    Use(Box<Use>),
     TypeDef(TypeDef),
     Func(Func),
 }

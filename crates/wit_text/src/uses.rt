@@ -106,5 +106,5 @@ pub fn use_item<'a>(
         interface,
         names,
     };
-    Ok((InterfaceItem::Use(item), tokens))
+    Ok((InterfaceItem::Use(Box::new(alloc, item)?), tokens))
 }

@@ -63,8 +63,7 @@ impl fmt::Display for Keyword {
     }
 }
 
-/// The keyword with this place. Each keyword has a place of its own, from 0 to 127. Not inlined, so that it becomes a table.
-#[inline(never)]
+/// The keyword with this place. Each keyword has a place of its own, from 0 to 127.
 #[tactic(auto, unfolding(crate::specs::Keywords::keywords))]
 fn keyword_at(place: usize) -> Option<Keyword>
     ensures { result ≡ keyword_at place }

@@ -1,10 +1,14 @@
-use Rattle.std.proofs.Common.{sym, subst}
-use Rattle.wit_syntax.specs.View.{entry_view}
+use Rattle.std.proofs.Common.{map, sym, subst}
+use Rattle.wit_syntax.specs.Syntax.{Uses}
+use Rattle.wit_syntax.specs.View.{entry_view, path_view, used_view}
 use Rattle.wit_syntax.specs.declared.ast.InterfaceItem.{InterfaceItem}
+use Rattle.wit_syntax.specs.declared.ast.Use.{Use}
 use Rattle.package_adding.specs.Named.{entry_names}
 use Rattle.package_adding.specs.Noted.{also, AreNoted}
 use Rattle.package_adding.proofs.named.mark_item.Goals as goal
 
 pub returns-in-Use : goal.returns-in-Use
 returns-in-Use c = λ names noted.
-    subst (λ (i : InterfaceItem). AreNoted c.args.set.now (also names (entry_names (entry_view i))) c.mark_use.new.marks) (sym c.in-Use.is) (c.mark_use.ensures names noted)
+    subst (λ (i : InterfaceItem). AreNoted c.args.set.now (also names (entry_names (entry_view i))) c.mark_use.new.marks) (sym c.in-Use.is)
+    (subst (λ (u : Use). AreNoted c.args.set.now (also names (entry_names (Uses u.span (path_view u.interface) (map used_view u.names.items)))) c.mark_use.new.marks) c.deref.ensures
+    (c.mark_use.ensures names noted))

@@ -1,0 +1,82 @@
+//! Short lists of flat kinds.
+ghost use Rattle.std.specs.Prelude.{◌≡◌, ◌<◌, ◌≤◌, ◌++◌, ◌∷◌, [], length};
+ghost use Rattle.arrayvec.specs.ArrayVec.{with_item};
+
+use canonical_abi::CoreKind;
+use std::marker::Model;
+
+/// How many kinds there is room for.
+const ROOM: usize = 17;
+
+/// At most seventeen flat kinds, in eighteen bytes.
+#[derive(Debug, Drop)]
+pub struct KindList {
+    kinds: [CoreKind; ROOM],
+    len: u8,
+}
+
+impl Model for KindList {
+    ghost use Rattle.std.specs.Prelude.{◌≤◌, take};
+    ghost use Rattle.arrayvec.specs.ArrayVec.{ArrayVec};
+    ghost use Rattle.canonical_abi.specs.declared.flat.CoreKind.{CoreKind};
+
+    ghost Value = { ArrayVec CoreKind };
+
+    ghost view = { λ k. record { items = take k.len k.kinds } };
+
+    ghost invariant = { λ k. k.len ≤ 17 };
+}
+
+impl KindList {
+    /// No kind.
+    pub(crate) fn new() -> KindList
+        ensures { result.items ≡ [] }
+    {
+        KindList {
+            kinds: [CoreKind::I32; ROOM],
+            len: 0,
+        }
+    }
+
+    /// The same kinds.
+    pub(crate) fn copy(&self) -> KindList
+        ensures { result ≡ self.now }
+    {
+        KindList {
+            kinds: self.kinds,
+            len: self.len,
+        }
+    }
+
+    /// How many they are.
+    pub fn len(&self) -> usize
+        ensures value { result ≡ length self.now.items }
+        ensures fits { result ≤ 17 }
+    {
+        self.as_slice().len()
+    }
+
+    pub fn as_slice(&self) -> &[CoreKind]
+        ensures value { result.now ≡ self.now.items }
+        ensures fits { length result.now ≤ 17 }
+    {
+        &self.kinds[..usize::from(self.len)]
+    }
+
+    /// Puts a kind at the end.
+    pub(crate) fn push(&mut self, kind: CoreKind)
+        requires { length self.old.items < 17 }
+        ensures { self.new.items ≡ self.old.items ++ kind ∷ [] }
+    {
+        self.kinds[usize::from(self.len)] = kind;
+        self.len += 1;
+    }
+
+    /// Puts a kind in the place of another.
+    pub(crate) fn set(&mut self, place: usize, kind: CoreKind)
+        requires { place < length self.old.items }
+        ensures { self.new ≡ with_item self.old place kind }
+    {
+        self.kinds[place] = kind;
+    }
+}
