@@ -1,5 +1,5 @@
 -- Closed tables: each package's name stands for it, and full names for interfaces.
-use Rattle.std.proofs.Common.{◌≡◌, inl, inr, ℕ, zero, suc, ◌+◌, ◌<◌, Bool, true, false, cond, not, ◌&&◌, ◌||◌, ◌==◌, nat_le, nat_lt, IsTrue, List, [], ◌∷◌, ◌++◌, length, get_or, slice_get, Option, None, Some, refl, ap, sym, subst, ◌∙◌, arith, All, Contains, append-nil, map, flat_map}
+use Rattle.std.proofs.Common.{◌≡◌, inl, inr, ℕ, zero, suc, ◌+◌, ◌<◌, Bool, true, false, cond, not, ◌&&◌, ◌||◌, ◌==◌, nat_le, nat_lt, IsTrue, List, ◌∷◌, ◌++◌, length, get_or, slice_get, Option, None, Some, refl, ap, sym, subst, ◌∙◌, arith, All, Contains, append-nil}
 use Rattle.std.specs.List.{list_all, list_any}
 use Rattle.std.specs.Str.{bytes_eq}
 use Rattle.std.proofs.lemmas.Bool.{ltb-true, le-leb, eq-eqb, eqb-true}
@@ -22,7 +22,7 @@ use Rattle.package_form.specs.Scope.{AreDistinct}
 use Rattle.package_form.specs.Reached.{is_interface_of, is_among, reached, are_reached}
 use Rattle.package_form.specs.Closed.{own_package, is_world_of, has_own, is_same_version, is_same_package, are_apart, are_of_a_set, has_each_package, is_closed, IsAlone}
 use Rattle.package_form.specs.Form.{is_package_name, has_full_names}
-use Rattle.package_form.specs.Naming.{interface_name, label_of, interface_label_of, interface_labels_of, world_labels_of, of_each, interfaces_scopes, world_scopes, package_scopes}
+use Rattle.package_form.specs.Naming.{interface_label_of, interface_labels_of, package_scopes}
 use Rattle.package_form.proofs.Lists.{all-get, compared, contains-here}
 use Rattle.package_form.proofs.OnePackage.{single, one-full-name, is_first, all-first, first-place, own-full-name}
 use Rattle.package_form.proofs.OneRow.{twice-of}
@@ -193,32 +193,6 @@ alone-closed r alone some = subst (λ (n : ℕ). (has_own n r.interfaces r.world
     within k (i ∷ is) h =
         both (is_interface_of 0 i || is_among (reached r.definitions r.worlds) k) _ (ap (λ (b : Bool). b || is_among (reached r.definitions r.worlds) k) (split (is_first i) (list_all is_first is) h).0)
         (within (k + 1) is (split (is_first i) (list_all is_first is) h).1)
-
--- the scopes of a package that reaches no other: the names of its interfaces and its worlds are one
-pub alone-scopes : (r : Resolve) → IsAlone r
-    → package_scopes r ≡ (map interface_name r.interfaces ++ map label_of r.worlds) ∷ (interfaces_scopes r.definitions 0 r.interfaces ++ flat_map world_scopes (worlds r))
-alone-scopes r alone =
-    let rest = interfaces_scopes r.definitions 0 r.interfaces ++ flat_map world_scopes (worlds r) in
-    ap (λ (ps : List PackageParts). of_each (λ k. interface_labels_of r.interfaces k ++ world_labels_of r.worlds k) 0 ps ++ rest) one.1
-    ∙ ap (λ (ns : List (List ℕ)). (ns ++ world_labels_of r.worlds 0) ∷ rest)
-    (names r.interfaces (all-first 0 r.interfaces (subst (λ (n : ℕ). are_grouped n 0 r.interfaces ≡ true) alone r.grouped)))
-    ∙ ap (λ (ns : List (List ℕ)). (map interface_name r.interfaces ++ ns) ∷ rest)
-    (labels r.worlds (first-worlds 0 r.worlds (subst (λ (n : ℕ). are_worlds_grouped n 0 r.worlds ≡ true) alone r.worlds_grouped)))
-  where
-    one : (p : PackageParts) × (r.packages ≡ p ∷ [])
-    one = single r.packages alone
-
-    names : (is : List Interface) → list_all is_first is ≡ true → interface_labels_of is 0 ≡ map interface_name is
-    names [] h = refl
-    names (i ∷ is) h =
-        let s = split (is_first i) (list_all is_first is) h in
-        ap (λ (b : Bool). cond b (i.name ∷ []) [] ++ interface_labels_of is 0) s.0 ∙ ap (λ (ns : List (List ℕ)). i.name ∷ ns) (names is s.1)
-
-    labels : (ws : List World) → list_all (is_world_of 0) ws ≡ true → world_labels_of ws 0 ≡ map label_of ws
-    labels [] h = refl
-    labels (w ∷ ws) h =
-        let s = split (is_world_of 0 w) (list_all (is_world_of 0) ws) h in
-        ap (λ (b : Bool). cond b (w.name ∷ []) [] ++ world_labels_of ws 0) s.0 ∙ ap (λ (ns : List (List ℕ)). w.name ∷ ns) (labels ws s.1)
 
 -- ---- full names
 

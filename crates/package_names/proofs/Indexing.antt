@@ -1,5 +1,5 @@
 -- The places of interfaces, put one after the other under their packages and names.
-use Rattle.std.proofs.Common.{◌≡◌, ◌<◌, ◌≢◌, ℕ, zero, suc, ◌+◌, Bool, true, false, cond, ◌&&◌, List, [], ◌∷◌, ◌++◌, map, replicate, Option, None, Some, length, take, get_or, set, slice_get, is_some, refl, ap, sym, subst, ◌∙◌, arith}
+use Rattle.std.proofs.Common.{◌≡◌, ◌<◌, ◌≢◌, ℕ, zero, suc, ◌+◌, Bool, true, false, cond, ◌&&◌, List, ◌∷◌, ◌++◌, map, Option, None, Some, length, take, get_or, set, slice_get, is_some, refl, ap, sym, subst, ◌∙◌, arith}
 use Rattle.std.specs.declared.alloc.Global.{Global}
 use Rattle.std.specs.declared.string.String.{String}
 use Rattle.std.specs.List.{position}
@@ -112,21 +112,6 @@ module _ (ps : List PackageParts) (p : PackageParts) (i : Interface) (of : slice
         by false e = elsewhere q n e (position (is_same_package q) ps) refl ∙ sym (or-none (placed_at names (position (is_same_package q) ps) n))
 
 -- ---- all of them
-
-nothing-placed : (c k : ℕ) (n : List ℕ) → placed (slice_get (replicate c []) k) n ≡ None
-nothing-placed zero k n = refl
-nothing-placed (suc c) zero n = refl
-nothing-placed (suc c) (suc k) n = nothing-placed c k n
-
-pub none-indexed : (ps : List PackageParts) (names : List (List (List ℕ × ℕ))) (c : ℕ) → c ≡ length ps → names ≡ replicate c [] → length names ≡ c → IsIndex ps [] names
-none-indexed ps names c e made count = record {
-  count = count ∙ e;
-  each = λ q n. ap (λ (ms : List (List (List ℕ × ℕ))). placed_at ms (position (is_same_package q) ps) n) made ∙ by (position (is_same_package q) ps) n;
-}
-  where
-    by : (o : Option ℕ) (n : List ℕ) → placed_at (replicate c []) o n ≡ None
-    by None n = refl
-    by (Some k) n = nothing-placed c k n
 
 pub one-more-indexed : (ps : List PackageParts) (is : List Interface) (k : ℕ) (x : Interface) (old new : List (List (List ℕ × ℕ))) → k < length is → x ≡ get_or is k x → IsIndex ps (take k is) old
     → length new ≡ length ps

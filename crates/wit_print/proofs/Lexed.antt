@@ -1,5 +1,5 @@
 -- Words that stand are lexed, and the grammar sees just them.
-use Rattle.std.proofs.Common.{◌≡◌, ◌≤◌, ◌<◌, ◌+◌, ◌-◌, ℕ, List, [], ◌∷◌, ◌++◌, drop, take, take_at, length, length-drop, map, refl, sym, ap, subst, ◌∙◌, arith, append_assoc, append-nil}
+use Rattle.std.proofs.Common.{◌≡◌, ◌≤◌, ◌<◌, ◌+◌, ◌-◌, ℕ, List, ◌∷◌, ◌++◌, drop, take, take_at, length, length-drop, map, refl, sym, ap, subst, ◌∙◌, arith, append_assoc, append-nil}
 use Rattle.std.specs.Prelude.{true, nat_le}
 use Rattle.std.specs.List.{list_all}
 use Rattle.std.proofs.lemmas.List.{drop-drop, length-append}
@@ -7,9 +7,9 @@ use Rattle.std.proofs.Math.Seq.{drop-append_seam}
 use Rattle.std.proofs.lemmas.Bool.{and_parts, le-leb}
 use Rattle.wit_tokens.specs.declared.token.Token.{Token}
 use Rattle.wit_tokens.specs.declared.token.TokenKind.{TokenKind}
-use Rattle.wit_tokens.specs.declared.lexer.Front.TheVariants as front
 use Rattle.wit_tokens.specs.Lexing.{Upto, begin, blank, next, Lexes, front_of, token_from, is_blank}
 use Rattle.wit_tokens.specs.Tokens.{bytes_of, word_of, lexeme, lexemes}
+use Rattle.wit_tokens.proofs.Blanks.{one_blank}
 use Rattle.wit_print.specs.Words.{Word, text_of}
 use Rattle.wit_print.proofs.Standing.{IsSpace, AllStand}
 use Rattle.wit_print.proofs.Written.{plain_of, read_of}
@@ -19,10 +19,6 @@ abbrev pub tokens_from : ℕ → List Word → List Token
 tokens_from at [] = []
 tokens_from at (w ∷ ws) = token_from w.kind (at + length w.space) (length w.bytes) ∷ tokens_from (at + length w.space + length w.bytes) ws
 
-blank-front : (c : ℕ) (cs : List ℕ) → is_blank c ≡ true → front_of (c ∷ cs) ≡ front.Blank 1
-unfolding front_of
-blank-front c cs h = rw h refl
-
 passed : (text xs ys : List ℕ) (at : ℕ) → drop at text ≡ xs ++ ys → drop (at + length xs) text ≡ ys
 passed text xs ys at e = sym (drop-drop (length xs) at text) ∙ (ap (drop (length xs)) e ∙ drop-append_seam xs ys)
 
@@ -31,7 +27,7 @@ passes-blanks : (text space rest : List ℕ) (at : ℕ) (ts : List Token) → dr
 passes-blanks text [] rest at ts e h u = subst (λ n. Upto text n ts) (omega arith) u
 passes-blanks text (c ∷ cs) rest at ts e h u =
     let parts = and_parts (is_blank c) (list_all is_blank cs) h in
-    let one : Upto text (at + 1) ts = blank at 1 ts u (ap front_of e ∙ blank-front c (cs ++ rest) parts.0) in
+    let one : Upto text (at + 1) ts = blank at 1 ts u (ap front_of e ∙ one_blank c (cs ++ rest) parts.0) in
     subst (λ n. Upto text n ts) (omega arith) (passes-blanks text cs rest (at + 1) ts (passed text (c ∷ []) (cs ++ rest) at e) parts.1 one)
 
 -- the bytes that words take

@@ -11,7 +11,10 @@ use Rattle.wit_tokens.specs.declared.token.Punctuation.{Punctuation}
 use Rattle.wit_tokens.specs.declared.token.TokenKind.TheVariants as kind
 use Rattle.wit_tokens.specs.Keywords.{keyword_of}
 use Rattle.wit_tokens.specs.Lexing.{is_letter, begins_letter}
-use Rattle.wit_tokens.specs.Tokens.{Lexeme, same_kind, keyword_rank, mark_rank, word_of}
+use denote.Enum.Declared.{tag_of}
+use Rattle.wit_tokens.specs.contracts.token.Keyword as keyword_type
+use Rattle.wit_tokens.specs.contracts.token.Punctuation as mark_type
+use Rattle.wit_tokens.specs.Tokens.{Lexeme, same_kind, word_of}
 use Rattle.wit_grammar.specs.Faults.{is}
 use Rattle.wit_grammar.specs.Grammar.{is_name, is_lower_name, is_version_token, is_version_text, id, lower_id}
 use Rattle.wit_print.specs.Words.{Word, mark_word, keyword_word, name_word, version_word, escaped}
@@ -21,10 +24,10 @@ use Rattle.wit_print.proofs.Written.{Spells, Writes, Bound, Passes, Misses, IsTh
 -- ---- marks and keywords
 
 same-keyword : (k : Keyword) → same_kind (kind.Keyword k) (kind.Keyword k) ≡ true
-same-keyword k = eq-eqb (keyword_rank k) (keyword_rank k) refl
+same-keyword k = eq-eqb (tag_of keyword_type.the_type k) (tag_of keyword_type.the_type k) refl
 
 same-mark : (p : Punctuation) → same_kind (kind.Punctuation p) (kind.Punctuation p) ≡ true
-same-mark p = eq-eqb (mark_rank p) (mark_rank p) refl
+same-mark p = eq-eqb (tag_of mark_type.the_type p) (tag_of mark_type.the_type p) refl
 
 pub is-mark : (space : List ℕ) (p : Punctuation) → Passes (is (kind.Punctuation p)) (mark_word space p)
 is-mark space p l e = ap (λ w. same_kind w.kind (kind.Punctuation p)) e ∙ same-mark p

@@ -8,7 +8,7 @@ use Rattle.wit_tokens.specs.declared.token.Token.{Token}
 use Rattle.wit_tokens.specs.declared.lexer.Front.TheVariants as front
 use Rattle.wit_tokens.specs.Lexing.{Upto, blank, is_blank, blank_run, front_of}
 
-one_blank : (c : ℕ) (cs : List ℕ) → is_blank c ≡ true → front_of (c ∷ cs) ≡ front.Blank 1
+pub one_blank : (c : ℕ) (cs : List ℕ) → is_blank c ≡ true → front_of (c ∷ cs) ≡ front.Blank 1
 unfolding front_of
 one_blank c cs h = rw h refl
 

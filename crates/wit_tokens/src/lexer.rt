@@ -1,7 +1,10 @@
 //! From text to tokens.
-ghost use Rattle.std.specs.Prelude.{◌≡◌, ◌<◌, ◌≤◌, ◌+◌, ◌^◌, ℕ, IsTrue, false, length, take, drop, IfOk, IfErr, IfSome, IfNone, None};
+ghost use Rattle.std.specs.Prelude.{◌≡◌, ◌<◌, ◌≤◌, ◌+◌, ◌^◌, ◌∷◌, ℕ, IsTrue, false, length, take, drop, if◌then◌else◌, IfOk, IfErr, IfSome, IfNone, None};
 ghost use Rattle.atoms.specs.Label.{are_words};
-ghost use Rattle.wit_tokens.specs.Lexing.{is_letter, is_blank, is_in_version, blank_run, word_run, digit_run, version_run, line_run, comment_run, plus, begins_with, begins_pair, begins_letter, begins_digit, mark_of, char_len, slash_front, word_kind, word_front, escape_front, at_front, punctuation_front, front_of, Takes, limit, Lexes, LexFault};
+ghost use Rattle.wit_tokens.specs.Lexing.{is_letter, is_blank, is_in_version, blank_run, word_run, digit_run, version_run, line_run, comment_run, plus, begins_with, begins_pair, begins_letter, begins_digit, mark_of, char_len, token, slash_front, word_kind, word_front, escape_front, at_front, front_of, Takes, limit, Lexes, LexFault};
+ghost use Rattle.wit_tokens.specs.declared.lexer.Front.TheVariants as front;
+ghost use Rattle.wit_tokens.specs.declared.token.Punctuation.TheVariants as mark;
+ghost use Rattle.wit_tokens.specs.declared.token.TokenKind.TheVariants as kind;
 
 use crate::error::TextError;
 use crate::keyword::keyword_of;
@@ -339,48 +342,35 @@ fn at_front(text: &[u8]) -> Front
     }
 }
 
-/// A mark, or a character that begins no token.
-#[tactic(auto, unfolding(crate::specs::Lexing::punctuation_front))]
-fn punctuation_front(first: u8, rest: &[u8]) -> Front
-    ensures is { result ≡ punctuation_front first rest.now }
+/// An arrow, or a hyphen that begins no token.
+fn hyphen_front(rest: &[u8]) -> Front
+    ensures is { result ≡ if begins_with 62 rest.now then token (kind.Punctuation mark.Arrow) 2 else front.Bad 1 }
     ensures within { Takes result (length rest.now + 1) }
 {
-    if first == b'-' {
-        return if begins_with(rest, b'>') {
-            Front::Token(TokenKind::Punctuation(Punctuation::Arrow), 2)
-        } else {
-            Front::Bad(1)
-        };
-    }
-    match mark_of(first) {
-        Some(mark) => Front::Token(TokenKind::Punctuation(mark), 1),
-        None => Front::Bad(char_len(first)),
+    if begins_with(rest, b'>') {
+        Front::Token(TokenKind::Punctuation(Punctuation::Arrow), 2)
+    } else {
+        Front::Bad(1)
     }
 }
 
-/// What stands at the front of a text that begins with no letter.
-#[tactic(auto, unfolding(crate::specs::Lexing::front_of))]
-fn front_without_letter(text: &[u8]) -> Front
-    requires small { length text.now < 2 ^ 60 }
-    requires letter { begins_letter text.now ≡ false }
-    ensures is { result ≡ front_of text.now }
-    ensures within { 0 < length text.now → Takes result (length text.now) }
+/// What stands at the front where that is no blank, no word and no mark of one character.
+#[tactic(auto, unfolding(crate::specs::Lexing::front_of, crate::specs::Lexing::punctuation_front))]
+fn other_front(first: u8, rest: &[u8]) -> Front
+    requires small { length rest.now < 2 ^ 60 }
+    requires blank { is_blank first ≡ false }
+    requires letter { is_letter first ≡ false }
+    requires mark { mark_of first ≡ None }
+    ensures is { result ≡ front_of (first ∷ rest.now) }
+    ensures within { Takes result (length rest.now + 1) }
 {
-    let [first, rest @ ..] = text else {
-        return Front::Blank(0);
-    };
-    let first = *first;
-    if is_blank(first) {
-        return Front::Blank(1);
-    }
-    if first.is_ascii_digit() {
-        return Front::Token(TokenKind::Integer, digit_len(text));
-    }
     match first {
+        b'0'..=b'9' => Front::Token(TokenKind::Integer, digit_len(rest) + 1),
         b'/' => slash_front(rest),
         b'%' => escape_front(rest),
         b'@' => at_front(rest),
-        _ => punctuation_front(first, rest),
+        b'-' => hyphen_front(rest),
+        _ => Front::Bad(char_len(first)),
     }
 }
 
@@ -391,18 +381,19 @@ fn front_of(text: &[u8]) -> Front
     ensures is { result ≡ front_of text.now }
     ensures within { 0 < length text.now → Takes result (length text.now) }
 {
-    let [first, ..] = text else {
+    let [first, rest @ ..] = text else {
         return Front::Blank(0);
     };
-    if is_blank(*first) {
+    let first = *first;
+    if is_blank(first) {
         return Front::Blank(1);
     }
-    if letter(*first) {
+    if letter(first) {
         return word_front(text);
     }
-    match mark_of(*first) {
+    match mark_of(first) {
         Some(mark) => Front::Token(TokenKind::Punctuation(mark), 1),
-        None => front_without_letter(text),
+        None => other_front(first, rest),
     }
 }
 
