@@ -6,6 +6,7 @@ use Rattle.std.proofs.lemmas.Bool.Decides.{nat_tests}
 use Rattle.std.proofs.lemmas.Slice.Eq.{bytes_eq-Decides}
 use Rattle.package_form.specs.Closed.{is_same_package}
 use Rattle.package_form.proofs.Lists.{contains-here, contains-later, contains-map, contains-unmap, contains-flat}
+use Rattle.package_form.proofs.Marks.{or-true}
 use Rattle.package_form.proofs.OwnPackage.{package-is, same-itself}
 use Rattle.package_sets.proofs.Lists.{contains-unflat}
 use Rattle.tree_meaning.specs.Declarations.{UsedItem, path_package, path_interface, used_item, entry_uses, interface_tree, interface_of, InterfaceTree, WorldTree, ForeignNamed, item_tree, world_tree, world_of}
@@ -19,10 +20,6 @@ use Rattle.wit_tokens.specs.declared.token.Span.{Span}
 use Rattle.package_adding.specs.Named.{NamesInterface, path_names, entry_names, world_entry_names, file_entry_names, any_names}
 
 -- ---- lists
-
-or-true : (b : Bool) → (b || true) ≡ true
-or-true true = refl
-or-true false = refl
 
 pub any-one : {A : Type 0} (f : A → Bool) (xs : List A) → list_any f xs ≡ true → (x : A) × Contains xs x × (f x ≡ true)
 any-one f [] h = absurd (cc)

@@ -1,5 +1,5 @@
 -- Marks of what is named, set one after the other.
-use Rattle.std.proofs.Common.{◌≡◌, ◌↔◌, ◌⊎◌, inl, inr, ◌<◌, ◌≤◌, ◌≢◌, ◌+◌, ◌&&◌, ◌||◌, ℕ, Bool, true, false, List, [], ◌∷◌, map, length, take, get_or, set, replicate, slice_get, Option, None, Some, refl, ap, sym, subst, ◌∙◌, arith, length-set, get_or-set_other, get_or-set_same}
+use Rattle.std.proofs.Common.{◌≡◌, ◌↔◌, inl, inr, ◌<◌, ◌≤◌, ◌≢◌, ◌+◌, ◌&&◌, ◌||◌, ℕ, Bool, true, false, List, [], ◌∷◌, map, length, take, get_or, set, replicate, slice_get, Option, None, Some, refl, ap, sym, subst, ◌∙◌, arith, length-set, get_or-set_other, get_or-set_same}
 use Rattle.std.specs.Str.{bytes_eq}
 use Rattle.std.proofs.lemmas.List.{get_or-replicate, length-replicate, length-map}
 use Rattle.std.proofs.lemmas.List.Folds.{list_any-append}
@@ -9,10 +9,12 @@ use Rattle.std.proofs.lemmas.Slice.Eq.{bytes_eq-Decides}
 use Rattle.package_form.specs.Closed.{is_same_package}
 use Rattle.package_names.specs.Indexed.{is_package_named, is_interface_named, interface_place}
 use Rattle.package_form.proofs.Lists.{map-more}
+use Rattle.package_form.proofs.Marks.{or-false}
 use Rattle.package_form.proofs.Meeting.{below_or_at}
 use Rattle.package_form.proofs.OwnPackage.{package-is, same-itself}
 use Rattle.package_form.proofs.Positions.{position-none}
 use Rattle.package_sets.proofs.Lists.{map-get}
+use Rattle.package_sets.proofs.TowerForm.{or-either, or-left, or-right}
 use Rattle.tables.proofs.Rows.{split, both}
 use Rattle.tables.specs.PackageNames.{PackageParts}
 use Rattle.tables.specs.declared.tables.Interface.{Interface}
@@ -24,24 +26,9 @@ use Rattle.package_adding.specs.declared.marking.Named.{Named}
 
 -- ---- tests
 
-or-false : (b : Bool) → (b || false) ≡ b
-or-false true = refl
-or-false false = refl
-
 pub or-assoc : (a b c : Bool) → ((a || b) || c) ≡ (a || (b || c))
 or-assoc true b c = refl
 or-assoc false b c = refl
-
-either : (a b : Bool) → (a || b) ≡ true → (a ≡ true) ⊎ (b ≡ true)
-either true b h = inl refl
-either false b h = inr h
-
-or-left : (a b : Bool) → a ≡ true → (a || b) ≡ true
-or-left a b e = ap (λ (c : Bool). c || b) e
-
-or-right : (a b : Bool) → b ≡ true → (a || b) ≡ true
-or-right true b e = refl
-or-right false b e = e
 
 -- one set of tests for another
 pub noted-as : (set : Resolve) (s t : PackageParts → List ℕ → Bool) (m : Named) → ((q : PackageParts) (i : List ℕ) → s q i ≡ t q i) → AreNoted set s m → AreNoted set t m
@@ -126,13 +113,13 @@ module _ (set_ : Resolve) (names : PackageParts → List ℕ → Bool) (p : Pack
         is = each k q (omega (arith, slice_get_within set_.packages k q e, noted.each_package)) e
 
         there : get_or new.packages.items k false ≡ true → (i : List ℕ) × (also names more q i ≡ true)
-        there h = elim (either (get_or old.packages.items k false) (is_same_package p q) (sym is ∙ h)) [
+        there h = elim (or-either (get_or old.packages.items k false) (is_same_package p q) (sym is ∙ h)) [
           | inl f ↦ let x = (noted.packages_are k q e).0 f in (x.0, or-left (names q x.0) (more q x.0) x.1)
           | inr f ↦ (n, or-right (names q n) (more q n) (it q n (sym (package-is p q f)) refl))
         ]
 
         back : (i : List ℕ) × (also names more q i ≡ true) → get_or new.packages.items k false ≡ true
-        back (i, h) = elim (either (names q i) (more q i) h) [
+        back (i, h) = elim (or-either (names q i) (more q i) h) [
           | inl f ↦ is ∙ or-left (get_or old.packages.items k false) (is_same_package p q) ((noted.packages_are k q e).1 (i, f))
           | inr f ↦
               let same : q ≡ p = package-is q p (split (is_same_package q p) (bytes_eq i n) f).0 in

@@ -8,11 +8,11 @@ use Rattle.package_form.specs.Marks.{AreMarked}
 use Rattle.package_form.proofs.Lists.{flat_map-append, flat_map-one}
 use Rattle.package_form.proofs.Meeting.{take-more}
 
-or-false : (b : Bool) → (b || false) ≡ b
+pub or-false : (b : Bool) → (b || false) ≡ b
 or-false true = refl
 or-false false = refl
 
-or-true : (b : Bool) → (b || true) ≡ true
+pub or-true : (b : Bool) → (b || true) ≡ true
 or-true true = refl
 or-true false = refl
 

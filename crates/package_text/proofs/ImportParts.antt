@@ -34,7 +34,7 @@ use Rattle.tree_meaning.specs.Declarations.{path_package, path_interface, item_t
 use Rattle.tree_meaning.specs.Imports.{Import, nameless, no_import, import_at, import_of, AreApart, name_within, type_within, types_within, interfaces_of, imports_of}
 use Rattle.tree_meaning.specs.Resolves.{IsKnownIn, IsKnownItemOf, is_of_interfaces, AreImports}
 use Rattle.tree_meaning.proofs.FileEntries.{found}
-use Rattle.tree_meaning.proofs.Imported.{imports-length, imports-at, at-itself, import-named}
+use Rattle.tree_meaning.proofs.Imported.{nowhere, imports-length, imports-at, at-itself, import-named}
 use Rattle.package_text.specs.Tree.{other_package, path_in, path_if, name_here, own_names, own_interfaces, own_parts}
 use Rattle.package_text.specs.Writable.{IsWritable}
 use Rattle.package_text.specs.Imports.{AreImportsOf}
@@ -134,9 +134,6 @@ listed rows at _ _ _ _ (and_region k pre own post i is ends ids uses types local
 ]
 
 -- ---- imports
-
-nowhere : Interface
-nowhere = record { «package» = record { 0 = 0 }; name = []; uses = []; types = []; functions = [] }
 
 some-same : {A : Type 0} {x y : A} → Some x ≡ Some y → x ≡ y
 some-same e = cc

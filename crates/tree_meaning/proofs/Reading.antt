@@ -11,17 +11,9 @@ use Rattle.tables.specs.declared.tables.ValType.{ValType}
 use Rattle.tables.specs.declared.tables.ValType.TheVariants as val
 use Rattle.tables.specs.declared.tables.Definition.{Definition}
 use Rattle.tables.proofs.Standards.{type-below}
+use Rattle.tree_meaning.proofs.TableRows.{references-append, references-length}
 use Rattle.tree_meaning.proofs.Typing.{type-later}
 use Rattle.package_form.proofs.Lists.{get-front}
-
-references-append : (is : List (List ℕ)) (ts : List Tree) (ds es : List Definition) → references is ts (ds ++ es) ≡ references is (references is ts ds) es
-references-append is ts [] es = refl
-references-append is ts (d ∷ ds) es = references-append is (ts ++ reference is ts d ∷ []) ds es
-
-references-length : (is : List (List ℕ)) (ts : List Tree) (ds : List Definition) → length (references is ts ds) ≡ length ts + length ds
-references-length is ts [] = omega arith
-references-length is ts (d ∷ ds) =
-    omega (arith, references-length is (ts ++ reference is ts d ∷ []) ds, length-append ts (reference is ts d ∷ []))
 
 references-front : (is : List (List ℕ)) (ts : List Tree) (ds : List Definition) (k : ℕ) (d : Tree) → k < length ts → get_or (references is ts ds) k d ≡ get_or ts k d
 references-front is ts [] k d h = refl
