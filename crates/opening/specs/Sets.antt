@@ -1,6 +1,6 @@
 -- Which bytes are packages that use each other, what set they make, and why others are refused: WIT.md, "Package Names", "Item: `use`"; Binary.md,
 -- "Import and Export Definitions".
-use Rattle.std.specs.Prelude.{◌≡◌, ◌≤◌, ◌-◌, ◌==◌, ℕ, Bool, true, MatchBool, List, [], ◌∷◌, ◌++◌, map, take, length, slice_index_or, Ok, Err}
+use Rattle.std.specs.Prelude.{◌≡◌, ◌≤◌, ◌==◌, ℕ, Bool, true, MatchBool, List, [], ◌∷◌, ◌++◌, map, length, Ok, Err}
 use Rattle.std.specs.Borrow.{Bor}
 use Rattle.std.specs.List.{starts_with}
 use Rattle.std.specs.Str.{IsUtf8, IsValidUpTo}
@@ -31,13 +31,6 @@ use Rattle.opening.specs.declared.package.OpenError.TheVariants as error
 
 abbrev pub all_bytes : List (Bor (List ℕ)) → List (List ℕ)
 all_bytes inputs = map (λ b. b.now) inputs
-
--- all but the last, and the last
-abbrev pub earlier_of : List (List ℕ) → List (List ℕ)
-earlier_of inputs = take (length inputs - 1) inputs
-
-abbrev pub last_of : List (List ℕ) → List ℕ
-last_of inputs = slice_index_or inputs (length inputs - 1) []
 
 -- ---- one package behind a set
 

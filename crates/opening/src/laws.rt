@@ -1,10 +1,11 @@
 //! Laws of opened packages.
-ghost use Rattle.std.specs.Prelude.{◌∷◌, [], ℕ, List};
+ghost use Rattle.std.specs.Prelude.{◌∷◌, ◌++◌, [], ℕ, List};
 ghost use Rattle.opening.specs.Alone.{OpensAlone, AloneRefuses};
-ghost use Rattle.opening.specs.Opening.{OpenRefuses};
+ghost use Rattle.opening.specs.Opening.{IsOpened, IsPrintedAs, IsWrittenAs, OpenRefuses};
 ghost use Rattle.opening.specs.declared.package.OpenError.{OpenError};
 ghost use Rattle.tables.specs.declared.tables.Resolve.{Resolve};
 
+use package_text::laws::{text_is_of_closed_package, types_nest_as_in_a_text};
 use wit_text::texts_have_full_names;
 
 /// What is opened of one input, in the words for a package that names no other: a text each of whose names stands for something of
@@ -19,3 +20,14 @@ pub fn opens_alone()
 pub fn refuses_alone()
     ensures { (bytes : List ℕ) (e : OpenError) → OpenRefuses (bytes ∷ []) e → AloneRefuses bytes e }
 {}
+
+/// What is written of a package is opened as the same package behind the same packages: its binary, and its text.
+pub fn written_opens_again()
+    ensures binary { (earlier : List (List ℕ)) (last bytes : List ℕ) (r : Resolve) → IsOpened (earlier ++ last ∷ []) r → IsWrittenAs bytes r
+        → ∥ IsOpened (earlier ++ bytes ∷ []) r ∥₁ }
+    ensures text { (earlier : List (List ℕ)) (last bytes : List ℕ) (r : Resolve) → IsOpened (earlier ++ last ∷ []) r → IsPrintedAs bytes r
+        → ∥ IsOpened (earlier ++ bytes ∷ []) r ∥₁ }
+{
+    text_is_of_closed_package();
+    types_nest_as_in_a_text();
+}

@@ -1,6 +1,6 @@
 //! Packages, and how they are opened.
 
-ghost use Rattle.std.specs.Prelude.{◌≡◌, ◌<◌, ◌∷◌, [], ℕ, List, length, All, IfOk, IfErr, MatchResult};
+ghost use Rattle.std.specs.Prelude.{◌≡◌, ◌<◌, ◌∷◌, [], length, All, IfOk, IfErr, MatchResult};
 ghost use Rattle.layout.specs.Layout.{layouts_of, AreWithin, RefusesFirst};
 ghost use Rattle.tables.specs.Same.{IsSamePackage};
 ghost use Rattle.package_form.specs.Closed.{IsAlone};
@@ -8,7 +8,7 @@ ghost use Rattle.package_form.specs.Form.{IsInPackageForm};
 ghost use Rattle.package_form.specs.Naming.{package_scopes};
 ghost use Rattle.package_form.specs.Scope.{AreDistinct};
 ghost use Rattle.package_sets.specs.Tower.{IsInTower};
-ghost use Rattle.opening.specs.Opening.{IsOpened, IsLast, IsWrittenAs, IsPrintedAs, IsWantOfMemory, OpenRefuses};
+ghost use Rattle.opening.specs.Opening.{IsOpened, IsLast, IsWantOfMemory, OpenRefuses};
 
 use crate::set::open_set;
 use ctype_bin::BinError;
@@ -210,10 +210,6 @@ pub fn open(alloc: Global, bytes: &[u8]) -> Result<Package, OpenError>
     ensures ok { IfOk result (λ p. IsOpened (bytes.now ∷ []) p.resolve) }
     ensures alone { IfOk result (λ p. IsAlone p.resolve) }
     ensures only { (r : Resolve) → IsOpened (bytes.now ∷ []) r → MatchResult result (λ p. IsSamePackage p.resolve r) IsWantOfMemory }
-    ensures written { (first : List ℕ) (r : Resolve) → IsOpened (first ∷ []) r → IsWrittenAs bytes.now r
-        → MatchResult result (λ p. IsSamePackage p.resolve r) IsWantOfMemory }
-    ensures printed { (first : List ℕ) (r : Resolve) → IsOpened (first ∷ []) r → IsPrintedAs bytes.now r
-        → MatchResult result (λ p. IsSamePackage p.resolve r) IsWantOfMemory }
     ensures err { IfErr result (OpenRefuses (bytes.now ∷ [])) }
 {
     open_set(alloc, &[bytes])

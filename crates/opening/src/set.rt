@@ -1,8 +1,8 @@
 //! Packages that use each other: the last of them, opened behind those before it.
 
-ghost use Rattle.std.specs.Prelude.{◌≡◌, ◌<◌, ◌∷◌, ◌++◌, [], ℕ, true, false, List, length, IfOk, OnOk, IfErr, MatchResult};
-ghost use Rattle.opening.specs.Opening.{IsOpened, IsWrittenAs, IsPrintedAs, IsWantOfMemory, OpenRefuses};
-ghost use Rattle.opening.specs.Sets.{all_bytes, earlier_of, last_of, is_binary, AddsMember, MemberRefuses, IsSetOf, FirstRefused};
+ghost use Rattle.std.specs.Prelude.{◌≡◌, ◌<◌, true, false, length, IfOk, OnOk, IfErr, MatchResult};
+ghost use Rattle.opening.specs.Opening.{IsOpened, IsWantOfMemory, OpenRefuses};
+ghost use Rattle.opening.specs.Sets.{all_bytes, is_binary, AddsMember, MemberRefuses, IsSetOf, FirstRefused};
 ghost use Rattle.package_sets.specs.Attached.{HasRoom};
 ghost use Rattle.tables.specs.Same.{IsSamePackage};
 ghost use Rattle.tables.specs.declared.tables.Resolve.{Resolve};
@@ -12,7 +12,6 @@ use crate::package::{OpenError, Package};
 use crate::text::text_of;
 use ctype_bin::decode;
 use package_adding::PackageSet;
-use package_text::laws::{text_is_of_closed_package, types_nest_as_in_a_text};
 use std::alloc::Global;
 use tables::Resolve;
 use wit_text::{parse, texts_have_full_names};
@@ -72,8 +71,14 @@ fn set_of(alloc: Global, inputs: &[&[u8]]) -> Result<PackageSet, OpenError>
     Ok(set)
 }
 
-/// The last of these packages.
-fn opened(alloc: Global, inputs: &[&[u8]]) -> Result<Package, OpenError>
+/// Opens the last of these packages, each of which may use interfaces of those before it. Its table is the set's, so the functions of all packages are
+/// found and called. Bytes that begin `00 61 73 6d` are a binary, others a text. The first that is refused is told of, and 49 comes before all else, where
+/// 64 stand before it. A text's length comes next (36), then whether it is UTF-8 (60), its own refusals (30 to 35), 43, 48 where an earlier one has its
+/// name, and 40, 47, 41, 42 and 45, where a path means an interface of an earlier package. Of a binary its own refusals come next (10 to 19, 22, 23), then
+/// 43, 44 and 40, 48, 47 where it imports from a package that isn't there, and 44 where its imports aren't just those of the earlier packages, in their
+/// order. The layouts of all packages come behind all: 51 and 50, of the first definition. What is written of a package is opened as the same package
+/// behind the same packages (`laws::written_opens_again`).
+pub fn open_set(alloc: Global, inputs: &[&[u8]]) -> Result<Package, OpenError>
     requires some { 0 < length inputs.now }
     ensures ok { IfOk result (λ p. IsOpened (all_bytes inputs.now) p.resolve) }
     ensures only { (r : Resolve) → IsOpened (all_bytes inputs.now) r → MatchResult result (λ p. IsSamePackage p.resolve r) IsWantOfMemory }
@@ -81,26 +86,4 @@ fn opened(alloc: Global, inputs: &[&[u8]]) -> Result<Package, OpenError>
 {
     let set = set_of(alloc, inputs)?;
     Ok(Package::of_set(alloc, set.into_resolve())?)
-}
-
-/// Opens the last of these packages, each of which may use interfaces of those before it. Its table is the set's, so the functions of all packages are
-/// found and called. Bytes that begin `00 61 73 6d` are a binary, others a text. The first that is refused is told of, and 49 comes before all else, where
-/// 64 stand before it. A text's length comes next (36), then whether it is UTF-8 (60), its own refusals (30 to 35), 43, 48 where an earlier one has its
-/// name, and 40, 47, 41, 42 and 45, where a path means an interface of an earlier package. Of a binary its own refusals come next (10 to 19, 22, 23), then
-/// 43, 44 and 40, 48, 47 where it imports from a package that isn't there, and 44 where its imports aren't just those of the earlier packages, in their
-/// order. The layouts of all packages come behind all: 51 and 50, of the first definition. What is written of a package is opened as the same package
-/// behind the same packages.
-pub fn open_set(alloc: Global, inputs: &[&[u8]]) -> Result<Package, OpenError>
-    requires some { 0 < length inputs.now }
-    ensures ok { IfOk result (λ p. IsOpened (all_bytes inputs.now) p.resolve) }
-    ensures only { (r : Resolve) → IsOpened (all_bytes inputs.now) r → MatchResult result (λ p. IsSamePackage p.resolve r) IsWantOfMemory }
-    ensures written { (last : List ℕ) (r : Resolve) → IsOpened (earlier_of (all_bytes inputs.now) ++ last ∷ []) r → IsWrittenAs (last_of (all_bytes inputs.now)) r
-        → MatchResult result (λ p. IsSamePackage p.resolve r) IsWantOfMemory }
-    ensures printed { (last : List ℕ) (r : Resolve) → IsOpened (earlier_of (all_bytes inputs.now) ++ last ∷ []) r → IsPrintedAs (last_of (all_bytes inputs.now)) r
-        → MatchResult result (λ p. IsSamePackage p.resolve r) IsWantOfMemory }
-    ensures err { IfErr result (OpenRefuses (all_bytes inputs.now)) }
-{
-    text_is_of_closed_package();
-    types_nest_as_in_a_text();
-    opened(alloc, inputs)
 }

@@ -7,6 +7,7 @@ ghost use Rattle.package_form.specs.Form.{IsInPackageForm};
 ghost use Rattle.package_form.specs.Naming.{package_scopes};
 ghost use Rattle.package_form.specs.Scope.{AreDistinct};
 ghost use Rattle.package_sets.specs.Attached.{HasRoom, IsAttached, IsRefused};
+ghost use Rattle.package_sets.specs.Joined.{FitsBehind, listed};
 ghost use Rattle.package_sets.specs.SetForm.{IsEmpty};
 ghost use Rattle.package_sets.specs.Tower.{IsInTower};
 ghost use Rattle.package_sets.specs.declared.error.AttachError.TheVariants.{SetLimit, NoMemory, SamePackage};
@@ -25,9 +26,9 @@ use crate::imported::is_behind_imports;
 use crate::tree::{closed_over, has_entries};
 use ctype_bin::RawComponent;
 use package_sets::laws::{attaches_alone, attaches_one, is_set_of_none};
-use package_sets::{AttachError, MOST_PACKAGES, attached};
+use package_sets::{AttachError, Joined, MOST_PACKAGES, fitting, put_behind};
 use package_text::names_are_labels;
-use std::alloc::Global;
+use std::alloc::{AllocError, Global};
 use tables::{PackageId, Resolve, Sequence};
 use tree_scopes::{has_package, package_name};
 use wit_component::closed_from_component;
@@ -116,6 +117,29 @@ impl PackageSet {
         PackageId(0)
     }
 
+    /// Puts the own part of a closed table behind the set, where it fits. The set is as it was where there is no memory.
+    fn put(&mut self, alloc: Global, closed: &Resolve, to: &Joined) -> Result<PackageId, AllocError>
+        requires fits { FitsBehind self.old.resolve closed.now (listed to.now) }
+        requires form { ∥ IsInPackageForm closed.now ∥₁ }
+        requires distinct { ∥ All AreDistinct (package_scopes closed.now) ∥₁ }
+        ensures ok { IfOk result (λ id. IsAttached self.old.resolve closed.now self.new.resolve id.0) }
+        ensures again { IfOk result (λ id. IsBehindImports self.old.resolve closed.now → HasTable self.new.resolve id.0 closed.now) }
+        ensures earlier { OnOk result (KeepsTables self.old.resolve self.new.resolve) }
+        ensures same { OnErr result (self.new ≡ self.old) }
+    {
+        let set = std::mem::replace(&mut self.resolve, no_table(alloc));
+        match put_behind(alloc, set, closed, to) {
+            Ok((resolve, id)) => {
+                self.resolve = resolve;
+                Ok(id)
+            }
+            Err(set) => {
+                self.resolve = set;
+                Err(AllocError)
+            }
+        }
+    }
+
     /// Puts the own part of a closed table behind the set. The table of a first package that reaches no other is the set's as it stands.
     fn attach(&mut self, alloc: Global, closed: Resolve) -> Result<PackageId, AttachError>
         requires form { ∥ IsInPackageForm closed ∥₁ }
@@ -129,9 +153,8 @@ impl PackageSet {
         if self.begins_with(&closed) {
             return Ok(self.begin(closed));
         }
-        let (resolve, id) = attached(alloc, &self.resolve, &closed)?;
-        self.resolve = resolve;
-        Ok(id)
+        let to = fitting(alloc, &self.resolve, &closed)?;
+        Ok(self.put(alloc, &closed, &to)?)
     }
 
     /// Puts the own part of a component's closed table behind the set. 44 also where its imports aren't just those of the set, in its order.
@@ -148,12 +171,11 @@ impl PackageSet {
         if self.begins_with(&closed) {
             return Ok(self.begin(closed));
         }
-        let (resolve, id) = attached(alloc, &self.resolve, &closed)?;
+        let to = fitting(alloc, &self.resolve, &closed)?;
         if !is_behind_imports(alloc, &self.resolve, &closed)? {
             return Err(AttachError::NotThisShape);
         }
-        self.resolve = resolve;
-        Ok(id)
+        Ok(self.put(alloc, &closed, &to)?)
     }
 
     /// Adds the package of a component that these bytes spell behind the others, and answers its id. The interfaces that the component

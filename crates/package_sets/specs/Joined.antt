@@ -1,6 +1,7 @@
 -- Places in a set, as lists of them.
 use Rattle.std.specs.Prelude.{◌≡◌, ◌++◌, ◌∷◌, ℕ, [], List, length, true, map, take, drop}
 use Rattle.set_rows.specs.Moved.{Renaming, put_row, put_interface, put_world}
+use Rattle.package_sets.specs.Attached.{HasRoom, HasAll, IsNew, IsOwn, others}
 use Rattle.package_sets.specs.Joining.{imports, own_interfaces, AreFound, import_rows, all_places, place_in, AreRowsThere, AreIdsThere}
 use Rattle.package_sets.specs.declared.joining.Joined.{Joined}
 use Rattle.tables.specs.PackageNames.{PackageParts}
@@ -40,6 +41,15 @@ pub record IsJoined (set closed : Resolve) (j : JoinedPlaces) : Type 0 where
   pub are_joined : AreJoined set closed j
   pub rows : AreRowsThere set (renaming_of j) (take j.imported closed.definitions)
   pub ids : AreIdsThere set (renaming_of j) (imports closed)
+
+-- .. and its package can stand behind the set's
+pub record FitsBehind (set closed : Resolve) (j : JoinedPlaces) : Type 0 where
+  pub room : HasRoom set
+  pub new : IsNew set closed
+  pub have : HasAll set (others closed)
+  pub own : PackageParts
+  pub own_is : IsOwn closed own
+  pub joined : IsJoined set closed j
 
 -- the set with what is the closed table's own behind it, at these places
 pub record IsPut (set closed : Resolve) (own : PackageParts) (j : JoinedPlaces) (r : Resolve) : Type 0 where

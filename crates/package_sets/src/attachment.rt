@@ -1,10 +1,10 @@
 //! A set with one package more.
-ghost use Rattle.std.specs.Prelude.{◌≡◌, ◌≤◌, ◌⊎◌, Decides, IfOk, IfErr, OnOk, length, slice_get, Some};
-ghost use Rattle.set_rows.specs.Moved.{put_row};
-ghost use Rattle.package_sets.specs.Attached.{HasAll, LacksFirst, IsAttached, IsRefused};
+ghost use Rattle.std.specs.Prelude.{◌≡◌, ◌≤◌, ◌+◌, ◌++◌, ◌∷◌, ◌⊎◌, [], Decides, IfOk, IfErr, OnOk, drop, length, map, slice_get, Some, vec_capacity, vec_len};
+ghost use Rattle.set_rows.specs.Moved.{put_interface, put_row, put_world};
+ghost use Rattle.package_sets.specs.Attached.{HasAll, LacksFirst, IsAttached, IsOwn, IsRefused};
 ghost use Rattle.tables.specs.PackageNames.{PackageParts};
-ghost use Rattle.package_sets.specs.Joining.{AreRowsThere, AreIdsThere, HasIds, HasIdsAt, HasImports};
-ghost use Rattle.package_sets.specs.Joined.{listed, IsJoined, IsPut, renaming_of};
+ghost use Rattle.package_sets.specs.Joining.{own_interfaces, AreRowsThere, AreIdsThere, HasIds, HasIdsAt, HasImports};
+ghost use Rattle.package_sets.specs.Joined.{listed, FitsBehind, IsJoined, renaming_of};
 ghost use Rattle.package_sets.specs.declared.error.AttachError.TheVariants.{NotThisShape, NoMemory, NoPackage};
 
 use crate::error::AttachError;
@@ -13,7 +13,6 @@ use crate::same::{Same, are_same};
 use package_form::own_package;
 use set_rows::moved::{Movable, copied_name, moved_functions, moved_types, push_moved};
 use std::alloc::{AllocError, Global};
-use table_building::copy_of;
 use tables::{Definition, Interface, PackageId, PackageName, Resolve};
 
 /// The packages that a set may have.
@@ -134,27 +133,34 @@ fn has_packages(alloc: Global, set: &Resolve, packages: &[PackageName]) -> Resul
     Ok(())
 }
 
-/// A set with what is the own part of a closed table behind it.
-fn put_behind(
-    alloc: Global,
-    set: &Resolve,
-    closed: &Resolve,
-    own: &PackageName,
-    to: &Joined,
-) -> Result<Resolve, AllocError>
-    requires { IsJoined set.now closed.now (listed to.now) }
-    ensures { IfOk result (IsPut set.now closed.now own.now (listed to.now)) }
+/// What a package has of its own, as it stands in a set.
+#[derive(Drop)]
+struct OwnPart {
+    /// Its name alone.
+    packages: Sequence<PackageName>,
+    interfaces: Sequence<Interface>,
+    worlds: Sequence<World>,
+    definitions: Sequence<Definition>,
+}
+
+/// The own part of a closed table, at its places in the set.
+fn own_part(alloc: Global, closed: &Resolve, to: &Joined) -> Result<OwnPart, AllocError>
+    requires { (p : PackageParts) × IsOwn closed.now p }
+    ensures packages { IfOk result (λ x. (p : PackageParts) × IsOwn closed.now p × (x.packages ≡ p ∷ [])) }
+    ensures interfaces { IfOk result (λ x. x.interfaces ≡ map (put_interface (renaming_of (listed to.now))) (own_interfaces closed.now)) }
+    ensures worlds { IfOk result (λ x. x.worlds ≡ map (put_world (renaming_of (listed to.now))) closed.now.worlds) }
+    ensures definitions { IfOk result (λ x. x.definitions ≡ map (put_row (renaming_of (listed to.now))) (drop to.now.imported closed.now.definitions)) }
 {
-    let copy = copy_of(alloc, set)?;
-    let mut packages = copy.packages;
-    let mut interfaces = copy.interfaces;
-    let mut worlds = copy.worlds;
-    let mut definitions = copy.definitions;
-    packages.push(copied_name(alloc, own)?)?;
+    let names = closed.packages.as_slice();
+    let mut packages = Sequence::new(Vec::new(alloc));
+    packages.push(copied_name(alloc, &names[own_package(names)])?)?;
+    let mut interfaces = Sequence::new(Vec::new(alloc));
     push_moved(alloc, &mut interfaces, own_interfaces(closed), to)?;
+    let mut worlds = Sequence::new(Vec::new(alloc));
     push_moved(alloc, &mut worlds, closed.worlds.as_slice(), to)?;
+    let mut definitions = Sequence::new(Vec::new(alloc));
     push_moved(alloc, &mut definitions, to.own_rows(closed), to)?;
-    Ok(Resolve {
+    Ok(OwnPart {
         packages,
         interfaces,
         worlds,
@@ -162,18 +168,25 @@ fn put_behind(
     })
 }
 
-/// A set with one package more, and the id of this package there. `closed` is its closed table, whose last package it
-/// is: the interfaces of others that it reaches are found in the set, and its own part stands behind the set's.
+/// Two lists as one. The first has room for both.
+fn joined<T>(mut items: Vec<T>, more: Sequence<T>) -> Sequence<T>
+    requires { vec_len items + length more ≤ vec_capacity items }
+    ensures { result ≡ items.items ++ more }
+{
+    match items.append(&mut more.into_vec()) {
+        Ok(()) => Sequence::new(items),
+        Err(_) => unreachable!(),
+    }
+}
+
+/// The places of what a closed table has in a set, if its package can stand behind the set's: the interfaces of others
+/// that it reaches are found in the set, and its own part stands behind all of the set.
 ///
 /// 49 where the set has 64 packages; else 48 where it has a package of this name; else 47 where it lacks a package that
 /// is imported from; else 44 where an interface that is imported isn't there, or isn't row for row as the set has it. 46
 /// where there is no memory, or no id for a row; not before 49.
-pub fn attached(
-    alloc: Global,
-    set: &Resolve,
-    closed: &Resolve,
-) -> Result<(Resolve, PackageId), AttachError>
-    ensures ok { IfOk result (λ r. IsAttached set.now closed.now r.0 r.1.0) }
+pub fn fitting(alloc: Global, set: &Resolve, closed: &Resolve) -> Result<Joined, AttachError>
+    ensures ok { IfOk result (λ j. FitsBehind set.now closed.now (listed j)) }
     ensures err { IfErr result (IsRefused set.now closed.now) }
 {
     if MOST_PACKAGES <= set.packages.len() {
@@ -188,7 +201,45 @@ pub fn attached(
         return Err(AttachError::SamePackage(copied_name(alloc, name)?));
     }
     has_packages(alloc, set, &packages[..own])?;
-    let to = placed(alloc, set, closed)?;
-    let resolve = put_behind(alloc, set, closed, name, &to)?;
+    placed(alloc, set, closed)
+}
+
+/// A set with one package more, and the id of this package there. `closed` is its closed table, whose last package it
+/// is, and which fits behind the set at these places. Where there is no memory, the set as it was.
+pub fn put_behind(
+    alloc: Global,
+    set: Resolve,
+    closed: &Resolve,
+    to: &Joined,
+) -> Result<(Resolve, PackageId), Resolve>
+    requires { FitsBehind set closed.now (listed to.now) }
+    ensures ok { IfOk result (λ r. IsAttached set closed.now r.0 r.1.0) }
+    ensures err { IfErr result (λ r. r ≡ set) }
+{
+    let Ok(own) = own_part(alloc, closed, to) else {
+        return Err(set);
+    };
+    let mut packages = set.packages.into_vec();
+    let mut interfaces = set.interfaces.into_vec();
+    let mut worlds = set.worlds.into_vec();
+    let mut definitions = set.definitions.into_vec();
+    let has_room = packages.reserve(own.packages.len()).is_ok()
+        && interfaces.reserve(own.interfaces.len()).is_ok()
+        && worlds.reserve(own.worlds.len()).is_ok()
+        && definitions.reserve(own.definitions.len()).is_ok();
+    if !has_room {
+        return Err(Resolve {
+            packages: Sequence::new(packages),
+            interfaces: Sequence::new(interfaces),
+            worlds: Sequence::new(worlds),
+            definitions: Sequence::new(definitions),
+        });
+    }
+    let resolve = Resolve {
+        packages: joined(packages, own.packages),
+        interfaces: joined(interfaces, own.interfaces),
+        worlds: joined(worlds, own.worlds),
+        definitions: joined(definitions, own.definitions),
+    };
     Ok((resolve, PackageId(to.package)))
 }

@@ -16,8 +16,8 @@ mod part;
 mod restriction;
 pub mod same;
 
-pub use attachment::{MOST_PACKAGES, attached};
+pub use attachment::{MOST_PACKAGES, fitting, put_behind};
 pub use error::AttachError;
 pub use importing::imports;
-pub use joining::{imports as imported_interfaces, is_same_package};
+pub use joining::{Joined, imports as imported_interfaces, is_same_package};
 pub use restriction::restricted;

@@ -2,10 +2,8 @@ use Rattle.std.proofs.Common.{rules, ◌≡◌, ◌∙◌, List, take, slice_get
 use Rattle.tables.specs.PackageNames.{PackageParts}
 use Rattle.package_form.specs.Closed.{own_package}
 use Rattle.package_sets.specs.Attached.{HasRoom, HasAll, IsOwn, IsNew, has_package, others}
-use Rattle.package_sets.specs.Joined.{listed}
 use Rattle.package_sets.proofs.Lists.{item-get}
-use Rattle.package_sets.proofs.Accepting.{attaches}
-use Rattle.package_sets.proofs.attachment.attached.Goals as goal
+use Rattle.package_sets.proofs.attachment.fitting.Goals as goal
 
 pub returns-clause-ok : goal.returns-clause-ok
 returns-clause-ok c =
@@ -22,4 +20,4 @@ returns-clause-ok c =
     let have : HasAll s (others closed) =
     subst (λ (ps : List PackageParts). HasAll s (take (own_package ps) ps)) c.as_slice-packages.ensures
     (subst (λ n. HasAll s (take n c.as_slice-packages.result.now)) c.own_package-own.ensures c.in_ok-has_packages.ensures.ok) in
-    attaches s closed (listed c.in_ok-to.to) c.in_ok-to.ensures.ok own is c.in_ok-resolve.resolve c.in_ok-resolve.ensures room new have
+    record { room = room; new = new; have = have; own = own; own_is = is; joined = c.placed.ensures.ok }
