@@ -5,8 +5,9 @@ usage: tools/believed.py [--names] [FUNCTION..]
 
 A FUNCTION is CRATE/FILE:NAME, as opening/set.rt:open_set. Left out, they are `open_set` and `Session::call`, which the program's answer rests on.
 From their clauses it follows every name: definitions of specs/, and the structs and enums of src/ that these cite. It counts their lines without
-comments and blank lines, and prints the sums by file; with --names also each name. The toolchain's own definitions are left out. It reads
-text alone: a local name that is also a definition's counts as one.
+comments and blank lines, and prints the sums by file; with --names also each name. The toolchain's own definitions are left out, and of a
+struct or an enum its attributes and its invariants: a clause speaks of its fields, and what holds of them besides is proved, not believed.
+It reads text alone: a local name that is also a definition's counts as one.
 """
 import argparse
 import collections
@@ -64,6 +65,8 @@ class File:
     def keep_types(self, lines):
         name = None
         for line in lines:
+            if line.lstrip().startswith(("#[", "ghost ", "pub ghost ")):
+                continue
             found = DECLARED.match(line)
             name = found.group(1) if found else name
             if name:

@@ -22,6 +22,8 @@ use Rattle.wit_tokens.specs.Lexing.{limit}
 use Rattle.wit_tokens.specs.declared.error.TextError.{TextError}
 use Rattle.wit_tokens.specs.declared.error.TextError.TheVariants as text_error
 use Rattle.opening.specs.Sets.{is_binary, IsBinaryOf, IsSetOf, FirstRefused}
+use Rattle.opening.specs.declared.package.Last.{Last}
+use Rattle.opening.specs.declared.package.Last.TheVariants as last
 use Rattle.opening.specs.declared.package.OpenError.{OpenError}
 use Rattle.opening.specs.declared.package.OpenError.TheVariants as error
 
@@ -35,6 +37,11 @@ pub record IsOpened (inputs : List (List ℕ)) (r : Resolve) : Type 0 where
 -- the closed table of the set's last package: what the package reaches of the set
 abbrev pub IsLast : Resolve → Resolve → Type 0
 IsLast r closed = IsRestricted r (own_package r.packages) closed
+
+-- the table that stands for it, if it is the whole set and if it is a part of it
+abbrev pub last_table : Last → Resolve
+last_table (last.Whole set) = set.now
+last_table (last.Part table) = table
 
 -- The bytes are a binary of the set's last package, and the set is within the limits of layout: what `to_binary` gives.
 pub record IsWrittenAs (bytes : List ℕ) (r : Resolve) : Type 0 where

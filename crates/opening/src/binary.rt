@@ -7,8 +7,7 @@ ghost use Rattle.opening.specs.Sets.{is_binary};
 use crate::package::{MAX_INPUT, Package};
 use ctype_bin::{BinError, Fault};
 use std::alloc::Global;
-use tables::ResolveError;
-use wit_component::to_written;
+use wit_component::component_with_bytes;
 
 /// The bytes that a binary begins with.
 static FRONT: [u8; 4] = [0x00, 0x61, 0x73, 0x6d];
@@ -32,11 +31,8 @@ impl Package {
         let Ok(last) = self.last(alloc) else {
             return Err(BinError::NoMemory);
         };
-        let (_, bytes) = match to_written(alloc, &last) {
-            Ok(written) => written,
-            Err(ResolveError::NoMemory) => return Err(BinError::NoMemory),
-            // The closed table is in the form of packages.
-            Err(_) => unreachable!(),
+        let Ok((_, bytes)) = component_with_bytes(alloc, last.table()) else {
+            return Err(BinError::NoMemory);
         };
         if bytes.len() > MAX_INPUT {
             return Err(BinError::At(Fault::Limit, MAX_INPUT));

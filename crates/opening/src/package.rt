@@ -8,13 +8,14 @@ ghost use Rattle.package_form.specs.Form.{IsInPackageForm};
 ghost use Rattle.package_form.specs.Naming.{package_scopes};
 ghost use Rattle.package_form.specs.Scope.{AreDistinct};
 ghost use Rattle.package_sets.specs.Tower.{IsInTower};
-ghost use Rattle.opening.specs.Opening.{IsOpened, IsLast, IsWantOfMemory, OpenRefuses};
+ghost use Rattle.opening.specs.Opening.{IsOpened, IsLast, last_table, IsWantOfMemory, OpenRefuses};
 
 use crate::set::open_set;
 use ctype_bin::BinError;
 use layout::{LayoutError, Layouts};
 use package_adding::{AddError, AttachError};
 use package_form::own_package;
+use package_sets::laws::alone_is_whole;
 use package_sets::restricted;
 use std::alloc::{AllocError, Global};
 use table_building::copy_of;
@@ -131,6 +132,25 @@ impl From<LayoutError> for OpenError {
     }
 }
 
+/// What the last package reaches of its set: all of it, if the package stands alone.
+#[derive(Drop)]
+pub(crate) enum Last<'a> {
+    Whole(&'a Resolve),
+    Part(Resolve),
+}
+
+impl Last<'_> {
+    /// The table of it.
+    pub(crate) fn table(&self) -> &Resolve
+        ensures { result.now ≡ last_table self.now }
+    {
+        match self {
+            Last::Whole(set) => set,
+            Last::Part(table) => table,
+        }
+    }
+}
+
 /// A package with those before it, which it may use: the table of this set, with the layouts of all its types.
 #[derive(Debug, Drop)]
 pub struct Package {
@@ -155,16 +175,21 @@ impl Package {
         Ok(Package { resolve, layouts })
     }
 
-    /// The closed table of the last package: what it reaches of the set.
-    pub(crate) fn last(&self, alloc: Global) -> Result<Resolve, AllocError>
-        ensures last { IfOk result (IsLast self.now.resolve) }
-        ensures form { IfOk result (λ r. ∥ IsInPackageForm r × All AreDistinct (package_scopes r) ∥₁) }
+    /// The closed table of the last package.
+    pub(crate) fn last(&self, alloc: Global) -> Result<Last<'_>, AllocError>
+        ensures last { IfOk result (λ l. IsLast self.now.resolve (last_table l)) }
+        ensures form { IfOk result (λ l. ∥ IsInPackageForm (last_table l) × All AreDistinct (package_scopes (last_table l)) ∥₁) }
     {
-        let Ok(own) = u32::try_from(own_package(self.resolve.packages.as_slice())) else {
+        alone_is_whole();
+        let packages = self.resolve.packages.as_slice();
+        if packages.len() == 1 {
+            return Ok(Last::Whole(&self.resolve));
+        }
+        let Ok(own) = u32::try_from(own_package(packages)) else {
             return Err(AllocError);
         };
         let table = restricted(alloc, &self.resolve, PackageId(own))?;
-        Ok(table)
+        Ok(Last::Part(table))
     }
 
     /// The table of the set: all packages, the last of which is the one that was opened behind the others.

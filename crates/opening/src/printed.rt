@@ -22,7 +22,7 @@ impl Package {
     {
         let last = self.last(alloc)?;
         let mut text = String::new(alloc);
-        print(alloc, &last, &mut text)?;
+        print(alloc, last.table(), &mut text)?;
         if text.len() > MAX_INPUT {
             return Err(TextError::Limit);
         }

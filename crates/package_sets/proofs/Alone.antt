@@ -1,36 +1,25 @@
 -- A package that stands alone, put behind no package, is as it was.
-use Rattle.std.proofs.Common.{◌≡◌, ◌<◌, ◌⊎◌, inl, inr, ℕ, suc, ◌+◌, ◌&&◌, Bool, true, if◌then◌else◌, nat_le, nat_lt, List, [], ◌∷◌, ◌++◌, length, map, take, drop, get_or, slice_get, Option, None, Some, refl, ap, sym, subst, ◌∙◌, arith, eq-eqb, ◌==◌, eqb-true, true≢false}
-use Rattle.std.specs.Prelude.{Contains}
+use Rattle.std.proofs.Common.{◌≡◌, ◌<◌, ◌⊎◌, inl, inr, ℕ, ◌+◌, ◌&&◌, Bool, true, if◌then◌else◌, nat_le, nat_lt, List, [], ◌∷◌, ◌++◌, length, map, take, drop, get_or, slice_get, Option, None, Some, refl, ap, sym, subst, ◌∙◌, arith, eq-eqb, ◌==◌, eqb-true, true≢false}
 use Rattle.std.proofs.Math.Bool.{Bool-set}
 use Rattle.std.proofs.Math.Logic.{∥∥₁_elim}
 use Rattle.std.specs.List.{list_any}
 use Rattle.std.proofs.lemmas.Bool.{ltb-true}
-use Rattle.std.proofs.lemmas.Option.{slice_get_within, get_or_from_slice_get}
-use Rattle.tables.specs.Tables.{are_worlds_grouped, definition_all, is_type, is_placed, is_placed_item, are_grouped, is_function_of, function_of}
+use Rattle.std.proofs.lemmas.Option.{slice_get_within}
+use Rattle.tables.specs.Tables.{are_worlds_grouped, are_grouped}
 use Rattle.tables.specs.PackageNames.{PackageParts}
-use Rattle.tables.specs.declared.tables.TypeId.{TypeId}
-use Rattle.tables.specs.declared.tables.FunctionId.{FunctionId}
-use Rattle.tables.specs.declared.tables.ValType.TheVariants as val
 use Rattle.tables.specs.declared.tables.Owner.{Owner}
 use Rattle.tables.specs.declared.tables.Owner.TheVariants as owner
 use Rattle.tables.specs.declared.tables.Definition.{Definition}
 use Rattle.tables.specs.declared.tables.Interface.{Interface}
 use Rattle.tables.specs.declared.tables.World.{World}
-use Rattle.tables.specs.declared.tables.WorldItem.{WorldItem}
-use Rattle.tables.specs.declared.tables.WorldItemKind.{WorldItemKind}
-use Rattle.tables.specs.declared.tables.WorldItemKind.TheVariants as item
 use Rattle.tables.specs.declared.tables.Resolve.{Resolve}
 use Rattle.tables.proofs.Rows.{split}
-use Rattle.tables.proofs.Earlier.{grouped-at}
-use Rattle.tables.proofs.Standards.{type-below}
 use Rattle.package_form.specs.Closed.{IsAlone, own_package, is_same_package, is_closed}
 use Rattle.package_form.specs.Ends.{interfaces_end}
-use Rattle.package_form.specs.Form.{IsInPackageForm, ids_of}
-use Rattle.package_form.proofs.Lists.{contains-map}
-use Rattle.std.proofs.lemmas.List.Elements.{Contains-append_left, Contains-append_right}
+use Rattle.package_form.specs.Form.{IsInPackageForm}
 use Rattle.package_sets.specs.Attached.{IsAttached, IsOwn}
 use Rattle.package_sets.specs.Joining.{before_own, import_count, imports, own_interfaces, import_rows, row_places, all_places, place_in, joined}
-use Rattle.set_rows.specs.Moved.{Renaming, put_id, put_function_id, put_interface, put_item, put_world, put_row, put_types, put_functions, has_type, has_function}
+use Rattle.set_rows.specs.Moved.{Renaming, put_interface, put_world, put_row}
 use Rattle.set_rows.specs.Owners.{owner_of, owners}
 use Rattle.package_sets.specs.BehindImports.{IsBehindImports}
 use Rattle.package_sets.specs.Imports.{IsImportsOf}
@@ -41,20 +30,14 @@ use Rattle.set_rows.specs.declared.moved.Moved.{Moved}
 use Rattle.package_sets.specs.Set.{ArePackageByPackage, behind_all, HasRowsInForm}
 use Rattle.package_sets.specs.Tower.{IsInTower}
 use Rattle.package_sets.specs.SetForm.{IsEmpty}
-use Rattle.package_sets.proofs.Identified.{id-there}
-use Rattle.package_sets.proofs.Kept.{list-at, placed-at, worlds-grouped-at}
-use Rattle.package_sets.proofs.Lists.{behind-place, get-contains, one-there}
+use Rattle.package_sets.proofs.InPlace.{rows-here, interfaces-here, worlds-here}
+use Rattle.package_sets.proofs.Lists.{behind-place, one-there}
 use Rattle.package_sets.proofs.Meaning.{own-owned}
 use Rattle.package_sets.proofs.Owning.{IsOwnedFrom, IsOfWorlds}
-use Rattle.package_sets.proofs.Renaming.{in_place, row-stays}
-use Rattle.package_sets.proofs.Roundtrip.{IsBack, row-back}
-use Rattle.package_sets.proofs.Standing.{filter-all, all-from}
+use Rattle.package_sets.proofs.Renaming.{in_place}
+use Rattle.package_sets.proofs.Roundtrip.{IsBack}
 
 -- ---- lists
-
-map-here : {A : Type 0} (f : A → A) (xs : List A) → ((k : ℕ) (x : A) → slice_get xs k ≡ Some x → f x ≡ x) → map f xs ≡ xs
-map-here f [] h = refl
-map-here f (x ∷ xs) h = let e = h 0 x refl in let r = map-here f xs (λ k y g. h (suc k) y g) in cc
 
 -- places from the first on
 place-here : (count k : ℕ) → k < count → place_in (all_places [] 0 count) k ≡ k
@@ -64,19 +47,12 @@ place-here count k l =
     ap (λ n. get_or (all_places [] 0 count) n 0) here ∙ (behind-place [] 0 count k (omega (arith, l)) ∙ last)
 
 -- interfaces of one package are its own
-first-own : (is : List Interface) → are_grouped 1 0 is ≡ true → before_own 0 is ≡ 0
+pub first-own : (is : List Interface) → are_grouped 1 0 is ≡ true → before_own 0 is ≡ 0
 first-own [] h = refl
 first-own (i ∷ is) h =
     let p = split (nat_le 0 i.«package».0 && nat_lt i.«package».0 1) (are_grouped 1 i.«package».0 is) h in
     let l = ltb-true i.«package».0 1 (split (nat_le 0 i.«package».0) (nat_lt i.«package».0 1) p.0).1 in
     ap (λ (b : Bool). if b then 0 else 1 + before_own 0 is) (eq-eqb i.«package».0 0 (omega (arith, l)))
-
-function-there : (ds : List Definition) (w n : ℕ) → is_function_of w (function_of (slice_get ds n)) ≡ true → n < length ds
-function-there ds w n h = by (slice_get ds n) refl h
-  where
-    by : (o : Option Definition) → slice_get ds n ≡ o → is_function_of w (function_of o) ≡ true → n < length ds
-    by None e g = absurd (cc)
-    by (Some d) e g = slice_get_within ds n d e
 
 module _ (c : Resolve) (alone : IsAlone c) where
   pub own-first : own_package c.packages ≡ 0
@@ -121,10 +97,10 @@ module _ (none c : Resolve) (e : IsEmpty none) (truncated : ∥ IsInPackageForm 
   world-place : (t : ℕ) → t < length c.worlds → to.worlds t ≡ t
   world-place t l = ap (λ n. place_in (all_places [] n (length c.worlds)) t) (ap length e.worlds) ∙ place-here (length c.worlds) t l
 
-  package-place : (t n : ℕ) → t < n → n ≡ length c.packages → to.packages t ≡ t
-  package-place t n l g = ap length e.packages ∙ omega (arith, l, g, alone)
+  package-place : (t : ℕ) → t < length c.packages → to.packages t ≡ t
+  package-place t l = ap length e.packages ∙ omega (arith, l, alone)
 
-  -- ---- rows
+  -- ---- owners
 
   back : (o : Option Owner) → IsOwnedFrom (import_count c) (length c.interfaces) o ⊎ IsOfWorlds (length c.worlds) o → IsBack to in_place o
   back None h = tt
@@ -133,53 +109,8 @@ module _ (none c : Resolve) (e : IsEmpty none) (truncated : ∥ IsInPackageForm 
   back (Some (owner.World w)) (inl h) = absurd h
   back (Some (owner.World w)) (inr h) = world-place w.0 h
 
-  row-here : (k : ℕ) (d : Definition) → slice_get c.definitions k ≡ Some d → put_row to d ≡ d
-  row-here k d h =
-      sym (row-stays (put_row to d))
-      ∙ row-back to in_place (is_type c.definitions) (λ t g. row-place t (ltb-true t (length c.definitions) (type-below c.definitions (val.Id (record { 0 = t })) g))) d
-      (back (owner_of d) (own-owned c form closed k d (omega (arith, ap (interfaces_end 0) (imports-none c alone))) h)) (list-at (definition_all (is_type c.definitions)) c.definitions k d c.typed h)
-
-  -- ---- interfaces
-
-  types-here : (ts : List TypeId) → ((t : TypeId) → Contains ts t → t.0 < length c.definitions) → put_types to ts ≡ ts
-  types-here ts h = ap (map (put_id to)) (filter-all (has_type to) ts (all-from (has_type to) ts (λ t g. refl)))
-      ∙ map-here (put_id to) ts (λ k t g. ap (λ (n : ℕ). record { 0 = n }) (row-place t.0 (h t (get-contains ts k t g))))
-
-  functions-here : (fs : List FunctionId) → ((f : FunctionId) → Contains fs f → f.0 < length c.definitions) → put_functions to fs ≡ fs
-  functions-here fs h = ap (map (put_function_id to)) (filter-all (has_function to) fs (all-from (has_function to) fs (λ f g. refl)))
-      ∙ map-here (put_function_id to) fs (λ k f g. ap (λ (n : ℕ). record { 0 = n }) (row-place f.0 (h f (get-contains fs k f g))))
-
-  interface-here : (k : ℕ) (i : Interface) → slice_get c.interfaces k ≡ Some i → put_interface to i ≡ i
-  interface-here k i h =
-      let placed : is_placed c.definitions i ≡ true = list-at (is_placed c.definitions) c.interfaces k i c.placed h in
-      let there : (n : ℕ) → Contains (ids_of i) n → n < length c.definitions = λ n g. let d = id-there c.definitions i placed n g in slice_get_within c.definitions n d.0 d.1 in
-      let us = map (λ (t : TypeId). t.0) i.uses in
-      let ts = map (λ (t : TypeId). t.0) i.types in
-      let fs = map (λ (f : FunctionId). f.0) i.functions in
-      let within : i.«package».0 < length c.packages = grouped-at (length c.packages) 0 c.interfaces k i c.grouped (slice_get_within c.interfaces k i h) (get_or_from_slice_get c.interfaces k i i h) in
-      let «package» : to.packages i.«package».0 ≡ i.«package».0 = package-place i.«package».0 (length c.packages) within refl in
-      let uses : put_types to i.uses ≡ i.uses = types-here i.uses (λ t g. there t.0 (Contains-append_left us (ts ++ fs) t.0 (contains-map (λ (x : TypeId). x.0) i.uses t g))) in
-      let types : put_types to i.types ≡ i.types =
-      types-here i.types (λ t g. there t.0 (Contains-append_right us (ts ++ fs) t.0 (Contains-append_left ts fs t.0 (contains-map (λ (x : TypeId). x.0) i.types t g)))) in
-      let functions : put_functions to i.functions ≡ i.functions =
-      functions-here i.functions (λ f g. there f.0 (Contains-append_right us (ts ++ fs) f.0 (Contains-append_right ts fs f.0 (contains-map (λ (x : FunctionId). x.0) i.functions f g)))) in
-      λ j. record { «package» = record { 0 = «package» j }; name = i.name; uses = uses j; types = types j; functions = functions j }
-
-  -- ---- worlds
-
-  item-here : (w : ℕ) (i : WorldItem) → is_placed_item c.definitions (length c.interfaces) w i.kind ≡ true → put_item to i ≡ i
-  item-here w i h = by i.kind h
-    where
-      by : (k : WorldItemKind) → is_placed_item c.definitions (length c.interfaces) w k ≡ true → put_item to (record { direction = i.direction; kind = k }) ≡ record { direction = i.direction; kind = k }
-      by (item.Interface x) g = ap (λ (n : ℕ). record { direction = i.direction; kind = item.Interface (record { 0 = n }) }) (interface-place x.0 (ltb-true x.0 (length c.interfaces) g))
-      by (item.Function f) g = ap (λ (n : ℕ). record { direction = i.direction; kind = item.Function (record { 0 = n }) }) (row-place f.0 (function-there c.definitions w f.0 g))
-
-  world-here : (k : ℕ) (w : World) → slice_get c.worlds k ≡ Some w → put_world to w ≡ w
-  world-here k w h =
-      let placed = placed-at c.definitions (length c.interfaces) 0 c.worlds k w c.worlds_placed h in
-      let «package» : to.packages w.«package».0 ≡ w.«package».0 = package-place w.«package».0 (length c.packages) (worlds-grouped-at (length c.packages) 0 c.worlds k w c.worlds_grouped h) refl in
-      let items : map (put_item to) w.items ≡ w.items = map-here (put_item to) w.items (λ n i g. item-here (0 + k) i (list-at (λ i. is_placed_item c.definitions (length c.interfaces) (0 + k) i.kind) w.items n i placed g)) in
-      λ j. record { «package» = record { 0 = «package» j }; name = w.name; items = items j }
+  owned : (k : ℕ) (d : Definition) → slice_get c.definitions k ≡ Some d → IsBack to in_place (owner_of d)
+  owned k d h = back (owner_of d) (own-owned c form closed k d (omega (arith, ap (interfaces_end 0) (imports-none c alone))) h)
 
   -- ---- the set of the package alone is its table
 
@@ -205,9 +136,9 @@ module _ (none c : Resolve) (e : IsEmpty none) (truncated : ∥ IsInPackageForm 
         packages_are = single c.packages one.0 one.1 alone ∙ sym (ap (λ (ps : List PackageParts). ps ++ one.0 ∷ []) e.packages);
         id_is = sym (ap length e.packages);
         own_behind = record {
-          interfaces = sym (map-here (put_interface to) c.interfaces interface-here) ∙ (sym (ap (map (put_interface to)) (own-all c alone)) ∙ sym (ap (λ (is : List Interface). is ++ map (put_interface to) (own_interfaces c)) e.interfaces));
-          worlds = sym (map-here (put_world to) c.worlds world-here) ∙ sym (ap (λ (ws : List World). ws ++ map (put_world to) c.worlds) e.worlds);
-          rows = sym (map-here (put_row to) c.definitions row-here)
+          interfaces = sym (interfaces-here c to row-place (λ t l. refl) interface-place package-place owned) ∙ (sym (ap (map (put_interface to)) (own-all c alone)) ∙ sym (ap (λ (is : List Interface). is ++ map (put_interface to) (own_interfaces c)) e.interfaces));
+          worlds = sym (worlds-here c to row-place (λ t l. refl) interface-place package-place owned) ∙ sym (ap (λ (ws : List World). ws ++ map (put_world to) c.worlds) e.worlds);
+          rows = sym (rows-here c to row-place (λ t l. refl) interface-place package-place owned)
               ∙ (sym (ap (map (put_row to)) kept) ∙ sym (ap (λ (ds : List Definition). ds ++ map (put_row to) (drop (length (import_rows none c [])) c.definitions)) e.definitions));
         };
       }

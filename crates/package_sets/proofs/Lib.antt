@@ -21,6 +21,7 @@ pub mod Images
 pub mod Imported
 pub mod ImportPackages
 pub mod ImportScopes
+pub mod InPlace
 pub mod InTower
 pub mod Kept
 pub mod KeptEntries
@@ -53,3 +54,4 @@ pub mod Staying
 pub mod Subnames
 pub mod Telling
 pub mod TowerForm
+pub mod Whole

@@ -1,11 +1,15 @@
 //! Laws of sets.
-ghost use Rattle.std.specs.Prelude.{Bool, List, ℕ};
+ghost use Rattle.std.specs.Prelude.{All, Bool, List, ℕ};
+ghost use Rattle.package_form.specs.Closed.{IsAlone, own_package};
+ghost use Rattle.package_form.specs.Form.{IsInPackageForm};
+ghost use Rattle.package_form.specs.Naming.{package_scopes};
+ghost use Rattle.package_form.specs.Scope.{AreDistinct};
 ghost use Rattle.package_sets.specs.Attached.{IsAttached};
 ghost use Rattle.package_sets.specs.Follows.{OfAttached, OfImports, OfRestricted};
 ghost use Rattle.package_sets.specs.Imports.{IsImportsOf};
 ghost use Rattle.package_sets.specs.One.{AttachesAlone, AttachesOne, ImportsOne};
 ghost use Rattle.package_sets.specs.Restricted.{IsRestricted};
-ghost use Rattle.package_sets.specs.Tower.{IsSetOfNone, KeepsTower};
+ghost use Rattle.package_sets.specs.Tower.{IsInTower, IsSetOfNone, KeepsTower};
 ghost use Rattle.tables.specs.declared.tables.Resolve.{Resolve};
 
 use tables::Resolve;
@@ -23,6 +27,12 @@ pub fn attaches_one()
 /// A package that reaches no other is, behind no package, a set as it stands.
 pub fn attaches_alone()
     ensures { (set closed : Resolve) → AttachesAlone set closed }
+{}
+
+/// A package that stands alone reaches all of its set: its table is the set as it stands, in form.
+pub fn alone_is_whole()
+    ensures table { (r : Resolve) → ∥ IsInTower r ∥₁ → IsAlone r → IsRestricted r (own_package r.packages) r }
+    ensures form { (r : Resolve) → ∥ IsInTower r ∥₁ → IsAlone r → ∥ IsInPackageForm r × All AreDistinct (package_scopes r) ∥₁ }
 {}
 
 /// What follows of a set with a package more.
