@@ -23,7 +23,8 @@ use Rattle.tables.specs.declared.tables.Resolve.{Resolve}
 use Rattle.set_rows.specs.Moved.{Renaming, put_val, put_row, put_function, put_interface, put_item, put_item_kind, put_world}
 use Rattle.package_sets.specs.Set.{IsPackageByPackage, HasRowsInForm}
 use Rattle.package_sets.specs.Joining.{imports, own_interfaces, joined, HasImports}
-use Rattle.package_sets.specs.Joined.{renaming_of, IsJoined, IsPut}
+use Rattle.package_sets.specs.Joined.{renaming_of, IsJoined}
+use Rattle.package_sets.proofs.Putting.{IsPut}
 use Rattle.package_sets.specs.Attached.{IsOwn, IsNew, HasRoom, HasAll, has_package, others, IsOwnBehind, IsAttached}
 use Rattle.package_sets.specs.Follows.{OfAttached}
 use Rattle.package_sets.specs.Joined.{JoinedPlaces}

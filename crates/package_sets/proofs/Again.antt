@@ -42,7 +42,8 @@ use Rattle.package_sets.specs.Attached.{IsOwn}
 use Rattle.package_sets.specs.BehindImports.{HasImportTable}
 use Rattle.package_sets.specs.Follows.{OfImports, BeginsWith}
 use Rattle.package_sets.specs.Imports.{IsImportsOf}
-use Rattle.package_sets.specs.Joined.{renaming_of, IsJoined, IsPut}
+use Rattle.package_sets.specs.Joined.{renaming_of, IsJoined}
+use Rattle.package_sets.proofs.Putting.{IsPut}
 use Rattle.package_sets.specs.Joining.{import_count, imports, own_interfaces, import_rows, joined, are_same_packages, HasIds}
 use Rattle.set_rows.specs.Moved.{Renaming, put_id, put_interface, put_item, put_item_kind, put_world, put_row, put_types, put_functions}
 use Rattle.package_sets.specs.NamedIn.{own_rows, own_reached, IsImportAt, AreNamedIn}

@@ -17,7 +17,8 @@ use Rattle.tables.specs.declared.tables.Interface.{Interface}
 use Rattle.tables.specs.declared.tables.Resolve.{Resolve}
 use Rattle.set_rows.specs.Moved.{put_interface}
 use Rattle.package_sets.specs.Joining.{import_count, own_interfaces, are_same_packages, has_name_of}
-use Rattle.package_sets.specs.Joined.{renaming_of, IsJoined, IsPut}
+use Rattle.package_sets.specs.Joined.{renaming_of, IsJoined}
+use Rattle.package_sets.proofs.Putting.{IsPut}
 use Rattle.package_sets.specs.Attached.{IsOwn}
 use Rattle.package_sets.specs.Follows.{own_interface_names}
 use Rattle.package_sets.specs.Joined.{JoinedPlaces}

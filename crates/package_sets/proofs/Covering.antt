@@ -30,7 +30,8 @@ use Rattle.set_rows.specs.Moved.{Renaming, put_id, put_name, put_owner, put_row,
 use Rattle.set_rows.specs.Reaches.{is_marked, own_marks, is_own_interface, is_own_world, item_owners, owners_in, owner_at, named_owners, OfPackage, Reaches, of_start, of_row}
 use Rattle.package_sets.specs.SetForm.{IsInSetForm}
 use Rattle.package_sets.specs.Joining.{import_count, own_interfaces}
-use Rattle.package_sets.specs.Joined.{renaming_of, IsJoined, IsPut}
+use Rattle.package_sets.specs.Joined.{renaming_of, IsJoined}
+use Rattle.package_sets.proofs.Putting.{IsPut}
 use Rattle.package_sets.specs.Joined.{JoinedPlaces}
 use Rattle.package_sets.proofs.Apart.{part-owner}
 use Rattle.package_sets.proofs.Behind.{before, rows-behind, interfaces-behind, worlds-behind, row-there}

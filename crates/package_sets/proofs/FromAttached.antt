@@ -2,7 +2,8 @@
 use Rattle.std.proofs.Common.{ℕ, length, [], refl}
 use Rattle.package_sets.specs.Attached.{IsAttached}
 use Rattle.package_sets.specs.Follows.{OfAttached}
-use Rattle.package_sets.specs.Joined.{JoinedPlaces, IsJoined, IsPut}
+use Rattle.package_sets.specs.Joined.{JoinedPlaces, IsJoined}
+use Rattle.package_sets.proofs.Putting.{IsPut}
 use Rattle.package_sets.specs.Joining.{import_rows, all_places}
 use Rattle.package_sets.specs.Tower.{KeepsTower}
 use Rattle.tables.specs.declared.tables.Resolve.{Resolve}

@@ -21,7 +21,8 @@ use Rattle.tables.specs.declared.tables.Definition.{Definition}
 use Rattle.tables.specs.declared.tables.World.{World}
 use Rattle.tables.specs.declared.tables.TypeId.{TypeId}
 use Rattle.tables.specs.declared.tables.Resolve.{Resolve}
-use Rattle.package_sets.specs.Joined.{renaming_of, IsJoined, IsPut}
+use Rattle.package_sets.specs.Joined.{renaming_of, IsJoined}
+use Rattle.package_sets.proofs.Putting.{IsPut}
 use Rattle.package_sets.specs.Joining.{import_count, own_interfaces}
 use Rattle.set_rows.specs.Moved.{Renaming, put_interface, put_world, put_row}
 use Rattle.set_rows.specs.Owners.{owners, names}

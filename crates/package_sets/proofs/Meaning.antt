@@ -25,7 +25,8 @@ use Rattle.set_rows.specs.Moved.{Renaming, put_row}
 use Rattle.package_sets.specs.Restricted.{definitions_where, number_or}
 use Rattle.package_sets.specs.Set.{IsPackageByPackage, HasRowsInForm}
 use Rattle.package_sets.specs.Joining.{import_count, imports, own_interfaces}
-use Rattle.package_sets.specs.Joined.{renaming_of, IsJoined, IsPut}
+use Rattle.package_sets.specs.Joined.{renaming_of, IsJoined}
+use Rattle.package_sets.proofs.Putting.{IsPut}
 use Rattle.package_sets.specs.Attached.{IsOwn}
 use Rattle.package_sets.specs.Follows.{is_own, own_definitions, own_interface_names}
 use Rattle.package_sets.specs.Joined.{JoinedPlaces}

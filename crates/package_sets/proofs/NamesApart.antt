@@ -16,7 +16,8 @@ use Rattle.tables.specs.declared.tables.Resolve.{Resolve}
 use Rattle.set_rows.specs.Moved.{put_interface}
 use Rattle.package_sets.specs.SetForm.{HasNamesApart}
 use Rattle.package_sets.specs.Joining.{import_count, own_interfaces}
-use Rattle.package_sets.specs.Joined.{renaming_of, IsJoined, IsPut}
+use Rattle.package_sets.specs.Joined.{renaming_of, IsJoined}
+use Rattle.package_sets.proofs.Putting.{IsPut}
 use Rattle.package_sets.specs.Attached.{IsOwn, has_package}
 use Rattle.package_sets.specs.Joined.{JoinedPlaces}
 use Rattle.package_sets.proofs.Lists.{behind-get, map-unget}

@@ -24,7 +24,8 @@ use Rattle.set_rows.specs.Moved.{Renaming, put_interface, put_world}
 use Rattle.package_sets.specs.Restricted.{number_or, package_of_owner, NamesEarlierPackages}
 use Rattle.package_sets.specs.Set.{IsPackageByPackage, HasRowsInForm}
 use Rattle.package_sets.specs.Joining.{own_interfaces}
-use Rattle.package_sets.specs.Joined.{renaming_of, IsJoined, IsPut}
+use Rattle.package_sets.specs.Joined.{renaming_of, IsJoined}
+use Rattle.package_sets.proofs.Putting.{IsPut}
 use Rattle.package_sets.specs.Joined.{JoinedPlaces}
 use Rattle.package_sets.proofs.Lists.{map-get, behind-get, contains-unflat, one-there}
 use Rattle.package_sets.proofs.Kept.{list-at, placed-at, worlds-grouped-at}

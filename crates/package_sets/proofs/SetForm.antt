@@ -18,7 +18,8 @@ use Rattle.set_rows.specs.Moved.{put_interface}
 use Rattle.package_sets.specs.Set.{ArePackageByPackage, behind_all, IsPackageByPackage, HasRowsInForm}
 use Rattle.package_sets.specs.SetForm.{IsInSetForm, IsEmpty}
 use Rattle.package_sets.specs.Joining.{own_interfaces}
-use Rattle.package_sets.specs.Joined.{renaming_of, IsJoined, IsPut}
+use Rattle.package_sets.specs.Joined.{renaming_of, IsJoined}
+use Rattle.package_sets.proofs.Putting.{IsPut}
 use Rattle.package_sets.specs.Attached.{IsOwn, HasRoom, has_package}
 use Rattle.package_sets.specs.Joined.{JoinedPlaces}
 use Rattle.package_sets.proofs.Lists.{all-append, not-is}

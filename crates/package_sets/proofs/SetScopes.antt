@@ -33,7 +33,8 @@ use Rattle.package_sets.specs.Set.{HasRowsInForm}
 use Rattle.package_sets.specs.SetForm.{IsEmpty}
 use Rattle.package_sets.specs.SetScopes.{names_if, members_if, names_at, members_at, interface_scopes, HasDistinctScopes}
 use Rattle.package_sets.specs.Joining.{import_count, imports, own_interfaces}
-use Rattle.package_sets.specs.Joined.{renaming_of, IsJoined, IsPut}
+use Rattle.package_sets.specs.Joined.{renaming_of, IsJoined}
+use Rattle.package_sets.proofs.Putting.{IsPut}
 use Rattle.package_sets.specs.Joined.{JoinedPlaces}
 use Rattle.package_sets.proofs.Kept.{list-at, worlds-grouped-at}
 use Rattle.package_sets.proofs.Lists.{front-get, contains-get}

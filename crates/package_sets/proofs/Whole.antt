@@ -23,6 +23,7 @@ use Rattle.set_rows.specs.Renamed.{renaming}
 use Rattle.set_rows.specs.Reaches.{Marks, is_marked, is_own_interface, is_own_world, own_marks, OfPackage, of_start, AreReached}
 use Rattle.set_rows.specs.declared.moved.Moved.{Moved}
 use Rattle.package_sets.specs.Restricted.{IsReachedIn, IsNeeded, IsRestricted}
+use Rattle.package_sets.specs.Part.{IsTableOf}
 use Rattle.package_sets.specs.Tower.{IsInTower}
 use Rattle.package_sets.proofs.Alone.{own-first}
 use Rattle.package_sets.proofs.Belonging.{belongs, local-owned, world-owned, IsOfInterface, IsOfWorld}
@@ -67,6 +68,20 @@ all-marked (b ∷ bs) h (suc k) = all-marked bs (later b bs h) k
 length-owners : (ds : List Definition) → length (owners ds) ≡ length ds
 length-owners [] = refl
 length-owners (d ∷ ds) = ap suc (length-owners ds)
+
+interface-is : {i j : ℕ} → Some (owner.Interface (record { 0 = i })) ≡ Some (owner.Interface (record { 0 = j })) → i ≡ j
+interface-is e = ap number e
+  where
+    number : Option Owner → ℕ
+    number (Some (owner.Interface i)) = i.0
+    number _ = 0
+
+world-is : {w v : ℕ} → Some (owner.World (record { 0 = w })) ≡ Some (owner.World (record { 0 = v })) → w ≡ v
+world-is e = ap number e
+  where
+    number : Option Owner → ℕ
+    number (Some (owner.World w)) = w.0
+    number _ = 0
 
 module _ (r : Resolve) (alone : IsAlone r) where
   abbrev own : ℕ
@@ -157,7 +172,7 @@ module _ (r : Resolve) (alone : IsAlone r) where
       where
         by : IsOfInterface r.definitions 0 (0 + length r.interfaces) k d ⊎ IsOfWorld r.definitions 0 (0 + length r.worlds) k d → i < length r.interfaces
         by (inl b) = elim (local-owned r.definitions b.interface d b.local) [
-          | inl g ↦ let same : i ≡ b.interface = cc in omega (arith, same, b.ends)
+          | inl g ↦ let same = interface-is (sym is ∙ g) in omega (arith, same, b.ends)
           | inr g ↦ absurd cc
         ]
         by (inr b) = elim (world-owned r.definitions b.world d b.local) [
@@ -174,7 +189,7 @@ module _ (r : Resolve) (alone : IsAlone r) where
           | inr g ↦ absurd cc
         ]
         by (inr b) = elim (world-owned r.definitions b.world d b.local) [
-          | inl g ↦ let same : w ≡ b.world = cc in omega (arith, same, b.ends)
+          | inl g ↦ let same = world-is (sym is ∙ g) in omega (arith, same, b.ends)
           | inr g ↦ absurd cc
         ]
 
@@ -197,19 +212,18 @@ module _ (r : Resolve) (alone : IsAlone r) where
     package-place : (t : ℕ) → t < length r.packages → place to.packages t ≡ t
     package-place t l = all-place to.packages t (omega (arith, l, alone)) packages-set
 
-    pub whole : IsRestricted r own r
-    whole = record {
-      to = to;
-      needed = needed;
-      table = record {
-        packages = sym (all-kept to.packages r.packages (sym alone) packages-set);
-        interfaces = sym (ap (map (put_interface (renaming to))) (all-kept to.interfaces r.interfaces count-interfaces interfaces-set) ∙ interfaces-here r (renaming to) row-place row-kept interface-place package-place owned);
-        worlds = sym (ap (map (put_world (renaming to))) (all-kept to.worlds r.worlds count-worlds worlds-set) ∙ worlds-here r (renaming to) row-place row-kept interface-place package-place owned);
-        definitions = sym (ap (map (put_row (renaming to))) (all-kept to.rows r.definitions count-rows rows-set) ∙ rows-here r (renaming to) row-place row-kept interface-place package-place owned);
-      };
+    whole-table : IsTableOf r to r
+    whole-table = record {
+      packages = sym (all-kept to.packages r.packages (sym alone) packages-set);
+      interfaces = sym (ap (map (put_interface (renaming to))) (all-kept to.interfaces r.interfaces count-interfaces interfaces-set) ∙ interfaces-here r (renaming to) row-place row-kept interface-place package-place owned);
+      worlds = sym (ap (map (put_world (renaming to))) (all-kept to.worlds r.worlds count-worlds worlds-set) ∙ worlds-here r (renaming to) row-place row-kept interface-place package-place owned);
+      definitions = sym (ap (map (put_row (renaming to))) (all-kept to.rows r.definitions count-rows rows-set) ∙ rows-here r (renaming to) row-place row-kept interface-place package-place owned);
     }
+
+    pub whole : IsRestricted r own r
+    whole = record { to = to; needed = needed; table = whole-table }
 
     pub whole-form : ∥ IsInPackageForm r × All AreDistinct (package_scopes r) ∥₁
     whole-form =
         let within : own < length r.packages = omega (arith, first, alone) in
-        ∥∥₁_map tower (λ t. (table-form r own to needed t within r whole.table, table-distinct r own to needed t within r whole.table))
+        ∥∥₁_map tower (λ t. (table-form r own to needed t within r whole-table, table-distinct r own to needed t within r whole-table))

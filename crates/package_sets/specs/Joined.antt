@@ -1,8 +1,8 @@
 -- Places in a set, as lists of them.
-use Rattle.std.specs.Prelude.{◌≡◌, ◌++◌, ◌∷◌, ℕ, [], List, length, true, map, take, drop}
-use Rattle.set_rows.specs.Moved.{Renaming, put_row, put_interface, put_world}
+use Rattle.std.specs.Prelude.{◌≡◌, ℕ, [], List, length, true, take}
+use Rattle.set_rows.specs.Moved.{Renaming}
 use Rattle.package_sets.specs.Attached.{HasRoom, HasAll, IsNew, IsOwn, others}
-use Rattle.package_sets.specs.Joining.{imports, own_interfaces, AreFound, import_rows, all_places, place_in, AreRowsThere, AreIdsThere}
+use Rattle.package_sets.specs.Joining.{imports, AreFound, import_rows, all_places, place_in, AreRowsThere, AreIdsThere}
 use Rattle.package_sets.specs.declared.joining.Joined.{Joined}
 use Rattle.tables.specs.PackageNames.{PackageParts}
 use Rattle.tables.specs.declared.tables.Resolve.{Resolve}
@@ -50,10 +50,3 @@ pub record FitsBehind (set closed : Resolve) (j : JoinedPlaces) : Type 0 where
   pub own : PackageParts
   pub own_is : IsOwn closed own
   pub joined : IsJoined set closed j
-
--- the set with what is the closed table's own behind it, at these places
-pub record IsPut (set closed : Resolve) (own : PackageParts) (j : JoinedPlaces) (r : Resolve) : Type 0 where
-  pub packages : r.packages ≡ set.packages ++ own ∷ []
-  pub interfaces : r.interfaces ≡ set.interfaces ++ map (put_interface (renaming_of j)) (own_interfaces closed)
-  pub worlds : r.worlds ≡ set.worlds ++ map (put_world (renaming_of j)) closed.worlds
-  pub definitions : r.definitions ≡ set.definitions ++ map (put_row (renaming_of j)) (drop j.imported closed.definitions)

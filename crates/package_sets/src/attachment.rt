@@ -13,7 +13,7 @@ use crate::same::{Same, are_same};
 use package_form::own_package;
 use set_rows::moved::{Movable, copied_name, moved_functions, moved_types, push_moved};
 use std::alloc::{AllocError, Global};
-use tables::{Definition, Interface, PackageId, PackageName, Resolve};
+use tables::{Definition, Interface, PackageId, PackageName, Resolve, Sequence, World};
 
 /// The packages that a set may have.
 pub const MOST_PACKAGES: usize = 64;
@@ -169,13 +169,51 @@ fn own_part(alloc: Global, closed: &Resolve, to: &Joined) -> Result<OwnPart, All
 }
 
 /// Two lists as one. The first has room for both.
-fn joined<T>(mut items: Vec<T>, more: Sequence<T>) -> Sequence<T>
+fn joined<T: Drop>(mut items: Vec<T>, more: Sequence<T>) -> Sequence<T>
     requires { vec_len items + length more ≤ vec_capacity items }
     ensures { result ≡ items.items ++ more }
 {
     match items.append(&mut more.into_vec()) {
         Ok(()) => Sequence::new(items),
         Err(_) => unreachable!(),
+    }
+}
+
+/// The lists of a set.
+#[derive(Drop)]
+struct Lists {
+    packages: Vec<PackageName>,
+    interfaces: Vec<Interface>,
+    worlds: Vec<World>,
+    definitions: Vec<Definition>,
+}
+
+impl Lists {
+    fn of(set: Resolve) -> Lists
+        ensures { (result.packages.items ≡ set.packages) × (result.interfaces.items ≡ set.interfaces)
+            × (result.worlds.items ≡ set.worlds) × (result.definitions.items ≡ set.definitions) }
+    {
+        Lists {
+            packages: set.packages.into_vec(),
+            interfaces: set.interfaces.into_vec(),
+            worlds: set.worlds.into_vec(),
+            definitions: set.definitions.into_vec(),
+        }
+    }
+
+    /// Makes room for a package more.
+    fn reserve(&mut self, own: &OwnPart) -> Result<(), AllocError>
+        ensures same { (self.new.packages.items ≡ self.old.packages.items) × (self.new.interfaces.items ≡ self.old.interfaces.items)
+            × (self.new.worlds.items ≡ self.old.worlds.items) × (self.new.definitions.items ≡ self.old.definitions.items) }
+        ensures room { OnOk result ((vec_len self.new.packages + length own.now.packages ≤ vec_capacity self.new.packages)
+            × (vec_len self.new.interfaces + length own.now.interfaces ≤ vec_capacity self.new.interfaces)
+            × (vec_len self.new.worlds + length own.now.worlds ≤ vec_capacity self.new.worlds)
+            × (vec_len self.new.definitions + length own.now.definitions ≤ vec_capacity self.new.definitions)) }
+    {
+        self.packages.reserve(own.packages.len())?;
+        self.interfaces.reserve(own.interfaces.len())?;
+        self.worlds.reserve(own.worlds.len())?;
+        self.definitions.reserve(own.definitions.len())
     }
 }
 
@@ -219,27 +257,20 @@ pub fn put_behind(
     let Ok(own) = own_part(alloc, closed, to) else {
         return Err(set);
     };
-    let mut packages = set.packages.into_vec();
-    let mut interfaces = set.interfaces.into_vec();
-    let mut worlds = set.worlds.into_vec();
-    let mut definitions = set.definitions.into_vec();
-    let has_room = packages.reserve(own.packages.len()).is_ok()
-        && interfaces.reserve(own.interfaces.len()).is_ok()
-        && worlds.reserve(own.worlds.len()).is_ok()
-        && definitions.reserve(own.definitions.len()).is_ok();
-    if !has_room {
+    let mut lists = Lists::of(set);
+    if lists.reserve(&own).is_err() {
         return Err(Resolve {
-            packages: Sequence::new(packages),
-            interfaces: Sequence::new(interfaces),
-            worlds: Sequence::new(worlds),
-            definitions: Sequence::new(definitions),
+            packages: Sequence::new(lists.packages),
+            interfaces: Sequence::new(lists.interfaces),
+            worlds: Sequence::new(lists.worlds),
+            definitions: Sequence::new(lists.definitions),
         });
     }
     let resolve = Resolve {
-        packages: joined(packages, own.packages),
-        interfaces: joined(interfaces, own.interfaces),
-        worlds: joined(worlds, own.worlds),
-        definitions: joined(definitions, own.definitions),
+        packages: joined(lists.packages, own.packages),
+        interfaces: joined(lists.interfaces, own.interfaces),
+        worlds: joined(lists.worlds, own.worlds),
+        definitions: joined(lists.definitions, own.definitions),
     };
     Ok((resolve, PackageId(to.package)))
 }

@@ -1,9 +1,13 @@
-use Rattle.std.proofs.Common.{rules, ◌≡◌, ◌∙◌, List, take, slice_get, Some, false, ap, subst, arith}
+use Rattle.std.proofs.Common.{rules, ◌≡◌, ◌∙◌, Result, Ok, Err, IfOk, List, take, slice_get, Some, false, ap, subst, arith}
 use Rattle.tables.specs.PackageNames.{PackageParts}
 use Rattle.package_form.specs.Closed.{own_package}
 use Rattle.package_sets.specs.Attached.{HasRoom, HasAll, IsOwn, IsNew, has_package, others}
 use Rattle.package_sets.proofs.Lists.{item-get}
 use Rattle.package_sets.proofs.attachment.fitting.Goals as goal
+
+on-ok : {A E : Type 0} {P Q : A → Type 0} (r : Result A E) → IfOk r P → ((x : A) → P x → Q x) → IfOk r Q
+on-ok (Ok x) h f = f x h
+on-ok (Err e) h f = tt
 
 pub returns-clause-ok : goal.returns-clause-ok
 returns-clause-ok c =
@@ -20,4 +24,4 @@ returns-clause-ok c =
     let have : HasAll s (others closed) =
     subst (λ (ps : List PackageParts). HasAll s (take (own_package ps) ps)) c.as_slice-packages.ensures
     (subst (λ n. HasAll s (take n c.as_slice-packages.result.now)) c.own_package-own.ensures c.in_ok-has_packages.ensures.ok) in
-    record { room = room; new = new; have = have; own = own; own_is = is; joined = c.placed.ensures.ok }
+    on-ok c.placed.result c.placed.ensures.ok (λ j q. record { room = room; new = new; have = have; own = own; own_is = is; joined = q })
